@@ -1,0 +1,21 @@
+//! Sources and sinks of bytes: as traits, in memory, and as the standard streams.
+#![tactic(auto)]
+
+mod calls;
+mod failed;
+mod memory_sink;
+mod memory_source;
+mod sink;
+mod source;
+mod standard;
+#[cfg(test)]
+mod tests;
+mod writing;
+
+pub use failed::Failed;
+pub use memory_sink::MemorySink;
+pub use memory_source::MemorySource;
+pub use sink::Sink;
+pub use source::Source;
+pub use standard::{StdSink, StdSource};
+pub use writing::write_all;

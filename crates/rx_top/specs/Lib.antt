@@ -1,0 +1,14 @@
+pub mod Lines
+pub mod Session
+pub mod Schema
+pub mod Document
+pub mod Query
+pub mod Reply
+pub mod Meaning
+pub mod Emission
+pub mod Transcript
+pub mod Shown
+pub mod Played
+pub mod Reader
+pub mod Run
+pub mod Words

@@ -1,0 +1,65 @@
+-- Taking one line after another of what is to come.
+use Rattle.std.specs.Prelude.{◌≡◌, ◌≢◌, ℕ, ◌+◌, ◌≤◌, List, [], ◌∷◌, ◌++◌, take, length, Bool, true, false, not, ◌==◌, if◌then◌else◌}
+use Rattle.std.specs.List.{list_all}
+use Rattle.rx_script.specs.Line.{max_line_bytes}
+use Rattle.rx_top.specs.declared.reader.Next.{Next}
+use Rattle.rx_top.specs.declared.reader.Next.TheVariants.{Line, Last, End}
+
+-- the most bytes that an input may have, 4 GiB
+abbrev pub max_input_bytes : ℕ
+max_input_bytes = 4294967296
+
+-- no line ends in them
+abbrev pub is_within : List ℕ → Bool
+is_within = list_all (λ b. not (b == 10))
+
+-- what is kept of a line: enough to tell that it is too long
+abbrev pub kept : List ℕ → List ℕ
+kept line = take (max_line_bytes + 1) line
+
+-- what a reader holds: what it kept of the present line, the bytes that it read and that belong to
+-- no line yet, and how many bytes it was given
+pub record Reading : Type 0 where
+  pub line : List ℕ
+  pub unread : List ℕ
+  pub given : ℕ
+
+pub record IsInBounds (at piece line given : ℕ) : Type 0 where
+  pub at_within : at ≤ piece
+  pub line_kept : line ≤ max_line_bytes + 1
+  pub given_within : given ≤ max_input_bytes
+
+-- what there is at the end of an input
+abbrev pub rest_of : List ℕ → Next
+rest_of line = if length line == 0 then End else Last
+
+-- a line that ended was taken; or the last one, which did not end; or there was none
+abbrev pub Takes : Next → List ℕ → List ℕ → List ℕ → Type 0
+Takes Line line old new = (old ≡ line ++ 10 ∷ new) × (is_within line ≡ true)
+Takes Last line old new = (old ≡ line) × (is_within line ≡ true) × (line ≢ []) × (new ≡ [])
+Takes End line old new = (old ≡ []) × (new ≡ [])
+
+-- a line was taken of what was to come, and is kept
+abbrev pub TakesKept : Next → List ℕ → List ℕ → List ℕ → Type 0
+TakesKept next line old new = (l : List ℕ) × (line ≡ kept l) × Takes next l old new
+
+-- no line ended in what was taken
+abbrev pub StopsWithin : List ℕ → List ℕ → Type 0
+StopsWithin old new = (front : List ℕ) × (old ≡ front ++ new) × (is_within front ≡ true)
+
+-- a front of what was to come went to the line
+abbrev pub Comes : List ℕ → List ℕ → List ℕ → Type 0
+Comes line old new = (front : List ℕ) × (old ≡ front ++ new) × (is_within front ≡ true)
+    × (line ≡ kept front)
+
+-- so many bytes of what was left were given
+abbrev pub Took : ℕ → List ℕ → List ℕ → (ℕ → Type 0) → Type 0
+Took given old new P = (taken : List ℕ) × (old ≡ taken ++ new) × P (given + length taken)
+
+-- what was read went to the line, up to its end where that was there
+abbrev pub Advances : Bool → Reading → Reading → Type 0
+Advances true old new =
+    (l : List ℕ) × (old.unread ≡ l ++ 10 ∷ new.unread) × (is_within l ≡ true)
+    × (new.line ≡ kept (old.line ++ l))
+Advances false old new =
+    (new.unread ≡ []) × (is_within old.unread ≡ true) × (new.line ≡ kept (old.line ++ old.unread))

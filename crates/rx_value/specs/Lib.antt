@@ -1,0 +1,13 @@
+pub mod Due
+pub mod Order
+pub mod Named
+pub mod Place
+pub mod Value
+pub mod Fields
+pub mod Equal
+pub mod Equality
+pub mod Name
+pub mod Reading
+pub mod Writing
+pub mod State
+pub mod Form

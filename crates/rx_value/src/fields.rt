@@ -1,0 +1,103 @@
+ghost use Rattle.std.specs.Prelude.{◌≡◌, ◌<◌, ◌↔◌, [], length, slice_get, Some, IfOk, OnOk, OnErr, IsTrue, option_map};
+ghost use Rattle.std.specs.Cmp.{partial_equiv_from_equiv};
+ghost use Rattle.rx_value.specs.Equal.{fields_eq};
+ghost use Rattle.rx_value.specs.Equality.{equivalence, fields_eq-Decides};
+ghost use Rattle.rx_value.specs.Named.{named, put_in_order};
+ghost use Rattle.rx_value.specs.Value.{is_value};
+
+use crate::place::place;
+use crate::rx_text::RxText;
+use crate::value::Value;
+use std::alloc::{AllocError, Global};
+use std::marker::Model;
+
+/// The fields of a document: pairs of name and value, by rising name.
+#[derive(Debug, Drop)]
+pub struct Fields {
+    pub(crate) pairs: Vec<(RxText, Value)>,
+}
+
+impl Model for Fields {
+    ghost use Rattle.rx_value.specs.Fields.{Pairs, AreFields};
+
+    ghost Value = { Pairs };
+
+    ghost view = { λ f. f.pairs.items };
+
+    ghost invariant = { λ f. AreFields f.pairs.items };
+}
+
+impl Fields {
+    pub fn new(alloc: Global) -> Fields
+        ensures { result ≡ [] }
+    {
+        Fields {
+            pairs: Vec::new(alloc),
+        }
+    }
+
+    pub fn len(&self) -> usize
+        ensures { result ≡ length self.now }
+    {
+        self.pairs.len()
+    }
+
+    pub fn at(&self, i: usize) -> (&RxText, &Value)
+        requires { i < length self.now }
+        ensures { slice_get self.now i ≡ Some (result.0.now, result.1.now) }
+    {
+        let pair = &self.pairs[i];
+        (&pair.0, &pair.1)
+    }
+
+    pub fn get(&self, name: &str) -> Option<&Value>
+        ensures { option_map (λ v. v.now) result ≡ named self.now name.now }
+    {
+        match place(self.pairs.as_slice(), name) {
+            Ok(i) => Some(&self.pairs[i].1),
+            Err(_) => None,
+        }
+    }
+
+    /// Gives the name that value. A name that is there keeps its place, a new one goes to its own.
+    pub fn set(&mut self, name: RxText, value: Value) -> Result<(), AllocError>
+        requires { IsTrue (is_value value) }
+        ensures ok { OnOk result (self.new ≡ put_in_order self.old name value) }
+        ensures err { OnErr result (self.new ≡ self.old) }
+    {
+        match place(self.pairs.as_slice(), name.as_str()) {
+            Ok(i) => {
+                self.pairs[i].1 = value;
+                Ok(())
+            }
+            Err(i) => Ok(self.pairs.insert(i, (name, value))?),
+        }
+    }
+
+    pub fn copy(&self, alloc: Global) -> Result<Fields, AllocError>
+        ensures { IfOk result (λ f. f ≡ self.now) }
+    {
+        let mut pairs = Vec::with_capacity(alloc, self.pairs.len())?;
+        for (name, value) in &self.pairs {
+            pairs.push((name.copy(alloc)?, value.copy(alloc)?))?;
+        }
+        Ok(Fields { pairs })
+    }
+}
+
+impl PartialEq for Fields {
+    ghost eq = { fields_eq };
+
+    ghost laws = { partial_equiv_from_equiv (equivalence fields_eq fields_eq-Decides) };
+
+    fn eq(&self, other: &Fields) -> bool
+        ensures value { result ≡ fields_eq self.now other.now }
+        ensures exact { IsTrue result ↔ (self.now ≡ other.now) }
+    {
+        self.pairs.as_slice() == other.pairs.as_slice()
+    }
+}
+
+impl Eq for Fields {
+    ghost laws = { equivalence fields_eq fields_eq-Decides };
+}

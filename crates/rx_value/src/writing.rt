@@ -1,0 +1,89 @@
+ghost use Rattle.std.specs.Prelude.{◌≡◌, ◌≤◌, IfOk, Some, None, Ok, false};
+ghost use Rattle.serde_json.specs.Data.{Data, depth};
+ghost use Rattle.serde_json.specs.Read.{read, max_depth};
+ghost use Rattle.serde_json.specs.View.{view, members_view};
+ghost use Rattle.serde_json.specs.Written.{compact_text, has_float};
+ghost use Rattle.rx_value.specs.Fields.{AreFields};
+ghost use Rattle.rx_value.specs.Named.{named};
+ghost use Rattle.rx_value.specs.Reading.{fields_of};
+ghost use Rattle.rx_value.specs.State.{mark, state_data, ReadsAsState};
+ghost use Rattle.rx_value.specs.Writing.{value_data, pairs_members, fields_data};
+
+use crate::fields::Fields;
+use crate::rx_text::RxText;
+use crate::state::{MARK, State};
+use crate::value::Value;
+use serde_json::{Map, Value as Json};
+use std::alloc::{AllocError, Global};
+
+/// The compact JSON object of the fields, which `read_fields` reads back.
+pub fn fields_text(alloc: Global, fields: &Fields) -> Result<RxText, AllocError>
+    ensures text { IfOk result (λ t. t ≡ compact_text (fields_data fields.now)) }
+    ensures reads_back { IfOk result
+        (λ t. (d : Data) × (read t ≡ Some d) × (fields_of d ≡ Ok fields.now)) }
+{
+    let json = fields_json(alloc, fields)?;
+    Ok(compact(alloc, &json)?)
+}
+
+/// The compact JSON object of the state: its fields, with the deletion mark. A field of the name
+/// of the mark would be lost.
+pub fn text(alloc: Global, state: &State) -> Result<RxText, AllocError>
+    ensures text { IfOk result (λ t. t ≡ compact_text (state_data state.now)) }
+    ensures reads_back { named state.now.fields mark ≡ None
+        → IfOk result (λ t. ReadsAsState t state.now) }
+{
+    let json = state_json(alloc, state)?;
+    Ok(compact(alloc, &json)?)
+}
+
+fn compact(alloc: Global, json: &Json) -> Result<RxText, AllocError>
+    ensures text { has_float (view json.now) ≡ false
+        → IfOk result (λ t. t ≡ compact_text (view json.now)) }
+    ensures reads_back { depth (view json.now) ≤ max_depth
+        → IfOk result (λ t. read t ≡ Some (view json.now)) }
+{
+    Ok(RxText::from(json.to_string(alloc)?))
+}
+
+/// The JSON object of the fields.
+pub fn fields_json(alloc: Global, fields: &Fields) -> Result<Json, AllocError>
+    ensures data { IfOk result (λ j. view j ≡ fields_data fields.now) }
+    ensures fields { AreFields fields.now }
+{
+    Ok(Json::Object(fields_map(alloc, fields)?))
+}
+
+/// The JSON object of the state: its fields, with the deletion mark.
+pub fn state_json(alloc: Global, state: &State) -> Result<Json, AllocError>
+    ensures data { IfOk result (λ j. view j ≡ state_data state.now) }
+    ensures fields { AreFields state.now.fields }
+{
+    let mut members = fields_map(alloc, &state.fields)?;
+    members.insert(String::from_str(alloc, MARK)?, Json::from(state.deleted))?;
+    Ok(Json::Object(members))
+}
+
+fn fields_map(alloc: Global, fields: &Fields) -> Result<Map<String, Json>, AllocError>
+    ensures data { IfOk result (λ m. members_view m.entries ≡ pairs_members fields.now) }
+    ensures fields { AreFields fields.now }
+{
+    let mut members = Map::new(alloc);
+    for (name, value) in &fields.pairs {
+        members.insert(
+            String::from_str(alloc, name.as_str())?,
+            value_json(alloc, value)?,
+        )?;
+    }
+    Ok(members)
+}
+
+fn value_json(alloc: Global, value: &Value) -> Result<Json, AllocError>
+    ensures { IfOk result (λ j. view j ≡ value_data value.now) }
+{
+    match value {
+        Value::Flag(b) => Ok(Json::Bool(*b)),
+        Value::Int(n) => Ok(Json::from(*n)),
+        Value::Text(text) => Ok(Json::String(String::from_str(alloc, text.as_str())?)),
+    }
+}
