@@ -1,0 +1,6 @@
+mod Counts
+pub mod Moments
+mod Replays
+mod Steps
+mod Stops
+mod Tears

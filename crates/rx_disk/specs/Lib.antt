@@ -1,0 +1,11 @@
+pub mod Bytes
+pub mod Calls
+pub mod Disk
+pub mod Entry
+pub mod History
+pub mod Images
+pub mod MemoryDisk
+pub mod Moments
+pub mod Platter
+pub mod Replay
+pub mod Stop

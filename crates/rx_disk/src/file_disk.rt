@@ -1,0 +1,164 @@
+// A disk that is a file of the system. It tells nothing of its content.
+ghost use Rattle.std.specs.Prelude.{◌≡◌, ◌≤◌, [], List, length, IfOk};
+ghost use Rattle.rx_disk.specs.Disk.{Rose};
+
+use crate::{Disk, Failed};
+use rx_value::RxText;
+use std::fs::{File, Files, OpenFile, OpenOptions};
+use std::io;
+use std::os::unix::fs::FileExt;
+use std::path::Path;
+
+/// Opens its file at the first use. A file that doesn't exist reads as empty, and is made at the
+/// first write.
+#[derive(Drop)]
+pub struct FileDisk<R: Files<File = File> + Drop> {
+    rt: R,
+    path: RxText,
+    file: Option<File>,
+    failed: u64,
+}
+
+impl<R: Files<File = File> + Drop> FileDisk<R> {
+    /// A disk that is the file of this name. Nothing is opened yet.
+    pub fn new(rt: R, path: RxText) -> FileDisk<R>
+        ensures { ⟦<FileDisk<R> as Disk>⟧.faults result ≡ 0 }
+    {
+        FileDisk {
+            rt,
+            path,
+            file: None,
+            failed: 0,
+        }
+    }
+
+    fn fail(&mut self) -> Failed
+        ensures rose { Rose self.old.failed self.new.failed }
+        ensures later { self.old.failed ≤ self.new.failed }
+    {
+        self.failed = self.failed.saturating_add(1);
+        Failed
+    }
+
+    // Opens the file, and makes one that is to be written.
+    fn open(&mut self, writes: bool) -> io::Result<()>
+        ensures { self.new.failed ≡ self.old.failed }
+    {
+        if self.file.is_some() {
+            return Ok(());
+        }
+        let path = self.path.as_str();
+        let opened = OpenOptions::new()
+            .read(true)
+            .write(true)
+            .open(&self.rt, path);
+        match opened {
+            Ok(file) => self.file = Some(file),
+            Err(e) if e.kind() != io::ErrorKind::NotFound => return Err(e),
+            Err(_) if writes => self.file = Some(make(&self.rt, path)?),
+            Err(_) => {}
+        }
+        Ok(())
+    }
+
+    fn try_read(&mut self, at: u64, into: &mut [u8]) -> io::Result<usize>
+        ensures same { self.new.failed ≡ self.old.failed }
+        ensures within { IfOk result (λ n. n ≤ length into.old) }
+    {
+        self.open(false)?;
+        match &self.file {
+            None => Ok(0),
+            Some(file) => read_at(file, at, into),
+        }
+    }
+
+    fn try_write(&mut self, at: u64, bytes: &[u8]) -> io::Result<()>
+        ensures { self.new.failed ≡ self.old.failed }
+    {
+        self.open(true)?;
+        match &self.file {
+            None => Err(io::ErrorKind::NotFound.into()),
+            Some(file) => file.write_all_at(bytes, at),
+        }
+    }
+
+    fn try_sync(&mut self) -> io::Result<()>
+        ensures { self.new.failed ≡ self.old.failed }
+    {
+        self.open(false)?;
+        match &self.file {
+            None => Ok(()),
+            Some(file) => file.sync_data(),
+        }
+    }
+}
+
+// Makes a file, and syncs the folder, since a sync of the file alone doesn't keep its name.
+fn make<R: Files<File = File>>(rt: &R, path: &str) -> io::Result<File> {
+    let file = File::create_new(rt, path)?;
+    let folder = match Path::new(path).parent() {
+        Some(folder) if folder.as_str() != "" => folder,
+        _ => Path::new("."),
+    };
+    File::open(rt, folder)?.sync_all()?;
+    Ok(file)
+}
+
+// Reads until the piece is full or the file ends.
+fn read_at(file: &File, at: u64, into: &mut [u8]) -> io::Result<usize>
+    ensures { IfOk result (λ n. n ≤ length into.old) }
+{
+    let mut done = 0;
+    while done < into.len() {
+        let place = at
+            .checked_add(done as u64)
+            .ok_or(io::ErrorKind::InvalidInput)?;
+        let count = file.read_at(&mut into[done..], place)?;
+        if count == 0 {
+            return Ok(done);
+        }
+        done += count;
+    }
+    Ok(done)
+}
+
+impl<R: Files<File = File> + Drop> Disk for FileDisk<R> {
+    ghost tells = { ⊥ };
+
+    ghost faults = { λ d. d.failed };
+
+    ghost content = { λ _. [] };
+
+    ghost image = { λ _ _. Unit };
+
+    ghost moment = { λ _. 0 };
+
+    ghost image_since = { λ _ _ _. Unit };
+
+    ghost reads_as = { λ _ told. absurd told };
+
+    ghost counts_now = { λ _ _ _ told _ _. absurd told };
+
+    ghost only_now = { λ _ _ told _. absurd told };
+
+    fn read(&mut self, at: u64, into: &mut [u8]) -> Result<usize, Failed> {
+        match self.try_read(at, into) {
+            Ok(count) => Ok(count),
+            Err(_) => Err(self.fail()),
+        }
+    }
+
+    fn write_at(&mut self, at: u64, bytes: &[u8]) -> Result<(), Failed> {
+        match self.try_write(at, bytes) {
+            Ok(()) => Ok(()),
+            Err(_) => Err(self.fail()),
+        }
+    }
+
+    fn sync(&mut self) -> Result<(), Failed> {
+        match self.try_sync() {
+            Ok(()) => Ok(()),
+            Err(_) => Err(self.fail()),
+        }
+    }
+}

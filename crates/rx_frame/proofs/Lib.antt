@@ -1,0 +1,3 @@
+mod Lending
+pub mod Records
+pub mod Sizes

@@ -1,0 +1,6 @@
+mod Append
+mod Bytes
+pub mod Growing
+mod Opened
+mod ReadFile
+mod Scan

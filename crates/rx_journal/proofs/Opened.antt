@@ -1,0 +1,104 @@
+-- What an opening finds and makes.
+use Rattle.std.proofs.Common.{◌≡◌, inl, inr, ℕ, ◌<◌, ◌≤◌, ◌^◌, List, [], ◌++◌, length, refl, sym, ◌∙◌, ap, subst, arith, append-nil, length-take}
+use Rattle.std.proofs.lemmas.List.{drop_all}
+use Rattle.rx_disk.specs.declared.disk.Disk.{Ghosts}
+use Rattle.rx_disk.specs.Disk.{Holds, Only}
+use Rattle.rx_frame.specs.File.{end_of, IsWhole, no_records}
+use Rattle.rx_journal.specs.Image.{image_bytes}
+use Rattle.rx_journal.specs.Opening.{IsJournal, Shows, Opens}
+use Rattle.rx_journal.specs.Reading.{IsRead}
+use Rattle.rx_journal.specs.declared.image.Image.{Image}
+use Rattle.rx_journal.specs.declared.journal.Journal.{Journal}
+use Rattle.rx_journal.proofs.ReadFile.{wider, none_within}
+
+-- a header and a closed gate have no records
+no_records_whole : (file : List ℕ) → file ≡ no_records → IsWhole file []
+no_records_whole file is =
+    record { gate = 0; rest = []; closed = λ e. absurd (omega arith); fit = tt; split = is }
+
+-- bytes read that have an end show the file's bodies
+pub shows_found : (content : List ℕ) (image : Image) (bodies : List (List ℕ))
+    → IsRead content (image_bytes image) → IsWhole (image_bytes image) bodies
+    → end_of bodies < 2 ^ 32 → Shows content image
+shows_found content image bodies read whole short = record {
+  bodies = bodies;
+  stood = inr (wider content (image_bytes image) bodies read.front whole);
+  short = short;
+  whole = whole;
+}
+
+-- a file of at most 9 bytes shows none
+pub shows_none : (content : List ℕ) (image : Image) → length content ≤ 9
+    → image_bytes image ≡ no_records → Shows content image
+shows_none content image short is = record {
+  bodies = [];
+  stood = inl (short, refl);
+  short = omega arith;
+  whole = no_records_whole (image_bytes image) is;
+}
+
+-- a longer file in whose bytes no end was found is no journal
+pub not_journal : (content bytes : List ℕ) → IsRead content bytes → 9 < length bytes
+    → ((bs : List (List ℕ)) → IsWhole bytes bs → 2 ^ 32 ≤ end_of bs) → IsJournal content → ⊥
+not_journal content bytes read long none (bodies, inl short, within) =
+    omega (arith, short.0, ap length read.front, length-take (length bytes) content)
+not_journal content bytes read long none (bodies, inr whole, within) =
+    none_within content bytes bodies read none whole within
+
+module _ {D : Type 0} (d : Ghosts D) (old new : D) (journal : Journal) (image : Image) where
+  -- the bytes read have an end, and the disk is as it was
+  pub opens_found : (bodies : List (List ℕ)) → IsRead (d.content old) (image_bytes image)
+      → IsWhole (image_bytes image) bodies → journal.end ≡ end_of bodies
+      → d.content new ≡ d.content old → Only (d.content old) (d.image new)
+      → Opens d old new journal image
+  opens_found bodies read whole ends same durable =
+      let stands = wider (d.content old) (image_bytes image) bodies read.front whole in
+      record {
+        shows = record {
+          bodies = bodies;
+          stood = inr stands;
+          short = omega (arith, ends, journal.short);
+          whole = whole;
+        };
+        ready = record {
+          whole = subst (λ (l : List ℕ). IsWhole l bodies) (sym same) stands;
+          ends = ends;
+          durable = λ c now. durable c now ∙ sym same;
+        };
+        kept = λ _. same;
+        made = λ none. absurd (none stands);
+      }
+
+  -- the file was not begun, and now it is
+  pub opens_made : length (d.content old) ≤ 9 → (IsWhole (d.content old) [] → ⊥)
+      → image_bytes image ≡ no_records → journal.end ≡ 9 → d.content new ≡ no_records
+      → Only (d.content new) (d.image new) → Opens d old new journal image
+  opens_made short none is ends made durable = record {
+    shows = record {
+      bodies = [];
+      stood = inl (short, refl);
+      short = omega arith;
+      whole = no_records_whole (image_bytes image) is;
+    };
+    ready = record {
+      whole = no_records_whole (d.content new) made;
+      ends = ends;
+      durable = durable;
+    };
+    kept = λ whole. absurd (none whole);
+    made = λ _. made;
+  }
+
+-- a short file that was read has no header
+pub no_header : (content bytes : List ℕ) → IsRead content bytes → length bytes ≤ 9
+    → ((bs : List (List ℕ)) → IsWhole bytes bs → 2 ^ 32 ≤ end_of bs) → IsWhole content [] → ⊥
+no_header content bytes read short none whole =
+    let all : bytes ≡ content = read.all (omega (arith, short)) in
+    let beyond = none [] (subst (λ (l : List ℕ). IsWhole l []) (sym all) whole) in
+    omega (arith, beyond)
+
+-- a write of a header and a closed gate over a short file
+pub header_written : (old new : List ℕ) → length old ≤ 9 → Holds old 0 no_records new
+    → new ≡ no_records
+header_written old new short holds =
+    holds ∙ ap (λ (l : List ℕ). no_records ++ l) (drop_all 9 old short) ∙ append-nil no_records

@@ -1,0 +1,53 @@
+use Rattle.std.proofs.Common.{◌≡◌, ℕ, ◌<◌, ◌≤◌, List, length, refl, sym, ◌∙◌, ap, subst, arith}
+use Rattle.rx_disk.specs.Disk.{Holds}
+use Rattle.rx_frame.specs.File.{IsWhole, no_records}
+use Rattle.rx_journal.specs.Reading.{IsRead}
+use Rattle.rx_journal.proofs.Opened.{not_journal, opens_found, opens_made, no_header, header_written}
+use Rattle.rx_journal.proofs.journal.Journal.open.Goals as goal
+
+pub returns-in-Some-clause-opened : goal.returns-in-Some-clause-opened
+returns-in-Some-clause-opened g c = λ told.
+    let d = g.D.Disk in
+    let bytes = c.in_ok-bytes.bytes.items in
+    let synced = c.sync.ensures.same told in
+    let read = subst (λ (l : List ℕ). IsRead l bytes) synced (c.in_ok-bytes.ensures.bytes told) in
+    let found = c.in-Some.ensures.some in
+    let whole = subst (λ (l : List ℕ). IsWhole l found.0) c.deref.ensures.value found.1 in
+    let untouched = c.read_all.ensures.untouched told in
+    opens_found d c.args.disk.now c.read_all.new.disk _ _ found.0 read whole found.2
+    (untouched.same ∙ synced)
+    (λ f now. c.in_ok-sync.ensures.durable told f (untouched.crash f now))
+
+pub returns-then-len-gt-SHORTEST-clause-not_journal :
+    goal.returns-then-len-gt-SHORTEST-clause-not_journal
+returns-then-len-gt-SHORTEST-clause-not_journal g c = λ told is journal.
+    let bytes = c.in_ok-bytes.bytes.items in
+    let read = subst (λ (l : List ℕ). IsRead l bytes) (c.sync.ensures.same told)
+    (c.in_ok-bytes.ensures.bytes told) in
+    let long : 9 < length bytes =
+    omega (arith, c.in_ok-bytes.bytes.ok.0) in
+    not_journal _ bytes read long
+    (λ bs whole. c.in_default.ensures.none bs
+    (subst (λ (l : List ℕ). IsWhole l bs) (sym c.deref.ensures.value) whole))
+    journal
+
+pub returns-clause-opened : goal.returns-clause-opened
+returns-clause-opened g c = λ told.
+    let d = g.D.Disk in
+    let content = d.content c.args.disk.now in
+    let bytes = c.in_ok-bytes.bytes.items in
+    let synced = c.sync.ensures.same told in
+    let read = subst (λ (l : List ℕ). IsRead l bytes) synced (c.in_ok-bytes.ensures.bytes told) in
+    let short : length bytes ≤ 9 =
+    omega (arith, c.in_ok-bytes.bytes.ok.0) in
+    let all : bytes ≡ content = read.all (omega (arith, short)) in
+    let short_content : length content ≤ 9 = omega (arith, short, ap length all) in
+    let none = no_header content bytes read short
+    (λ bs whole. c.in_default.ensures.none bs
+    (subst (λ (l : List ℕ). IsWhole l bs) (sym c.deref.ensures.value) whole)) in
+    let untouched = c.read_all.ensures.untouched told in
+    let holds = subst (λ (l : List ℕ). Holds l 0 no_records (d.content c.write_durably.new.disk))
+    (untouched.same ∙ synced) (c.in_ok-write_durably.ensures.written told) in
+    opens_made d c.args.disk.now c.write_durably.new.disk _ _ short_content none
+    c.in_ok-made.ensures.items refl (header_written content _ short_content holds)
+    (c.in_ok-write_durably.ensures.durable told)

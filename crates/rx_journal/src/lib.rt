@@ -1,0 +1,18 @@
+//! A journal on a disk. A record counts once a second write has opened the gate before it, so a
+//! crash at any moment leaves the records with the new one or without it, and nothing else.
+#![tactic(auto)]
+
+mod durable;
+mod image;
+mod journal;
+mod laws;
+mod open;
+mod reading;
+
+pub use image::Image;
+pub use journal::{AppendFault, Journal, LONGEST, SHORTEST};
+pub use laws::grows_on;
+pub use open::OpenFault;
+
+#[cfg(test)]
+mod tests;
