@@ -59,11 +59,9 @@ module _ (tells : Type 0) (input old new : List ℕ) where
       omega (
         arith,
         count,
-        ap length (sym e
-            ∙ f),
+        ap length (sym e ∙ f),
         length-append ((done ++ front) ++ b ∷ []) left,
-        length-append (done
-            ++ front) (b ∷ []),
+        length-append (done ++ front) (b ∷ []),
         length-append taken left,
       )
 
@@ -95,13 +93,13 @@ module _ (tells : Type 0) (input old new : List ℕ) where
       → (IsErrOf {T = Next} (Err why) TooLong → Took 0 input left (λ k. k ≡ max_input_bytes + 1))
       → (IsErrOf {T = Next} (Err why) Sink → ⊥)
       → Ends (Err why) input left tells old new
-  reader_stopped Read done rest left n r s so told stops long took sunk = reading_stopped done rest
-      left n r s so told (stops refl)
+  reader_stopped Read done rest left n r s so told stops long took sunk =
+      reading_stopped done rest left n r s so told (stops refl)
   reader_stopped Sink done rest left n r s so told stops long took sunk = absurd (sunk refl)
   reader_stopped Memory done rest left n r s so told stops long took sunk =
       (done, rest, so.split, told)
-  reader_stopped TooLong done rest left n r s so told stops long took sunk = too_long_stopped done
-      rest left n r s so told (long refl) (took refl)
+  reader_stopped TooLong done rest left n r s so told stops long took sunk =
+      too_long_stopped done rest left n r s so told (long refl) (took refl)
 
   -- ---- nothing was left
 
@@ -215,14 +213,12 @@ module _ (tells : Type 0) (input w0 w1 w2 : List ℕ) where
       let done = story.0 in
       let so = story.1 in
       let next_so = line_more done input rest rest' l n r s so takes.2.0 takes.2.1 in
-      let same_r : r || is_refused l s
-      ≡ r || now = ap (λ v. r || v) (sym (is ∙ ap (λ v. is_refused v s) takes.1
-      ∙ kept_refused l s)) in
+      let same_r : r || is_refused l s ≡ r || now =
+      ap (λ v. r || v) (sym (is ∙ ap (λ v. is_refused v s) takes.1 ∙ kept_refused l s)) in
       let same_s : next l s ≡ s' = sym (after ∙ ap (λ v. next v s) takes.1 ∙ kept_next l s) in
-      let P : Bool → Type 0 = λ b. SoFar (done
-      ++ (l ++ 10 ∷ [])) input rest' (n + 1) b (next l s) in
-      let Q : Session → Type 0 = λ x. SoFar (done
-      ++ (l ++ 10 ∷ [])) input rest' (n + 1) (r || now) x in (
+      let played = done ++ (l ++ 10 ∷ []) in
+      let P : Bool → Type 0 = λ b. SoFar played input rest' (n + 1) b (next l s) in
+      let Q : Session → Type 0 = λ x. SoFar played input rest' (n + 1) (r || now) x in (
         done ++ (l ++ 10 ∷ []),
         subst Q same_s (subst P same_r next_so),
         λ t. wrote t ∙ ap (λ v. w1 ++ v) (ap (λ v. said (n + 1) v s) takes.1

@@ -90,8 +90,7 @@ make_shown : (cs cs' : Collections) (ws : Watches) (name : List ℕ) (d : Data) 
 make_shown cs cs' ws name d p can new is reply emits =
     let done : Outcome = record {
       reply = Collection;
-      session = record (shown cs ws)
-          { collections = put_named cs name [] };
+      session = record (shown cs ws) { collections = put_named cs name [] };
     } in
     let e : make name d (shown cs ws) ≡ done = rw can refl in
     let P : Outcome → Type 0 = λ x. Plays x (shown cs' ws) p in
@@ -130,8 +129,7 @@ insert_shown cs cs' ws coll d key ps docs p reads held new is reply emits =
     let after = put_named cs coll (put_in_order docs key ps) in
     let done : Outcome = record {
       reply = Insert (first_revision coll);
-      session = record
-          (shown cs ws) { collections = after };
+      session = record (shown cs ws) { collections = after };
     } in
     let e : insert coll d (shown cs ws) ≡ done = rw (reads, held, new) refl in
     let P : Outcome → Type 0 = λ x. Plays x (shown cs' ws) p in
