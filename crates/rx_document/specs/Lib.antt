@@ -1,0 +1,4 @@
+pub mod Revision
+pub mod Place
+pub mod Documents
+pub mod Change

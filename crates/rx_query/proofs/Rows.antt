@@ -1,0 +1,166 @@
+-- The result of a query: there is one, and a sort of lent documents gives it.
+use Rattle.std.proofs.Common.{◌≡◌, ℕ, zero, suc, Bool, true, false, cond, Bor, Option, Some, None, List, [], ◌∷◌, map, filter, take, drop, Ordering, Less, refl, sym, ap, ◌∙◌, subst}
+use Rattle.std.proofs.lemmas.Bool.{false≢true}
+use Rattle.std.proofs.lemmas.Cmp.{on_total}
+use Rattle.std.proofs.lemmas.List.Sorted.{IsPermutation-map, IsPermutation-sym, IsPermutation-trans}
+use Rattle.std.proofs.lemmas.Slice.Eq.{bytes_eq-Decides}
+use Rattle.std.specs.Cmp.{IsTotalOrder, Equal-is}
+use Rattle.std.specs.List.{AllByRecursion, IsDistinct}
+use Rattle.std.specs.List.Sorted.{IsPermutation, IsSortedBy, IsStrictlySortedBy}
+use Rattle.std.specs.Ordering.{is_lt, eq_by_cmp}
+use Rattle.std.specs.Str.{bytes_eq}
+use Rattle.rx_value.specs.Named.{named}
+use Rattle.rx_value.specs.declared.value.Value.TheVariants.{Text}
+use Rattle.rx_document.specs.declared.stored.Stored.{Stored}
+use Rattle.rx_query.specs.Asked.{Asked}
+use Rattle.rx_query.specs.Result.{is_due, stored_cmp, cut, IsResult, AreKeyed, ResultsAreDetermined}
+use Rattle.rx_query.proofs.Orders.{query_total, keys_decide}
+use Rattle.rx_query.proofs.Sorting.{sorted, sorted-permutes, one_order, ordered-sorted, strict_from_sort}
+
+-- ---- lists seen through a function
+
+module _ {A B : Type 0} (f : A → B) where
+  map-filter : (p : B → Bool) (xs : List A) → map f (filter (λ a. p (f a)) xs) ≡ filter p (map f xs)
+  map-filter p [] = refl
+  map-filter p (x ∷ xs) =
+      let rest = map-filter p xs in
+      let passed = filter (λ a. p (f a)) xs in
+      elim (p (f x)) as (λ b. map f (cond b (x ∷ passed) passed)
+      ≡ cond b (f x ∷ filter p (map f xs)) (filter p (map f xs)))
+      [ true ↦ ap (λ zs. f x ∷ zs) rest | false ↦ rest ]
+
+  map-take : (n : ℕ) (xs : List A) → map f (take n xs) ≡ take n (map f xs)
+  map-take zero xs = refl
+  map-take (suc n) [] = refl
+  map-take (suc n) (x ∷ xs) = ap (λ ys. f x ∷ ys) (map-take n xs)
+
+  map-drop : (n : ℕ) (xs : List A) → map f (drop n xs) ≡ drop n (map f xs)
+  map-drop zero xs = refl
+  map-drop (suc n) [] = refl
+  map-drop (suc n) (x ∷ xs) = map-drop n xs
+
+  map-cut : (limit : Option ℕ) (xs : List A) → map f (cut limit xs) ≡ cut limit (map f xs)
+  map-cut None xs = refl
+  map-cut (Some n) xs = map-take n xs
+
+  all-map : (P : B → Type 0) (xs : List A) → AllByRecursion (λ a. P (f a)) xs
+      → AllByRecursion P (map f xs)
+  all-map P [] h = tt
+  all-map P (x ∷ xs) h = (h.0, all-map P xs h.1)
+
+  all_mapped : (P : B → Type 0) (xs : List A) → AllByRecursion P (map f xs)
+      → AllByRecursion (λ a. P (f a)) xs
+  all_mapped P [] h = tt
+  all_mapped P (x ∷ xs) h = (h.0, all_mapped P xs h.1)
+
+  strict-map : (cmp : B → B → Ordering) (xs : List A)
+      → IsStrictlySortedBy (λ a b. cmp (f a) (f b)) xs → IsStrictlySortedBy cmp (map f xs)
+  unfolding IsStrictlySortedBy
+  strict-map cmp [] up = tt
+  strict-map cmp (x ∷ xs) up =
+      (all-map (λ z. cmp (f x) z ≡ Less) xs up.0, strict-map cmp xs up.1)
+
+  distinct_mapped : (same : B → B → Bool) (xs : List A) → IsDistinct same (map f xs)
+      → IsDistinct (λ a b. same (f a) (f b)) xs
+  unfolding IsDistinct
+  distinct_mapped same [] h = tt
+  distinct_mapped same (x ∷ xs) h =
+      (all_mapped (λ z. same (f x) z ≡ false) xs h.0, distinct_mapped same xs h.1)
+
+-- ---- documents with distinct keys don't tie
+
+-- what isn't so is not
+not_so : (b : Bool) → (b ≡ true → ⊥) → b ≡ false
+not_so true h = absurd (h refl)
+not_so false h = refl
+
+-- one that carries another key
+apart : (q : Asked) (x y : Stored) → named x.state.fields q.primary ≡ Some (Text x.state.key)
+    → named y.state.fields q.primary ≡ Some (Text y.state.key)
+    → bytes_eq x.state.key y.state.key ≡ false → eq_by_cmp (stored_cmp q) x y ≡ false
+apart q x y at_x at_y differ =
+    not_so (eq_by_cmp (stored_cmp q) x y)
+    (λ tie. keys_decide q x.state.fields y.state.fields x.state.key y.state.key at_x at_y
+    (λ same. false≢true (sym differ ∙ (bytes_eq-Decides x.state.key y.state.key).1 same))
+    ((Equal-is (stored_cmp q x y)).0 tie))
+
+-- one and all others
+apart_due : (q : Asked) (x : Stored) (docs : List Stored)
+    → named x.state.fields q.primary ≡ Some (Text x.state.key)
+    → AllByRecursion (λ k. bytes_eq x.state.key k ≡ false) (map (λ d. d.state.key) docs)
+    → AllByRecursion (λ d. named d.state.fields q.primary ≡ Some (Text d.state.key)) docs
+    → AllByRecursion (λ y. eq_by_cmp (stored_cmp q) x y ≡ false) (filter (is_due q) docs)
+apart_due q x [] at differ carried = tt
+apart_due q x (d ∷ docs) at differ carried =
+    let rest = apart_due q x docs at differ.1 carried.1 in
+    elim (is_due q d) as (λ b. AllByRecursion (λ y. eq_by_cmp (stored_cmp q) x y ≡ false)
+    (cond b (d ∷ filter (is_due q) docs) (filter (is_due q) docs)))
+    [ true ↦ (apart q x d at carried.0 differ.0, rest) | false ↦ rest ]
+
+-- all that are due
+distinct_due : (q : Asked) (docs : List Stored) → IsDistinct bytes_eq (map (λ d. d.state.key) docs)
+    → AllByRecursion (λ d. named d.state.fields q.primary ≡ Some (Text d.state.key)) docs
+    → IsDistinct (eq_by_cmp (stored_cmp q)) (filter (is_due q) docs)
+unfolding IsDistinct
+distinct_due q [] differ carried = tt
+distinct_due q (d ∷ docs) differ carried =
+    let rest = distinct_due q docs differ.1 carried.1 in
+    elim (is_due q d) as (λ b. IsDistinct (eq_by_cmp (stored_cmp q))
+    (cond b (d ∷ filter (is_due q) docs) (filter (is_due q) docs)))
+    [ true ↦ (apart_due q d docs carried.0 differ.0 carried.1, rest) | false ↦ rest ]
+
+-- ---- there is one result
+
+-- documents in the order of a query are in total order
+stored_total : (q : Asked) → IsTotalOrder (stored_cmp q)
+stored_total q = on_total (λ (d : Stored). d.state.fields) (query_total q)
+
+pub one_result : ResultsAreDetermined
+one_result q docs keyed =
+    let due = filter (is_due q) docs in
+    let precedes : Stored → Stored → Bool = λ x y. is_lt (stored_cmp q x y) in
+    let all = sorted precedes due in
+    let once = sorted-permutes precedes due in
+    let up = ordered-sorted (stored_cmp q) (stored_total q) due
+    (distinct_due q docs keyed.distinct keyed.carried) in
+    record {
+      rows = cut q.limit (drop q.skip all);
+      is_result = record { all = all; each_once = once; in_order = up; window = refl };
+      no_other = λ others r.
+          r.window
+          ∙ ap (λ rows. cut q.limit (drop q.skip rows))
+          (one_order (stored_cmp q) (stored_total q) r.all all r.in_order up
+          (IsPermutation-trans r.all due all (IsPermutation-sym due r.all r.each_once) once));
+    }
+
+-- ---- a sort of lent documents gives it
+
+-- lent documents as they are
+abbrev pub lent : List (Bor Stored) → List Stored
+lent = map (λ d. d.now)
+
+-- and their order
+abbrev pub lent_cmp : Asked → Bor Stored → Bor Stored → Ordering
+lent_cmp q a b = stored_cmp q a.now b.now
+
+pub sort_gives : (q : Asked) (docs all rows : List (Bor Stored)) → AreKeyed q.primary (lent docs)
+    → IsPermutation (filter (λ d. is_due q d.now) docs) all
+    → IsSortedBy (λ a b. is_lt (lent_cmp q a b)) all → rows ≡ cut q.limit (drop q.skip all)
+    → IsResult q (lent docs) (lent rows)
+sort_gives q docs all rows keyed moved up window =
+    let now : Bor Stored → Stored = λ d. d.now in
+    let due = filter (λ (d : Bor Stored). is_due q d.now) docs in
+    let same = map-filter now (is_due q) docs in
+    let differ = distinct_mapped now (eq_by_cmp (stored_cmp q)) due
+    (subst (IsDistinct (eq_by_cmp (stored_cmp q))) (sym same)
+    (distinct_due q (lent docs) keyed.distinct keyed.carried)) in
+    record {
+      all = lent all;
+      each_once =
+          subst (λ xs. IsPermutation xs (lent all)) same (IsPermutation-map now due all moved);
+      in_order = strict-map now (stored_cmp q) all
+          (strict_from_sort (lent_cmp q) (on_total now (stored_total q)) due all differ moved up);
+      window =
+          ap (map now) window ∙ map-cut now q.limit (drop q.skip all)
+          ∙ ap (cut q.limit) (map-drop now q.skip all);
+    }

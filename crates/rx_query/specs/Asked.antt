@@ -1,0 +1,27 @@
+-- Queries, whatever memory they lie in.
+use Rattle.std.specs.Prelude.{ℕ, Bool, List, Option}
+use Rattle.rx_selector.specs.Tree.{Clauses, said}
+use Rattle.rx_query.specs.declared.query.Query.{Query}
+
+-- the fields to sort by, and whether the order of each is reversed
+abbrev pub Sorts : Type 0
+Sorts = List (List ℕ × Bool)
+
+-- what is asked for: what the fields must hold, the order, how many rows are left out in front,
+-- how many are left at most, and the primary key
+pub record Asked : Type 0 where
+  pub clauses : Clauses
+  pub sorts : Sorts
+  pub skip : ℕ
+  pub limit : Option ℕ
+  pub primary : List ℕ
+
+-- what a query asks for
+abbrev pub asked : Query → Asked
+asked q = record {
+  clauses = said q.selector;
+  sorts = q.sorts.items;
+  skip = q.skip;
+  limit = q.limit;
+  primary = q.primary;
+}

@@ -1,0 +1,5 @@
+pub mod Faults
+pub mod Asked
+pub mod Order
+pub mod Result
+pub mod Reading

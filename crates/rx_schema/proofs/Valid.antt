@@ -1,0 +1,162 @@
+-- What holds of valid fields.
+use Rattle.std.proofs.Common.{◌≡◌, ℕ, zero, suc, ◌<◌, Bool, true, false, cond, not, ◌&&◌, ◌||◌, List, [], ◌∷◌, length, Option, Some, None, is_none, option_map, refl, sym, ap, ◌∙◌, true≢false, arith, nat_eq, nat_lt}
+use Rattle.std.proofs.lemmas.Slice.Eq.{bytes_eq-Decides}
+use Rattle.std.specs.List.{AllByRecursion}
+use Rattle.std.specs.Option.{option_or}
+use Rattle.std.specs.Prelude.{⊤, Result, Ok, Err, IfOk}
+use Rattle.std.specs.Str.{bytes_eq, chars}
+use Rattle.rx_value.specs.Fields.{Pair, Pairs}
+use Rattle.rx_value.specs.Form.{is_among}
+use Rattle.rx_value.specs.Name.{is_field_name}
+use Rattle.rx_value.specs.Named.{named}
+use Rattle.rx_value.specs.State.{mark}
+use Rattle.rx_value.specs.declared.value.Value.{Value}
+use Rattle.rx_value.specs.declared.value.Value.TheVariants as value
+use Rattle.rx_schema.specs.Lawful.{IsSchema}
+use Rattle.rx_schema.specs.Validity.{Fault, of_length, is_long_enough, unless_fits, fault_of, first_missing, first_unknown, first_bad, first_fault, outcome, missing, unknown, HasKey}
+use Rattle.rx_schema.specs.declared.rule.Rule.{Rule}
+use Rattle.rx_schema.specs.declared.rule.Rule.TheVariants.{Text}
+use Rattle.rx_schema.specs.declared.shape.Shape.{Shape}
+use Rattle.rx_schema.specs.declared.validity.Invalid.{Invalid}
+use Rattle.rx_schema.proofs.Properties.{Rules}
+
+-- the first of two was none, and so the second
+none_or : {A : Type 0} (a b : Option A) → option_or a b ≡ None → (a ≡ None) × (b ≡ None)
+none_or None b h = (refl, h)
+none_or (Some x) b h = cc
+
+-- nothing was made of nothing
+none_of : {A B : Type 0} (f : A → B) (a : Option A) → option_map f a ≡ None → a ≡ None
+none_of f None h = refl
+none_of f (Some x) h = cc
+
+-- ---- no mark
+
+-- one property, and then the others
+name_step : (p : List ℕ × Rule) (rules : Rules) (k : List ℕ) (same : Bool) → bytes_eq k p.0 ≡ same
+    → is_field_name p.0 ≡ true → is_none (cond same (Some p.1) (named rules k)) ≡ false
+    → (is_none (named rules k) ≡ false → is_field_name k ≡ true) → is_field_name k ≡ true
+name_step p rules k true is named_so h rest = ap is_field_name ((bytes_eq-Decides k p.0).0 is)
+    ∙ named_so
+name_step p rules k false is named_so h rest = rest h
+
+-- a property has a field name
+name_of : (rules : Rules) (k : List ℕ) → AllByRecursion (λ p. is_field_name p.0 ≡ true) rules
+    → is_none (named rules k) ≡ false → is_field_name k ≡ true
+name_of [] k all h = cc
+name_of (p ∷ rules) k all h = name_step p rules k (bytes_eq k p.0) refl all.0 h
+    (name_of rules k all.1)
+
+-- one field, and then the others
+mark_step : (rules : Rules) (p : Pair) (ps : Pairs) (strange same : Bool)
+    → is_none (named rules p.0) ≡ strange → bytes_eq mark p.0 ≡ same
+    → AllByRecursion (λ q. is_field_name q.0 ≡ true) rules
+    → cond strange (Some p.0) (first_unknown rules ps) ≡ None
+    → (first_unknown rules ps ≡ None → named ps mark ≡ None)
+    → cond same (Some p.1) (named ps mark) ≡ None
+mark_step rules p ps true same is at all h rest = cc
+mark_step rules p ps false false is at all h rest = rest h
+mark_step rules p ps false true is at all h rest =
+    let name = name_of rules p.0 all is in
+    let no : is_field_name mark ≡ false = refl in
+    absurd (true≢false (sym name ∙ sym (ap is_field_name ((bytes_eq-Decides mark p.0).0 at)) ∙ no))
+
+-- a field that is known isn't the mark
+unmarked : (rules : Rules) (ps : Pairs) → AllByRecursion (λ p. is_field_name p.0 ≡ true) rules
+    → first_unknown rules ps ≡ None → named ps mark ≡ None
+unmarked rules [] all h = refl
+unmarked rules (p ∷ ps) all h =
+    mark_step rules p ps (is_none (named rules p.0)) (bytes_eq mark p.0) refl refl all h
+    (unmarked rules ps all)
+
+-- valid fields have no mark
+pub no_mark : (s : Shape) (ps : Pairs) → IsSchema s → first_fault s ps ≡ None → named ps mark ≡ None
+no_mark s ps schema h =
+    let a = none_or (option_map missing (first_missing s.required ps)) _ h in
+    let b = none_or (option_map unknown (first_unknown s.properties ps)) _ a.1 in
+    unmarked s.properties ps schema.names (none_of unknown (first_unknown s.properties ps) b.0)
+
+-- ---- the key
+
+-- one name, and then the others
+there_step : (n : List ℕ) (ps : Pairs) (k : List ℕ) (found : Option Value) (same : Bool)
+    → named ps n ≡ found → bytes_eq n k ≡ same → (rest : Option (List ℕ)) (among : Bool)
+    → cond (is_none found) (Some n) rest ≡ None → (same || among) ≡ true
+    → (rest ≡ None → among ≡ true → (v : Value) × (named ps k ≡ Some v))
+    → (v : Value) × (named ps k ≡ Some v)
+there_step n ps k None same is at rest among h g later = cc
+there_step n ps k (Some v) true is at rest among h g later =
+    (v, ap (named ps) (sym ((bytes_eq-Decides n k).0 at)) ∙ is)
+there_step n ps k (Some v) false is at rest among h g later = later h g
+
+-- a required field is there
+there : (names : List (List ℕ)) (ps : Pairs) (k : List ℕ) → first_missing names ps ≡ None
+    → is_among names k ≡ true → (v : Value) × (named ps k ≡ Some v)
+there [] ps k h g = cc
+there (n ∷ names) ps k h g =
+    there_step n ps k (named ps n) (bytes_eq n k) refl refl (first_missing names ps)
+    (is_among names k) h g
+    (λ i j. there names ps k i j)
+
+-- one field, and then the others
+fits_step : (s : Shape) (p : Pair) (ps : Pairs) (k : List ℕ) (v : Value) (same : Bool)
+    → bytes_eq k p.0 ≡ same
+    → fault_of (named s.properties p.0) (bytes_eq p.0 s.primary) p.0 p.1 ≡ None
+    → cond same (Some p.1) (named ps k) ≡ Some v
+    → (named ps k ≡ Some v → fault_of (named s.properties k) (bytes_eq k s.primary) k v ≡ None)
+    → fault_of (named s.properties k) (bytes_eq k s.primary) k v ≡ None
+fits_step s p ps k v true is h g rest =
+    let name = (bytes_eq-Decides k p.0).0 is in
+    let held : p.1 ≡ v = cc in
+    rw (name, ← held) h
+fits_step s p ps k v false is h g rest = rest g
+
+-- a field of valid values fits its rule
+fits : (s : Shape) (ps : Pairs) (k : List ℕ) (v : Value) → first_bad s ps ≡ None
+    → named ps k ≡ Some v → fault_of (named s.properties k) (bytes_eq k s.primary) k v ≡ None
+fits s [] k v h g = cc
+fits s (p ∷ ps) k v h g =
+    let a = none_or (fault_of (named s.properties p.0) (bytes_eq p.0 s.primary) p.0 p.1)
+    (first_bad s ps) h in
+    fits_step s p ps k v (bytes_eq k p.0) refl a.0 g (fits s ps k v a.1)
+
+-- a text of the primary key isn't empty
+not_empty : (n : ℕ) (a : Bool) → (a && not (true && nat_eq n 0)) ≡ true → 0 < n
+not_empty zero true h = cc
+not_empty zero false h = cc
+not_empty (suc n) a h = omega arith
+
+-- it fitted
+fitting : (b : Bool) (f : Fault) → unless_fits b f ≡ None → b ≡ true
+fitting true f h = refl
+fitting false f h = cc
+
+-- a value that fits a text's rule, of the primary key
+text_of : (most : ℕ) (k : List ℕ) (v : Value) → fault_of (Some (Text most)) true k v ≡ None
+    → (key : List ℕ) × (v ≡ value.Text key) × (0 < length (chars key))
+text_of most k (value.Text key) h = (
+  key,
+  refl,
+  not_empty (length (chars key)) (not (nat_lt most (length (chars key))))
+      (fitting (is_long_enough most true key) (of_length k) h),
+)
+text_of most k _ h = cc
+
+-- valid fields have a key
+pub has_key : (s : Shape) (ps : Pairs) → IsSchema s → first_fault s ps ≡ None → HasKey ps s.primary
+has_key s ps schema h =
+    let a = none_or (option_map missing (first_missing s.required ps)) _ h in
+    let b = none_or (option_map unknown (first_unknown s.properties ps)) _ a.1 in
+    let missing_none = none_of missing (first_missing s.required ps) a.0 in
+    let v = there s.required ps s.primary missing_none schema.required in
+    let fit = fits s ps s.primary v.0 b.1 v.1 in
+    let t = text_of schema.primary.0 s.primary v.0
+    (rw (schema.primary.1, (bytes_eq-Decides s.primary s.primary).1 refl) at fit) in
+    (t.0, v.1 ∙ ap Some t.1, t.2)
+
+-- what holds of fields without a fault holds where the answer is good
+pub when_good : {P : Type 0} (r : Result ⊤ Invalid) (f : Option Fault) → outcome r ≡ f
+    → (f ≡ None → P)
+    → IfOk r (λ _. P)
+when_good (Ok u) f h g = g (sym h)
+when_good (Err e) f h g = tt

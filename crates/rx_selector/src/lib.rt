@@ -1,0 +1,15 @@
+//! Selectors: which fields a query asks for.
+#![tactic(auto)]
+
+mod fault;
+mod holding;
+mod operand;
+mod operators;
+mod reading;
+mod selector;
+mod tree;
+mod values;
+
+pub use fault::SelectorFault;
+pub use selector::Selector;
+pub use tree::Compare;
