@@ -1,0 +1,6 @@
+pub mod Held
+pub mod Time
+pub mod Commit
+pub mod Since
+pub mod Standing
+pub mod Lawful

@@ -1,0 +1,13 @@
+//! Collections: finite maps from keys to documents, tombstones too, seen by key and by place.
+#![tactic(auto)]
+
+mod all;
+mod collection;
+mod commit;
+mod holder;
+mod page;
+
+pub use all::All;
+pub use collection::{Collection, MOST_LWT};
+pub use holder::{Holder, Plain};
+pub use page::Page;

@@ -1,0 +1,12 @@
+pub mod Steps
+pub mod Numbers
+pub mod Texts
+pub mod Lists
+pub mod Values
+pub mod States
+pub mod Skipped
+pub mod Within
+pub mod Contents
+pub mod Kept
+pub mod AtEnd
+pub mod Written

@@ -1,0 +1,13 @@
+use Rattle.std.proofs.Common.{◌≡◌, ℕ, List, [], ◌++◌, length, ap, sym, ◌∙◌, append-nil}
+use Rattle.rx_record.specs.Content.{content_bytes, content_of, ended, placed}
+use Rattle.rx_record.specs.Shown.{content}
+use Rattle.rx_record.proofs.record.Record.write.Goals as goal
+
+pub returns-clause-back : goal.returns-clause-back
+returns-clause-back c =
+    let said = content c.args.self.now in
+    let body = c.put_record.new.out.items in
+    let is : body ≡ content_bytes said ++ [] =
+    c.in_ok-put_record.ensures.bytes ∙ ap (λ (l : List ℕ). l ++ content_bytes said) c.new-body.ensures.items
+    ∙ sym (append-nil (content_bytes said)) in
+    ap (λ m. placed (length body) (ended m)) (ap content_of is ∙ c.in_ok-put_record.ensures.back [])

@@ -1,0 +1,34 @@
+use Rattle.std.proofs.Common.{List, ℕ, ◌++◌, take, ap, sym, ◌∙◌, subst, append_assoc, arith}
+use Rattle.rx_record.specs.Parts.{text_bytes, text_of}
+use Rattle.rx_record.specs.Fields.{value_bytes, pair_bytes, pair_of, all_bytes}
+use Rattle.rx_record.specs.Writable.{ReadsBack}
+use Rattle.rx_record.proofs.Written.{one_more, all_more, PairReadsBack, pair_reads_back, fields_read_back}
+use Rattle.rx_record.proofs.writing.put_fields.Goals as goal
+
+pub loop-i-preserved : goal.loop-i-preserved
+loop-i-preserved c =
+    let fields = c.args.fields.now in
+    let name = c.at.result.0.now in
+    let value = c.at.result.1.now in
+    let before = c.put_count.new.out.items in
+    let front = all_bytes pair_bytes (take c.loop-i.i fields) in
+    record {
+      bytes =
+          c.in_ok-put_value.ensures.bytes
+          ∙ ap (λ (l : List ℕ). l ++ value_bytes value)
+          (c.in_ok-put_text.ensures.bytes ∙ ap (λ (l : List ℕ). l ++ text_bytes c.as_str.result.now) c.loop-i.invariant.bytes
+          ∙ ap (λ (t : List ℕ). (before ++ front) ++ text_bytes t) c.as_str.ensures)
+          ∙ append_assoc (before ++ front) (text_bytes name) (value_bytes value)
+          ∙ append_assoc before front (pair_bytes (name, value))
+          ∙ ap (λ (l : List ℕ). before ++ l)
+          (sym (one_more pair_bytes (λ p. p.0) pair_of fields c.loop-i.i (name, value) c.at.ensures));
+      back =
+          all_more PairReadsBack fields c.loop-i.i (name, value) c.at.ensures c.loop-i.invariant.back
+          (pair_reads_back (name, value)
+          (subst (ReadsBack text_bytes text_of) c.as_str.ensures c.in_ok-put_text.ensures.back)
+          c.in_ok-put_value.ensures.back);
+    }
+
+pub returns-clause-back : goal.returns-clause-back
+returns-clause-back c =
+    fields_read_back c.args.fields.now c.loop-i.i (omega (arith, c.loop-i-test.false, c.len-i-end.ensures)) c.requires.count c.requires.fields.rising c.loop-i.invariant.back

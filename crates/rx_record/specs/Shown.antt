@@ -1,0 +1,26 @@
+-- What a record and its view say.
+use Rattle.std.specs.Prelude.{◌≡◌, Result, Ok, Err}
+use Rattle.rx_record.specs.Content.{Content, collection, rows, epoch}
+use Rattle.rx_record.specs.Views.{rows_left}
+use Rattle.rx_record.specs.declared.at.At.{At}
+use Rattle.rx_record.specs.declared.record.Record.{Record}
+use Rattle.rx_record.specs.declared.record.Record.TheVariants as owned
+use Rattle.rx_record.specs.declared.record_view.RecordView.{RecordView}
+use Rattle.rx_record.specs.declared.record_view.RecordView.TheVariants as lent
+
+-- what a record says
+abbrev pub content : Record → Content
+content (owned.Collection name schema) = collection name schema
+content (owned.Rows name lwt written) = rows name lwt written.items
+content (owned.Epoch number) = epoch number
+
+-- what a view says
+abbrev pub content_in : RecordView → Content
+content_in (lent.Collection name schema) = collection name.now schema.now
+content_in (lent.Rows name lwt written) = rows name.now lwt (rows_left written)
+content_in (lent.Epoch number) = epoch number
+
+-- the answer is what is due
+abbrev pub Shows : Result RecordView At → Result Content At → Type 0
+Shows (Ok view) due = due ≡ Ok (content_in view)
+Shows (Err place) due = due ≡ Err place

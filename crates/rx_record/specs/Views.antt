@@ -1,0 +1,47 @@
+-- What lent parts show.
+use Rattle.std.specs.Prelude.{ℕ, List, [], option_map}
+use Rattle.rx_value.specs.Fields.{Pair, Pairs}
+use Rattle.rx_value.specs.declared.state.State.{State}
+use Rattle.rx_value.specs.declared.value.Value.{Value}
+use Rattle.rx_value.specs.declared.value.Value.TheVariants.{Flag, Int, Text}
+use Rattle.rx_record.specs.Reading.{read_or}
+use Rattle.rx_record.specs.Fields.{pairs_of, fields_of}
+use Rattle.rx_record.specs.Rows.{rows_from}
+use Rattle.rx_record.specs.declared.record.RowOut.{RowOut}
+use Rattle.rx_record.specs.declared.pair_view.PairView.{PairView}
+use Rattle.rx_record.specs.declared.pair_views.PairViews.{PairViews}
+use Rattle.rx_record.specs.declared.row_view.RowView.{RowView}
+use Rattle.rx_record.specs.declared.row_views.RowViews.{RowViews}
+use Rattle.rx_record.specs.declared.state_view.StateView.{StateView}
+use Rattle.rx_record.specs.declared.value_view.ValueView.{ValueView}
+use Rattle.rx_record.specs.declared.value_view.ValueView.TheVariants as lent
+
+-- the value
+abbrev pub value_in : ValueView → Value
+value_in (lent.Flag b) = Flag b
+value_in (lent.Int z) = Int z
+value_in (lent.Text t) = Text t.now
+
+-- the name and the value
+abbrev pub pair_in : PairView → Pair
+pair_in p = (p.name.now, value_in p.value)
+
+-- the fields that stand in bytes
+abbrev pub fields_in : List ℕ → Pairs
+fields_in bs = read_or [] (fields_of bs)
+
+-- the pairs that are still to come
+abbrev pub pairs_left : PairViews → Pairs
+pairs_left p = read_or [] (pairs_of p.left (option_map (λ t. t.now) p.last) p.bytes.now)
+
+-- the state
+abbrev pub state_in : StateView → State
+state_in s = record { key = s.key.now; fields = fields_in s.fields.now; deleted = s.deleted }
+
+-- the row
+abbrev pub row_in : RowView → RowOut
+row_in r = record { height = r.height; state = state_in r.state }
+
+-- the rows that are still to come
+abbrev pub rows_left : RowViews → List RowOut
+rows_left r = read_or [] (rows_from r.left (option_map (λ t. t.now) r.last) r.bytes.now)

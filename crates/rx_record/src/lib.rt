@@ -1,0 +1,53 @@
+//! The records of a journal and their bytes.
+//!
+//! # Parts
+//!
+//! All numbers stand with the high byte first.
+//!
+//! | part | bytes |
+//! |---|---|
+//! | flag | one byte, 0 for false or 1 for true |
+//! | count | four bytes |
+//! | long | eight bytes |
+//! | text | a count, and that many bytes of UTF-8 |
+//! | value | byte 0 and a flag; or byte 1 and a whole number from -(2^53 - 1) to 2^53 - 1 in eight bytes of two's complement; or byte 2 and a text |
+//! | fields | a count, and that many pairs of a text and a value, the texts rising by their bytes |
+//! | state | a text, its key; a flag, set where it is deleted; and fields |
+//! | rows | a count, and that many rows of a long, the height, and a state, the keys rising by their bytes |
+//!
+//! # Bodies
+//!
+//! The body of a record is the byte of its kind and what the kind says; nothing stands behind it.
+//!
+//! | kind | bytes after the kind's byte |
+//! |---|---|
+//! | 1 collection | two texts, the name and the canonical text of the schema |
+//! | 2 rows | a text, the collection's name; a long, the last write time; and rows |
+//! | 5 epoch | a long, the epoch's number |
+//!
+//! So each record has one spelling. Whether a record is legal on what stands before it, this crate
+//! does not say.
+#![tactic(auto)]
+
+mod at;
+mod kinds;
+mod owning;
+mod pair_view;
+mod pair_views;
+mod pairs;
+mod reading;
+mod record;
+mod record_view;
+mod row_view;
+mod row_views;
+mod rows;
+mod state_view;
+mod value_view;
+mod writing;
+
+pub use at::At;
+pub use record::{Record, RowOut};
+pub use record_view::RecordView;
+pub use row_view::RowView;
+pub use row_views::RowViews;
+pub use state_view::StateView;

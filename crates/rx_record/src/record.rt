@@ -1,0 +1,51 @@
+use crate::writing::put_record;
+use rx_value::{RxText, State};
+use std::alloc::{AllocError, Global};
+
+/// What a journal keeps of one change.
+#[derive(Debug, Drop)]
+pub enum Record {
+    /// A collection comes to be, with the canonical text of its schema.
+    Collection {
+        name: RxText,
+        schema: RxText,
+    },
+    /// Documents of a collection are written, by rising key, at that last write time.
+    Rows {
+        name: RxText,
+        lwt: u64,
+        rows: Vec<RowOut>,
+    },
+    /// The program starts anew.
+    Epoch {
+        number: u64,
+    },
+}
+
+impl Record {
+    ghost use Rattle.std.specs.Prelude.{◌≡◌, IfOk, Ok};
+    ghost use Rattle.rx_record.specs.Content.{content_bytes, record_of};
+    ghost use Rattle.rx_record.specs.Shown.{content};
+    ghost use Rattle.rx_record.specs.Writable.{IsWritable};
+
+    /// The body of the record, as the crate's documentation gives it byte by byte. The keys of the
+    /// rows have to rise, and each text, list of rows and list of fields has to be shorter than
+    /// 2^32; the fields keep their own order and ranges.
+    pub fn write(&self, alloc: Global) -> Result<Vec<u8>, AllocError>
+        requires { IsWritable (content self.now) }
+        ensures bytes { IfOk result (λ body. body.items ≡ content_bytes (content self.now)) }
+        ensures back { IfOk result (λ body. record_of body.items ≡ Ok (content self.now)) }
+    {
+        let mut body = Vec::new(alloc);
+        put_record(&mut body, self)?;
+        Ok(body)
+    }
+}
+
+/// One document as it was written.
+#[derive(Debug, Drop)]
+pub struct RowOut {
+    /// How often it was written, this time included.
+    pub height: u64,
+    pub state: State,
+}

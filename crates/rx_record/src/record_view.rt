@@ -1,0 +1,62 @@
+use crate::at::At;
+use crate::kinds::read_record;
+use crate::owning::own_rows;
+use crate::record::Record;
+use crate::row_views::RowViews;
+use rx_value::RxText;
+use std::alloc::{AllocError, Global};
+
+/// A record, lent from the bytes of its body.
+#[derive(Clone, Copy, Debug)]
+pub enum RecordView<'a> {
+    Collection {
+        name: &'a str,
+        schema: &'a str,
+    },
+    Rows {
+        name: &'a str,
+        lwt: u64,
+        rows: RowViews<'a>,
+    },
+    Epoch {
+        number: u64,
+    },
+}
+
+impl<'a> RecordView<'a> {
+    ghost use Rattle.std.specs.Prelude.{◌≡◌, IfOk};
+    ghost use Rattle.rx_record.specs.Content.{content_bytes, record_of};
+    ghost use Rattle.rx_record.specs.Shown.{content, content_in, Shows};
+    ghost use Rattle.rx_record.specs.Writable.{IsWritable};
+
+    /// The record whose body these bytes are, its texts and rows lent from them. Takes no memory.
+    pub fn read(body: &'a [u8]) -> Result<RecordView<'a>, At>
+        ensures exact { Shows result (record_of body.now) }
+        ensures writable { IfOk result (λ view. IsWritable (content_in view)) }
+        ensures spelled { IfOk result (λ view. content_bytes (content_in view) ≡ body.now) }
+    {
+        match read_record(body) {
+            Ok((view, [])) => Ok(view),
+            Ok((_, rest)) => Err(At((body.len() - rest.len()) as u64)),
+            Err(left) => Err(At((body.len() - left) as u64)),
+        }
+    }
+
+    /// The record in memory of its own.
+    pub fn own(&self, alloc: Global) -> Result<Record, AllocError>
+        ensures { IfOk result (λ owned. content owned ≡ content_in self.now) }
+    {
+        match self {
+            RecordView::Collection { name, schema } => Ok(Record::Collection {
+                name: RxText::new(alloc, name)?,
+                schema: RxText::new(alloc, schema)?,
+            }),
+            RecordView::Rows { name, lwt, rows } => Ok(Record::Rows {
+                name: RxText::new(alloc, name)?,
+                lwt: *lwt,
+                rows: own_rows(alloc, rows)?,
+            }),
+            RecordView::Epoch { number } => Ok(Record::Epoch { number: *number }),
+        }
+    }
+}
