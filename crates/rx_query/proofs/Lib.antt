@@ -1,3 +1,4 @@
 pub mod Orders
 pub mod Sorting
 pub mod Rows
+pub mod Numbers

@@ -47,7 +47,7 @@ level_total =
     record { antisymm = λ x y. refl; trans = λ x y z h k. h; congr = λ x y z h. refl }
 
 -- by fields in turn
-sorts_total : (ss : Sorts) → IsTotalOrder (sorts_cmp ss)
+pub sorts_total : (ss : Sorts) → IsTotalOrder (sorts_cmp ss)
 sorts_total [] = level_total
 sorts_total (s ∷ ss) = then_total (sort_total s.0 s.1) (sorts_total ss)
 

@@ -34,12 +34,12 @@ module _ {A B : Type 0} (f : A → B) where
   map-take (suc n) [] = refl
   map-take (suc n) (x ∷ xs) = ap (λ ys. f x ∷ ys) (map-take n xs)
 
-  map-drop : (n : ℕ) (xs : List A) → map f (drop n xs) ≡ drop n (map f xs)
+  pub map-drop : (n : ℕ) (xs : List A) → map f (drop n xs) ≡ drop n (map f xs)
   map-drop zero xs = refl
   map-drop (suc n) [] = refl
   map-drop (suc n) (x ∷ xs) = map-drop n xs
 
-  map-cut : (limit : Option ℕ) (xs : List A) → map f (cut limit xs) ≡ cut limit (map f xs)
+  pub map-cut : (limit : Option ℕ) (xs : List A) → map f (cut limit xs) ≡ cut limit (map f xs)
   map-cut None xs = refl
   map-cut (Some n) xs = map-take n xs
 

@@ -11,7 +11,7 @@ use Rattle.std.specs.Ordering.{is_lt, is_eq, eq_by_cmp, ordering_reverse}
 -- ---- members
 
 -- one of the list
-abbrev In : {X : Type 0} → X → List X → Type 0
+abbrev pub In : {X : Type 0} → X → List X → Type 0
 In z [] = ⊥
 In z (x ∷ xs) = (z ≡ x) ⊎ In z xs
 
@@ -35,7 +35,7 @@ place_of (x ∷ xs) z (inl e) = (0, omega arith, sym e)
 place_of (x ∷ xs) z (inr i) = let p = place_of xs z i in (suc p.0, omega (arith, p.1), p.2)
 
 -- another order has the same members
-in-permutation : {X : Type 0} (xs ys : List X) (z : X) → IsPermutation xs ys → In z xs → In z ys
+pub in-permutation : {X : Type 0} (xs ys : List X) (z : X) → IsPermutation xs ys → In z xs → In z ys
 in-permutation xs ys z p i =
     let there = Contains-permutation xs ys z p (place_of xs z i) in
     in_from_place ys there.0 z there.1 there.2
@@ -43,7 +43,7 @@ in-permutation xs ys z p i =
 -- ---- insertion
 
 -- with x before the first of those that it precedes, or at the end
-abbrev placed : {X : Type 0} → (X → X → Bool) → X → List X → List X
+abbrev pub placed : {X : Type 0} → (X → X → Bool) → X → List X → List X
 placed before x [] = x ∷ []
 placed before x (y ∷ ys) = cond (before x y) (x ∷ y ∷ ys) (y ∷ placed before x ys)
 

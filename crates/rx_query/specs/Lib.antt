@@ -3,3 +3,6 @@ pub mod Asked
 pub mod Order
 pub mod Result
 pub mod Reading
+pub mod Lists
+pub mod States
+pub mod After

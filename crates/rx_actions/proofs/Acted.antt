@@ -1,0 +1,80 @@
+-- What goes in and out is what the action says.
+use Rattle.std.proofs.Common.{◌≡◌, suc, subst, ◌++◌, [], Bool, ℕ, ◌+◌, ◌-◌, ◌<◌, ◌≤◌, Some, None, List, ◌∷◌, length, insert, remove, sym, ap, ◌∙◌, arith}
+use Rattle.rx_document.specs.declared.change.Change.{Change}
+use Rattle.rx_table.specs.declared.action.Action.TheVariants.{RemoveLastInsertFirst, RemoveLastInsertLast, ReplaceExisting, InsertAtSortPosition, RemoveExistingAndInsertAtSortPosition}
+use Rattle.rx_query.specs.After.{row_after, with_row, after}
+use Rattle.rx_query.specs.Asked.{Asked}
+use Rattle.rx_query.specs.Lists.{placed, without_last, without_first, replaced_first}
+use Rattle.rx_query.specs.States.{precedes, is_changed}
+use Rattle.rx_query.specs.declared.results.Row.{Row}
+use Rattle.rx_actions.specs.Moves.{IsFirst, IsFirstBut}
+use Rattle.rx_actions.proofs.Firsts.{remove_found, replace_found, last_to_first, last_for_last, placed_is_insert, placed_without_earlier, placed_without_later}
+
+-- one row precedes another
+abbrev by_order : Asked → Row → Row → Bool
+by_order q x y = precedes q x.fields y.fields
+
+module _ (q : Asked) (c : Change) (row : Row) (is : row_after c ≡ Some row) (rows : List Row) where
+  -- the row is the document's
+  with_is : (put : Row → List Row → List Row) (others : List Row)
+      → put row others ≡ with_row put c others
+  with_is put others =
+      ap (λ o. elim o [ None ↦ others | Some r ↦ put r others ]) (sym is)
+
+  -- in front, for the last row
+  pub in_front : 0 < length rows
+      → remove (row ∷ rows) (length rows) ≡ after RemoveLastInsertFirst q c rows
+  in_front some =
+      last_to_first rows row some ∙ with_is (λ r rs. r ∷ rs) (without_last rows)
+
+  -- at the end, for the last row
+  pub at_end : 0 < length rows
+      → remove (insert rows (length rows) row) (length rows - 1) ≡ after RemoveLastInsertLast q c
+      rows
+  at_end some =
+      last_for_last rows row some ∙ with_is (λ r rs. rs ++ r ∷ []) (without_last rows)
+
+  -- in the old row's place
+  pub in_place : (i : ℕ) → i < length rows → IsFirst (is_changed c) rows i
+      → remove (insert rows i row) (i + 1) ≡ after ReplaceExisting q c rows
+  in_place i h first =
+      let next : i + 1 ≡ suc i = omega arith in
+      ap (remove (insert rows i row)) next ∙ replace_found (is_changed c) rows i row h first
+      ∙ with_is (replaced_first (is_changed c)) rows
+
+  -- in its place by the order
+  pub in_order : (i n : ℕ) → n ≡ length rows → i ≤ length rows
+      → IsFirstBut (by_order q row) rows n i
+      → insert rows i row ≡ after InsertAtSortPosition q c rows
+  in_order i n e h first =
+      placed_is_insert (by_order q) row rows i h
+      (subst (λ k. IsFirstBut (by_order q row) rows k i) e first)
+      ∙ with_is (placed (by_order q)) rows
+
+  -- what is done where the old row stood before the new place, and where it stood behind it
+  placed_anew : (old : ℕ) → old < length rows → IsFirst (is_changed c) rows old
+      → placed (by_order q) row (remove rows old)
+      ≡ after RemoveExistingAndInsertAtSortPosition q c rows
+  placed_anew old h first =
+      ap (placed (by_order q) row) (remove_found (is_changed c) rows old h first)
+      ∙ with_is (placed (by_order q)) (without_first (is_changed c) rows)
+
+  -- in its new place, behind the old one
+  pub to_later : (old i : ℕ) → old < length rows → IsFirst (is_changed c) rows old → old < i
+      → i ≤ length rows → IsFirstBut (by_order q row) rows old i
+      → remove (insert rows i row) old ≡ after RemoveExistingAndInsertAtSortPosition q c rows
+  to_later old i h first lt le but =
+      placed_without_earlier (by_order q) row rows old i lt le but.earlier but.here
+      ∙ placed_anew old h first
+
+  -- in its new place, before the old one
+  pub to_earlier : (old i : ℕ) → old < length rows → IsFirst (is_changed c) rows old → i ≤ old
+      → IsFirstBut (by_order q row) rows old i
+      → remove (insert rows i row) (old + 1) ≡ after RemoveExistingAndInsertAtSortPosition q c rows
+  to_earlier old i h first le but =
+      let apart = but.not_out (omega arith) in
+      let lower : i < old = grind (arith, apart) in
+      let next : old + 1 ≡ suc old = omega arith in
+      ap (remove (insert rows i row)) next
+      ∙ placed_without_later (by_order q) row rows old i lower h but.earlier but.here
+      ∙ placed_anew old h first

@@ -1,0 +1,191 @@
+-- The table is right.
+use Rattle.std.proofs.Common.{◌≡◌, ◌≢◌, ℕ, Bool, true, false, cond, Option, Some, None, option_map, List, [], ◌∷◌, map, filter, take, drop, zero, suc, refl, sym, ap, ◌∙◌, subst}
+use Rattle.std.proofs.lemmas.Bool.{cond_both}
+use Rattle.std.proofs.lemmas.Option.{same_Some}
+use Rattle.std.specs.declared.cmp.Ordering.TheVariants.{Less}
+use Rattle.std.specs.List.{AllByRecursion, IsDistinct}
+use Rattle.std.specs.List.Sorted.{IsStrictlySortedBy}
+use Rattle.std.specs.Map.{keys_of, values_of}
+use Rattle.std.specs.Str.{bytes_eq}
+use Rattle.rx_value.specs.Fields.{Pairs}
+use Rattle.rx_value.specs.Named.{named, AreRising}
+use Rattle.rx_value.specs.Order.{text_cmp}
+use Rattle.rx_value.specs.declared.value.Value.TheVariants.{Text}
+use Rattle.rx_document.specs.Change.{before_of, change_of}
+use Rattle.rx_document.specs.Documents.{Documents, live}
+use Rattle.rx_table.specs.Rows.{action_of, table_of}
+use Rattle.rx_query.proofs.Numbers.{table_of-number_of}
+use Rattle.rx_query.proofs.Rows.{one_result}
+use Rattle.rx_query.specs.After as spec
+use Rattle.rx_query.specs.After.{row_after}
+use Rattle.rx_query.specs.Asked.{Asked}
+use Rattle.rx_query.specs.Result.{cut, AreKeyed}
+use Rattle.rx_query.specs.States.{live_before, is_unknown, is_changed, state_of, bits_of}
+use Rattle.rx_query.specs.declared.results.Row.{Row}
+use Rattle.rx_actions.specs.Right.{row_of, IsCollection, IsFromScratch, TableIsRight}
+use Rattle.rx_actions.proofs.Agreement.{there_mapped, states_agree, after_agrees}
+use Rattle.rx_actions.proofs.Changes.{held, sorted, result, states_at, IsPatch}
+use Rattle.rx_actions.proofs.Collections.{all-filter, all-sorted}
+use Rattle.rx_actions.proofs.FromScratch.{all_values, result_rows, from_scratch_is}
+use Rattle.rx_actions.proofs.Live.{other, same_but, live_rows, Keyed, others_live, distinct_live, row_with, held_live}
+use Rattle.rx_actions.proofs.Right.{table_is_right}
+use Rattle.rx_actions.proofs.RowOrder.{row_keys, rows_query, lawful, Carries}
+
+-- ---- rows carry their ids
+
+module _ (P : Row → Type 0) where
+  -- those of a front part
+  all_take : (n : ℕ) (xs : List Row) → AllByRecursion P xs → AllByRecursion P (take n xs)
+  all_take zero xs h = tt
+  all_take (suc n) [] h = tt
+  all_take (suc n) (x ∷ xs) h = (h.0, all_take n xs h.1)
+
+  -- those of a back part
+  all_drop : (n : ℕ) (xs : List Row) → AllByRecursion P xs → AllByRecursion P (drop n xs)
+  all_drop zero xs h = h
+  all_drop (suc n) [] h = tt
+  all_drop (suc n) (x ∷ xs) h = all_drop n xs h.1
+
+  -- those that are left by a limit
+  all_cut : (limit : Option ℕ) (xs : List Row) → AllByRecursion P xs
+      → AllByRecursion P (cut limit xs)
+  all_cut None xs h = h
+  all_cut (Some n) xs h = all_take n xs h
+
+  -- the row of a key too
+  all_held : (mine : Row → Bool) (xs : List Row) → AllByRecursion P xs → (r : Row)
+      → held mine xs ≡ Some r → P r
+  all_held mine [] h r e = cc
+  all_held mine (x ∷ xs) h r e =
+      (elim (mine x) as (λ b. cond b (Some x) (held mine xs) ≡ Some r → P r) [
+        | true ↦ (λ e. subst P (same_Some x r e) h.0)
+        | false ↦ (λ e. all_held mine xs h.1 r e)
+      ]) e
+
+  -- those of live documents
+  all_live : (es : Documents) → AllByRecursion (λ e. P (row_of e.1)) es
+      → AllByRecursion P (live_rows es)
+  all_live [] h = tt
+  all_live (e ∷ es) h =
+      cond_both e.1.state.deleted (live_rows es) (row_of e.1 ∷ live_rows es) (AllByRecursion P)
+      (λ _. all_live es h.1) (λ _. (h.0, all_live es h.1))
+
+module _ (q : Asked) (es : Documents) (col : IsCollection q.primary es) where
+  -- those of live documents
+  live_carry : AllByRecursion (Carries q) (live_rows es)
+  live_carry = all_live (Carries q) es col.carried
+
+  -- those of the result
+  result_carry : AllByRecursion (Carries q) (result (rows_query q) (live_rows es))
+  result_carry =
+      let chosen = filter (rows_query q).matches (live_rows es) in
+      let in_order = sorted (rows_query q).before chosen in
+      all_cut (Carries q) q.limit (drop q.skip in_order)
+      (all_drop (Carries q) q.skip in_order
+      (all-sorted (Carries q) (rows_query q).before chosen
+      (all-filter (Carries q) (rows_query q).matches (live_rows es) live_carry)))
+
+  -- that of a key
+  key_carries : (id : List ℕ) (o : Option Pairs) → o ≡ live (named es id) → (x : Pairs)
+      → o ≡ Some x → Carries q (row_with id x)
+  key_carries id o is x at =
+      all_held (Carries q) (λ r. bytes_eq r.id id) (live_rows es) live_carry (row_with id x)
+      (held_live id es col.rising col.keyed ∙ ap (option_map (row_with id)) (sym is ∙ at))
+
+  -- ---- there is a result
+
+  -- a lower key is another than all
+  below : (k : List ℕ) (ds : Documents) → Keyed ds
+      → AllByRecursion (λ l. text_cmp k l ≡ Less) (keys_of ds)
+      → AllByRecursion (λ l. bytes_eq k l ≡ false) (map (λ d. d.state.key) (values_of ds))
+  below k [] keyed h = tt
+  below k (d ∷ ds) keyed h =
+      (ap (bytes_eq k) keyed.0 ∙ other k d.0 h.0, below k ds keyed.1 h.1)
+
+  -- rising keys are distinct
+  distinct_keys : (ds : Documents) → AreRising ds → Keyed ds
+      → IsDistinct bytes_eq (map (λ d. d.state.key) (values_of ds))
+  unfolding IsDistinct IsStrictlySortedBy
+  distinct_keys [] up keyed = tt
+  distinct_keys (d ∷ ds) up keyed = (
+    subst (λ k. AllByRecursion (λ l. bytes_eq k l ≡ false)
+        (map (λ e. e.state.key) (values_of ds)))
+        (sym keyed.0) (below d.0 ds keyed.1 up.0),
+    distinct_keys ds up.1 keyed.1,
+  )
+
+  -- the documents are as a query from scratch needs them
+  are_keyed : AreKeyed q.primary (values_of es)
+  are_keyed = record {
+    distinct = distinct_keys es col.rising col.keyed;
+    carried = all_values (λ d. named d.state.fields q.primary ≡ Some (Text d.state.key)) es
+        col.carried;
+  }
+
+  -- the core's result is one from scratch
+  pub is_from_scratch : q.limit ≢ Some 0 → (rows : List Row)
+      → rows ≡ result (rows_query q) (live_rows es) → IsFromScratch q es rows
+  is_from_scratch some rows is =
+      let one = one_result q (values_of es) are_keyed in
+      record {
+        found = one.rows;
+        is_result = one.is_result;
+        are_rows = is ∙ sym (result_rows q some es col one.rows one.is_result);
+      }
+
+-- ---- the table
+
+-- what was before is what the old document says
+was_live : (o : Option Pairs) → live_before (before_of o) ≡ o
+was_live None = refl
+was_live (Some x) = refl
+
+-- and it is known
+was_known : (o : Option Pairs) → is_unknown (before_of o) ≡ false
+was_known None = refl
+was_known (Some x) = refl
+
+-- the table is right
+pub table_right : TableIsRight
+table_right q id old new rows some col col' differ scratch known =
+    let c = change_of id old new in
+    let mine : Row → Bool = is_changed c in
+    let law = lawful q some in
+    let rq = rows_query q in
+    let R = result rq (live_rows old) in
+    let R' = result rq (live_rows new) in
+    let before = live (named old id) in
+    let was = option_map (row_with id) (live_before c.before) in
+    let now = row_after c in
+    let is : rows ≡ R = from_scratch_is q some old col rows scratch in
+    let all : AllByRecursion (Carries q) rows =
+    subst (AllByRecursion (Carries q)) (sym is) (result_carry q old col) in
+    let at_before = key_carries q old col id (live_before c.before) (was_live before) in
+    let at_after = key_carries q new col' id c.after refl in
+    let p : IsPatch rq.before mine now R R' (action_of (states_at rq mine was now R)) =
+    table_is_right row_keys rq law id was now (live_rows old) (live_rows new)
+    (distinct_live old col.rising col.keyed) (distinct_live new col'.rising col'.keyed)
+    (others_live id old col.keyed ∙ ap live_rows (same_but id old new col.rising col'.rising differ)
+    ∙ sym (others_live id new col'.keyed))
+    (ap (option_map (row_with id)) (was_live before) ∙ sym (held_live id old col.rising col.keyed))
+    (sym (held_live id new col'.rising col'.keyed)) in
+    let action = table_of (bits_of q c rows) in
+    let same : action ≡ action_of (states_at rq mine was now R) =
+    table_of-number_of (state_of q c rows)
+    ∙ ap action_of (λ i s. states_agree q c rows all (was_known before) at_before at_after s i)
+    ∙ ap (λ xs. action_of (states_at rq mine was now xs)) is in
+    let p' : IsPatch rq.before mine now rows R' action =
+    subst (λ a. IsPatch rq.before mine now rows R' a) (sym same)
+    (subst (λ xs. IsPatch rq.before mine now xs R' (action_of (states_at rq mine was now R)))
+    (sym is) p) in
+    let there = p'.rows_there known in
+    record {
+      there = record {
+        an_end = there.an_end;
+        existing = there.existing;
+        to_insert = λ h. there_mapped (row_with id) c.after ∙ there.to_insert h;
+      };
+      from_scratch =
+          is_from_scratch q new col' some (spec.after action q c rows)
+          (after_agrees q c at_after action rows all ∙ p'.gives known);
+    }

@@ -1,0 +1,56 @@
+use Rattle.std.proofs.Common.{ap}
+use Rattle.rx_query.specs.After.{removes_end}
+use Rattle.rx_query.specs.Asked.{asked}
+use Rattle.rx_actions.proofs.Acted.{in_front, at_end, in_place, in_order, to_later, to_earlier}
+use Rattle.rx_actions.proofs.acting.row_places.Goals as goal
+
+-- in front, for the last row
+pub returns-in-RemoveLastInsertFirst-clause-moved :
+    goal.returns-in-RemoveLastInsertFirst-clause-moved
+returns-in-RemoveLastInsertFirst-clause-moved c =
+    let some = c.requires.there.an_end (ap removes_end c.in-RemoveLastInsertFirst.is) in
+    rw (c.in-RemoveLastInsertFirst.is, c.len-len.ensures)
+    (in_front (asked c.args.query.now) c.args.change.now c.args.row.now c.requires.row
+    c.args.results.now some)
+
+-- at the end, for the last row
+pub returns-in-RemoveLastInsertLast-clause-moved : goal.returns-in-RemoveLastInsertLast-clause-moved
+returns-in-RemoveLastInsertLast-clause-moved c =
+    let some = c.requires.there.an_end (ap removes_end c.in-RemoveLastInsertLast.is) in
+    rw (c.in-RemoveLastInsertLast.is, c.len-len.ensures)
+    (at_end (asked c.args.query.now) c.args.change.now c.args.row.now c.requires.row
+    c.args.results.now some)
+
+-- in the old row's place
+pub returns-in-ReplaceExisting-clause-moved : goal.returns-in-ReplaceExisting-clause-moved
+returns-in-ReplaceExisting-clause-moved c =
+    rw c.in-ReplaceExisting.is
+    (in_place (asked c.args.query.now) c.args.change.now c.args.row.now c.requires.row
+    c.args.results.now c.old_place-place.result c.old_place-place.ensures.within
+    c.old_place-place.ensures.first)
+
+-- in its place by the order
+pub returns-in-InsertAtSortPosition-clause-moved : goal.returns-in-InsertAtSortPosition-clause-moved
+returns-in-InsertAtSortPosition-clause-moved c =
+    rw c.in-InsertAtSortPosition.is
+    (in_order (asked c.args.query.now) c.args.change.now c.args.row.now c.requires.row
+    c.args.results.now c.sorted_place.result c.len-len.result c.len-len.ensures
+    c.sorted_place.ensures.within c.sorted_place.ensures.first)
+
+-- behind the old row's place
+pub returns-then-old-into-clause-moved : goal.returns-then-old-into-clause-moved
+returns-then-old-into-clause-moved c =
+    rw c.in-RemoveExistingAndInsertAtSortPosition.is
+    (to_later (asked c.args.query.now) c.args.change.now c.args.row.now c.requires.row
+    c.args.results.now c.old_place-old.result c.sorted_place-into.result
+    c.old_place-old.ensures.within c.old_place-old.ensures.first c.if-old-into.true
+    c.sorted_place-into.ensures.within c.sorted_place-into.ensures.first)
+
+-- at the old row's place or before it
+pub returns-else-old-into-clause-moved : goal.returns-else-old-into-clause-moved
+returns-else-old-into-clause-moved c =
+    rw c.in-RemoveExistingAndInsertAtSortPosition.is
+    (to_earlier (asked c.args.query.now) c.args.change.now c.args.row.now c.requires.row
+    c.args.results.now c.old_place-old.result c.sorted_place-into.result
+    c.old_place-old.ensures.within c.old_place-old.ensures.first c.if-old-into.false
+    c.sorted_place-into.ensures.first)
