@@ -2,6 +2,7 @@ ghost use Rattle.std.specs.Prelude.{◌≡◌, ◌<◌, ◌↔◌, [], length, s
 ghost use Rattle.std.specs.Cmp.{partial_equiv_from_equiv};
 ghost use Rattle.rx_value.specs.Equal.{fields_eq};
 ghost use Rattle.rx_value.specs.Equality.{equivalence, fields_eq-Decides};
+ghost use Rattle.rx_value.specs.Fields.{AreFields};
 ghost use Rattle.rx_value.specs.Named.{named, put_in_order};
 ghost use Rattle.rx_value.specs.Value.{is_value};
 
@@ -36,8 +37,10 @@ impl Fields {
         }
     }
 
+    /// How many pairs there are.
     pub fn len(&self) -> usize
-        ensures { result ≡ length self.now }
+        ensures count { result ≡ length self.now }
+        ensures lawful { AreFields self.now }
     {
         self.pairs.len()
     }
