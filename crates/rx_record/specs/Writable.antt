@@ -1,4 +1,4 @@
--- What can be written: the lengths fit, and the orders are those of the format.
+-- What reads back as it was written: the lengths fit, and the orders are those of the format.
 use Rattle.std.specs.Prelude.{◌≡◌, ℕ, ◌<◌, ◌^◌, List, ◌++◌, length, map, Ok}
 use Rattle.std.specs.List.{AllByRecursion}
 use Rattle.std.specs.List.Sorted.{IsStrictlySortedBy}
@@ -36,10 +36,20 @@ pub record IsWritableState (s : State) : Type 0 where
   pub key : Fits s.key
   pub fields : AreWritableFields s.fields
 
+-- the keys of rows rise
+abbrev pub KeysRise : List RowOut → Type 0
+KeysRise written = IsStrictlySortedBy text_cmp (map key_of written)
+
+-- a record whose rows are in order
+abbrev pub IsOrdered : Content → Type 0
+IsOrdered (collection name schema) = Unit {0}
+IsOrdered (rows name lwt written) = KeysRise written
+IsOrdered (epoch number) = Unit {0}
+
 -- rows whose keys rise
 pub record AreWritableRows (written : List RowOut) : Type 0 where
   pub count : Fits written
-  pub rising : IsStrictlySortedBy text_cmp (map key_of written)
+  pub rising : KeysRise written
   pub states : AllByRecursion (λ row. IsWritableState row.state) written
 
 -- a record
@@ -51,3 +61,7 @@ IsWritable (epoch number) = Unit {0}
 -- what is written of it is read as itself, whatever stands behind
 abbrev pub ReadsBack : {A : Type 0} → (A → List ℕ) → (List ℕ → Reading A) → A → Type 0
 ReadsBack bytes of x = (more : List ℕ) → of (bytes x ++ more) ≡ Ok (x, more)
+
+-- so it is if its bytes fit, and then each text and list in it does
+abbrev pub ShortReadsBack : {A : Type 0} → (A → List ℕ) → (List ℕ → Reading A) → A → Type 0
+ShortReadsBack bytes of x = Fits (bytes x) → ReadsBack bytes of x

@@ -23,18 +23,18 @@ pub enum Record {
 }
 
 impl Record {
-    ghost use Rattle.std.specs.Prelude.{◌≡◌, IfOk, Ok};
+    ghost use Rattle.std.specs.Prelude.{◌≡◌, ◌<◌, ◌^◌, length, IfOk, Ok};
     ghost use Rattle.rx_record.specs.Content.{content_bytes, record_of};
     ghost use Rattle.rx_record.specs.Shown.{content};
-    ghost use Rattle.rx_record.specs.Writable.{IsWritable};
+    ghost use Rattle.rx_record.specs.Writable.{IsOrdered};
 
-    /// The body of the record, as the crate's documentation gives it byte by byte. The keys of the
-    /// rows have to rise, and each text, list of rows and list of fields has to be shorter than
-    /// 2^32; the fields keep their own order and ranges.
+    /// The body of the record, as the crate's documentation gives it byte by byte. A count has four
+    /// bytes, so a text or a list of 2^32 or more does not read back; a body below 2^32 bytes has
+    /// none. The fields keep their own order and ranges.
     pub fn write(&self, alloc: Global) -> Result<Vec<u8>, AllocError>
-        requires { IsWritable (content self.now) }
         ensures bytes { IfOk result (λ body. body.items ≡ content_bytes (content self.now)) }
-        ensures back { IfOk result (λ body. record_of body.items ≡ Ok (content self.now)) }
+        ensures back { IsOrdered (content self.now) → IfOk result
+            (λ body. length body.items < 2 ^ 32 → record_of body.items ≡ Ok (content self.now)) }
     {
         let mut body = Vec::new(alloc);
         put_record(&mut body, self)?;

@@ -6,7 +6,7 @@ ghost use Rattle.rx_record.specs.Fields.{value_bytes, value_of, fields_bytes, fi
 ghost use Rattle.rx_record.specs.Rows.{state_bytes, state_of, row_bytes, row_of, rows_bytes, rows_of};
 ghost use Rattle.rx_record.specs.Content.{content_bytes, content_of};
 ghost use Rattle.rx_record.specs.Shown.{content};
-ghost use Rattle.rx_record.specs.Writable.{IsWritable, Fits, ValueFits, AreWritableFields, IsWritableState, AreWritableRows, ReadsBack};
+ghost use Rattle.rx_record.specs.Writable.{IsOrdered, KeysRise, ReadsBack, ShortReadsBack};
 
 use crate::kinds::{COLLECTION, EPOCH, ROWS};
 use crate::record::{Record, RowOut};
@@ -14,13 +14,13 @@ use crate::value_view::{FLAG, NUMBER, TEXT};
 use rx_value::{Fields, State, Value};
 use std::alloc::AllocError;
 
-// A count in four bytes.
+// The low four bytes of a count.
 #[tactic(auto, unfolding(crate::specs::Parts::number_bytes))]
 fn put_count(out: &mut Vec<u8>, count: usize) -> Result<(), AllocError>
-    requires { count < 2 ^ 32 }
     ensures { IfOk result (λ _. out.new.items ≡ out.old.items ++ number_bytes w32 count) }
 {
-    out.extend_from_slice(&(count as u32).to_be_bytes())
+    let low = (count % (1 << 32)) as u32;
+    out.extend_from_slice(&low.to_be_bytes())
 }
 
 // A number in eight bytes.
@@ -34,19 +34,17 @@ fn put_long(out: &mut Vec<u8>, number: u64) -> Result<(), AllocError>
 
 // A text with its length.
 fn put_text(out: &mut Vec<u8>, text: &str) -> Result<(), AllocError>
-    requires { Fits text.now }
     ensures bytes { IfOk result (λ _. out.new.items ≡ out.old.items ++ text_bytes text.now) }
-    ensures back { IfOk result (λ _. ReadsBack text_bytes text_of text.now) }
+    ensures back { IfOk result (λ _. ShortReadsBack text_bytes text_of text.now) }
 {
     put_count(out, text.len())?;
     out.extend_from_slice(text.as_bytes())
 }
 
 fn put_value(out: &mut Vec<u8>, value: &Value) -> Result<(), AllocError>
-    requires fits { ValueFits value.now }
-    requires in_range { IsTrue (is_value value.now) }
+    requires { IsTrue (is_value value.now) }
     ensures bytes { IfOk result (λ _. out.new.items ≡ out.old.items ++ value_bytes value.now) }
-    ensures back { IfOk result (λ _. ReadsBack value_bytes value_of value.now) }
+    ensures back { IfOk result (λ _. ShortReadsBack value_bytes value_of value.now) }
 {
     match value {
         Value::Flag(flag) => out.extend_from_slice(&[FLAG, u8::from(*flag)]),
@@ -63,9 +61,8 @@ fn put_value(out: &mut Vec<u8>, value: &Value) -> Result<(), AllocError>
 
 // Fields, from their count on.
 fn put_fields(out: &mut Vec<u8>, fields: &Fields) -> Result<(), AllocError>
-    requires { AreWritableFields fields.now }
     ensures bytes { IfOk result (λ _. out.new.items ≡ out.old.items ++ fields_bytes fields.now) }
-    ensures back { IfOk result (λ _. ReadsBack fields_bytes fields_of fields.now) }
+    ensures back { IfOk result (λ _. ShortReadsBack fields_bytes fields_of fields.now) }
 {
     put_count(out, fields.len())?;
     for i in 0..fields.len() {
@@ -77,10 +74,9 @@ fn put_fields(out: &mut Vec<u8>, fields: &Fields) -> Result<(), AllocError>
 }
 
 fn put_state(out: &mut Vec<u8>, state: &State) -> Result<(), AllocError>
-    requires { IsWritableState state.now }
     ensures bytes { IfOk result (λ _. out.new.items ≡ out.old.items ++ state_bytes state.now) }
     ensures back { IfOk result (λ _. (last : Option (List ℕ)) → is_above last state.now.key ≡ true
-        → ReadsBack state_bytes (state_of last) state.now) }
+        → ShortReadsBack state_bytes (state_of last) state.now) }
 {
     put_text(out, state.key.as_str())?;
     out.push(u8::from(state.deleted))?;
@@ -89,9 +85,8 @@ fn put_state(out: &mut Vec<u8>, state: &State) -> Result<(), AllocError>
 
 // Rows, from their count on.
 fn put_rows(out: &mut Vec<u8>, rows: &[RowOut]) -> Result<(), AllocError>
-    requires { AreWritableRows rows.now }
     ensures bytes { IfOk result (λ _. out.new.items ≡ out.old.items ++ rows_bytes rows.now) }
-    ensures back { IfOk result (λ _. ReadsBack rows_bytes rows_of rows.now) }
+    ensures back { KeysRise rows.now → IfOk result (λ _. ShortReadsBack rows_bytes rows_of rows.now) }
 {
     put_count(out, rows.len())?;
     for row in rows {
@@ -102,10 +97,10 @@ fn put_rows(out: &mut Vec<u8>, rows: &[RowOut]) -> Result<(), AllocError>
 }
 
 pub(crate) fn put_record(out: &mut Vec<u8>, written: &Record) -> Result<(), AllocError>
-    requires { IsWritable (content written.now) }
     ensures bytes { IfOk result
         (λ _. out.new.items ≡ out.old.items ++ content_bytes (content written.now)) }
-    ensures back { IfOk result (λ _. ReadsBack content_bytes content_of (content written.now)) }
+    ensures back { IsOrdered (content written.now)
+        → IfOk result (λ _. ShortReadsBack content_bytes content_of (content written.now)) }
 {
     match written {
         Record::Collection { name, schema } => {

@@ -1,9 +1,15 @@
-use Rattle.std.proofs.Common.{List, ℕ, ◌++◌, take, ap, sym, ◌∙◌, subst, append_assoc, arith}
+use Rattle.std.proofs.Common.{◌≡◌, true, List, ℕ, ◌++◌, take, ap, sym, ◌∙◌, subst, append_assoc, arith}
+use Rattle.rx_value.specs.Value.{is_value}
 use Rattle.rx_record.specs.Parts.{text_bytes, text_of}
 use Rattle.rx_record.specs.Fields.{value_bytes, pair_bytes, pair_of, all_bytes}
-use Rattle.rx_record.specs.Writable.{ReadsBack}
-use Rattle.rx_record.proofs.Written.{one_more, all_more, PairReadsBack, pair_reads_back, fields_read_back}
+use Rattle.rx_record.specs.Writable.{ShortReadsBack}
+use Rattle.rx_record.proofs.Written.{one_more, all_more, all_at, PairReadsBack, pair_reads_back, fields_read_back}
 use Rattle.rx_record.proofs.writing.put_fields.Goals as goal
+
+pub put_value-requires : goal.put_value-requires
+put_value-requires c =
+    all_at (λ p. is_value p.1 ≡ true) c.args.fields.now c.loop-i.i (c.at.result.0.now, c.at.result.1.now) c.at.ensures
+    c.len-i-end.ensures.lawful.in_range
 
 pub loop-i-preserved : goal.loop-i-preserved
 loop-i-preserved c =
@@ -25,10 +31,10 @@ loop-i-preserved c =
       back =
           all_more PairReadsBack fields c.loop-i.i (name, value) c.at.ensures c.loop-i.invariant.back
           (pair_reads_back (name, value)
-          (subst (ReadsBack text_bytes text_of) c.as_str.ensures c.in_ok-put_text.ensures.back)
+          (subst (ShortReadsBack text_bytes text_of) c.as_str.ensures c.in_ok-put_text.ensures.back)
           c.in_ok-put_value.ensures.back);
     }
 
 pub returns-clause-back : goal.returns-clause-back
 returns-clause-back c =
-    fields_read_back c.args.fields.now c.loop-i.i (omega (arith, c.loop-i-test.false, c.len-i-end.ensures)) c.requires.count c.requires.fields.rising c.loop-i.invariant.back
+    fields_read_back c.args.fields.now c.loop-i.i (omega (arith, c.loop-i-test.false, c.len-i-end.ensures)) c.len-i-end.ensures.lawful.rising c.loop-i.invariant.back

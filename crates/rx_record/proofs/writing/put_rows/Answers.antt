@@ -28,5 +28,5 @@ loop-row-preserved c =
     }
 
 pub returns-clause-back : goal.returns-clause-back
-returns-clause-back c =
-    rows_read_back c.args.rows.now c.loop-row.row-index (omega (arith, c.loop-row-test.false)) c.requires.count c.requires.rising c.loop-row.invariant.back
+returns-clause-back c rising =
+    rows_read_back c.args.rows.now c.loop-row.row-index (omega (arith, c.loop-row-test.false)) rising c.loop-row.invariant.back
