@@ -3,11 +3,13 @@
 
 mod comparing;
 mod fault;
+mod laws;
 mod query;
 mod reading;
 mod results;
 mod scratch;
 
 pub use fault::QueryFault;
-pub use query::{Query, query_laws};
+pub use laws::query_laws;
+pub use query::Query;
 pub use results::{Results, Row};

@@ -1,9 +1,6 @@
-ghost use Rattle.std.specs.Prelude.{◌≡◌, ◌<◌, length, slice_get, Some};
+ghost use Rattle.std.specs.Prelude.{◌≡◌, ◌≢◌, ◌<◌, length, slice_get, Some, IfSome};
 ghost use Rattle.rx_selector.specs.Holding.{all_hold};
 ghost use Rattle.rx_selector.specs.Tree.{said};
-ghost use Rattle.rx_query.specs.Asked.{asked};
-ghost use Rattle.rx_query.specs.Order.{query_cmp, QueriesOrder, KeysDecide};
-ghost use Rattle.rx_query.specs.Result.{ResultsAreDetermined};
 
 use crate::comparing::compare;
 use rx_selector::Selector;
@@ -18,9 +15,13 @@ pub struct Query {
     pub(crate) skip: u64,
     pub(crate) limit: Option<u64>,
     pub(crate) primary: RxText,
+    pub ghost limited: { limit ≢ Some 0 },
 }
 
 impl Query {
+    ghost use Rattle.rx_query.specs.Asked.{asked};
+    ghost use Rattle.rx_query.specs.Order.{query_cmp};
+
     /// How two documents stand in the order of the query.
     #[tactic(auto, using(crate::proofs::Orders::sorts_decide))]
     pub fn before(&self, a: &Fields, b: &Fields) -> Ordering
@@ -70,9 +71,10 @@ impl Query {
         self.skip
     }
 
-    /// How many rows are left at most, if that is limited. It is never 0.
+    /// How many rows are left at most, if that is limited.
     pub fn limit(&self) -> Option<u64>
-        ensures { result ≡ (asked self.now).limit }
+        ensures value { result ≡ (asked self.now).limit }
+        ensures some { IfSome result (λ limit. 0 < limit) }
     {
         self.limit
     }
@@ -83,11 +85,3 @@ impl Query {
         self.primary.as_str()
     }
 }
-
-/// States the laws of a query's order and of its result for those who build on them, and does
-/// nothing.
-pub fn query_laws()
-    ensures total { QueriesOrder }
-    ensures strict { KeysDecide }
-    ensures one_result { ResultsAreDetermined }
-{}

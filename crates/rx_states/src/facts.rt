@@ -11,6 +11,7 @@ use rx_table::{Ask, StateName};
 
 /// Answers about one query, one change, and the query's rows before the change. Nothing is worked
 /// out before it is asked, and nothing is kept.
+#[derive(Drop)]
 pub struct Facts<'a> {
     query: &'a Query,
     change: &'a Change,

@@ -1,6 +1,6 @@
 use Rattle.rx_query.proofs.Orders.{query_total, keys_decide}
 use Rattle.rx_query.proofs.Rows.{one_result}
-use Rattle.rx_query.proofs.query.query_laws.Goals as goal
+use Rattle.rx_query.proofs.laws.query_laws.Goals as goal
 
 pub returns-clause-total : goal.returns-clause-total
 returns-clause-total c = query_total
