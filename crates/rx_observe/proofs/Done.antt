@@ -1,0 +1,109 @@
+-- Lists whose first members have been changed in place.
+use Rattle.std.proofs.Common.{◌≡◌, ℕ, zero, suc, ◌+◌, ◌<◌, List, [], ◌∷◌, length, drop, map, get_or, refl, sym, ap, ◌∙◌, arith, add-one}
+use Rattle.std.proofs.Math.ListN.{set}
+use Rattle.std.specs.List.{AllByRecursion}
+
+-- with the first i changed
+abbrev pub done : {X : Type 0} → (X → X) → ℕ → List X → List X
+done f zero xs = xs
+done f (suc i) [] = []
+done f (suc i) (x ∷ xs) = f x ∷ done f i xs
+
+module _ {X : Type 0} (f : X → X) where
+  -- the next one isn't changed yet
+  get-done : (i : ℕ) (xs : List X) (d : X) → get_or (done f i xs) i d ≡ get_or xs i d
+  get-done zero xs d = refl
+  get-done (suc i) [] d = refl
+  get-done (suc i) (x ∷ xs) d = get-done i xs d
+
+  -- there are as many
+  pub length-done : (i : ℕ) (xs : List X) → length (done f i xs) ≡ length xs
+  length-done zero xs = refl
+  length-done (suc i) [] = refl
+  length-done (suc i) (x ∷ xs) = ap suc (length-done i xs)
+
+  -- to change it is one step more
+  set-done : (i : ℕ) (xs : List X) (d : X) → i < length xs
+      → set (done f i xs) i (f (get_or xs i d)) ≡ done f (suc i) xs
+  set-done zero [] d h = absurd (omega arith)
+  set-done zero (x ∷ xs) d h = refl
+  set-done (suc i) [] d h = absurd (omega arith)
+  set-done (suc i) (x ∷ xs) d h = ap (λ ys. f x ∷ ys) (set-done i xs d (omega arith))
+
+  -- after all steps all are changed
+  done-all : (xs : List X) → done f (length xs) xs ≡ map f xs
+  done-all [] = refl
+  done-all (x ∷ xs) = ap (λ ys. f x ∷ ys) (done-all xs)
+
+  -- ---- as a loop has it: the list now, and the one that it reads at i
+
+  module _ (i : ℕ) (xs ys : List X) (is : ys ≡ done f i xs) where
+    -- is as it was
+    pub read-done : (x : X) → x ≡ get_or ys i x → x ≡ get_or xs i x
+    read-done x at = at ∙ ap (λ zs. get_or zs i x) is ∙ get-done i xs x
+
+    -- written, it is one step more
+    pub step-done : (x : X) → x ≡ get_or ys i x → i < length xs
+        → set ys i (f x) ≡ done f (i + 1) xs
+    step-done x at within =
+        ap (λ zs. set zs i (f x)) is ∙ ap (λ z. set (done f i xs) i (f z)) (read-done x at)
+        ∙ set-done i xs x within ∙ ap (λ n. done f n xs) (sym (add-one i))
+
+    -- at the end
+    pub end-done : i ≡ length xs → ys ≡ map f xs
+    end-done end = is ∙ ap (λ n. done f n xs) end ∙ done-all xs
+
+-- what holds of all holds of the one at a place
+pub all_at : {X : Type 0} (P : X → Type 0) (i : ℕ) (xs : List X) (d : X) → AllByRecursion P xs
+    → i < length xs → P (get_or xs i d)
+all_at P i [] d all h = absurd (omega arith)
+all_at P zero (x ∷ xs) d all h = all.0
+all_at P (suc i) (x ∷ xs) d all h = all_at P i xs d all.1 (omega arith)
+
+-- ---- beside a second list, of which some are left
+
+-- what is left is what a function gives of the members from i on, and something is left
+pub record IsNext {A B : Type 0} (g : B → A) (i : ℕ) (xs : List B) (a : A) (more : List A)
+    : Type 0 where
+  pub within : i < length xs
+  pub rest : more ≡ map g (drop (i + 1) xs)
+  pub here : (d : B) → a ≡ g (get_or xs i d)
+
+first_same : {C : Type 0} (a b : C) (as' bs : List C) → a ∷ as' ≡ b ∷ bs → a ≡ b
+first_same a b as' bs e = cc
+
+rest_same : {C : Type 0} (a b : C) (as' bs : List C) → a ∷ as' ≡ b ∷ bs → as' ≡ bs
+rest_same a b as' bs e = cc
+
+pub next_is : {A B : Type 0} (g : B → A) (i : ℕ) (xs : List B) (a : A) (more : List A)
+    → a ∷ more ≡ map g (drop i xs) → IsNext g i xs a more
+next_is g zero [] a more e = cc
+next_is g zero (x ∷ xs) a more e = record {
+  within = omega arith;
+  rest = rest_same a (g x) more (map g xs) e;
+  here = λ d. first_same a (g x) more (map g xs) e;
+}
+next_is g (suc i) [] a more e = cc
+next_is g (suc i) (x ∷ xs) a more e =
+    let h = next_is g i xs a more e in
+    let within = h.within in
+    record {
+      within = omega arith;
+      rest =
+          h.rest
+          ∙ ap (λ k. map g (drop k (x ∷ xs))) (ap suc (add-one i) ∙ sym (add-one (suc i)));
+      here = h.here;
+    }
+
+-- nothing is left: all are changed
+pub done-past : {A B : Type 0} (g : B → A) (f : B → B) (i : ℕ) (xs : List B)
+    → [] ≡ map g (drop i xs) → done f i xs ≡ map f xs
+done-past g f zero [] e = refl
+done-past g f zero (x ∷ xs) e = cc
+done-past g f (suc i) [] e = refl
+done-past g f (suc i) (x ∷ xs) e = ap (λ ys. f x ∷ ys) (done-past g f i xs e)
+
+-- a list without length
+pub empty_is : {X : Type 0} (xs : List X) → length xs ≡ 0 → xs ≡ []
+empty_is [] h = refl
+empty_is (x ∷ xs) h = absurd (omega arith)

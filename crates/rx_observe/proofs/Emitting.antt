@@ -1,0 +1,126 @@
+-- Queries after an emission, made cold, and without one of them.
+use Rattle.std.proofs.Common.{◌≡◌, ℕ, true, false, not, cond, option_map, IfSome, Option, Some, None, List, [], ◌∷◌, bytes_eq, refl, sym, ap, ◌∙◌, subst}
+use Rattle.std.proofs.lemmas.Option.{same_Some}
+use Rattle.rx_value.specs.Named.{named}
+use Rattle.rx_query.specs.Asked.{asked}
+use Rattle.rx_query.specs.declared.results.Row.{Row}
+use Rattle.rx_collection.specs.Held.{Held}
+use Rattle.rx_observe.specs.Fresh.{fresh}
+use Rattle.rx_observe.specs.Observing.{Queries, AllRight, each, and_query, without, cooled}
+use Rattle.rx_observe.specs.Rows.{unseen, unseen_of, emitted, with_emission, emissions_of, emissions_due}
+use Rattle.rx_observe.specs.Watched.{Watched, kept, IsRight}
+use Rattle.rx_observe.specs.declared.emission.Emission.{Emission}
+use Rattle.rx_observe.proofs.Unseen.{kept_seen, unseen_none}
+
+module _ (c : Held) where
+  -- emitted rows are right
+  kept_kept : (rows last : Option (List Row)) → kept rows (kept rows last) ≡ kept rows last
+  kept_kept None last = refl
+  kept_kept (Some r) last = refl
+
+  right_emitted : (qs : Queries) → AllRight c qs → AllRight c (each emitted qs)
+  right_emitted [] all = tt
+  right_emitted (q ∷ qs) all = (
+    record {
+      keyed = all.0.keyed;
+      from_scratch = kept_kept q.1.rows q.1.emitted ∙ all.0.from_scratch;
+    },
+    right_emitted qs all.1,
+  )
+
+  pub all_right_emitted : (qs now : Queries) → now ≡ each emitted qs → AllRight c qs
+      → AllRight c now
+  all_right_emitted qs now is all = subst (AllRight c) (sym is) (right_emitted qs all)
+
+  -- and nothing is left to be shown
+  pub none_left : (qs : Queries) → emissions_of (each emitted qs) ≡ []
+  none_left [] = refl
+  none_left (q ∷ qs) =
+      ap (λ o. with_emission q.0 o (emissions_of (each emitted qs)))
+      (unseen_none q.1.rows (kept q.1.rows q.1.emitted)
+      (λ r is. ap (λ o. kept o q.1.emitted) is))
+      ∙ none_left qs
+
+  -- with one more
+  pub right_more : (qs : Queries) (name : List ℕ) (w : Watched) → AllRight c qs → IsRight c w
+      → AllRight c (and_query qs name w)
+  right_more [] name w all right = (right, tt)
+  right_more (q ∷ qs) name w all right = (all.0, right_more qs name w all.1 right)
+
+  -- without some
+  pub right_without : (name : List ℕ) (qs : Queries) → AllRight c qs → AllRight c (without name qs)
+  right_without name [] all = tt
+  right_without name (q ∷ qs) all =
+      let rest = right_without name qs all.1 in
+      elim (not (bytes_eq name q.0)) as (λ b. AllRight c
+      (cond b (q ∷ without name qs) (without name qs)))
+      [ true ↦ (all.0, rest) | false ↦ rest ]
+
+  -- ---- what is due
+
+  -- rows from scratch are due where they are unseen, kept or not
+  due_at : (rows last : Option (List Row)) (due : List Row) → kept rows last ≡ Some due
+      → unseen rows last ≡ unseen (Some due) last
+  due_at None last due right =
+      sym (unseen_none (Some due) last (λ r is. right ∙ is))
+  due_at (Some rows) last due right = ap (λ o. unseen o last) right
+
+  pub emissions_are_due : (qs : Queries) → AllRight c qs → emissions_of qs ≡ emissions_due c qs
+  emissions_are_due [] all = refl
+  emissions_are_due (q ∷ qs) all =
+      ap (λ o. with_emission q.0 o (emissions_of qs))
+      (due_at q.1.rows q.1.emitted (fresh (asked q.1.query) c.documents) all.0.from_scratch)
+      ∙ ap (with_emission q.0 (unseen (Some (fresh (asked q.1.query) c.documents)) q.1.emitted))
+      (emissions_are_due qs all.1)
+
+  -- the query of a name is right
+  pub named_right : (name : List ℕ) (qs : Queries) (w : Watched) → AllRight c qs
+      → named qs name ≡ Some w → IsRight c w
+  named_right name [] w all at = absurd (cc)
+  named_right name (q ∷ qs) w all at =
+      elim (bytes_eq name q.0) as (λ b. cond b (Some q.1) (named qs name) ≡ Some w → IsRight c w) [
+        | true ↦ (λ at. subst (IsRight c) (same_Some q.1 w at) all.0)
+        | false ↦ (λ at. named_right name qs w all.1 at)
+      ] at
+
+  -- also as it is lent
+  pub lent_right : {Y : Type 0} (name : List ℕ) (qs : Queries) (shown : Y → Watched)
+      (lent : Option Y) → AllRight c qs → option_map shown lent ≡ named qs name
+      → IfSome lent (λ y. IsRight c (shown y))
+  lent_right name qs shown None all at = tt
+  lent_right name qs shown (Some y) all at = named_right name qs (shown y) all (sym at)
+
+  -- ---- made cold
+
+  -- none to be shown, each was emitted
+  all_emitted : (name : List ℕ) (o : Option (List Row)) (es : List Emission)
+      → with_emission name o es ≡ [] → (o ≡ None) × (es ≡ [])
+  all_emitted name None es none = (refl, none)
+  all_emitted name (Some rows) es none = cc
+
+  right_cooled : (qs : Queries) → emissions_of qs ≡ [] → AllRight c qs
+      → AllRight c (each cooled qs)
+  right_cooled [] none all = tt
+  right_cooled (q ∷ qs) none all =
+      let seen = all_emitted q.0 (unseen_of q) (emissions_of qs) none in (
+        record {
+          keyed = all.0.keyed;
+          from_scratch = kept_seen q.1.rows q.1.emitted seen.0 ∙ all.0.from_scratch;
+        },
+        right_cooled qs seen.1 all.1,
+      )
+
+  pub all_right_cooled : (qs now : Queries) → now ≡ each cooled qs → AllRight c qs
+      → emissions_of qs ≡ [] → AllRight c now
+  all_right_cooled qs now is all none = subst (AllRight c) (sym is) (right_cooled qs none all)
+
+-- none of that name is left
+pub none_named : (name : List ℕ) (qs : Queries) → named (without name qs) name ≡ None
+none_named name [] = refl
+none_named name (q ∷ qs) =
+    elim (bytes_eq name q.0) as (λ b. bytes_eq name q.0 ≡ b
+    → named (cond (not b) (q ∷ without name qs) (without name qs)) name ≡ None) [
+      | true ↦ (λ same. none_named name qs)
+      | false ↦ (λ other.
+          ap (λ b. cond b (Some q.1) (named (without name qs) name)) other ∙ none_named name qs)
+    ] refl

@@ -1,0 +1,8 @@
+pub mod Fresh
+pub mod Applying
+pub mod Bits
+pub mod Unseen
+pub mod Done
+pub mod Steps
+pub mod Emitting
+pub mod Putting

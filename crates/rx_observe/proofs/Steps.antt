@@ -1,0 +1,197 @@
+-- One observed query after a change, and all of them.
+use Rattle.std.proofs.Common.{◌≡◌, ◌≢◌, true, false, option_map, Option, Some, None, List, [], ◌∷◌, refl, sym, ap, ◌∙◌, subst}
+use Rattle.std.proofs.lemmas.Option.{same_Some}
+use Rattle.std.specs.Prelude.{IfSome, is_some}
+use Rattle.rx_value.specs.Named.{named}
+use Rattle.rx_document.specs.Change.{before_of}
+use Rattle.rx_document.specs.Documents.{live}
+use Rattle.rx_document.specs.declared.change.Change.{Change}
+use Rattle.rx_document.specs.declared.stored.Stored.{Stored}
+use Rattle.rx_table.specs.Rows.{table_of}
+use Rattle.rx_table.specs.declared.action.Action.{Action}
+use Rattle.rx_table.specs.declared.action.Action.TheVariants.{RunFullQueryAgain}
+use Rattle.rx_query.specs.Asked.{Asked, asked}
+use Rattle.rx_query.specs.States.{bits_of}
+use Rattle.rx_query.specs.declared.query.Query.{Query}
+use Rattle.rx_query.specs.declared.results.Row.{Row}
+use Rattle.rx_actions.specs.Right.{IsCollection}
+use Rattle.rx_collection.specs.Commit.{IsNext, with_row}
+use Rattle.rx_collection.specs.Held.{Held}
+use Rattle.rx_collection.specs.Lawful.{IsLawful}
+use Rattle.rx_collection.proofs.Changes.{with_row-differs, with_row-named}
+use Rattle.rx_collection.proofs.Lawful.{lawful_put}
+use Rattle.rx_observe.specs.Applied.{answer_for}
+use Rattle.rx_observe.specs.Counts.{counted}
+use Rattle.rx_observe.specs.declared.counts.Counts.{Counts}
+use Rattle.rx_observe.specs.declared.observed.Applied.TheVariants.{Patched, NeedsFull}
+use Rattle.rx_observe.specs.Following.{given, heard, Becomes, Follows, AllFollow}
+use Rattle.rx_observe.specs.Fresh.{fresh}
+use Rattle.rx_observe.specs.Observing.{Queries, AllRight, each, change_by}
+use Rattle.rx_observe.specs.Watched.{Watched, unknown, action_at, rows_after, applied, IsReady, stepped, kept}
+use Rattle.rx_observe.proofs.Applying.{cold_full, acts_rightly, gives_fresh, rows_patched}
+use Rattle.rx_observe.proofs.Fresh.{is_collection_for}
+
+-- an answer tells the action
+known_patched : (a : Action) → answer_for a ≡ Patched → a ≢ RunFullQueryAgain
+known_patched a answer run = let bad : NeedsFull ≡ Patched = ap answer_for (sym run) ∙ answer in cc
+
+full_rows : (a : Action) → answer_for a ≡ NeedsFull → (q : Asked) (c : Change)
+    (rows : Option (List Row)) → rows_after a q c rows ≡ None
+full_rows RunFullQueryAgain answer q c rows = refl
+full_rows _ answer q c rows = cc
+
+-- a cold query isn't patched
+cold_needs_full : (q : Asked) (c : Change) → answer_for (action_at q c None) ≡ NeedsFull
+cold_needs_full q c = ap answer_for (cold_full q c)
+
+-- ---- the change as a query gets it
+
+module _ {Y : Type 0} (shown : Y → List Row) (rows : Option (List Row)) (c : Change) where
+  -- where it has no rows
+  pub given_cold : (x : Change) → x ≡ unknown c → (seen : Option Y) → option_map shown seen ≡ rows
+      → is_some seen ≡ false → x ≡ given rows c
+  given_cold x is None same none = is ∙ ap (λ o. given o c) same
+  given_cold x is (Some y) same none = cc
+
+  -- and where it has some
+  pub given_warm : (seen : Option Y) → option_map shown seen ≡ rows → is_some seen ≡ true
+      → c ≡ given rows c
+  given_warm None same some = cc
+  given_warm (Some y) same some = ap (λ o. given o c) same
+
+-- ---- a query that was right
+
+module _ (query : Query) (c : Change) (old new : Held) (becomes : Becomes c old new)
+    (keyed : (asked query).primary ≡ old.schema.primary) where
+  abbrev q : Asked
+  q = asked query
+
+  col : IsCollection q.primary old.documents
+  col = is_collection_for q.primary old keyed becomes.lawful_old
+
+  pub keyed_new : q.primary ≡ new.schema.primary
+  keyed_new = keyed ∙ ap (λ s. s.primary) (sym becomes.schema)
+
+  col' : IsCollection q.primary new.documents
+  col' = is_collection_for q.primary new keyed_new becomes.lawful_new
+
+  pub ready_at : (rows emitted : Option (List Row))
+      → kept rows emitted ≡ Some (fresh q old.documents) → IfSome rows (IsReady q c)
+  ready_at None emitted right = tt
+  ready_at (Some rows) emitted right =
+      subst (IsReady q c) (sym (same_Some rows (fresh q old.documents) right))
+      (λ known. (acts_rightly query c old.documents new.documents col col' becomes.differ
+      becomes.change known).there)
+
+  rows_at : (rows emitted : Option (List Row))
+      → kept rows emitted ≡ Some (fresh q old.documents)
+      → answer_for (action_at q (given rows c) rows) ≡ Patched
+      → rows_after (action_at q (given rows c) rows) q (given rows c) rows
+      ≡ Some (fresh q new.documents)
+  rows_at None emitted right answer =
+      let bad : NeedsFull ≡ Patched = sym (cold_needs_full q (unknown c)) ∙ answer in cc
+  rows_at (Some rows) emitted right answer =
+      let is = same_Some rows (fresh q old.documents) right in
+      let Goal : List Row → Type 0 = λ r. answer_for (table_of (bits_of q c r)) ≡ Patched
+      → rows_after (table_of (bits_of q c r)) q c (Some r) ≡ Some (fresh q new.documents) in
+      subst Goal (sym is) (λ answer.
+      let known = known_patched (table_of (bits_of q c (fresh q old.documents))) answer in
+      sym (rows_patched (table_of (bits_of q c (fresh q old.documents))) known q c
+      (Some (fresh q old.documents)))
+      ∙ ap (λ r. Some r) (gives_fresh query c old.documents new.documents col col' becomes.differ
+      becomes.change known)) answer
+
+  -- the change as the query gets it counts alike
+  counts_at : (rows : Option (List Row)) (n : Counts)
+      → counted (action_at q (given rows c) rows) n ≡ counted (action_at q c rows) n
+  counts_at None n = refl
+  counts_at (Some rows) n = refl
+
+module _ (c : Change) (w : Watched) (new : Held) (f : Follows c w new) where
+  abbrev wq : Asked
+  wq = asked w.query
+
+  pub keyed_after : wq.primary ≡ new.schema.primary
+  keyed_after = keyed_new w.query c f.old new f.becomes f.right.keyed
+
+  -- the action's rows are there
+  pub ready_for : IfSome w.rows (IsReady wq c)
+  ready_for =
+      ready_at w.query c f.old new f.becomes f.right.keyed w.rows w.emitted f.right.from_scratch
+
+  counts_for : counted (heard w c) w.counts ≡ counted (action_at wq c w.rows) w.counts
+  counts_for = counts_at w.query c f.old new f.becomes f.right.keyed w.rows w.counts
+
+  -- patched, it is as it is to be
+  pub patched : answer_for (heard w c) ≡ Patched
+      → applied (heard w c) (given w.rows c) w ≡ stepped new.documents c w
+  patched answer =
+      let rows = rows_at w.query c f.old new f.becomes f.right.keyed w.rows w.emitted
+      f.right.from_scratch answer in
+      (λ i. record { query = w.query; rows = rows i; emitted = w.emitted; counts = counts_for i })
+
+  -- and so it is where it has run in full
+  module _ (now : Watched) (value : now ≡ applied (heard w c) (given w.rows c) w) where
+    pub is_cold : answer_for (heard w c) ≡ NeedsFull → now.rows ≡ None
+    is_cold answer =
+        ap (λ (v : Watched). v.rows) value
+        ∙ full_rows (heard w c) answer wq (given w.rows c) w.rows
+
+    pub filled : (rows : List Row) → rows ≡ fresh (asked now.query) new.documents
+        → (let v : Watched = record now { rows = Some rows } in v ≡ stepped new.documents c w)
+    filled rows rows_is =
+        let rows' = rows_is ∙ ap (λ (v : Watched). fresh (asked v.query) new.documents) value in
+        (λ i. record {
+          query = (value i).query;
+          rows = Some (rows' i);
+          emitted = (value i).emitted;
+          counts = (value i).counts;
+        })
+        ∙ (λ i. record {
+          query = w.query;
+          rows = Some (fresh wq new.documents);
+          emitted = w.emitted;
+          counts = counts_for i;
+        })
+
+-- ---- all queries, after a row
+
+-- the change that a row makes, by its parts
+pub change_is : (c : Held) (row : Stored)
+    → (let x : Change = record {
+      id = row.state.key;
+      before = before_of (live (named c.documents row.state.key));
+      after = live (Some row);
+    } in x ≡ change_by c row)
+change_is c row = (λ i. record {
+  id = row.state.key;
+  before = before_of (live (named c.documents row.state.key));
+  after = live (sym (with_row-named c row) i);
+})
+
+-- the queries were right before it
+pub all_follow : (c new : Held) (row : Stored) (qs : Queries) (x : Change) → IsLawful c
+    → IsNext c row → AllRight c qs → x ≡ change_by c row → new ≡ with_row c row
+    → AllFollow x qs new
+all_follow c new row qs x lawful next right is new_is =
+    subst (λ y. AllFollow y qs new) (sym is)
+    (subst (λ d. AllFollow (change_by c row) qs d) (sym new_is) (record {
+      old = c;
+      becomes = record {
+        differ = with_row-differs c row;
+        change = refl;
+        schema = refl;
+        lawful_old = lawful;
+        lawful_new = lawful_put c row lawful next;
+      };
+      right = right;
+    }))
+
+-- and are right after it
+pub right_after : (old c : Held) (x : Change) (qs : Queries) → old.schema ≡ c.schema
+    → AllRight old qs → AllRight c (each (stepped c.documents x) qs)
+right_after old c x [] same all = tt
+right_after old c x (q ∷ qs) same all = (
+  record { keyed = all.0.keyed ∙ ap (λ s. s.primary) same; from_scratch = refl },
+  right_after old c x qs same all.1,
+)

@@ -1,0 +1,74 @@
+-- Rows are the same exactly where the test says so.
+use Rattle.std.proofs.Common.{◌≡◌, ℕ, zero, suc, ◌+◌, add-one, arith, drop, slice_get, [], ◌∷◌, bytes_eq, true, false, cond, Option, Some, None, List, refl, sym, ap, ◌∙◌}
+use Rattle.std.proofs.lemmas.Bool.Decides.{Decides-and}
+use Rattle.std.proofs.lemmas.Option.{slice_get_within, same_Some}
+use Rattle.std.proofs.lemmas.Slice.Eq.{bytes_eq-Decides, slice_eq-Decides}
+use Rattle.std.specs.Bool.{Decides}
+use Rattle.rx_value.specs.Equal.{fields_eq}
+use Rattle.rx_value.specs.Equality.{decides_as, fields_eq-Decides}
+use Rattle.rx_query.specs.declared.results.Row.{Row}
+use Rattle.rx_observe.specs.Rows.{same_row, same_rows, unseen}
+use Rattle.rx_observe.specs.Watched.{kept}
+
+same_row-Decides : (x y : Row) → Decides (same_row x y) (x ≡ y)
+same_row-Decides x y =
+    decides_as _
+    (Decides-and (bytes_eq x.id y.id) (fields_eq x.fields y.fields)
+    (bytes_eq-Decides x.id y.id) (fields_eq-Decides x.fields y.fields))
+    (λ h i. record { id = h.0 i; fields = h.1 i })
+    (λ h. (ap (λ r. r.id) h, ap (λ r. r.fields) h))
+
+pub same_rows-Decides : (xs ys : List Row) → Decides (same_rows xs ys) (xs ≡ ys)
+same_rows-Decides xs ys = slice_eq-Decides same_row-Decides xs ys (same_rows xs ys) refl
+
+-- the one at a place is the first of what is left there
+drop_suc : {X : Type 0} (xs : List X) (i : ℕ) (x : X) → slice_get xs i ≡ Some x
+    → drop i xs ≡ x ∷ drop (suc i) xs
+drop_suc [] i x at = let in_it = slice_get_within [] i x at in absurd (omega arith)
+drop_suc (y ∷ ys) zero x at = ap (λ z. z ∷ ys) (same_Some y x at)
+drop_suc (y ∷ ys) (suc i) x at = drop_suc ys i x at
+
+-- the same with the next place as code has it
+drop_at : {X : Type 0} (xs : List X) (i : ℕ) (x : X) → slice_get xs i ≡ Some x
+    → drop i xs ≡ x ∷ drop (i + 1) xs
+drop_at xs i x at = drop_suc xs i x at ∙ ap (λ k. x ∷ drop k xs) (sym (add-one i))
+
+module _ (xs ys : List Row) (i : ℕ) (x y : Row) (at : slice_get xs i ≡ Some x)
+    (at' : slice_get ys i ≡ Some y) where
+  -- rows that are the same leave it to those after them
+  pub rows_agree : same_row x y ≡ true
+      → same_rows (drop i xs) (drop i ys) ≡ same_rows (drop (i + 1) xs) (drop (i + 1) ys)
+  rows_agree same = rw (drop_at xs i x at, drop_at ys i y at', same) refl
+
+  -- others tell
+  pub rows_differ : same_row x y ≡ false → same_rows (drop i xs) (drop i ys) ≡ false
+  rows_differ other = rw (drop_at xs i x at, drop_at ys i y at', other) refl
+
+-- rows that were emitted last aren't unseen
+pub unseen_none : (rows emitted : Option (List Row))
+    → ((r : List Row) → rows ≡ Some r → emitted ≡ Some r) → unseen rows emitted ≡ None
+unseen_none None emitted h = refl
+unseen_none (Some r) emitted h =
+    ap (unseen (Some r)) (h r refl)
+    ∙ ap (λ b. cond b None (Some r)) ((same_rows-Decides r r).1 refl)
+
+-- where none are unseen, those emitted last are kept
+pub kept_seen : (rows emitted : Option (List Row)) → unseen rows emitted ≡ None
+    → emitted ≡ kept rows emitted
+kept_seen None emitted h = refl
+kept_seen (Some r) None h = cc
+kept_seen (Some r) (Some last) h =
+    elim (same_rows r last) as (λ b. same_rows r last ≡ b → cond b None (Some r) ≡ None
+    → Some last ≡ Some r) [
+      | true ↦ (λ same h. ap (λ (z : List Row). Some z) (sym ((same_rows-Decides r last).0 same)))
+      | false ↦ (λ differ h. cc)
+    ] refl h
+
+-- and what is unseen is kept
+pub kept_unseen : (rows emitted : Option (List Row)) (r : List Row)
+    → unseen rows emitted ≡ Some r → Some r ≡ kept rows emitted
+kept_unseen None emitted r h = cc
+kept_unseen (Some x) None r h = sym h
+kept_unseen (Some x) (Some last) r h =
+    elim (same_rows x last) as (λ b. cond b None (Some x) ≡ Some r → Some r ≡ Some x)
+    [ true ↦ (λ h. cc) | false ↦ (λ h. sym h) ] h

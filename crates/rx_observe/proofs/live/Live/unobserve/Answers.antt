@@ -1,0 +1,22 @@
+use Rattle.std.proofs.Common.{sym, ap, ◌∙◌, subst}
+use Rattle.rx_value.specs.Named.{named}
+use Rattle.rx_observe.specs.Lived.{observing}
+use Rattle.rx_observe.specs.Observing.{Observing, AllRight, without, with_queries}
+use Rattle.rx_observe.proofs.Emitting.{right_without, none_named}
+use Rattle.rx_observe.proofs.live.Live.unobserve.Goals as goal
+
+pub invariant_of-self : goal.invariant_of-self
+invariant_of-self c =
+    let i = c.self.inside in
+    λ whole. subst (AllRight i.collection) (sym c.remove_query.ensures)
+    (right_without i.collection c.args.name.now i.queries.items (c.self.invariant whole))
+
+pub returns-clause-value : goal.returns-clause-value
+returns-clause-value c =
+    ap (with_queries (observing c.self.inside)) c.remove_query.ensures
+    ∙ ap (λ (o : Observing). with_queries o (without c.args.name.now o.queries)) c.self.view_is
+
+pub returns-clause-gone : goal.returns-clause-gone
+returns-clause-gone c =
+    ap (λ qs. named qs c.args.name.now) c.remove_query.ensures
+    ∙ none_named c.args.name.now c.self.inside.queries.items

@@ -1,0 +1,10 @@
+use Rattle.std.proofs.Common.{◌≡◌}
+use Rattle.rx_observe.specs.Watched.{stepped}
+use Rattle.rx_observe.proofs.Done.{done}
+use Rattle.rx_observe.proofs.step.step_all.Given as goal
+
+-- the first i queries are after the change
+abbrev pub invariant-loop-i : goal.invariant-loop-i
+invariant-loop-i l =
+    l.queries.items
+    ≡ done (λ q. (q.0, stepped l.collection.documents l.change q.1)) l.i l.fn.queries.items

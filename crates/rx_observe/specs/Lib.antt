@@ -1,0 +1,11 @@
+pub mod Fresh
+pub mod Counts
+pub mod Watched
+pub mod Codes
+pub mod Applied
+pub mod Rows
+pub mod Observing
+pub mod Laws
+pub mod Inside
+pub mod Following
+pub mod Lived

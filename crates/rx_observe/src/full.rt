@@ -1,0 +1,54 @@
+ghost use Rattle.std.specs.Prelude.{◌≡◌, map, IfOk};
+ghost use Rattle.std.specs.Map.{values_of};
+ghost use Rattle.rx_query.specs.Asked.{asked};
+ghost use Rattle.rx_query.specs.Result.{IsResult};
+ghost use Rattle.rx_actions.specs.Right.{row_of};
+ghost use Rattle.rx_collection.specs.Lawful.{IsLawful};
+ghost use Rattle.rx_observe.specs.Fresh.{fresh};
+
+use rx_collection::Collection;
+use rx_document::Stored;
+use rx_query::{Query, Results, Row};
+use std::alloc::{AllocError, Global};
+
+// The documents of a query's result, lent.
+pub(crate) fn find_in<'a>(
+    alloc: Global,
+    collection: &'a Collection,
+    query: &Query,
+) -> Result<Vec<&'a Stored>, AllocError>
+    requires keyed { (asked query.now).primary ≡ collection.now.schema.primary }
+    ensures found { IfOk result (λ found. IsResult (asked query.now)
+        (values_of collection.now.documents) (map (λ d. d.now) found.items)) }
+    ensures lawful { IsLawful collection.now }
+{
+    let documents: Vec<&Stored> = collection.all().collect(alloc)?;
+    query.scratch(alloc, documents.as_slice())
+}
+
+// The rows of a query, from scratch.
+pub(crate) fn run_in_full(
+    alloc: Global,
+    collection: &Collection,
+    query: &Query,
+) -> Result<Results, AllocError>
+    requires keyed { (asked query.now).primary ≡ collection.now.schema.primary }
+    ensures { IfOk result (λ rows. rows ≡ fresh (asked query.now) collection.now.documents) }
+{
+    let found = find_in(alloc, collection, query)?;
+    copy_rows(alloc, found.as_slice())
+}
+
+fn copy_rows(alloc: Global, documents: &[&Stored]) -> Result<Results, AllocError>
+    ensures { IfOk result (λ rows. rows ≡ map (λ d. row_of d.now) documents.now) }
+{
+    let mut rows = Results::new(alloc);
+    for document in documents {
+        let row = Row {
+            id: document.state.key.copy(alloc)?,
+            fields: document.state.fields.copy(alloc)?,
+        };
+        rows.insert(rows.len(), row)?;
+    }
+    Ok(rows)
+}

@@ -1,0 +1,18 @@
+//! Observed queries over a collection, whose rows are kept true by small changes.
+#![tactic(auto)]
+
+mod counts;
+mod decide;
+mod emission;
+mod full;
+mod laws;
+mod live;
+mod observed;
+mod rows;
+mod step;
+
+pub use counts::Counts;
+pub use emission::Emission;
+pub use laws::observed_laws;
+pub use live::Live;
+pub use observed::{Applied, Observed};

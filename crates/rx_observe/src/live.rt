@@ -1,0 +1,205 @@
+ghost use Rattle.std.specs.Prelude.{◌≡◌, [], None, true, false, is_some, IfSome, IfOk, OnOk, OnErr, option_map, map};
+ghost use Rattle.std.specs.Map.{values_of};
+ghost use Rattle.rx_value.specs.Named.{named};
+ghost use Rattle.rx_query.specs.Asked.{asked};
+ghost use Rattle.rx_query.specs.Result.{IsResult};
+ghost use Rattle.rx_collection.specs.Commit.{AreNext, with_rows};
+ghost use Rattle.rx_observe.specs.Observing.{AllRight, each, put_all, with_queries, just_observed, and_query, without, cooled};
+ghost use Rattle.rx_observe.specs.Rows.{emitted, emissions_of, emissions_due};
+ghost use Rattle.rx_observe.specs.Watched.{IsRight};
+
+use crate::emission::{Emission, Unseen, emit_all, look_all};
+use crate::full::{find_in, run_in_full};
+use crate::observed::Observed;
+use crate::step::put_row;
+use rx_collection::{Collection, Holder};
+use rx_document::Stored;
+use rx_query::Query;
+use rx_value::RxText;
+use std::alloc::{AllocError, Global};
+use std::marker::Model;
+
+/// A collection with its observed queries, by name, in the order of observing. Where memory ran out
+/// in the midst of a commit it is broken: nothing more may be asked of it.
+#[derive(Drop)]
+pub struct Live {
+    collection: Collection,
+    queries: Vec<(RxText, Observed)>,
+    broken: bool,
+}
+
+impl Model for Live {
+    ghost use Rattle.rx_observe.specs.Observing.{Observing};
+    ghost use Rattle.rx_observe.specs.Codes.{observing_code};
+
+    ghost Value = { Observing };
+
+    ghost coded = { observing_code };
+
+    ghost use Rattle.rx_observe.specs.Lived.{observing, IsRightUnlessBroken};
+
+    ghost view = { observing };
+
+    ghost invariant = { IsRightUnlessBroken };
+}
+
+impl Live {
+    pub fn new(alloc: Global, collection: Collection) -> Live
+        ensures { result ≡ record { collection = collection; queries = []; broken = false } }
+    {
+        Live {
+            collection,
+            queries: Vec::new(alloc),
+            broken: false,
+        }
+    }
+
+    /// Observes a query after all others. It runs once, which isn't counted.
+    pub fn observe(&mut self, alloc: Global, name: RxText, query: Query) -> Result<(), AllocError>
+        requires whole { self.old.broken ≡ false }
+        requires new { named self.old.queries name ≡ None }
+        requires keyed { (asked query).primary ≡ self.old.collection.schema.primary }
+        ensures ok { OnOk result (self.new ≡ with_queries self.old
+            (and_query self.old.queries name (just_observed self.old.collection query))) }
+        ensures err { OnErr result (self.new ≡ self.old) }
+    {
+        let rows = run_in_full(alloc, &self.collection, &query)?;
+        let mut observed = Observed::new(query);
+        observed.fill(rows);
+        self.queries.push((name, observed))?;
+        Ok(())
+    }
+
+    /// Observes a query that was released, after all others.
+    pub fn adopt(&mut self, name: RxText, observed: Observed) -> Result<(), AllocError>
+        requires whole { self.old.broken ≡ false }
+        requires new { named self.old.queries name ≡ None }
+        requires right { IsRight self.old.collection observed }
+        ensures ok { OnOk result
+            (self.new ≡ with_queries self.old (and_query self.old.queries name observed)) }
+        ensures err { OnErr result (self.new ≡ self.old) }
+    {
+        self.queries.push((name, observed))?;
+        Ok(())
+    }
+
+    pub fn observed(&self, name: &str) -> Option<&Observed>
+        ensures value { option_map (λ o. o.now) result ≡ named self.now.queries name.now }
+        ensures right { self.now.broken ≡ false
+            → IfSome result (λ o. IsRight self.now.collection o.now) }
+    {
+        find_query(self.queries.as_slice(), name)
+    }
+
+    /// Observes the query of that name no more, and tells whether it was observed.
+    pub fn unobserve(&mut self, name: &str) -> bool
+        requires whole { self.old.broken ≡ false }
+        ensures result { result ≡ is_some (named self.old.queries name.now) }
+        ensures value { self.new ≡ with_queries self.old (without name.now self.old.queries) }
+        ensures gone { named self.new.queries name.now ≡ None }
+    {
+        let was_observed = self.observed(name).is_some();
+        remove_query(&mut self.queries, name);
+        was_observed
+    }
+
+    /// The documents of a query's result, lent.
+    pub fn find<'a>(&'a self, alloc: Global, query: &Query) -> Result<Vec<&'a Stored>, AllocError>
+        requires keyed { (asked query.now).primary ≡ self.now.collection.schema.primary }
+        ensures { IfOk result (λ found. IsResult (asked query.now)
+            (values_of self.now.collection.documents) (map (λ d. d.now) found.items)) }
+    {
+        find_in(alloc, &self.collection, query)
+    }
+
+    /// What is to be shown: the rows of each query that differ from those emitted last. They are
+    /// those emitted last from then on.
+    pub fn emissions(&mut self, alloc: Global) -> Result<Vec<Emission>, AllocError>
+        requires whole { self.old.broken ≡ false }
+        ensures emissions { IfOk result (λ all. all.items ≡ emissions_of self.old.queries) }
+        ensures due { IfOk result
+            (λ all. all.items ≡ emissions_due self.old.collection self.old.queries) }
+        ensures ok { OnOk result
+            (self.new ≡ with_queries self.old (each emitted self.old.queries)) }
+        ensures none_left { OnOk result (emissions_of self.new.queries ≡ []) }
+        ensures err { OnErr result (self.new ≡ self.old) }
+    {
+        let mut unseen = Unseen {
+            emissions: Vec::new(alloc),
+            copies: Vec::new(alloc),
+        };
+        look_all(alloc, self.queries.as_slice(), &mut unseen)?;
+        let Unseen { emissions, copies } = unseen;
+        emit_all(&mut self.queries, copies);
+        Ok(emissions)
+    }
+
+    /// The observed queries, made cold, in the order of observing. Where nothing is left to be
+    /// emitted, another collection with the same documents may adopt them.
+    pub fn release(self) -> Vec<(RxText, Observed)>
+        requires whole { self.broken ≡ false }
+        ensures value { result.items ≡ each cooled self.queries }
+        ensures right { emissions_of self.queries ≡ [] → AllRight self.collection result.items }
+    {
+        let Live {
+            collection: _collection,
+            mut queries,
+            broken: _,
+        } = self;
+        cool_all(&mut queries);
+        queries
+    }
+}
+
+fn find_query<'a>(queries: &'a [(RxText, Observed)], name: &str) -> Option<&'a Observed>
+    ensures { option_map (λ o. o.now) result ≡ named queries.now name.now }
+{
+    for (known, observed) in queries {
+        if name == known.as_str() {
+            return Some(observed);
+        }
+    }
+    None
+}
+
+fn remove_query(queries: &mut Vec<(RxText, Observed)>, name: &str)
+    ensures { queries.new.items ≡ without name.now queries.old.items }
+{
+    queries.retain(|query| name != query.0.as_str());
+}
+
+fn cool_all(queries: &mut Vec<(RxText, Observed)>)
+    ensures { queries.new.items ≡ each cooled queries.old.items }
+{
+    for i in 0..queries.len() {
+        let query = &mut queries[i];
+        query.1.cool();
+    }
+}
+
+impl Holder for Live {
+    ghost held = { λ l. l.collection };
+
+    ghost is_broken = { λ l. l.broken };
+
+    fn collection(&self) -> &Collection {
+        &self.collection
+    }
+
+    fn put_rows(&mut self, alloc: Global, rows: Vec<Stored>) -> Result<(), AllocError>
+        requires whole { self.old.broken ≡ false }
+        requires next { AreNext self.old.collection rows.items }
+        ensures rows { OnOk result
+            (self.new.collection ≡ with_rows self.old.collection rows.items) }
+        ensures whole { OnOk result (self.new.broken ≡ false) }
+        ensures broken { OnErr result (self.new.broken ≡ true) }
+        ensures value { OnOk result (self.new ≡ put_all self.old rows.items) }
+    {
+        self.broken = true;
+        for row in rows {
+            put_row(alloc, &mut self.collection, &mut self.queries, row)?;
+        }
+        self.broken = false;
+        Ok(())
+    }
+}

@@ -1,0 +1,193 @@
+ghost use Rattle.std.specs.Prelude.{◌≡◌, ◌≢◌, Some, None, IfSome, IfOk, OnOk, OnErr, option_map};
+ghost use Rattle.rx_document.specs.declared.change.Before.TheVariants.{Unknown};
+ghost use Rattle.rx_table.specs.declared.action.Action.TheVariants.{RunFullQueryAgain};
+ghost use Rattle.rx_query.specs.After.{after, AreThere};
+ghost use Rattle.rx_query.specs.Asked.{asked};
+ghost use Rattle.rx_observe.specs.Applied.{answer_for};
+ghost use Rattle.rx_observe.specs.Rows.{unseen, emitted};
+ghost use Rattle.rx_observe.specs.Observing.{cooled};
+ghost use Rattle.rx_observe.specs.Watched.{cold, action_at, applied, IsReady, StaysFresh};
+
+use crate::counts::Counts;
+use crate::decide::decide;
+use crate::rows::are_same_rows;
+use rx_actions::act;
+use rx_document::Change;
+use rx_query::{Query, Results};
+use rx_table::Action;
+use std::alloc::{AllocError, Global};
+use std::marker::Model;
+
+/// What came of a change.
+#[derive(Clone, Copy, Debug, PartialEq, Eq)]
+pub enum Applied {
+    /// The rows are true again.
+    Patched,
+    /// The query has to run in full, and is cold until then.
+    NeedsFull,
+}
+
+/// A query, its rows while it is warm, and the rows that were emitted last. A cold query keeps no
+/// rows.
+#[derive(Drop)]
+pub struct Observed {
+    query: Query,
+    rows: Option<Results>,
+    emitted: Option<Results>,
+    /// Whether the rows may differ from those emitted last.
+    touched: bool,
+    counts: Counts,
+}
+
+impl Model for Observed {
+    ghost use Rattle.rx_observe.specs.Watched.{Watched};
+    ghost use Rattle.rx_observe.specs.Codes.{watched_code};
+
+    ghost Value = { Watched };
+
+    ghost coded = { watched_code };
+
+    ghost use Rattle.rx_observe.specs.Inside.{seen, IsTouched};
+
+    ghost view = { seen };
+
+    ghost invariant = { IsTouched };
+}
+
+impl Observed {
+    pub fn new(query: Query) -> Observed
+        ensures { result ≡ cold query }
+    {
+        Observed {
+            query,
+            rows: None,
+            emitted: None,
+            touched: false,
+            counts: Counts::new(),
+        }
+    }
+
+    pub fn query(&self) -> &Query
+        ensures { result.now ≡ self.now.query }
+    {
+        &self.query
+    }
+
+    /// Its rows, unless it is cold.
+    pub fn rows(&self) -> Option<&Results>
+        ensures { option_map (λ rows. rows.now) result ≡ self.now.rows }
+    {
+        self.rows.as_ref()
+    }
+
+    /// The runs at observing and of `fill` alone aren't counted.
+    pub fn counts(&self) -> &Counts
+        ensures { result.now ≡ self.now.counts }
+    {
+        &self.counts
+    }
+
+    /// Makes a cold query warm.
+    pub fn fill(&mut self, rows: Results)
+        requires { self.old.rows ≡ None }
+        ensures { self.new ≡ record self.old { rows = Some rows } }
+    {
+        self.rows = Some(rows);
+        self.touched = true;
+    }
+
+    /// Changes the rows as the decision table says. A query that has to run in full is cold then.
+    pub fn apply(&mut self, alloc: Global, change: &Change) -> Result<Applied, AllocError>
+        requires cold { self.old.rows ≡ None → change.now.before ≡ Unknown }
+        requires there { IfSome self.old.rows (IsReady (asked self.old.query) change.now) }
+        ensures answer { IfOk result (λ a. a
+            ≡ answer_for (action_at (asked self.old.query) change.now self.old.rows)) }
+        ensures value { OnOk result (self.new ≡ applied
+            (action_at (asked self.old.query) change.now self.old.rows) change.now self.old) }
+        ensures fresh { OnOk result
+            (StaysFresh (asked self.old.query) change.now self.old.rows self.new.rows) }
+        ensures err { OnErr result (self.new ≡ self.old) }
+    {
+        let action = self.action(alloc, change);
+        if action == Action::RunFullQueryAgain {
+            self.rows = None;
+            self.counts.count(action);
+            return Ok(Applied::NeedsFull);
+        }
+        self.touched |= action != Action::DoNothing;
+        patch(alloc, action, &self.query, change, &mut self.rows)?;
+        self.counts.count(action);
+        Ok(Applied::Patched)
+    }
+
+    fn action(&self, alloc: Global, change: &Change) -> Action
+        requires { self.now.rows ≡ None → change.now.before ≡ Unknown }
+        ensures { result ≡ action_at (asked self.now.query) change.now self.now.rows }
+    {
+        match &self.rows {
+            Some(rows) => decide(&self.query, change, rows),
+            None => decide(&self.query, change, &Results::new(alloc)),
+        }
+    }
+
+    /// A copy of the rows, where they differ from those emitted last.
+    pub(crate) fn unseen(&self, alloc: Global) -> Result<Option<Results>, AllocError>
+        ensures { IfOk result (λ copy. copy ≡ unseen self.now.rows self.now.emitted) }
+    {
+        if !self.touched {
+            return Ok(None);
+        }
+        match (&self.rows, &self.emitted) {
+            (None, _) => Ok(None),
+            (Some(rows), None) => Ok(Some(rows.copy(alloc)?)),
+            (Some(rows), Some(last)) => {
+                if are_same_rows(rows, last) {
+                    Ok(None)
+                } else {
+                    Ok(Some(rows.copy(alloc)?))
+                }
+            }
+        }
+    }
+
+    /// Takes the rows as emitted, given a copy of them where they differ from those emitted last.
+    pub(crate) fn emit(&mut self, copy: Option<Results>)
+        requires { copy ≡ unseen self.old.rows self.old.emitted }
+        ensures { self.new ≡ emitted self.old }
+    {
+        match copy {
+            Some(rows) => {
+                self.emitted = Some(rows);
+                self.touched = false;
+            }
+            None => self.touched = false,
+        }
+    }
+
+    /// Makes it cold.
+    pub(crate) fn cool(&mut self)
+        ensures { self.new ≡ cooled self.old }
+    {
+        self.rows = None;
+    }
+}
+
+// Does to the rows, if there are any, what another action says than to run in full.
+fn patch(
+    alloc: Global,
+    action: Action,
+    query: &Query,
+    change: &Change,
+    rows: &mut Option<Results>,
+) -> Result<(), AllocError>
+    requires known { action ≢ RunFullQueryAgain }
+    requires there { IfSome rows.old (AreThere action change.now) }
+    ensures ok { OnOk result
+        (rows.new ≡ option_map (after action (asked query.now) change.now) rows.old) }
+    ensures err { OnErr result (rows.new ≡ rows.old) }
+{
+    match rows {
+        Some(rows) => act(alloc, action, query, change, rows),
+        None => Ok(()),
+    }
+}

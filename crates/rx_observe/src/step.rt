@@ -1,0 +1,136 @@
+ghost use Rattle.std.specs.Prelude.{◌≡◌, Some, IfSome, IfOk, OnOk, option_map};
+ghost use Rattle.rx_document.specs.Change.{before_of};
+ghost use Rattle.rx_document.specs.Documents.{live};
+ghost use Rattle.rx_collection.specs.Commit.{IsNext, with_row};
+ghost use Rattle.rx_collection.specs.Lawful.{IsLawful};
+ghost use Rattle.rx_query.specs.Asked.{asked};
+ghost use Rattle.rx_observe.specs.Applied.{answer_for};
+ghost use Rattle.rx_observe.specs.Following.{given, heard, Follows, AllFollow};
+ghost use Rattle.rx_observe.specs.Observing.{AllRight, each, change_by, queries_after};
+ghost use Rattle.rx_observe.specs.Watched.{unknown, applied, IsReady, stepped};
+
+use crate::full::run_in_full;
+use crate::observed::{Applied, Observed};
+use rx_collection::Collection;
+use rx_document::{Before, Change, Stored};
+use rx_value::{Fields, RxText};
+use std::alloc::{AllocError, Global};
+
+// Writes a row, and brings each query up to date.
+pub(crate) fn put_row(
+    alloc: Global,
+    collection: &mut Collection,
+    queries: &mut Vec<(RxText, Observed)>,
+    row: Stored,
+) -> Result<(), AllocError>
+    requires next { IsNext collection.old row }
+    requires right { AllRight collection.old queries.old.items }
+    ensures collection { OnOk result (collection.new ≡ with_row collection.old row) }
+    ensures queries { OnOk result
+        (queries.new.items ≡ queries_after collection.old row queries.old.items) }
+{
+    if queries.is_empty() {
+        return collection.put(alloc, row);
+    }
+    let change = change_by(alloc, collection, &row)?;
+    collection.put(alloc, row)?;
+    step_all(alloc, queries, collection, &change)
+}
+
+// The change that a row is about to make.
+fn change_by(alloc: Global, collection: &Collection, row: &Stored) -> Result<Change, AllocError>
+    ensures change { IfOk result (λ c. c ≡ change_by collection.now row.now) }
+    ensures lawful { OnOk result (IsLawful collection.now) }
+{
+    Ok(Change {
+        id: row.state.key.copy(alloc)?,
+        before: before(alloc, collection.get(row.state.key.as_str()))?,
+        after: live(alloc, row)?,
+    })
+}
+
+fn before(alloc: Global, document: Option<&Stored>) -> Result<Before, AllocError>
+    ensures { IfOk result (λ b. b ≡ before_of (live (option_map (λ d. d.now) document.entry))) }
+{
+    let Some(document) = document else {
+        return Ok(Before::Absent);
+    };
+    match live(alloc, document)? {
+        Some(fields) => Ok(Before::Live(fields)),
+        None => Ok(Before::Absent),
+    }
+}
+
+fn live(alloc: Global, document: &Stored) -> Result<Option<Fields>, AllocError>
+    ensures { IfOk result (λ fields. fields ≡ live (Some document.now)) }
+{
+    if document.state.deleted {
+        return Ok(None);
+    }
+    Ok(Some(document.state.fields.copy(alloc)?))
+}
+
+fn step_all(
+    alloc: Global,
+    queries: &mut Vec<(RxText, Observed)>,
+    collection: &Collection,
+    change: &Change,
+) -> Result<(), AllocError>
+    requires { AllFollow change.now queries.old.items collection.now }
+    ensures { OnOk result (queries.new.items
+        ≡ each (stepped collection.now.documents change.now) queries.old.items) }
+{
+    for i in 0..queries.len() {
+        let query = &mut queries[i];
+        step(alloc, &mut query.1, collection, change)?;
+    }
+    Ok(())
+}
+
+// A query after a change that the collection has already.
+fn step(
+    alloc: Global,
+    observed: &mut Observed,
+    collection: &Collection,
+    change: &Change,
+) -> Result<(), AllocError>
+    requires { Follows change.now observed.old collection.now }
+    ensures { OnOk result
+        (observed.new ≡ stepped collection.now.documents change.now observed.old) }
+{
+    match hear(alloc, observed, change)? {
+        Applied::Patched => Ok(()),
+        Applied::NeedsFull => {
+            let rows = run_in_full(alloc, collection, observed.query())?;
+            observed.fill(rows);
+            Ok(())
+        }
+    }
+}
+
+fn hear(alloc: Global, observed: &mut Observed, change: &Change) -> Result<Applied, AllocError>
+    requires { IfSome observed.old.rows (IsReady (asked observed.old.query) change.now) }
+    ensures answer { IfOk result (λ a. a ≡ answer_for (heard observed.old change.now)) }
+    ensures value { OnOk result (observed.new ≡ applied (heard observed.old change.now)
+        (given observed.old.rows change.now) observed.old) }
+{
+    if observed.rows().is_none() {
+        return observed.apply(alloc, &unknown(alloc, change)?);
+    }
+    observed.apply(alloc, change)
+}
+
+// The change as a cold query gets it.
+fn unknown(alloc: Global, change: &Change) -> Result<Change, AllocError>
+    ensures { IfOk result (λ c. c ≡ unknown change.now) }
+{
+    let after = match &change.after {
+        Some(fields) => Some(fields.copy(alloc)?),
+        None => None,
+    };
+    Ok(Change {
+        id: change.id.copy(alloc)?,
+        before: Before::Unknown,
+        after,
+    })
+}
