@@ -1,4 +1,5 @@
-//! Sources and sinks of bytes: as traits, in memory, and as the standard streams.
+//! Sources and sinks of bytes: as traits, in memory, and as the standard streams; and why work over
+//! a journal ends early.
 #![tactic(auto)]
 
 mod calls;
@@ -8,6 +9,7 @@ mod memory_source;
 mod sink;
 mod source;
 mod standard;
+mod stop;
 #[cfg(test)]
 mod tests;
 mod writing;
@@ -18,4 +20,5 @@ pub use memory_source::MemorySource;
 pub use sink::Sink;
 pub use source::Source;
 pub use standard::{StdSink, StdSource};
+pub use stop::Stop;
 pub use writing::write_all;
