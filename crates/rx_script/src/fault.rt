@@ -1,13 +1,29 @@
+use rx_value::RxText;
 use std::alloc::AllocError;
 use thiserror::Error;
 
-/// Why a line asks nothing.
+/// Why a line asks nothing. A fault of a member has the member's name.
 #[derive(Debug, Drop, Error)]
 pub enum LineFault {
+    #[error("the line is too long")]
+    TooLong,
     /// The line is no JSON text, or nests deeper than 127 levels.
     #[error("the line is not JSON")]
     NotJson,
-    /// The line is none of those that are played so far, or is too long.
+    #[error("the line is not an object")]
+    NotObject,
+    /// Has the text of `do`.
+    #[error("an unknown kind of line")]
+    UnknownDo(RxText),
+    #[error("a member is missing")]
+    Missing(RxText),
+    #[error("an unexpected member")]
+    Unexpected(RxText),
+    #[error("a member of the wrong type")]
+    WrongType(RxText),
+    #[error("a member that is not a name")]
+    Name(RxText),
+    /// Lines of this kind are not played yet.
     #[error("the line is not played yet")]
     NotYet,
     #[error("memory is wanting")]

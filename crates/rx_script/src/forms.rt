@@ -1,82 +1,166 @@
 // The forms that a line may have.
-ghost use Rattle.std.specs.Prelude.{◌≡◌, option_map};
-ghost use Rattle.serde_json.specs.Find.{get};
+ghost use Rattle.std.specs.Prelude.{◌≡◌, true, IfOk};
 ghost use Rattle.serde_json.specs.View.{view};
-ghost use Rattle.rx_value.specs.Due.{Due, DueBy};
-ghost use Rattle.rx_value.specs.Form.{texts};
-ghost use Rattle.rx_script.specs.Asked.{asked};
-ghost use Rattle.rx_script.specs.Line.{has_exactly, name_at, form_of, collection_of, insert_of, observe_of};
+ghost use Rattle.rx_value.specs.Due.{DueBy};
+ghost use Rattle.rx_value.specs.Name.{is_name};
+ghost use Rattle.rx_script.specs.Asked.{asked, is_object, IsLawful};
+ghost use Rattle.rx_script.specs.Line.{collection_of, document_of, bulk_of, patch_of, remove_of, get_of, query_of, observe_of, tick_of, form_of};
+ghost use Rattle.rx_script.specs.declared.fault.LineFault.TheVariants.{Memory};
 
 use crate::fault::LineFault;
 use crate::line::Line;
-use rx_value::{RxText, first_missing, first_unexpected, is_name, text_at};
+use crate::member::{
+    check_form, check_name, check_needed, check_object, check_objects, read_maybe_text,
+    read_moment, read_text, take_items, take_json,
+};
+use rx_value::{RxText, text_at};
 use serde_json::Value as Json;
 use std::alloc::Global;
 
+// What an object asks: `do` tells its form.
 pub(crate) fn read_form(alloc: Global, json: Json) -> Result<Line, LineFault>
-    ensures { DueBy LineFault.Memory asked result (form_of (view json)) }
+    ensures exact { DueBy Memory asked result (form_of (view json)) }
+    ensures lawful { IfOk result (λ line. IsLawful (asked line)) }
 {
+    check_needed(alloc, &json, &["do"])?;
     match text_at(&json, "do") {
         Some("collection") => read_collection(alloc, json),
-        Some("insert") => read_insert(alloc, json),
+        Some("insert") => {
+            let (coll, doc) = read_document(alloc, json)?;
+            Ok(Line::Insert { coll, doc })
+        }
+        Some("bulk") => read_bulk(alloc, json),
+        Some("upsert") => {
+            let (coll, doc) = read_document(alloc, json)?;
+            Ok(Line::Upsert { coll, doc })
+        }
+        Some("patch") => read_patch(alloc, json),
+        Some("remove") => read_remove(alloc, json),
+        Some("get") => read_get(alloc, json),
+        Some("find") => {
+            let (coll, query) = read_query(alloc, json)?;
+            Ok(Line::Find { coll, query })
+        }
+        Some("count") => {
+            let (coll, query) = read_query(alloc, json)?;
+            Ok(Line::Count { coll, query })
+        }
         Some("observe") => read_observe(alloc, json),
-        _ => Err(LineFault::NotYet),
+        Some("tick") => read_tick(alloc, json),
+        Some("unobserve" | "explain" | "restart") => Err(LineFault::NotYet),
+        Some("replicate" | "turn" | "changes" | "digest") => Err(LineFault::NotYet),
+        Some(word) => Err(LineFault::UnknownDo(RxText::new(alloc, word)?)),
+        None => Err(LineFault::WrongType(RxText::new(alloc, "do")?)),
     }
 }
 
 fn read_collection(alloc: Global, mut json: Json) -> Result<Line, LineFault>
-    ensures { DueBy LineFault.Memory asked result (collection_of (view json)) }
+    ensures exact { DueBy Memory asked result (collection_of (view json)) }
+    ensures lawful { IfOk result (λ line. IsLawful (asked line)) }
 {
-    if !has_exactly(&json, &["do", "name", "schema"]) {
-        return Err(LineFault::NotYet);
-    }
-    let name = name_at(alloc, &json, "name")?;
-    let schema = take_member(&mut json, "schema").ok_or(LineFault::NotYet)?;
+    check_form(alloc, &json, &["do", "name", "schema"], &[])?;
+    let name = read_text(alloc, &json, "name")?;
+    check_name(alloc, "name", &name)?;
+    let schema = take_json(&mut json, "schema");
     Ok(Line::Collection { name, schema })
 }
 
-fn read_insert(alloc: Global, mut json: Json) -> Result<Line, LineFault>
-    ensures { DueBy LineFault.Memory asked result (insert_of (view json)) }
+// A collection and a document.
+fn read_document(alloc: Global, mut json: Json) -> Result<(RxText, Json), LineFault>
+    ensures exact { DueBy Memory (λ m. (m.0, view m.1)) result (document_of (view json)) }
+    ensures name { IfOk result (λ m. is_name m.0 ≡ true) }
+    ensures object { IfOk result (λ m. is_object (view m.1) ≡ true) }
 {
-    if !has_exactly(&json, &["do", "in", "doc"]) {
-        return Err(LineFault::NotYet);
-    }
-    let coll = name_at(alloc, &json, "in")?;
-    let doc = take_member(&mut json, "doc").ok_or(LineFault::NotYet)?;
-    Ok(Line::Insert { coll, doc })
+    check_form(alloc, &json, &["do", "in", "doc"], &[])?;
+    let coll = read_text(alloc, &json, "in")?;
+    check_object(alloc, &json, "doc")?;
+    check_name(alloc, "in", &coll)?;
+    Ok((coll, take_json(&mut json, "doc")))
+}
+
+fn read_bulk(alloc: Global, mut json: Json) -> Result<Line, LineFault>
+    ensures exact { DueBy Memory asked result (bulk_of (view json)) }
+    ensures lawful { IfOk result (λ line. IsLawful (asked line)) }
+{
+    check_form(alloc, &json, &["do", "in", "docs"], &[])?;
+    let coll = read_text(alloc, &json, "in")?;
+    check_objects(alloc, &json, "docs")?;
+    check_name(alloc, "in", &coll)?;
+    let docs = take_items(alloc, &mut json, "docs");
+    Ok(Line::Bulk { coll, docs })
+}
+
+fn read_patch(alloc: Global, mut json: Json) -> Result<Line, LineFault>
+    ensures exact { DueBy Memory asked result (patch_of (view json)) }
+    ensures lawful { IfOk result (λ line. IsLawful (asked line)) }
+{
+    check_form(alloc, &json, &["do", "in", "key", "set"], &["rev"])?;
+    let coll = read_text(alloc, &json, "in")?;
+    let key = read_text(alloc, &json, "key")?;
+    check_object(alloc, &json, "set")?;
+    let rev = read_maybe_text(alloc, &json, "rev")?;
+    check_name(alloc, "in", &coll)?;
+    let set = take_json(&mut json, "set");
+    Ok(Line::Patch {
+        coll,
+        key,
+        set,
+        rev,
+    })
+}
+
+fn read_remove(alloc: Global, json: Json) -> Result<Line, LineFault>
+    ensures exact { DueBy Memory asked result (remove_of (view json)) }
+    ensures lawful { IfOk result (λ line. IsLawful (asked line)) }
+{
+    check_form(alloc, &json, &["do", "in", "key"], &["rev"])?;
+    let coll = read_text(alloc, &json, "in")?;
+    let key = read_text(alloc, &json, "key")?;
+    let rev = read_maybe_text(alloc, &json, "rev")?;
+    check_name(alloc, "in", &coll)?;
+    Ok(Line::Remove { coll, key, rev })
+}
+
+fn read_get(alloc: Global, json: Json) -> Result<Line, LineFault>
+    ensures exact { DueBy Memory asked result (get_of (view json)) }
+    ensures lawful { IfOk result (λ line. IsLawful (asked line)) }
+{
+    check_form(alloc, &json, &["do", "in", "key"], &[])?;
+    let coll = read_text(alloc, &json, "in")?;
+    let key = read_text(alloc, &json, "key")?;
+    check_name(alloc, "in", &coll)?;
+    Ok(Line::Get { coll, key })
+}
+
+// A collection and a query.
+fn read_query(alloc: Global, mut json: Json) -> Result<(RxText, Json), LineFault>
+    ensures exact { DueBy Memory (λ m. (m.0, view m.1)) result (query_of (view json)) }
+    ensures name { IfOk result (λ m. is_name m.0 ≡ true) }
+{
+    check_form(alloc, &json, &["do", "in", "query"], &[])?;
+    let coll = read_text(alloc, &json, "in")?;
+    check_name(alloc, "in", &coll)?;
+    Ok((coll, take_json(&mut json, "query")))
 }
 
 fn read_observe(alloc: Global, mut json: Json) -> Result<Line, LineFault>
-    ensures { DueBy LineFault.Memory asked result (observe_of (view json)) }
+    ensures exact { DueBy Memory asked result (observe_of (view json)) }
+    ensures lawful { IfOk result (λ line. IsLawful (asked line)) }
 {
-    if !has_exactly(&json, &["do", "name", "in", "query"]) {
-        return Err(LineFault::NotYet);
-    }
-    let name = name_at(alloc, &json, "name")?;
-    let coll = name_at(alloc, &json, "in")?;
-    let query = take_member(&mut json, "query").ok_or(LineFault::NotYet)?;
+    check_form(alloc, &json, &["do", "name", "in", "query"], &[])?;
+    let name = read_text(alloc, &json, "name")?;
+    let coll = read_text(alloc, &json, "in")?;
+    check_name(alloc, "name", &name)?;
+    check_name(alloc, "in", &coll)?;
+    let query = take_json(&mut json, "query");
     Ok(Line::Observe { name, coll, query })
 }
 
-/// Whether JSON is an object with these members and no other.
-pub fn has_exactly(json: &Json, names: &[&str]) -> bool
-    ensures { result ≡ has_exactly (texts names.now) (view json.now) }
+fn read_tick(alloc: Global, json: Json) -> Result<Line, LineFault>
+    ensures exact { DueBy Memory asked result (tick_of (view json)) }
+    ensures lawful { IfOk result (λ line. IsLawful (asked line)) }
 {
-    first_missing(json, names).is_none() && first_unexpected(json, names, &[]).is_none()
-}
-
-fn name_at(alloc: Global, json: &Json, member: &str) -> Result<RxText, LineFault>
-    ensures { Due LineFault.Memory result (name_at member.now (view json.now)) }
-{
-    match text_at(json, member) {
-        Some(text) if is_name(text) => Ok(RxText::new(alloc, text)?),
-        _ => Err(LineFault::NotYet),
-    }
-}
-
-// Moves a member out of an object.
-fn take_member(json: &mut Json, name: &str) -> Option<Json>
-    ensures { option_map view result ≡ get name.now (view json.old) }
-{
-    json.as_object_mut()?.remove(name)
+    check_form(alloc, &json, &["do", "at"], &[])?;
+    let at = read_moment(alloc, &json, "at")?;
+    Ok(Line::Tick { at })
 }

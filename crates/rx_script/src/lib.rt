@@ -1,10 +1,35 @@
 //! The lines of a script: what each one asks, or why it asks nothing.
+//!
+//! A line is an object. Its member `do` says what it asks:
+//!
+//! | `do` | members |
+//! |---|---|
+//! | `collection` | `name`, `schema` |
+//! | `insert` | `in`, `doc` |
+//! | `bulk` | `in`, `docs` |
+//! | `upsert` | `in`, `doc` |
+//! | `patch` | `in`, `key`, `set`, and maybe `rev` |
+//! | `remove` | `in`, `key`, and maybe `rev` |
+//! | `get` | `in`, `key` |
+//! | `find` | `in`, `query` |
+//! | `count` | `in`, `query` |
+//! | `observe` | `name`, `in`, `query` |
+//! | `tick` | `at` |
+//!
+//! `in` and `name` are names, `key` and `rev` are texts, `doc` and `set` are objects, `docs` is a
+//! list of objects, `at` is a whole number from 0 to 2^53 - 1, and `schema` and `query` are any
+//! JSON. The lines `unobserve`, `explain`, `restart`,
+//! `replicate`, `turn`, `changes` and `digest` are known and not read yet.
+//!
+//! The first fault counts: the line's length, its JSON, that it is an object; then `do`; then
+//! whether a member is missing, in the order of the table, or is none of these, by its bytes; then
+//! the kinds of the members in the order of the table, and last the names in that order.
 #![tactic(auto)]
 
 mod fault;
 mod forms;
 mod line;
+mod member;
 
 pub use fault::LineFault;
-pub use forms::has_exactly;
 pub use line::{Line, MAX_LINE_BYTES};

@@ -1,7 +1,9 @@
+ghost use Rattle.std.specs.Prelude.{IfOk};
 ghost use Rattle.serde_json.specs.View.{view};
 ghost use Rattle.rx_value.specs.Due.{DueBy};
-ghost use Rattle.rx_script.specs.Asked.{asked};
-ghost use Rattle.rx_script.specs.Line.{line_of};
+ghost use Rattle.rx_script.specs.Asked.{asked, IsLawful};
+ghost use Rattle.rx_script.specs.Line.{object_of, line_of};
+ghost use Rattle.rx_script.specs.declared.fault.LineFault.TheVariants.{Memory};
 
 use crate::fault::LineFault;
 use crate::forms::read_form;
@@ -13,42 +15,86 @@ use std::alloc::Global;
 pub const MAX_LINE_BYTES: usize = 1_048_576;
 
 /// What a line asks. Names are read; schemas, documents and queries are left as the JSON that
-/// they are, since only the session can judge them.
+/// they are, since only the session can judge them. `coll` is the member `in`.
 #[derive(Drop)]
 pub enum Line {
-    /// Makes a collection.
     Collection {
         name: RxText,
         schema: Json,
     },
-    /// Inserts a document into the collection `coll`.
     Insert {
         coll: RxText,
         doc: Json,
     },
-    /// Observes the result of a query on the collection `coll`.
+    Bulk {
+        coll: RxText,
+        docs: Vec<Json>,
+    },
+    Upsert {
+        coll: RxText,
+        doc: Json,
+    },
+    Patch {
+        coll: RxText,
+        key: RxText,
+        set: Json,
+        rev: Option<RxText>,
+    },
+    Remove {
+        coll: RxText,
+        key: RxText,
+        rev: Option<RxText>,
+    },
+    Get {
+        coll: RxText,
+        key: RxText,
+    },
+    Find {
+        coll: RxText,
+        query: Json,
+    },
+    Count {
+        coll: RxText,
+        query: Json,
+    },
     Observe {
         name: RxText,
         coll: RxText,
         query: Json,
+    },
+    Tick {
+        at: u64,
     },
 }
 
 impl Line {
     /// Reads the bytes of a line, which has no line feed at its end.
     pub fn read(alloc: Global, bytes: &[u8]) -> Result<Line, LineFault>
-        ensures { DueBy LineFault.Memory asked result (line_of bytes.now) }
+        ensures exact { DueBy Memory asked result (line_of bytes.now) }
+        ensures lawful { IfOk result (λ line. IsLawful (asked line)) }
     {
-        if bytes.len() > MAX_LINE_BYTES {
-            return Err(LineFault::NotYet);
-        }
-        match Json::from_slice(alloc, bytes) {
-            Ok(json) => read_form(alloc, json),
-            Err(e) => if e.is_memory() {
-                Err(LineFault::Memory)
-            } else {
-                Err(LineFault::NotJson)
-            },
-        }
+        let json = read_object(alloc, bytes)?;
+        read_form(alloc, json)
+    }
+}
+
+// The object that a line is.
+fn read_object(alloc: Global, bytes: &[u8]) -> Result<Json, LineFault>
+    ensures { DueBy Memory view result (object_of bytes.now) }
+{
+    if bytes.len() > MAX_LINE_BYTES {
+        return Err(LineFault::TooLong);
+    }
+    match Json::from_slice(alloc, bytes) {
+        Ok(json) => if json.is_object() {
+            Ok(json)
+        } else {
+            Err(LineFault::NotObject)
+        },
+        Err(e) => if e.is_memory() {
+            Err(LineFault::Memory)
+        } else {
+            Err(LineFault::NotJson)
+        },
     }
 }

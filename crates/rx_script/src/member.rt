@@ -1,0 +1,140 @@
+// The members of a line, and their kinds.
+ghost use Rattle.std.specs.Prelude.{◌≡◌, ◌≤◌, true, map, IfOk, OnOk};
+ghost use Rattle.std.specs.List.{list_all};
+ghost use Rattle.serde_json.specs.View.{view};
+ghost use Rattle.rx_value.specs.Due.{Due};
+ghost use Rattle.rx_value.specs.Form.{texts};
+ghost use Rattle.rx_value.specs.Name.{is_name};
+ghost use Rattle.rx_value.specs.Value.{largest};
+ghost use Rattle.rx_script.specs.Asked.{is_object};
+ghost use Rattle.rx_script.specs.Line.{has_needed, has_form, a_text, maybe_text, an_object, objects, a_moment, a_name, json_at, items_of, are_objects};
+ghost use Rattle.rx_script.specs.declared.fault.LineFault.TheVariants.{Memory};
+
+use crate::fault::LineFault;
+use rx_value::{LARGEST, RxText, first_missing, first_unexpected, is_name, text_at, whole_within};
+use serde_json::Value as Json;
+use std::alloc::Global;
+
+pub(crate) fn check_needed(alloc: Global, json: &Json, needed: &[&str]) -> Result<(), LineFault>
+    ensures { Due Memory result (has_needed (texts needed.now) (view json.now)) }
+{
+    match first_missing(json, needed) {
+        Some(name) => Err(LineFault::Missing(RxText::new(alloc, name)?)),
+        None => Ok(()),
+    }
+}
+
+pub(crate) fn check_form(
+    alloc: Global,
+    json: &Json,
+    needed: &[&str],
+    optional: &[&str],
+) -> Result<(), LineFault>
+    ensures { Due Memory result (has_form (texts needed.now) (texts optional.now) (view json.now)) }
+{
+    check_needed(alloc, json, needed)?;
+    match first_unexpected(json, needed, optional) {
+        Some(name) => Err(LineFault::Unexpected(RxText::new(alloc, name)?)),
+        None => Ok(()),
+    }
+}
+
+pub(crate) fn read_text(alloc: Global, json: &Json, name: &str) -> Result<RxText, LineFault>
+    ensures { Due Memory result (a_text name.now (view json.now)) }
+{
+    match text_at(json, name) {
+        Some(text) => Ok(RxText::new(alloc, text)?),
+        None => Err(LineFault::WrongType(RxText::new(alloc, name)?)),
+    }
+}
+
+pub(crate) fn read_maybe_text(
+    alloc: Global,
+    json: &Json,
+    name: &str,
+) -> Result<Option<RxText>, LineFault>
+    ensures { Due Memory result (maybe_text name.now (view json.now)) }
+{
+    if json.get(name).is_none() {
+        return Ok(None);
+    }
+    Ok(Some(read_text(alloc, json, name)?))
+}
+
+pub(crate) fn check_object(alloc: Global, json: &Json, name: &str) -> Result<(), LineFault>
+    ensures exact { Due Memory result (an_object name.now (view json.now)) }
+    ensures object { OnOk result (is_object (json_at name.now (view json.now)) ≡ true) }
+{
+    match json.get(name) {
+        Some(member) if member.is_object() => Ok(()),
+        _ => Err(LineFault::WrongType(RxText::new(alloc, name)?)),
+    }
+}
+
+pub(crate) fn check_objects(alloc: Global, json: &Json, name: &str) -> Result<(), LineFault>
+    ensures exact { Due Memory result (objects name.now (view json.now)) }
+    ensures objects { OnOk result
+        (list_all is_object (items_of (json_at name.now (view json.now))) ≡ true) }
+{
+    match json.get(name) {
+        Some(member) if are_objects(member) => Ok(()),
+        _ => Err(LineFault::WrongType(RxText::new(alloc, name)?)),
+    }
+}
+
+fn are_objects(json: &Json) -> bool
+    ensures { result ≡ are_objects (view json.now) }
+{
+    match json.as_array() {
+        Some(items) => each_object(items.as_slice()),
+        None => false,
+    }
+}
+
+fn each_object(items: &[Json]) -> bool
+    ensures { result ≡ list_all (λ j. is_object (view j)) items.now }
+{
+    items.iter().all(|item| item.is_object())
+}
+
+pub(crate) fn read_moment(alloc: Global, json: &Json, name: &str) -> Result<u64, LineFault>
+    ensures exact { Due Memory result (a_moment name.now (view json.now)) }
+    ensures most { IfOk result (λ at. at ≤ largest) }
+{
+    match whole_within(json, name, 0, LARGEST as u64) {
+        Some(at) => Ok(at),
+        None => Err(LineFault::WrongType(RxText::new(alloc, name)?)),
+    }
+}
+
+// The text of that member is a name.
+pub(crate) fn check_name(alloc: Global, member: &str, text: &RxText) -> Result<(), LineFault>
+    ensures exact { Due Memory result (a_name member.now text.now) }
+    ensures name { OnOk result (is_name text.now ≡ true) }
+{
+    if is_name(text.as_str()) {
+        Ok(())
+    } else {
+        Err(LineFault::Name(RxText::new(alloc, member)?))
+    }
+}
+
+// Moves a member out of an object: null, where there is none.
+pub(crate) fn take_json(json: &mut Json, name: &str) -> Json
+    ensures { view result ≡ json_at name.now (view json.old) }
+{
+    match json.as_object_mut() {
+        Some(members) => members.remove(name).unwrap_or(Json::Null),
+        None => Json::Null,
+    }
+}
+
+// Moves the items of a list out of an object: none, where there is no list.
+pub(crate) fn take_items(alloc: Global, json: &mut Json, name: &str) -> Vec<Json>
+    ensures { map view result.items ≡ items_of (json_at name.now (view json.old)) }
+{
+    match take_json(json, name) {
+        Json::Array(items) => items,
+        _ => Vec::new(alloc),
+    }
+}
