@@ -1,0 +1,87 @@
+-- The fields of documents stay valid.
+use Rattle.std.proofs.Common.{◌≡◌, ℕ, ◌==◌, true, List, [], ◌∷◌, Option, Some, None, is_none, IfSome, option_map, sym, subst}
+use Rattle.std.proofs.lemmas.Bool.{and_parts}
+use Rattle.std.specs.List.{AllByRecursion, list_all}
+use Rattle.rx_value.specs.Named.{named}
+use Rattle.rx_schema.specs.Validity.{first_fault}
+use Rattle.rx_schema.specs.declared.shape.Shape.{Shape}
+use Rattle.rx_collection.specs.Commit.{next_height, with_row, with_rows}
+use Rattle.rx_collection.specs.Held.{Held, held_with}
+use Rattle.rx_collection.proofs.Named.{at_name, all_put}
+use Rattle.rx_record.specs.Content.{Content, collection, rows, epoch}
+use Rattle.rx_record.specs.declared.record.RowOut.{RowOut}
+use Rattle.rx_world.specs.Schema.{schema_in}
+use Rattle.rx_world.specs.Step.{is_text, is_valid_state, is_due, takes, legal, step, with_new, stored_of, stored_rows, written_to}
+use Rattle.rx_world.specs.Valid.{AreValid, AllValid}
+use Rattle.rx_world.specs.World.{World, empty}
+use Rattle.rx_world.proofs.Looked.{all_put_named, all_change_named}
+use Rattle.rx_world.proofs.Steps.{nothing, rows_go}
+use Rattle.rx_world.proofs.Turns.{takes_parts}
+
+-- ---- a collection
+
+-- the fields of each row are valid
+abbrev RowsAreValid : Shape → List RowOut → Type 0
+RowsAreValid s written = AllByRecursion (λ row. first_fault s row.state.fields ≡ None) written
+
+-- those of rows that are due are so
+due_valid : (c : Held) (written : List RowOut) → list_all (is_due c) written ≡ true
+    → RowsAreValid c.schema written
+due_valid c [] due = tt
+due_valid c (r ∷ rs) due =
+    let fault = first_fault c.schema r.state.fields in
+    let text = is_text r.state.key (named r.state.fields c.schema.primary) in
+    let next = next_height (named c.documents r.state.key) in
+    let both = and_parts (is_due c r) (list_all (is_due c) rs) due in
+    let here = and_parts (is_valid_state c.schema r.state) (r.height == next) both.0 in
+    (nothing fault (and_parts (is_none fault) text here.0).0, due_valid c rs both.1)
+
+-- valid rows leave valid documents
+valid_rows : (c : Held) (name : List ℕ) (lwt : ℕ) (written : List RowOut) → AreValid c
+    → RowsAreValid c.schema written → AreValid (with_rows c (stored_rows name lwt written))
+valid_rows c name lwt [] valid each = valid
+valid_rows c name lwt (r ∷ rs) valid each =
+    let row = stored_of name lwt r in
+    valid_rows (with_row c row) name lwt rs
+    (all_put (λ k d. first_fault c.schema d.state.fields ≡ None) c.documents r.state.key row each.0
+    valid) each.1
+
+-- so do rows that the collection takes
+pub valid_taken : (lwt : ℕ) (written : List RowOut) (c : Held) → takes lwt written c ≡ true
+    → AreValid c → AreValid (written_to lwt written c)
+valid_taken lwt written c is valid =
+    valid_rows c c.name lwt written valid (due_valid c written (takes_parts lwt written c is).due)
+
+-- ---- a world
+
+-- there is nothing in the empty world
+pub valid_empty : AllValid empty
+valid_empty = tt
+
+-- a collection of a valid world is valid
+pub valid_at : (w : World) (name : List ℕ) (c : Held) → AllValid w
+    → named w.collections name ≡ Some c → AreValid c
+valid_at w name c valid at = at_name (λ k x. AreValid x) w.collections name c valid at
+
+-- the same of what a call lends
+pub valid_found : {A : Type 0} (held : A → Held) (w : World) (name : List ℕ) (o : Option A)
+    → AllValid w → option_map held o ≡ named w.collections name → IfSome o (λ a. AreValid (held a))
+valid_found held w name None valid at = tt
+valid_found held w name (Some a) valid at = valid_at w name (held a) valid (sym at)
+
+-- a legal record leaves a valid world
+pub valid_step : (entry : Content) (w : World) → legal entry w ≡ true → AllValid w
+    → AllValid (step entry w)
+valid_step (collection name schema) w is valid =
+    elim (schema_in schema) as (λ o. AllByRecursion (λ e. AreValid e.1)
+    (with_new name o w.collections)) [
+      | None ↦ valid
+      | Some s ↦ all_put_named (λ k x. AreValid x) w.collections name (held_with name s []) tt valid
+    ]
+valid_step (rows name lwt written) w is valid =
+    all_change_named (λ k x. AreValid x) w.collections name (written_to lwt written)
+    (λ c at here.
+    let to = rows_go name lwt written w is in
+    let same : to.held ≡ c = let there = to.named in cc in
+    valid_taken lwt written c (subst (λ x. takes lwt written x ≡ true) same to.taken) here) valid
+valid_step (epoch number) w is valid = valid

@@ -1,0 +1,43 @@
+-- A world with the holders of its collections.
+use Rattle.std.specs.Prelude.{◌≡◌, ℕ, List, Bool, false, String, string_bytes}
+use Rattle.std.specs.declared.alloc.Global.{Global}
+use Rattle.std.specs.List.{AllByRecursion}
+use Rattle.rx_value.specs.Named.{by_name, by_bytes}
+use Rattle.rx_collection.specs.Held.{Held}
+use Rattle.rx_collection.specs.Lawful.{IsLawful}
+use Rattle.rx_world.specs.Valid.{AllValid}
+use Rattle.rx_world.specs.World.{World, world_with}
+use Rattle.rx_world.specs.declared.parts.Parts.{Parts}
+
+-- holders by name, in the order of their making, and the last epoch
+pub record Holders (H : Type 0) : Type 0 where
+  pub entries : List (String Global × H)
+  pub epoch : ℕ
+
+-- those of the parts
+abbrev pub holders_of : {H : Type 0} → Parts H → Holders H
+holders_of p = record { entries = p.holders.entries; epoch = p.epoch }
+
+-- the world that the holders hold
+abbrev pub world_in : {H : Type 0} → (H → Held) → Holders H → World
+world_in held h = world_with (by_name held h.entries) h.epoch
+
+-- the holder isn't broken, and its collection is lawful and has that name
+pub record IsWhole {H : Type 0} (held : H → Held) (broken : H → Bool) (name : List ℕ) (h : H)
+    : Type 0 where
+  pub unbroken : broken h ≡ false
+  pub called : (held h).name ≡ name
+  pub lawful : IsLawful (held h)
+
+-- each holder is so at its name
+abbrev pub AreWhole : {H : Type 0} → (H → Held) → (H → Bool) → List (String Global × H) → Type 0
+AreWhole held broken es = AllByRecursion (λ e. IsWhole held broken (string_bytes e.0) e.1) es
+
+-- each holder is so, and the fields of their documents are valid
+pub record AreSound {H : Type 0} (held : H → Held) (broken : H → Bool) (h : Holders H) : Type 0 where
+  pub whole : AreWhole held broken h.entries
+  pub valid : AllValid (world_in held h)
+
+-- the holders by the bytes of their names
+abbrev pub holders_in : {H : Type 0} → Holders H → List (List ℕ × H)
+holders_in h = by_bytes h.entries

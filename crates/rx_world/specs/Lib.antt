@@ -1,0 +1,9 @@
+pub mod World
+pub mod Schema
+pub mod Step
+pub mod Replay
+pub mod Commit
+pub mod Lawful
+pub mod Valid
+pub mod Holders
+pub mod Edit

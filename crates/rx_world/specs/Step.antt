@@ -1,0 +1,92 @@
+-- What a record does to a world, and where it is legal.
+use Rattle.std.specs.Prelude.{ℕ, ◌+◌, List, [], map, length, Bool, false, ◌&&◌, ◌==◌, nat_lt, nat_le, if◌then◌else◌, Option, Some, None, is_some, is_none}
+use Rattle.std.specs.List.{list_all}
+use Rattle.std.specs.Option.{option_map_or, ForSome}
+use Rattle.std.specs.Str.{bytes_eq}
+use Rattle.rx_value.specs.Name.{is_name}
+use Rattle.rx_value.specs.Named.{named, put_named, change_named}
+use Rattle.rx_value.specs.declared.state.State.{State}
+use Rattle.rx_value.specs.declared.value.Value.{Value}
+use Rattle.rx_value.specs.declared.value.Value.TheVariants.{Text}
+use Rattle.rx_schema.specs.Validity.{first_fault}
+use Rattle.rx_schema.specs.declared.shape.Shape.{Shape}
+use Rattle.rx_document.specs.declared.stored.Stored.{Stored}
+use Rattle.rx_collection.specs.Commit.{AreNext, next_height, with_rows}
+use Rattle.rx_collection.specs.Held.{Held, held_with}
+use Rattle.rx_collection.specs.Time.{last_lwt, most_lwt}
+use Rattle.rx_record.specs.Content.{Content, collection, rows, epoch}
+use Rattle.rx_record.specs.declared.record.RowOut.{RowOut}
+use Rattle.rx_world.specs.Schema.{schema_in}
+use Rattle.rx_world.specs.World.{World, world_with, max_collections}
+
+-- ---- what a record does
+
+-- a row as its collection stores it: the collection's name is its token
+abbrev pub stored_of : List ℕ → ℕ → RowOut → Stored
+stored_of name lwt row =
+    record { state = row.state; rev = record { height = row.height; token = name }; lwt = lwt }
+
+abbrev pub stored_rows : List ℕ → ℕ → List RowOut → List Stored
+stored_rows name lwt written = map (stored_of name lwt) written
+
+-- a collection with the rows of a record, written at that time
+abbrev pub written_to : ℕ → List RowOut → Held → Held
+written_to lwt written c = with_rows c (stored_rows c.name lwt written)
+
+-- collections with a new one, where there is a schema
+abbrev pub with_new : List ℕ → Option Shape → List (List ℕ × Held) → List (List ℕ × Held)
+with_new name None cs = cs
+with_new name (Some s) cs = put_named cs name (held_with name s [])
+
+-- the world after a record
+abbrev pub step : Content → World → World
+step (collection name schema) w =
+    world_with (with_new name (schema_in schema) w.collections) w.epoch
+step (rows name lwt written) w =
+    world_with (change_named w.collections name (written_to lwt written)) w.epoch
+step (epoch number) w = world_with w.collections number
+
+-- ---- where a record is legal
+
+-- there is that text
+abbrev pub is_text : List ℕ → Option Value → Bool
+is_text key (Some (Text t)) = bytes_eq t key
+is_text key _ = false
+
+-- the state's fields are valid, and hold its key as their primary key
+abbrev pub is_valid_state : Shape → State → Bool
+is_valid_state s state =
+    is_none (first_fault s state.fields) && is_text state.key (named state.fields s.primary)
+
+-- the row's state is valid, and its height is the next one
+abbrev pub is_due : Held → RowOut → Bool
+is_due c row =
+    is_valid_state c.schema row.state
+    && row.height == next_height (named c.documents row.state.key)
+
+-- there is a row, the write time is above the last one and in range, and each row is due
+abbrev pub takes : ℕ → List RowOut → Held → Bool
+takes lwt written c =
+    nat_lt 0 (length written) && nat_lt (last_lwt c.documents) lwt && nat_le lwt most_lwt
+    && list_all (is_due c) written
+
+-- A collection is legal where its name is a name and isn't held, its schema's text is canonical, and
+-- there is room for it. Rows are legal where the collection is held and takes them. An epoch is
+-- legal where it is the one after the last.
+abbrev pub legal : Content → World → Bool
+legal (collection name schema) w =
+    is_name name && is_none (named w.collections name)
+    && nat_lt (length w.collections) max_collections && is_some (schema_in schema)
+legal (rows name lwt written) w = option_map_or (takes lwt written) (named w.collections name) false
+legal (epoch number) w = number == w.epoch + 1
+
+-- the world after a record, where it is legal
+abbrev pub stepped : Content → World → Option World
+stepped c w = if legal c w then Some (step c w) else None
+
+-- rows may be written to the collection that they name, one after another
+abbrev pub AreNextIn : Content → World → Type 0
+AreNextIn (collection name schema) w = Unit {0}
+AreNextIn (rows name lwt written) w =
+    ForSome (named w.collections name) (λ c. AreNext c (stored_rows c.name lwt written))
+AreNextIn (epoch number) w = Unit {0}

@@ -1,0 +1,14 @@
+-- Documents whose fields are valid.
+use Rattle.std.specs.Prelude.{◌≡◌, None}
+use Rattle.std.specs.List.{AllByRecursion}
+use Rattle.rx_schema.specs.Validity.{first_fault}
+use Rattle.rx_collection.specs.Held.{Held}
+use Rattle.rx_world.specs.World.{World}
+
+-- the fields of each document of a collection are valid by its schema
+abbrev pub AreValid : Held → Type 0
+AreValid c = AllByRecursion (λ e. first_fault c.schema e.1.state.fields ≡ None) c.documents
+
+-- the same in each collection
+abbrev pub AllValid : World → Type 0
+AllValid w = AllByRecursion (λ e. AreValid e.1) w.collections

@@ -1,0 +1,88 @@
+// The rows of records and the documents of collections.
+ghost use Rattle.std.specs.Prelude.{◌≡◌, ◌<◌, map, length, Some, None, IfOk, IsErrOf};
+ghost use Rattle.std.specs.List.{AllByRecursion, IsDistinct};
+ghost use Rattle.std.specs.Str.{bytes_eq};
+ghost use Rattle.rx_record.specs.Shown.{content};
+ghost use Rattle.rx_world.specs.Commit.{out_of, commit_to};
+ghost use Rattle.rx_world.specs.Step.{stored_of, stored_rows};
+
+use crate::fault::StepFault;
+use rx_collection::Collection;
+use rx_document::{Revision, Stored};
+use rx_record::{Record, RowOut};
+use rx_value::{RxText, State};
+use std::alloc::{AllocError, Global};
+
+// The rows of a record as the collection of that name stores them.
+pub(crate) fn stored_rows(
+    alloc: Global,
+    name: &RxText,
+    lwt: u64,
+    rows: Vec<RowOut>,
+) -> Result<Vec<Stored>, AllocError>
+    ensures { IfOk result (λ stored. stored.items ≡ stored_rows name.now lwt rows.items) }
+{
+    let mut stored = Vec::with_capacity(alloc, rows.len())?;
+    for row in rows {
+        stored.push(stored_row(alloc, name, lwt, row)?)?;
+    }
+    Ok(stored)
+}
+
+fn stored_row(alloc: Global, name: &RxText, lwt: u64, row: RowOut) -> Result<Stored, AllocError>
+    ensures { IfOk result (λ stored. stored ≡ stored_of name.now lwt row) }
+{
+    let token = name.copy(alloc)?;
+    let RowOut { height, state } = row;
+    Ok(Stored {
+        state,
+        rev: Revision { height, token },
+        lwt,
+    })
+}
+
+// Documents as the rows of a record.
+fn rows_out(alloc: Global, documents: Vec<Stored>) -> Result<Vec<RowOut>, AllocError>
+    ensures { IfOk result (λ rows. rows.items ≡ map out_of documents.items) }
+{
+    let mut rows = Vec::with_capacity(alloc, documents.len())?;
+    for document in documents {
+        rows.push(row_out(document))?;
+    }
+    Ok(rows)
+}
+
+fn row_out(document: Stored) -> RowOut
+    ensures { result ≡ out_of document }
+{
+    let Stored { state, rev, .. } = document;
+    RowOut {
+        height: rev.height,
+        state,
+    }
+}
+
+// The record that writes states to the collection of that name.
+pub(crate) fn commit_to(
+    collection: &Collection,
+    alloc: Global,
+    name: &str,
+    states: Vec<State>,
+    now: u64,
+) -> Result<Record, StepFault>
+    requires { IsDistinct bytes_eq (map (λ s. s.key) states.items) }
+    ensures ok { IfOk result
+        (λ entry. commit_to name.now states.items now collection.now ≡ Some (content entry)) }
+    ensures clock_end { IsErrOf result StepFault.ClockEnd
+        → commit_to name.now states.items now collection.now ≡ None }
+{
+    let Some(lwt) = collection.stamp(now) else {
+        return Err(StepFault::ClockEnd);
+    };
+    let documents = collection.rows(alloc, states, lwt)?;
+    Ok(Record::Rows {
+        name: RxText::new(alloc, name)?,
+        lwt,
+        rows: rows_out(alloc, documents)?,
+    })
+}

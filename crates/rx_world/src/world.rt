@@ -1,0 +1,158 @@
+ghost use Rattle.std.specs.Prelude.{◌≡◌, ◌<◌, true, false, length, map, Some, None, IfOk, IfSome, IfNone, IsErrOf, IsSome, option_map};
+ghost use Rattle.std.specs.Fn.{FnOnceTakesAtMut};
+ghost use Rattle.std.specs.List.{AllByRecursion, IsDistinct};
+ghost use Rattle.std.specs.Option.{ForSome};
+ghost use Rattle.std.specs.Str.{bytes_eq};
+ghost use Rattle.rx_value.specs.Named.{named};
+ghost use Rattle.rx_collection.specs.Lawful.{IsLawful};
+ghost use Rattle.rx_record.specs.Shown.{content};
+ghost use Rattle.rx_record.specs.Writable.{IsOrdered};
+ghost use Rattle.rx_world.specs.Commit.{IsValidState, commit};
+ghost use Rattle.rx_world.specs.Edit.{Edited, Leaves, LeavesWhole};
+ghost use Rattle.rx_world.specs.Holders.{IsWhole, holders_in, world_in};
+ghost use Rattle.rx_world.specs.Lawful.{IsLawfulWorld};
+ghost use Rattle.rx_world.specs.Step.{step, legal};
+ghost use Rattle.rx_world.specs.Valid.{AreValid};
+ghost use Rattle.rx_world.specs.World.{empty};
+
+use crate::change::change;
+use crate::fault::{ApplyFault, StepFault};
+use crate::legality::is_legal;
+use crate::names::{edit, find};
+use crate::parts::Parts;
+use crate::rows::commit_to;
+use indexmap::IndexMap;
+use rx_collection::{Collection, Holder};
+use rx_record::Record;
+use rx_value::State;
+use std::alloc::{AllocError, Global};
+use std::marker::Model;
+
+/// Holders of collections by name, in the order of their making, and the last epoch.
+#[derive(Drop)]
+pub struct World<H: Holder + Drop> {
+    parts: Parts<H>,
+}
+
+impl<H: Holder + Drop> Model for World<H> {
+    ghost use Rattle.rx_world.specs.Holders.{Holders, holders_of, AreSound};
+
+    ghost Value = { Holders H };
+
+    ghost view = { λ w. holders_of w.parts };
+
+    ghost invariant = { λ w. AreSound H.held H.is_broken (holders_of w.parts) };
+}
+
+impl<H: Holder + Drop> World<H> {
+    pub fn new(alloc: Global) -> World<H>
+        ensures { world_in H.held result ≡ empty }
+    {
+        World {
+            parts: Parts {
+                holders: IndexMap::new(alloc),
+                epoch: 0,
+            },
+        }
+    }
+
+    /// The number of the last epoch, 0 before the first.
+    pub fn epoch(&self) -> u64
+        ensures { result ≡ self.now.epoch }
+    {
+        self.parts.epoch
+    }
+
+    /// How many collections there are.
+    pub fn len(&self) -> usize
+        ensures count { result ≡ length (world_in H.held self.now).collections }
+        ensures lawful { IsLawfulWorld (world_in H.held self.now) }
+    {
+        self.parts.holders.len()
+    }
+
+    /// The holder of the collection of that name.
+    pub fn holder(&self, name: &str) -> Option<&H>
+        ensures found { option_map (λ h. h.now) result ≡ named (holders_in self.now) name.now }
+        ensures held { option_map (λ h. H.held h.now) result
+            ≡ named (world_in H.held self.now).collections name.now }
+        ensures whole { IfSome result (λ h. H.is_broken h.now ≡ false) }
+        ensures called { IfSome result (λ h. (H.held h.now).name ≡ name.now) }
+        ensures lawful { IfSome result (λ h. IsLawful (H.held h.now)) }
+        ensures valid { IfSome result (λ h. AreValid (H.held h.now)) }
+    {
+        find(&self.parts.holders, name)
+    }
+
+    /// Calls a function on the holder of the collection of that name. The function leaves the
+    /// collection as it is.
+    pub fn edit<R, F: FnOnce(&mut H) -> R + Drop>(&mut self, name: &str, f: F) -> Option<R>
+        requires callable { ForSome (named (holders_in self.old) name.now)
+            (λ h. IsWhole H.held H.is_broken name.now h → FnOnceTakesAtMut F.FnOnce f h) }
+        requires keeps { ForSome (named (holders_in self.old) name.now)
+            (λ h. IsWhole H.held H.is_broken name.now h → Leaves H.held F.FnOnce f h) }
+        requires unbroken { ForSome (named (holders_in self.old) name.now)
+            (λ h. IsWhole H.held H.is_broken name.now h → LeavesWhole H.is_broken F.FnOnce f h) }
+        ensures done { IfSome result
+            (Edited F.FnOnce f name.now (holders_in self.old) (holders_in self.new)) }
+        ensures none { IfNone result (named (holders_in self.old) name.now ≡ None) }
+        ensures same { IfNone result (self.new ≡ self.old) }
+        ensures world { world_in H.held self.new ≡ world_in H.held self.old }
+    {
+        edit(&mut self.parts.holders, name, f)
+    }
+
+    /// Whether the record may come next.
+    pub fn legal(&self, alloc: Global, entry: &Record) -> Result<bool, AllocError>
+        ensures { IfOk result (λ b. b ≡ legal (content entry.now) (world_in H.held self.now)) }
+    {
+        is_legal(&self.parts, alloc, entry)
+    }
+
+    /// The world after a record. It is spent on a refusal.
+    pub fn apply<F: Fn(Collection) -> Result<H, AllocError>>(
+        self,
+        alloc: Global,
+        entry: Record,
+        make: &F,
+    ) -> Result<World<H>, ApplyFault>
+        requires callable { F.IsAlwaysCallable make.now }
+        requires makes { (c : _) (r : _) → F.post make.now c r
+            → IfOk r (λ h. (H.held h ≡ c) × (H.is_broken h ≡ false)) }
+        requires ordered { IsOrdered (content entry) }
+        ensures ok { IfOk result (λ world. (world_in H.held world
+            ≡ step (content entry) (world_in H.held self))
+            × (legal (content entry) (world_in H.held self) ≡ true)) }
+        ensures illegal { IsErrOf result ApplyFault.Illegal
+            → legal (content entry) (world_in H.held self) ≡ false }
+    {
+        let mut parts = self.parts;
+        change(&mut parts, alloc, entry, make)?;
+        Ok(World { parts })
+    }
+
+    /// The record that writes states to a collection, above all that it holds. Nothing is changed:
+    /// the record is to be kept, and then applied.
+    pub fn commit(
+        &self,
+        alloc: Global,
+        name: &str,
+        states: Vec<State>,
+        now: u64,
+    ) -> Result<Record, StepFault>
+        requires held { IsSome (named (world_in H.held self.now).collections name.now) }
+        requires some { 0 < length states.items }
+        requires distinct { IsDistinct bytes_eq (map (λ s. s.key) states.items) }
+        requires valid { ForSome (named (world_in H.held self.now).collections name.now)
+            (λ c. AllByRecursion (IsValidState c.schema) states.items) }
+        ensures ok { IfOk result (λ entry. commit (world_in H.held self.now) name.now states.items now
+            ≡ Some (content entry)) }
+        ensures legal { IfOk result (λ entry. legal (content entry) (world_in H.held self.now) ≡ true) }
+        ensures ordered { IfOk result (λ entry. IsOrdered (content entry)) }
+        ensures clock_end { IsErrOf result StepFault.ClockEnd
+            → commit (world_in H.held self.now) name.now states.items now ≡ None }
+    {
+        let holder = self.holder(name).unwrap();
+        commit_to(holder.collection(), alloc, name, states, now)
+    }
+}
