@@ -1,0 +1,135 @@
+-- Lines of output, as a reader sees them.
+use Rattle.std.proofs.Common.{◌≡◌, ℕ, pos, true, List, [], ◌∷◌, ◌++◌, None, Some, refl}
+use Rattle.std.specs.Fmt.{digits}
+use Rattle.std.specs.Prelude.{codes}
+use Rattle.serde_json.proofs.OnLiterals.{serde_json_on_literals}
+use Rattle.rx_value.specs.declared.value.Value.TheVariants.{Int, Text}
+use Rattle.rx_value.specs.declared.fault.ValueFault.TheVariants as value
+use Rattle.rx_document.specs.declared.stored.Stored.{Stored}
+use Rattle.rx_schema.specs.declared.fault.SchemaFault.TheVariants as schema
+use Rattle.rx_selector.specs.declared.fault.SelectorFault.TheVariants as selector
+use Rattle.rx_query.specs.declared.fault.QueryFault.TheVariants as query
+use Rattle.rx_script.specs.declared.fault.LineFault.TheVariants as line
+use Rattle.rx_reply.specs.Answer.{collection, insert, bulk, get, find, count, tick, refused}
+use Rattle.rx_reply.specs.Emission.{emission_line}
+use Rattle.rx_reply.specs.Reply.{answer_line}
+use Rattle.rx_reply.specs.declared.refusal.Cause.TheVariants as cause
+use Rattle.rx_reply.specs.declared.refusal.DocumentFault.TheVariants.{Fields, Invalid, Key, Conflict}
+use Rattle.rx_reply.specs.declared.refusal.Refusal.TheVariants.{Line, NoCollection, Schema, Document, NoDocument, Query, Twice}
+
+abbrev ended : List ℕ → List ℕ
+ended text = text ++ 10 ∷ []
+
+abbrev document : Stored
+document = record {
+  state = record {
+    key = codes "a";
+    fields = (codes "id", Text (codes "a")) ∷ (codes "n", Int (pos 7)) ∷ [];
+    deleted = true;
+  };
+  rev = record { height = 3; token = codes "c" };
+  lwt = 42;
+}
+
+new_collection : answer_line 1 (collection true)
+    ≡ ended (codes "{\"line\":1,\"new\":true,\"ok\":\"collection\"}")
+unfolding serde_json_on_literals digits
+new_collection = refl
+
+inserted : answer_line 2 (insert (codes "1-c"))
+    ≡ ended (codes "{\"line\":2,\"ok\":\"insert\",\"rev\":\"1-c\"}")
+unfolding serde_json_on_literals digits
+inserted = refl
+
+inserted_together : answer_line 3 (bulk (codes "1-c" ∷ codes "2-c" ∷ []))
+    ≡ ended (codes "{\"line\":3,\"ok\":\"bulk\",\"revs\":[\"1-c\",\"2-c\"]}")
+unfolding serde_json_on_literals digits
+inserted_together = refl
+
+document_got : answer_line 4 (get document)
+    ≡ ended (codes "{\"doc\":{\"id\":\"a\",\"n\":7},\"line\":4,\"lwt\":42,\"ok\":\"get\",\"rev\":\"3-c\"}")
+unfolding serde_json_on_literals digits
+document_got = refl
+
+rows_found : answer_line 5 (find (document.state.fields ∷ []))
+    ≡ ended (codes "{\"line\":5,\"ok\":\"find\",\"rows\":[{\"id\":\"a\",\"n\":7}]}")
+unfolding serde_json_on_literals digits
+rows_found = refl
+
+rows_counted : answer_line 6 (count 12)
+    ≡ ended (codes "{\"count\":12,\"line\":6,\"ok\":\"count\"}")
+unfolding serde_json_on_literals digits
+rows_counted = refl
+
+clock_set : answer_line 7 tick ≡ ended (codes "{\"line\":7,\"ok\":\"tick\"}")
+unfolding serde_json_on_literals digits
+clock_set = refl
+
+no_json : answer_line 1 (refused (Line line.NotJson))
+    ≡ ended (codes "{\"code\":2,\"line\":1,\"refused\":\"not_json\"}")
+unfolding serde_json_on_literals digits
+no_json = refl
+
+unknown_do : answer_line 2 (refused (Line (line.UnknownDo (codes "fly"))))
+    ≡ ended (codes "{\"code\":4,\"line\":2,\"name\":\"fly\",\"refused\":\"unknown_do\"}")
+unfolding serde_json_on_literals digits
+unknown_do = refl
+
+no_collection : answer_line 3 (refused (NoCollection (codes "c")))
+    ≡ ended (codes "{\"code\":10,\"line\":3,\"name\":\"c\",\"refused\":\"no_collection\"}")
+unfolding serde_json_on_literals digits
+no_collection = refl
+
+wrong_schema : answer_line 4 (refused (Schema (schema.FieldName (codes "9x"))))
+    ≡ ended (codes "{\"cause\":\"field_name\",\"code\":11,\"line\":4,\"name\":\"9x\",\"refused\":\"schema\"}")
+unfolding serde_json_on_literals digits
+wrong_schema = refl
+
+number_out_of_range : answer_line 5
+    (refused (Document (Fields (value.Range (codes "n"))) None))
+    ≡ ended (codes "{\"cause\":\"range\",\"code\":13,\"line\":5,\"name\":\"n\",\"refused\":\"invalid\"}")
+unfolding serde_json_on_literals digits
+number_out_of_range = refl
+
+second_row_invalid : answer_line 6
+    (refused (Document (Invalid cause.Length (codes "id")) (Some 1)))
+    ≡ ended (codes "{\"cause\":\"length\",\"code\":13,\"line\":6,\"name\":\"id\",\"refused\":\"invalid\",\"row\":1}")
+unfolding serde_json_on_literals digits
+second_row_invalid = refl
+
+first_row_in_conflict : answer_line 7
+    (refused (Document (Conflict (codes "1-c")) (Some 0)))
+    ≡ ended (codes "{\"code\":14,\"line\":7,\"refused\":\"conflict\",\"rev\":\"1-c\",\"row\":0}")
+unfolding serde_json_on_literals digits
+first_row_in_conflict = refl
+
+wrong_key : answer_line 8 (refused (Document Key None))
+    ≡ ended (codes "{\"code\":24,\"line\":8,\"refused\":\"key\"}")
+unfolding serde_json_on_literals digits
+wrong_key = refl
+
+no_document : answer_line 9 (refused NoDocument)
+    ≡ ended (codes "{\"code\":15,\"line\":9,\"refused\":\"no_document\"}")
+unfolding serde_json_on_literals digits
+no_document = refl
+
+wrong_selector : answer_line 10
+    (refused (Query (query.Selector (selector.Operator (codes "$near")))))
+    ≡ ended (codes "{\"cause\":\"operator\",\"code\":16,\"line\":10,\"name\":\"$near\",\"refused\":\"query\"}")
+unfolding serde_json_on_literals digits
+wrong_selector = refl
+
+wrong_limit : answer_line 11 (refused (Query query.Limit))
+    ≡ ended (codes "{\"cause\":\"limit\",\"code\":16,\"line\":11,\"refused\":\"query\"}")
+unfolding serde_json_on_literals digits
+wrong_limit = refl
+
+key_twice : answer_line 12 (refused (Twice 3))
+    ≡ ended (codes "{\"code\":25,\"line\":12,\"refused\":\"twice\",\"row\":3}")
+unfolding serde_json_on_literals digits
+key_twice = refl
+
+emitted : emission_line (codes "q") (document.state.fields ∷ [])
+    ≡ ended (codes "{\"emit\":\"q\",\"rows\":[{\"id\":\"a\",\"n\":7}]}")
+unfolding serde_json_on_literals digits
+emitted = refl

@@ -1,0 +1,43 @@
+-- What a line is answered, by what it says.
+use Rattle.std.specs.Prelude.{ℕ, List, map, Bool}
+use Rattle.std.specs.Borrow.{Bor}
+use Rattle.rx_value.specs.Fields.{Pairs}
+use Rattle.rx_document.specs.declared.stored.Stored.{Stored}
+use Rattle.rx_reply.specs.declared.refusal.Refusal.{Refusal}
+use Rattle.rx_reply.specs.declared.reply.Reply.{Reply}
+use Rattle.rx_reply.specs.declared.reply.Reply.TheVariants.{Collection, Insert, Upsert, Patch, Remove, Bulk, Get, Find, Count, Observe, Tick, Refused}
+
+-- a collection is there, new or not; a document is written; documents are written, read, found,
+-- counted; a query is observed; the clock is set; or the line is refused
+pub data Answer : Type 0 where
+  collection : Bool → Answer
+  insert : List ℕ → Answer
+  upsert : List ℕ → Answer
+  patch : List ℕ → Answer
+  remove : List ℕ → Answer
+  bulk : List (List ℕ) → Answer
+  get : Stored → Answer
+  find : List Pairs → Answer
+  count : ℕ → Answer
+  observe : Answer
+  tick : Answer
+  refused : Refusal → Answer
+
+-- the fields of lent documents
+abbrev pub rows_of : List (Bor Stored) → List Pairs
+rows_of = map (λ d. d.now.state.fields)
+
+-- the answer of a reply, which lends documents
+abbrev pub said : Reply → Answer
+said (Collection new) = collection new
+said (Insert rev) = insert rev
+said (Upsert rev) = upsert rev
+said (Patch rev) = patch rev
+said (Remove rev) = remove rev
+said (Bulk revs) = bulk revs.items
+said (Get doc) = get doc.now
+said (Find rows) = find (rows_of rows.items)
+said (Count n) = count n
+said Observe = observe
+said Tick = tick
+said (Refused refusal) = refused refusal

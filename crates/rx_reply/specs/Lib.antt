@@ -1,0 +1,5 @@
+pub mod Answer
+pub mod Writing
+pub mod Form
+pub mod Reply
+pub mod Emission

@@ -1,0 +1,53 @@
+-- The line of output of an answer.
+use Rattle.std.specs.Prelude.{ℕ, List, codes, Bool, true, false}
+use Rattle.serde_json.specs.Data.{Data, boolean, string, object, Members, no_members, member}
+use Rattle.rx_value.specs.Writing.{fields_data}
+use Rattle.rx_document.specs.Revision.{revision_text}
+use Rattle.rx_reply.specs.Answer.{Answer, collection, insert, upsert, patch, remove, bulk, get, find, count, observe, tick, refused}
+use Rattle.rx_reply.specs.Form.{form_of, form_data}
+use Rattle.rx_reply.specs.Writing.{number_data, list_data, output_line}
+
+-- the members that begin with what was done
+abbrev pub ok_members : List ℕ → Members → Members
+ok_members ok more = member (codes "ok") (string ok) more
+
+-- the object whose members begin with the number of the line
+abbrev pub line_object : ℕ → Members → Data
+line_object line more = object (member (codes "line") (number_data line) more)
+
+-- a document was written, and has that revision
+abbrev pub written_data : ℕ → List ℕ → List ℕ → Data
+written_data line ok rev =
+    line_object line (ok_members ok (member (codes "rev") (string rev) no_members))
+
+-- the object of an answer to the line of that number
+abbrev pub answer_data : ℕ → Answer → Data
+answer_data line (collection new) =
+    line_object line (member (codes "new") (boolean new) (ok_members (codes "collection") no_members))
+answer_data line (insert rev) = written_data line (codes "insert") rev
+answer_data line (upsert rev) = written_data line (codes "upsert") rev
+answer_data line (patch rev) = written_data line (codes "patch") rev
+answer_data line (remove rev) = written_data line (codes "remove") rev
+answer_data line (bulk revs) =
+    line_object line (ok_members (codes "bulk") (member (codes "revs") (list_data string revs) no_members))
+answer_data line (get doc) = object
+    (member (codes "doc") (fields_data doc.state.fields)
+    (member (codes "line") (number_data line)
+    (member (codes "lwt") (number_data doc.lwt)
+    (ok_members (codes "get") (member (codes "rev") (string (revision_text doc.rev)) no_members)))))
+answer_data line (find rows) =
+    line_object line (ok_members (codes "find") (member (codes "rows") (list_data fields_data rows) no_members))
+answer_data line (count n) = object
+    (member (codes "count") (number_data n)
+    (member (codes "line") (number_data line) (ok_members (codes "count") no_members)))
+answer_data line observe = line_object line (ok_members (codes "observe") no_members)
+answer_data line tick = line_object line (ok_members (codes "tick") no_members)
+answer_data line (refused refusal) = form_data line (form_of refusal)
+
+abbrev pub answer_line : ℕ → Answer → List ℕ
+answer_line line answer = output_line (answer_data line answer)
+
+-- the line changed nothing
+abbrev pub is_refusal : Answer → Bool
+is_refusal (refused refusal) = true
+is_refusal _ = false

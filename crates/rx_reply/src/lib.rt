@@ -1,0 +1,12 @@
+//! What the lines of a script are answered, and the lines of output.
+#![tactic(auto)]
+
+mod emission;
+mod form;
+mod refusal;
+mod reply;
+mod writing;
+
+pub use emission::emission_line;
+pub use refusal::{Cause, DocumentFault, Refusal};
+pub use reply::Reply;
