@@ -1,0 +1,191 @@
+-- Rows of a bulk, one after another.
+use Rattle.std.specs.Prelude.{⊤}
+use Rattle.std.proofs.Common.{length, ◌≤◌, drop, append-nil, ◌≡◌, ℕ, ◌+◌, List, [], ◌∷◌, ◌++◌, map, Bool, true, false, not, cond, Option, Some, None, is_some, Result, Ok, Err, refl, sym, ap, ◌∙◌, subst, append_assoc}
+use Rattle.std.specs.List.{AllByRecursion, IsDistinct}
+use Rattle.std.specs.Str.{bytes_eq}
+use Rattle.std.proofs.lemmas.Cmp.{nat_list_eq_equiv}
+use Rattle.std.proofs.lemmas.List.{drop_all}
+use Rattle.serde_json.specs.Data.{Data}
+use Rattle.serde_json.specs.View.{view}
+use Rattle.serde_json.specs.declared.value.Value.{Value as Json}
+use Rattle.rx_value.specs.Due.{◌>>◌, or_fault, unless}
+use Rattle.rx_value.specs.Named.{named, put_in_order}
+use Rattle.rx_value.specs.Reading.{fields_of}
+use Rattle.rx_value.specs.declared.state.State.{State}
+use Rattle.rx_value.specs.declared.value.Value.{Value}
+use Rattle.rx_value.specs.declared.value.Value.TheVariants.{Flag, Int, Text}
+use Rattle.rx_value.proofs.Named.{named-put_in_order}
+use Rattle.rx_schema.specs.Validity.{Fault as Invalidity, first_fault}
+use Rattle.rx_collection.specs.Held.{Held}
+use Rattle.rx_reply.specs.declared.refusal.Refusal.{Refusal}
+use Rattle.rx_reply.specs.declared.refusal.Refusal.TheVariants.{Twice}
+use Rattle.rx_reply.specs.declared.refusal.DocumentFault.TheVariants.{Key}
+use Rattle.rx_world.specs.Commit.{IsValidState}
+use Rattle.rx_engine.specs.Documents.{text_of, key_in, state_of, valid_by, is_free}
+use Rattle.rx_engine.specs.Faults.{of_document, of_invalidity, of_value, lifted, demand}
+use Rattle.rx_engine.specs.Writes.{Keys, in_row, at_row, row_state, rows_states}
+use Rattle.rx_engine.specs.declared.fault.Fault.{Fault}
+
+-- the states so far, before those that are left
+abbrev pub after : List State → Result (List State) Fault → Result (List State) Fault
+after done rest = rest >> λ more. Ok (done ++ more)
+
+-- ---- what is read of two readings is read of each
+
+bound : {A B E : Type 0} (r : Result A E) (f : A → Result B E) (y : B) → (r >> f) ≡ Ok y
+    → (x : A) × (r ≡ Ok x) × (f x ≡ Ok y)
+bound (Ok x) f y h = (x, refl, h)
+bound (Err e) f y h = absurd (cc)
+
+lifted_ok : {A E F : Type 0} (f : E → F) (r : Result A E) (x : A) → lifted f r ≡ Ok x → r ≡ Ok x
+lifted_ok f (Ok y) x h = cc
+lifted_ok f (Err e) x h = cc
+
+-- ---- what holds of the state of a row
+
+carried : (o : Option Value) (k : List ℕ) → or_fault (of_document Key) (text_of o) ≡ Ok k
+    → o ≡ Some (Text k)
+carried None k h = cc
+carried (Some (Flag b)) k h = cc
+carried (Some (Int z)) k h = cc
+carried (Some (Text t)) k h = cc
+
+state_carries : (primary : List ℕ) (d : Data) (s : State) → state_of primary d ≡ Ok s
+    → named s.fields primary ≡ Some (Text s.key)
+state_carries primary d s h =
+    let fields = bound (lifted of_value (fields_of d)) (λ fields. key_in primary fields >> λ key.
+    Ok (record { key = key; fields = fields; deleted = false })) s h in
+    let key = bound (key_in primary fields.0) (λ key.
+    Ok (record { key = key; fields = fields.0; deleted = false })) s fields.2 in
+    let is : record { key = key.0; fields = fields.0; deleted = false } ≡ s = cc (key.2) in
+    subst (λ (s : State). named s.fields primary ≡ Some (Text s.key)) is
+    (carried (named fields.0 primary) key.0 key.1)
+
+no_fault : (fault : Invalidity → Fault) (o : Option Invalidity) (u : ⊤) → unless fault o (Ok tt) ≡ Ok u
+    → o ≡ None
+no_fault fault None u h = refl
+no_fault fault (Some x) u h = cc
+
+none_seen : (o : Option ⊤) (r : Refusal) (u : ⊤) → demand (not (is_some o)) r ≡ Ok u → o ≡ None
+none_seen None r u h = refl
+none_seen (Some x) r u h = cc
+
+module _ (c : Held) where
+  -- what is left to do with the state of a row
+  abbrev checked : ℕ → Keys → State → Result State Fault
+  checked row seen state =
+      demand (not (is_some (named seen state.key))) (Twice row) >> λ _.
+      in_row row (valid_by c.schema state.fields) >> λ _.
+      in_row row (is_free c state.key) >> λ _.
+      Ok state
+
+  -- it is valid, and its key was not seen
+  pub row_given : (row : ℕ) (seen : Keys) (d : Data) (s : State) → row_state c row seen d ≡ Ok s
+      → IsValidState c.schema s × (named seen s.key ≡ None)
+  row_given row seen d s h =
+      let read = bound (in_row row (state_of c.schema.primary d)) (checked row seen) s h in
+      let fresh = bound (demand (not (is_some (named seen read.0.key))) (Twice row))
+      (λ _. in_row row (valid_by c.schema read.0.fields) >> λ _.
+      in_row row (is_free c read.0.key) >> λ _. Ok read.0) s read.2 in
+      let valid = bound (in_row row (valid_by c.schema read.0.fields))
+      (λ _. in_row row (is_free c read.0.key) >> λ _. Ok read.0) s fresh.2 in
+      let free = bound (in_row row (is_free c read.0.key)) (λ _. Ok read.0) s valid.2 in
+      let is : read.0 ≡ s = cc (free.2) in
+      subst (λ (s : State). IsValidState c.schema s × (named seen s.key ≡ None)) is (
+        record {
+          valid = no_fault (λ fault. of_document (of_invalidity fault))
+              (first_fault c.schema read.0.fields) fresh.0
+              (lifted_ok (at_row row) (valid_by c.schema read.0.fields) valid.0 valid.1);
+          carried = state_carries c.schema.primary d read.0
+              (lifted_ok (at_row row) (state_of c.schema.primary d) read.0 read.1);
+        },
+        none_seen (named seen read.0.key) (Twice row) fresh.0 fresh.1,
+      )
+
+  -- a state among those behind a row
+  abbrev Fits : Keys → State → Type 0
+  Fits seen s = IsValidState c.schema s × (named seen s.key ≡ None)
+
+  -- a key that isn't seen with another one is another one, and isn't seen without it
+  unseen : (b : Bool) (o : Option ⊤) → cond b (Some tt) o ≡ None → (b ≡ false) × (o ≡ None)
+  unseen true o h = absurd (cc)
+  unseen false o h = (refl, h)
+
+  apart : (seen : Keys) (k q : List ℕ) → named (put_in_order seen k tt) q ≡ None
+      → (bytes_eq k q ≡ false) × (named seen q ≡ None)
+  apart seen k q h =
+      let both = unseen (bytes_eq q k) (named seen q) (sym (named-put_in_order seen k q tt) ∙ h) in
+      (nat_list_eq_equiv.symm k q ∙ both.0, both.1)
+
+  -- the keys that were not seen with another one
+  all_apart : (seen : Keys) (k : List ℕ) (ss : List State)
+      → AllByRecursion (Fits (put_in_order seen k tt)) ss
+      → AllByRecursion (Fits seen) ss × AllByRecursion (λ q. bytes_eq k q ≡ false) (map (λ s. s.key) ss)
+  all_apart seen k [] all = (tt, tt)
+  all_apart seen k (s ∷ ss) all =
+      let here = apart seen k s.key all.0.1 in
+      let rest = all_apart seen k ss all.1 in
+      (((all.0.0, here.1), rest.0), (here.0, rest.1))
+
+  -- the states of rows are valid, and their keys are distinct and were not seen
+  rows_fit : (row : ℕ) (seen : Keys) (ds : List Data) (ss : List State)
+      → rows_states c row seen ds ≡ Ok ss
+      → AllByRecursion (Fits seen) ss × IsDistinct bytes_eq (map (λ s. s.key) ss)
+  unfolding IsDistinct
+  rows_fit row seen [] ss h =
+      let is : [] ≡ ss = cc in
+      subst (λ (ss : List State). AllByRecursion (Fits seen) ss × IsDistinct bytes_eq (map (λ s. s.key) ss)) is (tt, tt)
+  rows_fit row seen (d ∷ ds) ss h =
+      let first = bound (row_state c row seen d) (λ state.
+      rows_states c (row + 1) (put_in_order seen state.key tt) ds >> λ states. Ok (state ∷ states)) ss h in
+      let rest = bound (rows_states c (row + 1) (put_in_order seen first.0.key tt) ds)
+      (λ states. Ok (first.0 ∷ states)) ss first.2 in
+      let is : first.0 ∷ rest.0 ≡ ss = cc (rest.2) in
+      let fit = rows_fit (row + 1) (put_in_order seen first.0.key tt) ds rest.0 rest.1 in
+      let all = all_apart seen first.0.key rest.0 fit.0 in
+      subst (λ (ss : List State). AllByRecursion (Fits seen) ss × IsDistinct bytes_eq (map (λ s. s.key) ss)) is
+      ((row_given row seen d first.0 first.1, all.0), (all.1, fit.1))
+
+  all_valid : (seen : Keys) (ss : List State) → AllByRecursion (Fits seen) ss
+      → AllByRecursion (IsValidState c.schema) ss
+  all_valid seen [] all = tt
+  all_valid seen (s ∷ ss) all = (all.0.0, all_valid seen ss all.1)
+
+  pub rows_given : (row : ℕ) (seen : Keys) (ds : List Data) (ss : List State)
+      → rows_states c row seen ds ≡ Ok ss
+      → AllByRecursion (IsValidState c.schema) ss × IsDistinct bytes_eq (map (λ s. s.key) ss)
+  rows_given row seen ds ss h =
+      let fit = rows_fit row seen ds ss h in (all_valid seen ss fit.0, fit.1)
+
+  -- ---- one row, and then the others
+
+  joined : (done : List State) (s : State) (r : Result (List State) Fault)
+      → after done (r >> λ states. Ok (s ∷ states)) ≡ after (done ++ s ∷ []) r
+  joined done s (Ok more) = ap Ok (sym (append_assoc done (s ∷ []) more))
+  joined done s (Err e) = refl
+
+  -- a state is read
+  pub one_more : (done : List State) (row : ℕ) (seen : Keys) (d : Data) (ds : List Data) (s : State)
+      → row_state c row seen d ≡ Ok s
+      → after done (rows_states c row seen (d ∷ ds))
+      ≡ after (done ++ s ∷ []) (rows_states c (row + 1) (put_in_order seen s.key tt) ds)
+  one_more done row seen d ds s h =
+      ap (λ r. after done (r >> λ state.
+      rows_states c (row + 1) (put_in_order seen state.key tt) ds >> λ states. Ok (state ∷ states))) h
+      ∙ joined done s (rows_states c (row + 1) (put_in_order seen s.key tt) ds)
+
+  -- a row is at fault
+  pub fault_here : (done : List State) (row : ℕ) (seen : Keys) (d : Data) (ds : List Data) (e : Fault)
+      → row_state c row seen d ≡ Err e → after done (rows_states c row seen (d ∷ ds)) ≡ Err e
+  fault_here done row seen d ds e h =
+      ap (λ r. after done (r >> λ state.
+      rows_states c (row + 1) (put_in_order seen state.key tt) ds >> λ states. Ok (state ∷ states))) h
+
+  -- no row is left
+  pub all_read : (docs : List Json) (row : ℕ) (seen : Keys) (states : List State)
+      → length docs ≤ row
+      → rows_states c 0 [] (map view docs) ≡ after states (rows_states c row seen (map view (drop row docs)))
+      → rows_states c 0 [] (map view docs) ≡ Ok states
+  all_read docs row seen states ended so_far =
+      so_far ∙ ap (λ ds. after states (rows_states c row seen (map view ds))) (drop_all row docs ended)
+      ∙ ap Ok (append-nil states)

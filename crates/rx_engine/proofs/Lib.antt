@@ -1,0 +1,14 @@
+pub mod Cut
+pub mod Growing
+pub mod Keeping
+pub mod Opened
+pub mod Replaying
+pub mod Setting
+pub mod Live
+pub mod EachRow
+pub mod Found
+pub mod Reading
+pub mod Lines
+pub mod Done
+pub mod Settling
+pub mod Touching

@@ -1,0 +1,36 @@
+-- What a line means.
+use Rattle.std.specs.Prelude.{ℕ, List, [], ◌∷◌, ◌++◌, map, Bool}
+use Rattle.rx_record.specs.Content.{Content, content_bytes}
+use Rattle.rx_reply.specs.Reply.{answer_line, is_refusal}
+use Rattle.rx_engine.specs.Emissions.{emissions, settled, after}
+use Rattle.rx_engine.specs.Lines.{outcome}
+use Rattle.rx_engine.specs.Outcome.{Doing, nothing, set_clock, write, watch, Outcome}
+use Rattle.rx_engine.specs.Session.{Session}
+
+-- the records, the reply with the emissions after it, whether it is a refusal, and the next session
+pub record Meaning : Type 0 where
+  pub records : List Content
+  pub reply : List ℕ
+  pub refused : Bool
+  pub session : Session
+
+-- the bodies of records
+abbrev pub bodies_of : List Content → List (List ℕ)
+bodies_of cs = map content_bytes cs
+
+-- the records of what a line does
+abbrev pub records_of : Doing → List Content
+records_of (write content) = content ∷ []
+records_of _ = []
+
+abbrev pub meaning_of : ℕ → Outcome → Session → Meaning
+meaning_of number o s = record {
+  records = records_of o.doing;
+  reply = answer_line number o.answer ++ emissions (after o.doing s);
+  refused = is_refusal o.answer;
+  session = settled (after o.doing s);
+}
+
+-- what a line of that number means
+unfoldable pub meaning : ℕ → List ℕ → Session → Meaning
+meaning number line s = meaning_of number (outcome line s) s

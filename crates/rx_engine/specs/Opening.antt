@@ -1,0 +1,18 @@
+-- What an opening adds.
+use Rattle.std.specs.Prelude.{ℕ, ◌+◌, List, []}
+use Rattle.rx_record.specs.Content.{epoch, content_bytes}
+use Rattle.rx_world.specs.World.{World}
+use Rattle.rx_world.specs.Step.{step}
+use Rattle.rx_engine.specs.Session.{Session}
+
+-- the record of the next epoch
+abbrev pub epoch_body : World → List ℕ
+epoch_body w = content_bytes (epoch (w.epoch + 1))
+
+-- a session on a world: its moment is 0, and nothing is observed
+abbrev pub session_on : World → Session
+session_on w = record { world = w; moment = 0; queries = [] }
+
+-- the session after an opening
+unfoldable pub opened : World → Session
+opened w = session_on (step (epoch (w.epoch + 1)) w)

@@ -1,0 +1,47 @@
+-- What a line does, and what it is answered.
+use Rattle.std.specs.Prelude.{ℕ, List, Result, Ok, Err, Option, Some, None}
+use Rattle.rx_collection.specs.Held.{Held}
+use Rattle.rx_record.specs.Content.{Content}
+use Rattle.rx_reply.specs.Answer.{Answer, refused}
+use Rattle.rx_reply.specs.declared.refusal.Refusal.TheVariants.{Clock, NoCollection}
+use Rattle.rx_value.specs.Named.{named}
+use Rattle.rx_value.specs.declared.state.State.{State}
+use Rattle.rx_value.specs.Due.{◌>>◌, or_fault}
+use Rattle.rx_world.specs.Commit.{commit_to}
+use Rattle.rx_engine.specs.Session.{Observed, Session}
+use Rattle.rx_engine.specs.declared.fault.Fault.{Fault}
+use Rattle.rx_engine.specs.declared.fault.Fault.TheVariants.{Refused, Memory}
+
+-- nothing is changed, the clock is set, a record is written, or a query is observed
+pub data Doing : Type 0 where
+  nothing : Doing
+  set_clock : ℕ → Doing
+  write : Content → Doing
+  watch : Observed → Doing
+
+pub record Outcome : Type 0 where
+  pub doing : Doing
+  pub answer : Answer
+
+-- an answer that changes nothing
+abbrev pub say : Answer → Outcome
+say answer = record { doing = nothing; answer = answer }
+
+-- what a line does, or the refusal of it. Want of memory is no outcome.
+abbrev pub outcome_of : Result Outcome Fault → Outcome
+outcome_of (Ok o) = o
+outcome_of (Err (Refused r)) = say (refused r)
+outcome_of (Err Memory) = say (refused Clock)
+
+-- the collection of a name, which is to be held
+abbrev pub collection_at : List ℕ → Session → Result Held Fault
+collection_at coll s = or_fault (Refused (NoCollection coll)) (named s.world.collections coll)
+
+-- a record and an answer; none where no write time is left
+abbrev pub written : Answer → Option Content → Result Outcome Fault
+written answer None = Err (Refused Clock)
+written answer (Some content) = Ok (record { doing = write content; answer = answer })
+
+-- states are written to a collection at the present moment
+abbrev pub commit : List ℕ → List State → Answer → Held → Session → Result Outcome Fault
+commit coll states answer c s = written answer (commit_to coll states s.moment c)

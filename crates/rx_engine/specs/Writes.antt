@@ -1,0 +1,132 @@
+-- The lines that make a collection and write documents.
+use Rattle.std.specs.Prelude.{⊤, ℕ, ◌+◌, List, [], ◌∷◌, map, length, true, false, not, nat_lt, Option, Some, None, is_some, Result, Ok}
+use Rattle.std.specs.Str.{bytes_eq}
+use Rattle.serde_json.specs.Data.{Data}
+use Rattle.rx_value.specs.Due.{◌>>◌}
+use Rattle.rx_value.specs.Named.{named, put_in_order}
+use Rattle.rx_value.specs.Reading.{fields_of}
+use Rattle.rx_value.specs.declared.state.State.{State}
+use Rattle.rx_schema.specs.Reading.{schema_of}
+use Rattle.rx_schema.specs.Writing.{canonical_text}
+use Rattle.rx_schema.specs.declared.shape.Shape.{Shape}
+use Rattle.rx_collection.specs.Held.{Held}
+use Rattle.rx_collection.specs.Time.{stamp}
+use Rattle.rx_record.specs.Content.{collection as collection_record}
+use Rattle.rx_reply.specs.Answer.{Answer, collection, insert, upsert, patch, remove, bulk}
+use Rattle.rx_reply.specs.declared.refusal.DocumentFault.TheVariants.{Key}
+use Rattle.rx_reply.specs.declared.refusal.Refusal.TheVariants.{SchemaDiffers, TooMany, Document, Twice, Clock}
+use Rattle.rx_world.specs.World.{World, max_collections}
+use Rattle.rx_engine.specs.Documents.{state_of, valid_by, with_fields, keeps_key, document_at, has_revision, is_free, next_revision}
+use Rattle.rx_engine.specs.Faults.{of_schema, of_value, lifted, demand}
+use Rattle.rx_engine.specs.Outcome.{Outcome, say, write, collection_at, commit}
+use Rattle.rx_engine.specs.Session.{Session}
+use Rattle.rx_engine.specs.declared.fault.Fault.{Fault}
+use Rattle.rx_engine.specs.declared.fault.Fault.TheVariants.{Refused}
+
+-- ---- a collection
+
+-- a collection of that schema: it is there with the same one, or there is room for it
+abbrev pub made : List ℕ → Shape → Option Held → World → Result Outcome Fault
+made name shape (Some held) w =
+    demand (bytes_eq (canonical_text held.schema) (canonical_text shape)) SchemaDiffers >> λ _.
+    Ok (say (collection false))
+made name shape None w =
+    demand (nat_lt (length w.collections) max_collections) TooMany >> λ _.
+    Ok (record {
+      doing = write (collection_record name (canonical_text shape));
+      answer = collection true;
+    })
+
+abbrev pub make : List ℕ → Data → Session → Result Outcome Fault
+make name schema s =
+    lifted of_schema (schema_of schema) >> λ shape.
+    made name shape (named s.world.collections name) s.world
+
+-- ---- the states that one document gives
+
+abbrev pub upserted : Held → Data → Result State Fault
+upserted c d =
+    state_of c.schema.primary d >> λ state.
+    valid_by c.schema state.fields >> λ _.
+    Ok state
+
+abbrev pub inserted : Held → Data → Result State Fault
+inserted c d = upserted c d >> λ state. is_free c state.key >> λ _. Ok state
+
+abbrev pub patched : Held → List ℕ → Data → Option (List ℕ) → Result State Fault
+patched c key set rev =
+    document_at c key >> λ d.
+    has_revision rev d >> λ _.
+    lifted of_value (fields_of set) >> λ more.
+    demand (keeps_key c.schema.primary key more) (Document Key None) >> λ _.
+    valid_by c.schema (with_fields d.state.fields more) >> λ _.
+    Ok (record { key = key; fields = with_fields d.state.fields more; deleted = false })
+
+abbrev pub removed : Held → List ℕ → Option (List ℕ) → Result State Fault
+removed c key rev =
+    document_at c key >> λ d.
+    has_revision rev d >> λ _.
+    Ok (record { key = key; fields = d.state.fields; deleted = true })
+
+-- a state is written, and the answer has its revision
+abbrev pub commit_one : List ℕ → (List ℕ → Answer) → Held → State → Session → Result Outcome Fault
+commit_one coll answer c state s =
+    commit coll (state ∷ []) (answer (next_revision c state.key)) c s
+
+abbrev pub insert_line : List ℕ → Data → Session → Result Outcome Fault
+insert_line coll d s =
+    collection_at coll s >> λ c. inserted c d >> λ state. commit_one coll insert c state s
+
+abbrev pub upsert_line : List ℕ → Data → Session → Result Outcome Fault
+upsert_line coll d s =
+    collection_at coll s >> λ c. upserted c d >> λ state. commit_one coll upsert c state s
+
+abbrev pub patch_line : List ℕ → List ℕ → Data → Option (List ℕ) → Session → Result Outcome Fault
+patch_line coll key set rev s =
+    collection_at coll s >> λ c. patched c key set rev >> λ state. commit_one coll patch c state s
+
+abbrev pub remove_line : List ℕ → List ℕ → Option (List ℕ) → Session → Result Outcome Fault
+remove_line coll key rev s =
+    collection_at coll s >> λ c. removed c key rev >> λ state. commit_one coll remove c state s
+
+-- ---- many documents
+
+-- a refusal of a document as that of its row
+abbrev pub at_row : ℕ → Fault → Fault
+at_row row (Refused (Document fault _)) = Refused (Document fault (Some row))
+at_row row fault = fault
+
+abbrev pub in_row : {A : Type 0} → ℕ → Result A Fault → Result A Fault
+in_row row r = lifted (at_row row) r
+
+-- the keys of the rows so far
+abbrev pub Keys : Type 0
+Keys = List (List ℕ × ⊤)
+
+-- a row's state: its key is that of no row before it
+abbrev pub row_state : Held → ℕ → Keys → Data → Result State Fault
+row_state c row seen d =
+    in_row row (state_of c.schema.primary d) >> λ state.
+    demand (not (is_some (named seen state.key))) (Twice row) >> λ _.
+    in_row row (valid_by c.schema state.fields) >> λ _.
+    in_row row (is_free c state.key) >> λ _.
+    Ok state
+
+-- the states of rows from a number on
+abbrev pub rows_states : Held → ℕ → Keys → List Data → Result (List State) Fault
+rows_states c row seen [] = Ok []
+rows_states c row seen (d ∷ ds) =
+    row_state c row seen d >> λ state.
+    rows_states c (row + 1) (put_in_order seen state.key tt) ds >> λ states.
+    Ok (state ∷ states)
+
+-- states are written at once; where there are none, nothing is, but a write time is to be left
+abbrev pub commit_all : List ℕ → Held → List State → Session → Result Outcome Fault
+commit_all coll c [] s =
+    demand (is_some (stamp c.documents s.moment)) Clock >> λ _. Ok (say (bulk []))
+commit_all coll c (state ∷ states) s =
+    commit coll (state ∷ states) (bulk (map (λ s. next_revision c s.key) (state ∷ states))) c s
+
+abbrev pub bulk_line : List ℕ → List Data → Session → Result Outcome Fault
+bulk_line coll docs s =
+    collection_at coll s >> λ c. rows_states c 0 [] docs >> λ states. commit_all coll c states s

@@ -1,0 +1,23 @@
+//! A line of a script is its meaning, and its records are on the disk before its reply exists.
+#![tactic(auto)]
+
+mod asking;
+mod bulk;
+mod documents;
+mod doing;
+mod emitting;
+mod engine;
+mod fault;
+mod keep;
+mod lookup;
+mod opening;
+mod plan;
+mod queries;
+mod replay;
+mod rows;
+mod session;
+mod stopping;
+mod watch;
+mod writes;
+
+pub use engine::{Engine, Output};
