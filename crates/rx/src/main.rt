@@ -1,8 +1,10 @@
-//! `rx run JOURNAL` plays the script on standard input, and writes its answers on standard output.
+//! `rx run JOURNAL` plays the script on standard input over a journal, and writes its answers on
+//! standard output.
 #![tactic(auto)]
 
+use rx_disk::FileDisk;
 use rx_outside::{StdSink, StdSource, write_all};
-use rx_top::{Words, rx};
+use rx_top::{Words, command_of, rx};
 use rx_value::RxText;
 use std::alloc::AllocError;
 use std::env::Env;
@@ -12,8 +14,11 @@ use std::{env, io};
 fn main(rt: HostRuntime) -> ExitCode {
     let mut source = StdSource::new(&rt);
     let mut out = StdSink::new(&rt);
-    match words(&rt) {
-        Ok(words) => ExitCode::from(rx(rt.alloc(), &words, &mut source, &mut out)),
+    match command(&rt) {
+        Ok((words, path)) => {
+            let mut disk = FileDisk::new(&rt, path);
+            ExitCode::from(rx(rt.alloc(), &words, &mut source, &mut out, &mut disk))
+        }
         Err(_) => {
             let _ = write_all(&mut out, b"{\"stop\":\"memory\"}\n");
             ExitCode::from(6)
@@ -21,7 +26,17 @@ fn main(rt: HostRuntime) -> ExitCode {
     }
 }
 
-// The words after the program's name. Words that are no text are no command, so none are given.
+// The words after the program's name, and the path that they name, or none.
+fn command<R: Env + AllocGlobal>(rt: &R) -> Result<(Words, RxText), AllocError> {
+    let words = words(rt)?;
+    let path = match command_of(&words) {
+        Some(command) => command.path.copy(rt.alloc())?,
+        None => RxText::new(rt.alloc(), "")?,
+    };
+    Ok((words, path))
+}
+
+// Words that are no text are no command, so none are given.
 fn words<R: Env + AllocGlobal>(rt: &R) -> Result<Words, AllocError> {
     let mut words = Vec::new(rt.alloc());
     match env::args(rt) {

@@ -2,7 +2,7 @@
 use Rattle.std.proofs.Common.{◌≡◌, ◌∙◌, refl, sym, ap, ℕ, ◌+◌, true, false, List, [], ◌∷◌, ◌++◌, length, arith, append_assoc, append-nil, length-append, ◌<◌, zero, suc, take, Err, IsErrOf, Bool, ◌==◌, inl, inr}
 use Rattle.std.proofs.lemmas.Bool.Decides.{eqb_tells}
 use Rattle.rx_top.specs.declared.reader.Next.{Next}
-use Rattle.rx_top.specs.declared.stop.Stop.{Stop}
+use Rattle.rx_top.specs.declared.cause.ReadFault.{ReadFault}
 use Rattle.rx_script.specs.Line.{max_line_bytes}
 use Rattle.rx_top.specs.Reader.{Reading, Advances, Comes, TakesKept, StopsWithin, Took, kept, rest_of}
 use Rattle.rx_top.specs.declared.reader.Next.TheVariants.{Line, Last}
@@ -101,7 +101,7 @@ took_long given g m l0 l1 l2 t full long =
     took_more given g (m + 1) l0 l1 l2 (long.0 ∷ []) t long.1 (omega (arith, full))
 
 -- an error is the same whatever would have been answered
-pub same_err : (stop e : Stop) → IsErrOf {T = Next} (Err stop) e → IsErrOf {T = Bool} (Err stop) e
+pub same_err : (stop e : ReadFault) → IsErrOf {T = Next} (Err stop) e → IsErrOf {T = Bool} (Err stop) e
 same_err stop e h = let same : stop ≡ e = cc in ap Err same
 
 some : (b : ℕ) (bs : List ℕ) → (length (b ∷ bs) == 0) ≡ false

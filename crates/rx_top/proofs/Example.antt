@@ -1,36 +1,50 @@
--- The definitions compute on a small script.
-use Rattle.std.proofs.Common.{◌≡◌, ℕ, List, [], ◌∷◌, ◌++◌, refl, true}
+-- The definitions compute on small words, lines and stops.
+use Rattle.std.proofs.Common.{◌≡◌, refl, [], ◌∷◌, None, Some, Err}
 use Rattle.std.specs.Prelude.{codes}
-use Rattle.std.specs.Str.{is_utf8, chars}
 use Rattle.std.specs.Fmt.{digits}
-use Rattle.serde_json.proofs.OnLiterals.{serde_json_on_literals}
+use Rattle.rx_outside.specs.declared.stop.Stop.TheVariants.{Disk}
 use Rattle.rx_top.specs.Lines.{lines}
-use Rattle.rx_top.specs.Transcript.{transcript, is_any_refused}
+use Rattle.rx_top.specs.Stops.{full_line, last_words}
+use Rattle.rx_top.specs.Words.{command_of, usual_limit}
+use Rattle.rx_top.specs.declared.cause.Cause.TheVariants.{Work}
 
-abbrev line : List ℕ → List ℕ
-line text = text ++ 10 ∷ []
+alone : command_of (codes "run" ∷ codes "j" ∷ [])
+    ≡ Some (record { path = codes "j"; limit = usual_limit })
+alone = refl
 
-abbrev input : List ℕ
-input =
-    line (codes "{\"do\":\"collection\",\"name\":\"c\",\"schema\":{\"version\":0,\"primaryKey\":\"id\",\"type\":\"object\",\"properties\":{\"id\":{\"type\":\"string\",\"maxLength\":20},\"n\":{\"type\":\"integer\"}},\"required\":[\"id\"]}}")
-    ++ line (codes "{\"do\":\"observe\",\"name\":\"q\",\"in\":\"c\",\"query\":{\"selector\":{\"n\":1}}}")
-    ++ line (codes "{\"do\":\"insert\",\"in\":\"c\",\"doc\":{\"id\":\"a\",\"n\":1}}")
-    ++ line (codes "{\"do\":\"insert\",\"in\":\"c\",\"doc\":{\"id\":\"a\",\"n\":1}}")
+before : command_of (codes "run" ∷ codes "--max-journal=009" ∷ codes "j" ∷ [])
+    ≡ Some (record { path = codes "j"; limit = 9 })
+before = refl
 
-abbrev output : List ℕ
-output =
-    line (codes "{\"line\":1,\"new\":true,\"ok\":\"collection\"}")
-    ++ line (codes "{\"line\":2,\"ok\":\"observe\"}")
-    ++ line (codes "{\"emit\":\"q\",\"rows\":[]}")
-    ++ line (codes "{\"line\":3,\"ok\":\"insert\",\"rev\":\"1-c\"}")
-    ++ line (codes "{\"emit\":\"q\",\"rows\":[{\"id\":\"a\",\"n\":1}]}")
-    ++ line (codes "{\"code\":14,\"line\":4,\"refused\":\"conflict\",\"rev\":\"1-c\"}")
+behind : command_of (codes "run" ∷ codes "j" ∷ codes "--max-journal" ∷ codes "4294967295" ∷ [])
+    ≡ Some (record { path = codes "j"; limit = 4294967295 })
+behind = refl
 
--- a held key is a conflict, and a result is emitted when it is observed and when it changes
-pub second_insert_is_a_conflict : transcript (lines input) ≡ output
-unfolding serde_json_on_literals is_utf8 chars digits
-second_insert_is_a_conflict = refl
+too_low : command_of (codes "run" ∷ codes "--max-journal" ∷ codes "8" ∷ codes "j" ∷ []) ≡ None
+too_low = refl
 
-pub a_refusal_is_told : is_any_refused (lines input) ≡ true
-unfolding serde_json_on_literals is_utf8 chars digits
-a_refusal_is_told = refl
+too_high : command_of (codes "run" ∷ codes "j" ∷ codes "--max-journal=4294967296" ∷ []) ≡ None
+too_high = refl
+
+with_sign : command_of (codes "run" ∷ codes "j" ∷ codes "--max-journal" ∷ codes "+9" ∷ []) ≡ None
+with_sign = refl
+
+no_number : command_of (codes "run" ∷ codes "--max-journal" ∷ codes "j" ∷ []) ≡ None
+no_number = refl
+
+twice : command_of (codes "run" ∷ codes "--max-journal=9" ∷ codes "--max-journal=9" ∷ codes "j" ∷ []) ≡ None
+twice = refl
+
+two_paths : command_of (codes "run" ∷ codes "j" ∷ codes "k" ∷ []) ≡ None
+two_paths = refl
+
+-- a line may be empty, and the last one needs no end
+in_lines : lines (codes "a\n\nb") ≡ codes "a" ∷ [] ∷ codes "b" ∷ []
+in_lines = refl
+
+full_is_told : full_line 23 22 ≡ codes "{\"limit\":22,\"stop\":\"full\",\"would\":23}\n"
+unfolding digits
+full_is_told = refl
+
+disk_is_told : last_words (Err (Work Disk)) ≡ codes "{\"stop\":\"disk\"}\n"
+disk_is_told = refl

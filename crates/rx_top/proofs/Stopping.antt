@@ -1,8 +1,8 @@
 -- The stop line after what was told.
-use Rattle.std.proofs.Common.{◌≡◌, ◌∙◌, ap, subst, ℕ, ◌≤◌, List, ◌++◌, ◌⊎◌, inl, inr, arith}
+use Rattle.std.proofs.Common.{◌≡◌, ◌∙◌, refl, ap, subst, ℕ, ◌≤◌, List, ◌++◌, ◌⊎◌, inl, inr, arith, sym, append_assoc, Result, Ok, Err, OnOk, OnErr}
 use Rattle.rx_outside.specs.Failed.{Rises}
 use Rattle.rx_outside.specs.Sink.{WritesFront}
-use Rattle.rx_top.specs.Run.{Stops, stop_line}
+use Rattle.rx_top.specs.Stops.{EndsWith, Stops}
 
 rises_on : (a b c : ℕ) → a ≤ b → Rises b c → Rises a c
 rises_on a b c h (inl more) = inl (omega (arith, h, more))
@@ -16,10 +16,57 @@ stopped f0 f1 f2 mid mid' new line h e (inr front) =
     let P : List ℕ → Type 0 = λ v. WritesFront v new line in
     inr (subst P e front.0, rises_on f0 f1 f2 h front.1)
 
--- the sink had what was told, and then the stop line or a front of it
-pub stops_told : (tells : Type 0) (f0 f1 f2 : ℕ) (old mid new told name : List ℕ) → f0 ≤ f1
-    → (tells → mid ≡ old ++ told)
-    → (tells → (new ≡ mid ++ stop_line name) ⊎ (WritesFront mid new (stop_line name) × Rises f1 f2))
-    → Stops tells f0 f2 old new told name
-stops_told tells f0 f1 f2 old mid new told name h e wrote =
-    λ t. stopped f0 f1 f2 mid (old ++ told) new (stop_line name) h (e t) (wrote t)
+-- the sink had what was told, and then the line or a front of it
+pub stops_told : (tells : Type 0) (f0 f1 f2 : ℕ) (old mid new told line : List ℕ) → f0 ≤ f1
+    → (tells → mid ≡ old ++ told) → EndsWith tells f1 f2 mid new line
+    → Stops tells f0 f2 old new told line
+stops_told tells f0 f1 f2 old mid new told line h e wrote =
+    λ t. stopped f0 f1 f2 mid (old ++ told) new line h (e t) (wrote t)
+
+-- the faults are counted from an earlier time on
+pub ends_later : (tells : Type 0) (f0 f1 f2 : ℕ) (old new line : List ℕ) → f0 ≤ f1
+    → EndsWith tells f1 f2 old new line → EndsWith tells f0 f2 old new line
+ends_later tells f0 f1 f2 old new line h ends =
+    λ t. stopped f0 f1 f2 old old new line h refl (ends t)
+
+-- a call that writes the line, or the front of it that the sink takes
+pub ended_with : {T E : Type 0} (tells : Type 0) (f0 f1 : ℕ) (old new line : List ℕ)
+    (r : Result T E) → (tells → OnOk r (new ≡ old ++ line))
+    → (tells → OnErr r (WritesFront old new line)) → OnErr r (Rises f0 f1)
+    → EndsWith tells f0 f1 old new line
+ended_with tells f0 f1 old new line (Ok x) ok err failed = λ t. inl (ok t)
+ended_with tells f0 f1 old new line (Err x) ok err failed = λ t. inr (err t, failed)
+
+-- a front of the first part
+pub front_short : (old new a b : List ℕ) → WritesFront old new a → WritesFront old new (a ++ b)
+front_short old new a b f =
+    (f.0, f.1 ++ b, ap (λ v. v ++ b) f.2 ∙ append_assoc f.0 f.1 b, f.3)
+
+-- the first part, and a front of the second
+pub front_more : (old mid new a b : List ℕ) → mid ≡ old ++ a → WritesFront mid new b
+    → WritesFront old new (a ++ b)
+front_more old mid new a b e f = (
+  a ++ f.0,
+  f.1,
+  ap (λ v. a ++ v) f.2 ∙ sym (append_assoc a f.0 f.1),
+  f.3 ∙ ap (λ v. v ++ f.0) e ∙ append_assoc old a f.0,
+)
+
+pub any_err : {T E : Type 0} (r : Result T E) (P : Type 0) → P → OnErr r P
+any_err (Ok x) P p = tt
+any_err (Err x) P p = p
+
+pub err_so : {T E : Type 0} (r : Result T E) (P Q : Type 0) → (P → Q) → OnErr r P → OnErr r Q
+err_so (Ok x) P Q f p = tt
+err_so (Err x) P Q f p = f p
+
+pub ok_so : {T E : Type 0} (r : Result T E) (P Q : Type 0) → (P → Q) → OnOk r P → OnOk r Q
+ok_so (Ok x) P Q f p = f p
+ok_so (Err x) P Q f p = tt
+
+-- three parts
+pub three : (old one two new a b c : List ℕ) → one ≡ old ++ a → two ≡ one ++ b → new ≡ two ++ c
+    → new ≡ old ++ (a ++ (b ++ c))
+three old one two new a b c e f h =
+    h ∙ ap (λ v. v ++ c) (f ∙ ap (λ v. v ++ b) e) ∙ append_assoc (old ++ a) b c
+    ∙ append_assoc old a (b ++ c)

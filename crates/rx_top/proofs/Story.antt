@@ -1,17 +1,21 @@
 -- The story of a run, line after line.
 use Rattle.std.proofs.Common.{◌≡◌, ◌∙◌, refl, sym, ap, ℕ, ◌+◌, suc, Bool, true, false, not, cond, ◌&&◌, ◌||◌, ◌==◌, List, [], ◌∷◌, ◌++◌, length, arith, append_assoc, append-nil, length-append}
+use Rattle.rx_engine.specs.Session.{Session}
 use Rattle.rx_top.specs.Lines.{Cut, cut, byte_before, last_line, lines}
 use Rattle.rx_top.specs.Reader.{is_within}
-use Rattle.rx_top.specs.Session.{Session, empty}
-use Rattle.rx_top.specs.Transcript.{said, is_refused, next, transcript_from, any_refused, session_after, transcript, is_any_refused}
+use Rattle.rx_top.specs.Story.{said, bodies_in, is_refused, next, told, wrote, any_refused, after_all}
 
--- the lines of `done` were played, and `rest` is to come
-pub record SoFar (done input rest : List ℕ) (n : ℕ) (refused : Bool) (s : Session) : Type 0 where
+-- the lines of `done` were played from a session on, and `rest` is to come
+pub record SoFar
+    (done input rest : List ℕ)
+    (n : ℕ)
+    (refused : Bool)
+    (s0 s : Session) : Type 0 where
   pub whole : (cut done).rest ≡ []
   pub split : input ≡ done ++ rest
   pub number : n ≡ length (cut done).whole
-  pub refusals : refused ≡ any_refused (cut done).whole empty
-  pub session : s ≡ session_after (cut done).whole empty
+  pub refusals : refused ≡ any_refused 1 (cut done).whole s0
+  pub session : s ≡ after_all 1 (cut done).whole s0
 
 -- ---- cutting
 
@@ -79,17 +83,39 @@ cut-append (b ∷ bs) x h = append_step b bs x (b == 10) h (cut-append bs x)
 
 -- ---- lists of lines
 
-pub transcript-append : (n : ℕ) (ls ms : List (List ℕ)) (s : Session)
-    → transcript_from n (ls ++ ms) s
-    ≡ transcript_from n ls s ++ transcript_from (n + length ls) ms (session_after ls s)
-transcript-append n [] ms s = let e : n ≡ n + 0 = omega arith in ap (λ m. transcript_from m ms s) e
-transcript-append n (l ∷ ls) ms s =
+pub told-append : (n : ℕ) (ls ms : List (List ℕ)) (s : Session)
+    → told n (ls ++ ms) s ≡ told n ls s ++ told (n + length ls) ms (after_all n ls s)
+told-append n [] ms s = let e : n ≡ n + 0 = omega arith in ap (λ m. told m ms s) e
+told-append n (l ∷ ls) ms s =
     let e : (n + 1) + length ls ≡ n + suc (length ls) = omega arith in
-    ap (λ v. said n l s ++ v) (transcript-append (n + 1) ls ms (next l s)
-    ∙ ap (λ m. transcript_from (n + 1) ls (next l s)
-    ++ transcript_from m ms (session_after ls (next l s))) e)
-    ∙ sym (append_assoc (said n l s) (transcript_from (n + 1) ls (next l s))
-    (transcript_from (n + suc (length ls)) ms (session_after ls (next l s))))
+    ap (λ v. said n l s ++ v) (told-append (n + 1) ls ms (next n l s)
+    ∙ ap (λ m. told (n + 1) ls (next n l s)
+    ++ told m ms (after_all (n + 1) ls (next n l s))) e)
+    ∙ sym (append_assoc (said n l s) (told (n + 1) ls (next n l s))
+    (told (n + suc (length ls)) ms (after_all (n + 1) ls (next n l s))))
+
+pub told-push : (n : ℕ) (ls : List (List ℕ)) (l : List ℕ) (s : Session) (k : ℕ)
+    → k ≡ n + length ls → told n (ls ++ l ∷ []) s ≡ told n ls s ++ said k l (after_all n ls s)
+told-push n ls l s k is =
+    told-append n ls (l ∷ []) s
+    ∙ ap (λ v. told n ls s ++ v) (append-nil (said (n + length ls) l (after_all n ls s)))
+    ∙ ap (λ m. told n ls s ++ said m l (after_all n ls s)) (sym is)
+
+pub wrote-push : (n : ℕ) (ls : List (List ℕ)) (l : List ℕ) (s : Session) (k : ℕ)
+    → k ≡ n + length ls
+    → wrote n (ls ++ l ∷ []) s ≡ wrote n ls s ++ bodies_in k l (after_all n ls s)
+wrote-push n [] l s k is =
+    let e : n ≡ k = omega (arith, is) in
+    append-nil (bodies_in n l s) ∙ ap (λ m. bodies_in m l s) e
+wrote-push n (y ∷ ys) l s k is =
+    ap (λ v. bodies_in n y s ++ v) (wrote-push (n + 1) ys l (next n y s) k (omega (arith, is)))
+    ∙ sym (append_assoc (bodies_in n y s) (wrote (n + 1) ys (next n y s)) _)
+
+pub after_all-push : (n : ℕ) (ls : List (List ℕ)) (l : List ℕ) (s : Session) (k : ℕ)
+    → k ≡ n + length ls → after_all n (ls ++ l ∷ []) s ≡ next k l (after_all n ls s)
+after_all-push n [] l s k is = let e : n ≡ k = omega (arith, is) in ap (λ m. next m l s) e
+after_all-push n (y ∷ ys) l s k is =
+    after_all-push (n + 1) ys l (next n y s) k (omega (arith, is))
 
 or_assoc : (a b c : Bool) → ((a || b) || c) ≡ (a || (b || c))
 or_assoc true b c = refl
@@ -99,29 +125,24 @@ or_false : (b : Bool) → (b || false) ≡ b
 or_false true = refl
 or_false false = refl
 
-pub refused-append : (ls ms : List (List ℕ)) (s : Session)
-    → any_refused (ls ++ ms) s ≡ (any_refused ls s || any_refused ms (session_after ls s))
-refused-append [] ms s = refl
-refused-append (l ∷ ls) ms s =
-    ap (λ v. is_refused l s || v) (refused-append ls ms (next l s))
-    ∙ sym (or_assoc (is_refused l s) (any_refused ls (next l s))
-    (any_refused ms (session_after ls (next l s))))
+refused-push : (n : ℕ) (ls : List (List ℕ)) (l : List ℕ) (s : Session) (k : ℕ)
+    → k ≡ n + length ls → any_refused n (ls ++ l ∷ []) s
+    ≡ (any_refused n ls s || is_refused k l (after_all n ls s))
+refused-push n [] l s k is =
+    let e : n ≡ k = omega (arith, is) in
+    or_false (is_refused n l s) ∙ ap (λ m. is_refused m l s) e
+refused-push n (y ∷ ys) l s k is =
+    ap (λ v. is_refused n y s || v) (refused-push (n + 1) ys l (next n y s) k (omega (arith, is)))
+    ∙ sym (or_assoc (is_refused n y s) (any_refused (n + 1) ys (next n y s)) _)
 
-session-append : (ls ms : List (List ℕ)) (s : Session)
-    → session_after (ls ++ ms) s ≡ session_after ms (session_after ls s)
-session-append [] ms s = refl
-session-append (l ∷ ls) ms s = session-append ls ms (next l s)
-
--- one line more, after n lines
-pub one_more : (ls : List (List ℕ)) (l : List ℕ) (n : ℕ) (s : Session) → n ≡ length ls
-    → s ≡ session_after ls empty
-    → transcript (ls ++ l ∷ []) ≡ transcript ls ++ said (n + 1) l s
-one_more ls l n s count after =
-    let e : 1 + length ls ≡ n + 1 = omega (arith, count) in
-    transcript-append 1 ls (l ∷ []) empty
-    ∙ ap (λ m. transcript ls ++ (said m l (session_after ls empty) ++ [])) e
-    ∙ ap (λ (x : Session). transcript ls ++ (said (n + 1) l x ++ [])) (sym after)
-    ∙ ap (λ v. transcript ls ++ v) (append-nil (said (n + 1) l s))
+-- a line more, after n lines
+pub refused_more : (ls : List (List ℕ)) (l : List ℕ) (n : ℕ) (r : Bool) (s0 s : Session)
+    → n ≡ length ls → r ≡ any_refused 1 ls s0 → s ≡ after_all 1 ls s0
+    → (r || is_refused (n + 1) l s) ≡ any_refused 1 (ls ++ l ∷ []) s0
+refused_more ls l n r s0 s count is after =
+    ap (λ v. v || is_refused (n + 1) l s) is
+    ∙ ap (λ (x : Session). any_refused 1 ls s0 || is_refused (n + 1) l x) after
+    ∙ sym (refused-push 1 ls l s0 (n + 1) (omega (arith, count)))
 
 -- ---- the story goes on
 
@@ -130,22 +151,27 @@ line_cut : (done l : List ℕ) → (cut done).rest ≡ [] → is_within l ≡ tr
 line_cut done l h within = cut-append done (l ++ 10 ∷ []) h
     ∙ ap (joined (cut done)) (cut-line l [] within)
 
-pub none_yet : (input : List ℕ) → SoFar [] input input 0 false empty
-none_yet input = record {
+-- the lines with one more
+pub lines_more : (done l : List ℕ) → (cut done).rest ≡ [] → is_within l ≡ true
+    → (cut (done ++ (l ++ 10 ∷ []))).whole ≡ (cut done).whole ++ l ∷ []
+lines_more done l h within = ap (λ (x : Cut). x.whole) (line_cut done l h within)
+
+pub none_yet : (input : List ℕ) (s : Session) → SoFar [] input input 0 false s s
+none_yet input s = record {
   whole = refl;
   split = refl;
   number = refl;
   refusals = refl;
-  session =
-      refl;
+  session = refl;
 }
 
 -- a line was played
-pub line_more : (done input rest rest' l : List ℕ) (n : ℕ) (refused : Bool) (s : Session)
-    → SoFar done input rest n refused s
+pub line_more : (done input rest rest' l : List ℕ) (n : ℕ) (r : Bool) (s0 s : Session)
+    → SoFar done input rest n r s0 s
     → rest ≡ l ++ 10 ∷ rest' → is_within l ≡ true
-    → SoFar (done ++ (l ++ 10 ∷ [])) input rest' (n + 1) (refused || is_refused l s) (next l s)
-line_more done input rest rest' l n refused s so e within =
+    → SoFar (done ++ (l ++ 10 ∷ [])) input rest' (n + 1) (r || is_refused (n + 1) l s) s0
+    (next (n + 1) l s)
+line_more done input rest rest' l n r s0 s so e within =
     let c = line_cut done l so.whole within in
     let ls = (cut done).whole in
     record {
@@ -153,58 +179,35 @@ line_more done input rest rest' l n refused s so e within =
       split = so.split ∙ ap (λ v. done ++ v) (e ∙ sym (append_assoc l (10 ∷ []) rest'))
           ∙ sym (append_assoc done (l ++ 10 ∷ []) rest');
       number = rw c (omega (arith, so.number, length-append ls (l ∷ [])));
-      refusals = ap (λ v. v || is_refused l s) so.refusals
-          ∙ ap (λ (x : Session). any_refused ls empty || is_refused l x) so.session
-          ∙ ap (λ v. any_refused ls empty || v)
-          (sym (or_false (is_refused l (session_after ls empty))))
-          ∙ sym (refused-append ls (l ∷ []) empty)
-          ∙ ap (λ (x : Cut). any_refused x.whole empty) (sym c);
-      session = ap (next l) so.session ∙ sym (session-append ls (l ∷ []) empty)
-          ∙ ap (λ (x : Cut). session_after x.whole empty) (sym c);
+      refusals = refused_more ls l n r s0 s so.number so.refusals so.session
+          ∙ ap (λ (x : Cut). any_refused 1 x.whole s0) (sym c);
+      session = ap (λ (x : Session). next (n + 1) l x) so.session
+          ∙ sym (after_all-push 1 ls l s0 (n + 1) (omega (arith, so.number)))
+          ∙ ap (λ (x : Cut). after_all 1 x.whole s0) (sym c);
     }
 
-pub line_told : (done input rest l : List ℕ) (n : ℕ) (refused : Bool) (s : Session)
-    → SoFar done input rest n refused s
-    → is_within l ≡ true → transcript (cut (done ++ (l ++ 10 ∷ []))).whole
-    ≡ transcript (cut done).whole ++ said (n + 1) l s
-line_told done input rest l n refused s so within =
-    ap (λ (x : Cut). transcript x.whole) (line_cut done l so.whole within)
-    ∙ one_more (cut done).whole l n s so.number so.session
+-- ---- what is to come
 
--- ---- the ends of a story
+pub rest_lines : (done input rest : List ℕ) (n : ℕ) (r : Bool) (s0 s : Session)
+    → SoFar done input rest n r s0 s → lines input ≡ (cut done).whole ++ lines rest
+rest_lines done input rest n r s0 s so =
+    ap lines so.split
+    ∙ ap (λ (x : Cut). x.whole ++ last_line x.rest) (cut-append done rest so.whole)
+    ∙ append_assoc (cut done).whole (cut rest).whole (last_line (cut rest).rest)
 
--- nothing is left
-pub all_lines : (done input rest : List ℕ) (n : ℕ) (refused : Bool) (s : Session)
-    → SoFar done input rest n refused s
-    → rest ≡ [] → lines input ≡ (cut done).whole
-all_lines done input rest n refused s so e =
-    ap lines (so.split ∙ ap (λ v. done ++ v) e ∙ append-nil done)
-    ∙ ap (λ v. (cut done).whole ++ last_line v) so.whole ∙ append-nil (cut done).whole
+pub lines_next : (l rest : List ℕ) → is_within l ≡ true → lines (l ++ 10 ∷ rest) ≡ l ∷ lines rest
+lines_next l rest within =
+    ap (λ (x : Cut). x.whole ++ last_line x.rest) (cut-line l rest within)
 
 last_line-some : (l : List ℕ) → (l ≡ [] → ⊥) → last_line l ≡ l ∷ []
 last_line-some [] some = absurd (some refl)
 last_line-some (b ∷ bs) some = refl
 
 -- the last line has no end
-pub last_lines : (done input rest l : List ℕ) (n : ℕ) (refused : Bool) (s : Session)
-    → SoFar done input rest n refused s
-    → rest ≡ l → is_within l ≡ true → (l ≡ [] → ⊥) → lines input ≡ (cut done).whole ++ l ∷ []
-last_lines done input rest l n refused s so e within some =
-    let c = cut-append done l so.whole ∙ ap (joined (cut done)) (cut-within l within) in
-    ap lines (so.split ∙ ap (λ v. done ++ v) e) ∙ ap (λ (x : Cut). x.whole ++ last_line x.rest) c
-    ∙ ap (λ v. v ++ last_line l) (append-nil (cut done).whole)
-    ∙ ap (λ v. (cut done).whole ++ v) (last_line-some l some)
-
--- the next line ends
-pub next_lines : (done input rest rest' l : List ℕ) (n : ℕ) (refused : Bool) (s : Session)
-    → SoFar done input rest n refused s
-    → rest ≡ l ++ 10 ∷ rest' → is_within l ≡ true
-    → lines input ≡ (cut done).whole ++ l ∷ lines rest'
-next_lines done input rest rest' l n refused s so e within =
-    let c = cut-append done (l ++ 10 ∷ rest') so.whole
-    ∙ ap (joined (cut done)) (cut-line l rest' within) in
-    ap lines (so.split ∙ ap (λ v. done ++ v) e) ∙ ap (λ (x : Cut). x.whole ++ last_line x.rest) c
-    ∙ append_assoc (cut done).whole (l ∷ (cut rest').whole) (last_line (cut rest').rest)
+pub lines_last : (l : List ℕ) → is_within l ≡ true → (l ≡ [] → ⊥) → lines l ≡ l ∷ []
+lines_last l within some =
+    ap (λ (x : Cut). x.whole ++ last_line x.rest) (cut-within l within)
+    ∙ last_line-some l some
 
 -- a line that has begun is not whole
 pub begun : (done front : List ℕ) → (cut done).rest ≡ [] → is_within front ≡ true
@@ -213,12 +216,3 @@ begun done front h within =
     ap (λ (x : Cut). x.whole) (cut-append done front h
     ∙ ap (joined (cut done)) (cut-within front within))
     ∙ append-nil (cut done).whole
-
-pub last_refused : (ls : List (List ℕ)) (l : List ℕ) (refused : Bool) (s : Session)
-    → refused ≡ any_refused ls empty
-    → s ≡ session_after ls empty → (refused || is_refused l s) ≡ is_any_refused (ls ++ l ∷ [])
-last_refused ls l refused s is after =
-    ap (λ v. v || is_refused l s) is
-    ∙ ap (λ (x : Session). any_refused ls empty || is_refused l x) after
-    ∙ ap (λ v. any_refused ls empty || v) (sym (or_false (is_refused l (session_after ls empty))))
-    ∙ sym (refused-append ls (l ∷ []) empty)

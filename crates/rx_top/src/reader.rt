@@ -4,7 +4,7 @@ ghost use Rattle.rx_outside.specs.Failed.{Rises};
 ghost use Rattle.rx_script.specs.Line.{max_line_bytes};
 ghost use Rattle.rx_top.specs.Reader.{is_within, kept, max_input_bytes, TakesKept, StopsWithin};
 
-use crate::stop::Stop;
+use crate::cause::ReadFault;
 use memchr::memchr;
 use rx_outside::Source;
 use rx_script::MAX_LINE_BYTES;
@@ -72,7 +72,7 @@ impl Reader {
     }
 
     /// Takes the next line of what the source has left. After an `Err` the reader is spent.
-    pub(crate) fn next<S: Source>(&mut self, source: &mut S) -> Result<Next, Stop>
+    pub(crate) fn next<S: Source>(&mut self, source: &mut S) -> Result<Next, ReadFault>
         ensures next { S.tells → IfOk result (λ next. TakesKept next self.new.line
             (self.old.unread ++ S.left source.old) (self.new.unread ++ S.left source.new)) }
         ensures took { S.tells → OnOk result
@@ -81,17 +81,16 @@ impl Reader {
         ensures smaller { IfOk result (λ next. next ≡ Next.Line
             → length self.new.unread + self.old.given < length self.old.unread + self.new.given) }
         // No line ended in what was read and not taken.
-        ensures stops { S.tells → IsErrOf result Stop.Read
+        ensures stops { S.tells → IsErrOf result ReadFault.Failed
             → StopsWithin (self.old.unread ++ S.left source.old) (S.left source.new) }
-        ensures stops_long { S.tells → IsErrOf result Stop.TooLong
+        ensures stops_long { S.tells → IsErrOf result ReadFault.TooLong
             → (b : ℕ) × StopsWithin (self.old.unread ++ S.left source.old) (b ∷ S.left source.new) }
-        ensures within { S.tells → OnErr result ((IsErrOf result Stop.TooLong → ⊥)
+        ensures within { S.tells → OnErr result ((IsErrOf result ReadFault.TooLong → ⊥)
             → Took self.old.given (S.left source.old) (S.left source.new) (λ n. n ≤ max_input_bytes)) }
-        ensures too_long { S.tells → IsErrOf result Stop.TooLong
+        ensures too_long { S.tells → IsErrOf result ReadFault.TooLong
             → Took self.old.given (S.left source.old) (S.left source.new) (λ n. n ≡ max_input_bytes + 1) }
         ensures faults { S.faults source.old ≤ S.faults source.new }
-        ensures read { IsErrOf result Stop.Read → Rises (S.faults source.old) (S.faults source.new) }
-        ensures no_sink { IsErrOf result Stop.Sink → ⊥ }
+        ensures read { IsErrOf result ReadFault.Failed → Rises (S.faults source.old) (S.faults source.new) }
     {
         self.line.clear();
         'pieces: loop {
@@ -101,7 +100,7 @@ impl Reader {
             match self.fill(source) {
                 Ok(true) => {}
                 Ok(false) => return Ok(self.rest()),
-                Err(stop) => return Err(stop),
+                Err(fault) => return Err(fault),
             }
         }
     }
@@ -138,21 +137,20 @@ impl Reader {
     }
 
     // Reads a piece more, and says whether there was one.
-    fn fill<S: Source>(&mut self, source: &mut S) -> Result<bool, Stop>
+    fn fill<S: Source>(&mut self, source: &mut S) -> Result<bool, ReadFault>
         ensures line { self.new.line ≡ self.old.line }
         ensures more { S.tells → OnOk result (S.left source.old ≡ self.new.unread ++ S.left source.new) }
         ensures end { S.tells → IfOk result (λ some. some ≡ false → S.left source.old ≡ []) }
         ensures given { OnOk result (self.new.given ≡ self.old.given + length self.new.unread) }
         ensures bounded { OnOk result (self.new.given ≤ max_input_bytes) }
         ensures grows { IfOk result (λ some. some ≡ true → 0 < length self.new.unread) }
-        ensures keeps { S.tells → OnErr result ((IsErrOf result Stop.TooLong → ⊥)
+        ensures keeps { S.tells → OnErr result ((IsErrOf result ReadFault.TooLong → ⊥)
             → S.left source.new ≡ S.left source.old) }
-        ensures full { IsErrOf result Stop.TooLong → self.old.given ≡ max_input_bytes }
-        ensures too_long { S.tells → IsErrOf result Stop.TooLong
+        ensures full { IsErrOf result ReadFault.TooLong → self.old.given ≡ max_input_bytes }
+        ensures too_long { S.tells → IsErrOf result ReadFault.TooLong
             → (b : ℕ) × (S.left source.old ≡ b ∷ S.left source.new) }
         ensures faults { S.faults source.old ≤ S.faults source.new }
-        ensures read { IsErrOf result Stop.Read → Rises (S.faults source.old) (S.faults source.new) }
-        ensures no_sink { IsErrOf result Stop.Sink → ⊥ }
+        ensures read { IsErrOf result ReadFault.Failed → Rises (S.faults source.old) (S.faults source.new) }
     {
         let room = MAX_INPUT_BYTES - self.given;
         self.at = 0;
@@ -161,7 +159,7 @@ impl Reader {
             return Ok(false);
         }
         if room == 0 {
-            return Err(Stop::TooLong);
+            return Err(ReadFault::TooLong);
         }
         self.given += n as u64;
         Ok(true)
@@ -190,15 +188,15 @@ fn keep(line: &mut Vec<u8>, bytes: &[u8]) -> Result<(), AllocError>
 }
 
 // Reads a piece of at most so many bytes, and says whether there were some.
-fn read_piece<S: Source>(piece: &mut Vec<u8>, most: u64, source: &mut S) -> Result<usize, Stop>
+fn read_piece<S: Source>(piece: &mut Vec<u8>, most: u64, source: &mut S) -> Result<usize, ReadFault>
     requires { 0 < most }
     ensures count { IfOk result (λ n. (n ≡ length piece.new.items) × (n ≤ most)) }
     ensures stream { S.tells → OnOk result (S.left source.old ≡ piece.new.items ++ S.left source.new) }
     ensures end { S.tells → IfOk result (λ n. n ≡ 0 → S.left source.old ≡ []) }
     ensures keeps { S.tells → OnErr result (S.left source.new ≡ S.left source.old) }
     ensures faults { S.faults source.old ≤ S.faults source.new }
-    ensures read { IsErrOf result Stop.Read → Rises (S.faults source.old) (S.faults source.new) }
-    ensures others { OnErr result (IsErrOf result Stop.Read ⊎ IsErrOf result Stop.Memory) }
+    ensures read { IsErrOf result ReadFault.Failed → Rises (S.faults source.old) (S.faults source.new) }
+    ensures others { OnErr result (IsErrOf result ReadFault.Failed ⊎ IsErrOf result ReadFault.Memory) }
 {
     piece.clear();
     piece.resize(most.min(PIECE_BYTES) as usize, 0)?;
@@ -207,6 +205,6 @@ fn read_piece<S: Source>(piece: &mut Vec<u8>, most: u64, source: &mut S) -> Resu
             piece.truncate(n);
             Ok(n)
         }
-        Err(_) => Err(Stop::Read),
+        Err(_) => Err(ReadFault::Failed),
     }
 }

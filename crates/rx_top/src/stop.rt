@@ -1,32 +1,74 @@
-use std::alloc::{AllocError, AllocFailed};
+// The end of a run: its status, and its last line.
+ghost use Rattle.std.specs.Prelude.{◌≡◌, ◌≤◌, ◌++◌, decimal, OnOk, OnErr};
+ghost use Rattle.rx_outside.specs.Failed.{Rises};
+ghost use Rattle.rx_outside.specs.Sink.{WritesFront};
+ghost use Rattle.rx_top.specs.Stops.{full_line, last_words, status_of};
 
-/// Why a run ends before its input does.
-#[derive(Clone, Copy, Debug, PartialEq, Eq)]
-pub(crate) enum Stop {
-    Read,
-    Sink,
-    Memory,
-    TooLong,
-}
+use crate::cause::{Cause, ReadFault};
+use itoa::Buffer;
+use rx_outside::{Failed, Sink, Stop, write_all};
 
-impl From<AllocError> for Stop {
-    ghost use Rattle.std.specs.Prelude.{◌≡◌};
-    ghost use Rattle.rx_top.specs.declared.stop.Stop.TheVariants.{Memory};
-
-    ghost from_gives = { λ _ e. e ≡ Memory };
-
-    fn from(_refused: AllocError) -> Stop {
-        Stop::Memory
+/// The status of a run.
+pub(crate) fn status_of(ended: &Result<bool, Cause>) -> u8
+    ensures { result ≡ status_of ended.now }
+{
+    match ended {
+        Ok(false) => 0,
+        Ok(true) => 1,
+        Err(Cause::Work(Stop::Disk)) => 3,
+        Err(Cause::Read(ReadFault::Failed)) => 4,
+        Err(Cause::Sink) => 5,
+        Err(Cause::Work(Stop::Memory)) => 6,
+        Err(Cause::Read(ReadFault::Memory)) => 6,
+        Err(Cause::Work(Stop::NotJournal)) => 7,
+        Err(Cause::Work(Stop::Full { .. })) => 8,
+        Err(Cause::Read(ReadFault::TooLong)) => 9,
     }
 }
 
-impl<T: Drop> From<AllocFailed<T>> for Stop {
-    ghost use Rattle.std.specs.Prelude.{◌≡◌};
-    ghost use Rattle.rx_top.specs.declared.stop.Stop.TheVariants.{Memory};
-
-    ghost from_gives = { λ _ e. e ≡ Memory };
-
-    fn from(_refused: AllocFailed<T>) -> Stop {
-        Stop::Memory
+/// Writes the last line of a run, or the front of it that the sink takes.
+pub(crate) fn write_end<K: Sink>(out: &mut K, ended: &Result<bool, Cause>) -> Result<(), Failed>
+    ensures ok { K.tells
+        → OnOk result (K.written out.new ≡ K.written out.old ++ last_words ended.now) }
+    ensures err { K.tells → OnErr result
+        (WritesFront (K.written out.old) (K.written out.new) (last_words ended.now)) }
+    ensures count { K.faults out.old ≤ K.faults out.new }
+    ensures failed { OnErr result (Rises (K.faults out.old) (K.faults out.new)) }
+{
+    match ended {
+        Ok(_) => Ok(()),
+        Err(Cause::Sink) => Ok(()),
+        Err(Cause::Work(Stop::Disk)) => write_all(out, b"{\"stop\":\"disk\"}\n"),
+        Err(Cause::Work(Stop::Memory)) => write_all(out, b"{\"stop\":\"memory\"}\n"),
+        Err(Cause::Work(Stop::NotJournal)) => write_all(out, b"{\"stop\":\"not_journal\"}\n"),
+        Err(Cause::Work(Stop::Full { would, limit })) => write_full(out, *would, *limit),
+        Err(Cause::Read(ReadFault::Failed)) => write_all(out, b"{\"stop\":\"read\"}\n"),
+        Err(Cause::Read(ReadFault::Memory)) => write_all(out, b"{\"stop\":\"memory\"}\n"),
+        Err(Cause::Read(ReadFault::TooLong)) => write_all(out, b"{\"stop\":\"too_long\"}\n"),
     }
+}
+
+fn write_full<K: Sink>(out: &mut K, would: u64, limit: u64) -> Result<(), Failed>
+    ensures ok { K.tells
+        → OnOk result (K.written out.new ≡ K.written out.old ++ full_line would limit) }
+    ensures err { K.tells → OnErr result
+        (WritesFront (K.written out.old) (K.written out.new) (full_line would limit)) }
+    ensures count { K.faults out.old ≤ K.faults out.new }
+    ensures failed { OnErr result (Rises (K.faults out.old) (K.faults out.new)) }
+{
+    write_number(out, b"{\"limit\":", limit)?;
+    write_number(out, b",\"stop\":\"full\",\"would\":", would)?;
+    write_all(out, b"}\n")
+}
+
+fn write_number<K: Sink>(out: &mut K, label: &[u8], number: u64) -> Result<(), Failed>
+    ensures ok { K.tells
+        → OnOk result (K.written out.new ≡ K.written out.old ++ (label.now ++ decimal number)) }
+    ensures err { K.tells → OnErr result
+        (WritesFront (K.written out.old) (K.written out.new) (label.now ++ decimal number)) }
+    ensures count { K.faults out.old ≤ K.faults out.new }
+    ensures failed { OnErr result (Rises (K.faults out.old) (K.faults out.new)) }
+{
+    write_all(out, label)?;
+    write_all(out, Buffer::new().format(number).as_bytes())
 }

@@ -1,104 +1,199 @@
-ghost use Rattle.std.specs.Prelude.{◌≡◌, ◌≢◌, ◌+◌, ◌<◌, ◌≤◌, ◌++◌, ◌⊎◌, ◌↔◌, List, ℕ, [], length, take, codes, false, IsErrOf};
+ghost use Rattle.std.specs.Prelude.{◌≡◌, ◌≢◌, ◌+◌, ◌<◌, ◌≤◌, ◌++◌, ◌∷◌, ◌⊎◌, ◌↔◌, List, ℕ, [], length, take, codes, ◌^◌, None, if◌then◌else◌, OnOk, IsErrOf};
+ghost use Rattle.rx_disk.specs.Disk.{Rose};
+ghost use Rattle.rx_engine.specs.Engine.{IsFull};
+ghost use Rattle.rx_engine.specs.Holds.{IsLegalFile};
+ghost use Rattle.rx_engine.specs.Opening.{epoch_body, opened};
+ghost use Rattle.rx_frame.specs.File.{end_of};
 ghost use Rattle.rx_outside.specs.Failed.{Rises};
 ghost use Rattle.rx_outside.specs.Sink.{WritesFront};
+ghost use Rattle.rx_world.specs.World.{World};
+ghost use Rattle.rx_outside.specs.declared.stop.Stop.TheVariants as stop;
+ghost use Rattle.rx_top.specs.declared.cause.ReadFault.TheVariants as fault;
 ghost use Rattle.rx_top.specs.Lines.{cut, lines};
 ghost use Rattle.rx_top.specs.Reader.{Took, max_input_bytes};
-ghost use Rattle.rx_top.specs.Run.{Stops, status_of};
-ghost use Rattle.rx_top.specs.Transcript.{transcript};
-ghost use Rattle.rx_top.specs.Words.{is_run};
+ghost use Rattle.rx_top.specs.Run.{FromStart, HasRun, IsDue, Run, StopsAfter, WasPlayed};
+ghost use Rattle.rx_top.specs.Stops.{Stops, full_line, named};
+ghost use Rattle.rx_top.specs.Story.{any_refused, told, wrote};
+ghost use Rattle.rx_top.specs.Words.{command_of, granted};
 
+use crate::cause::{Cause, ReadFault};
 use crate::play::play;
-use crate::stop::Stop;
-use crate::words::{Words, is_run};
+use crate::reader::Reader;
+use crate::stop::{status_of, write_end};
+use crate::words::{Words, command_of};
+use rx_disk::Disk;
+use rx_engine::Engine;
 use rx_outside::{Sink, Source, write_all};
 use std::alloc::Global;
 
 /// Runs a command, and answers its status.
 ///
-/// `run JOURNAL` plays the script that the source gives, a line of JSON a line, and writes a
-/// reply for each line and the results that it changes. The path is not opened yet.
+/// `run JOURNAL` opens the journal, which is the disk, begins a new epoch, and plays the script
+/// that the source gives, a line of JSON a line. The records of a line are on the disk before a
+/// byte of its reply is written.
 ///
 /// | status | what it says |
 /// |---|---|
 /// | 0 | the script was played to its end |
 /// | 1 | so it was, and a line was refused |
 /// | 2 | the words are no command |
+/// | 3 | the disk failed |
 /// | 4 | the source failed |
 /// | 5 | the sink failed |
 /// | 6 | memory ran out |
+/// | 7 | the file is no journal |
+/// | 8 | a record would end past the limit of the journal |
 /// | 9 | the source gave more than 4,294,967,296 bytes |
 ///
 /// From 2 on but for 5, the last line written tells the cause.
-pub fn rx<S: Source, K: Sink>(alloc: Global, words: &Words, source: &mut S, out: &mut K) -> u8
-    // The whole input was played.
-    ensures whole_input { result < 2 → S.tells → S.left source.new ≡ [] }
-    ensures status { result < 2 → S.tells → result ≡ status_of (S.left source.old) }
-    ensures whole_transcript { result < 2 → S.tells → K.tells
-        → K.written out.new ≡ K.written out.old ++ transcript (lines (S.left source.old)) }
+pub fn rx<S: Source, K: Sink, D: Disk>(
+    alloc: Global,
+    words: &Words,
+    source: &mut S,
+    out: &mut K,
+    disk: &mut D,
+) -> u8
+    // Wherever a run ends: some lines are done, and their replies are written, or a front of them
+    // where the sink failed, and then the stop line. At each moment of the call each image of the
+    // disk is a legal file of the old records and a front of those that are due, and at its end it
+    // has all those of the lines done.
+    ensures headline { result ≢ 2 → S.tells → FromStart D.Disk disk.old (λ bodies w.
+        HasRun D.Disk disk.old disk.new K.tells (K.faults out.old) (K.faults out.new)
+        (K.written out.old) (K.written out.new) bodies w (S.left source.old) (S.left source.new)
+        (granted words.now.words.items) result) }
 
-    // The words are no command.
-    ensures usage { (result ≡ 2) ↔ (is_run words.now.words.items ≡ false) }
-    ensures nothing_read { result ≡ 2 → S.tells → S.left source.new ≡ S.left source.old }
+    // The whole input was played, and the journal has its records.
+    ensures whole_input { result < 2 → S.tells → S.left source.new ≡ [] }
+    ensures status { result < 2 → S.tells → FromStart D.Disk disk.old (λ bodies w.
+        result ≡ (if any_refused 1 (lines (S.left source.old)) (opened w) then 1 else 0)) }
+    ensures whole_transcript { result < 2 → S.tells → K.tells
+        → FromStart D.Disk disk.old (λ bodies w.
+        K.written out.new ≡ K.written out.old ++ told 1 (lines (S.left source.old)) (opened w)) }
+    ensures kept { result < 2 → S.tells → FromStart D.Disk disk.old (λ bodies w.
+        (c : List ℕ) → D.image disk.new c → (after : World) × IsLegalFile c
+        (bodies ++ epoch_body w ∷ wrote 1 (lines (S.left source.old)) (opened w)) after) }
+
+    // The words are no command: nothing is read, and the disk isn't touched.
+    ensures usage { (result ≡ 2) ↔ (command_of words.now.words.items ≡ None) }
+    ensures nothing_read { result ≡ 2 → source.new ≡ source.old }
+    ensures not_opened { result ≡ 2 → disk.new ≡ disk.old }
     ensures usage_line { result ≡ 2 → Stops K.tells (K.faults out.old) (K.faults out.new)
-        (K.written out.old) (K.written out.new) [] (codes "usage") }
+        (K.written out.old) (K.written out.new) [] (named (codes "usage")) }
 
     // The source failed, after the lines that ended in what it gave.
     ensures read_fault { result ≡ 4 → Rises (S.faults source.old) (S.faults source.new) }
-    ensures read { result ≡ 4 → S.tells → (given : List ℕ) × (S.left source.old ≡ given ++ S.left source.new)
+    ensures read { result ≡ 4 → S.tells → FromStart D.Disk disk.old (λ bodies w.
+        (given : List ℕ) × (S.left source.old ≡ given ++ S.left source.new)
         × Stops K.tells (K.faults out.old) (K.faults out.new) (K.written out.old) (K.written out.new)
-        (transcript (cut given).whole) (codes "read") }
+        (told 1 (cut given).whole (opened w)) (named (codes "read"))) }
 
     // The sink failed, and took a front of what is due.
     ensures sink_fault { result ≡ 5 → Rises (K.faults out.old) (K.faults out.new) }
-    ensures sink { result ≡ 5 → S.tells → K.tells
-        → WritesFront (K.written out.old) (K.written out.new) (transcript (lines (S.left source.old))) }
+    ensures sink { result ≡ 5 → S.tells → K.tells → FromStart D.Disk disk.old (λ bodies w.
+        WritesFront (K.written out.old) (K.written out.new)
+        (told 1 (lines (S.left source.old)) (opened w))) }
 
     // Memory ran out, after some of the lines.
-    ensures memory { result ≡ 6 → S.tells → (front : List ℕ) × (rest : List ℕ) × (S.left source.old ≡ front ++ rest)
-        × Stops K.tells (K.faults out.old) (K.faults out.new) (K.written out.old) (K.written out.new)
-        (transcript (cut front).whole) (codes "memory") }
+    ensures memory { result ≡ 6 → S.tells → FromStart D.Disk disk.old (λ bodies w.
+        StopsAfter K.tells (K.faults out.old) (K.faults out.new) (K.written out.old)
+        (K.written out.new) (lines (S.left source.old)) (opened w) (named (codes "memory"))) }
 
     // The source gave one byte past the limit: exactly then, after the lines that end within it.
-    ensures too_long { result ≡ 9 → S.tells → (given : List ℕ) × (S.left source.old ≡ given ++ S.left source.new)
+    ensures too_long { result ≡ 9 → S.tells → FromStart D.Disk disk.old (λ bodies w.
+        (given : List ℕ) × (S.left source.old ≡ given ++ S.left source.new)
         × (length given ≡ max_input_bytes + 1)
         × Stops K.tells (K.faults out.old) (K.faults out.new) (K.written out.old) (K.written out.new)
-        (transcript (cut (take max_input_bytes given)).whole) (codes "too_long") }
+        (told 1 (cut (take max_input_bytes given)).whole (opened w)) (named (codes "too_long"))) }
     ensures within { result ≢ 9 → S.tells
         → Took 0 (S.left source.old) (S.left source.new) (λ given. given ≤ max_input_bytes) }
 
-    ensures statuses { (result < 3) ⊎ (result ≡ 4) ⊎ (result ≡ 5) ⊎ (result ≡ 6) ⊎ (result ≡ 9) }
+    // The disk failed, after some of the lines.
+    ensures disk_fault { result ≡ 3 → Rose (D.faults disk.old) (D.faults disk.new) }
+    ensures disk { result ≡ 3 → S.tells → FromStart D.Disk disk.old (λ bodies w.
+        StopsAfter K.tells (K.faults out.old) (K.faults out.new) (K.written out.old)
+        (K.written out.new) (lines (S.left source.old)) (opened w) (named (codes "disk"))) }
+
+    // A legal file is never refused. One that is refused stays as it was, and nothing is read. No
+    // line is played over a file that isn't legal.
+    ensures not_journal { result ≡ 7 → D.tells → (bodies : List (List ℕ)) (w : World)
+        → IsLegalFile (D.content disk.old) bodies w → ⊥ }
+    ensures not_journal_kept { result ≡ 7 → D.tells → D.content disk.new ≡ D.content disk.old }
+    ensures not_journal_unread { result ≡ 7 → source.new ≡ source.old }
+    ensures not_journal_line { result ≡ 7 → Stops K.tells (K.faults out.old) (K.faults out.new)
+        (K.written out.old) (K.written out.new) [] (named (codes "not_journal")) }
+    ensures stood { (result < 2) ⊎ (result ≡ 4) ⊎ (result ≡ 5) ⊎ (result ≡ 9) → D.tells
+        → (bodies : List (List ℕ)) × (w : World) × IsLegalFile (D.content disk.old) bodies w }
+
+    // A record that is due would end past the limit: only then, and the stop line says where.
+    ensures full { result ≡ 8 → S.tells → FromStart D.Disk disk.old (λ bodies w.
+        (done : List (List ℕ)) × (rest : List (List ℕ)) × (would : ℕ)
+        × IsDue bodies w (lines (S.left source.old)) done rest would (granted words.now.words.items)
+        × Stops K.tells (K.faults out.old) (K.faults out.new) (K.written out.old) (K.written out.new)
+        (told 1 done (opened w)) (full_line would (granted words.now.words.items))) }
+    ensures fits { result < 2 → S.tells → FromStart D.Disk disk.old (λ bodies w.
+        end_of (bodies ++ epoch_body w ∷ wrote 1 (lines (S.left source.old)) (opened w))
+        ≤ granted words.now.words.items) }
+
+    ensures statuses { result ≤ 9 }
     ensures source_faults { S.faults source.old ≤ S.faults source.new }
     ensures sink_faults { K.faults out.old ≤ K.faults out.new }
+    ensures disk_faults { D.faults disk.old ≤ D.faults disk.new }
 {
-    if !is_run(words.words.as_slice()) {
-        stop(out, b"{\"stop\":\"usage\"}\n");
-        return 2;
-    }
-    match play(alloc, source, out) {
-        Ok(false) => 0,
-        Ok(true) => 1,
-        Err(Stop::Sink) => 5,
-        Err(Stop::Read) => {
-            stop(out, b"{\"stop\":\"read\"}\n");
-            4
+    match command_of(words) {
+        Some(command) => {
+            let ended = run(alloc, command.limit, source, out, disk);
+            // The first cause decides the status, so a failure here has none of its own.
+            let _ = write_end(out, &ended);
+            status_of(&ended)
         }
-        Err(Stop::Memory) => {
-            stop(out, b"{\"stop\":\"memory\"}\n");
-            6
-        }
-        Err(Stop::TooLong) => {
-            stop(out, b"{\"stop\":\"too_long\"}\n");
-            9
+        None => {
+            let _ = write_all(out, b"{\"stop\":\"usage\"}\n");
+            2
         }
     }
 }
 
-// Writes the last line, or the front of it that the sink takes.
-fn stop<K: Sink>(out: &mut K, line: &[u8])
-    ensures line { K.tells → (K.written out.new ≡ K.written out.old ++ line.now)
-        ⊎ (WritesFront (K.written out.old) (K.written out.new) line.now × Rises (K.faults out.old) (K.faults out.new)) }
-    ensures faults { K.faults out.old ≤ K.faults out.new }
+// Opens the journal, and plays the script over it.
+fn run<S: Source, K: Sink, D: Disk>(
+    alloc: Global,
+    limit: u64,
+    source: &mut S,
+    out: &mut K,
+    disk: &mut D,
+) -> Result<bool, Cause>
+    requires low { 9 ≤ limit }
+    requires high { limit < 2 ^ 32 }
+    ensures run { S.tells → FromStart D.Disk disk.old (λ bodies w.
+        Run D.Disk disk.old disk.new K.tells (K.written out.old) (K.written out.new) bodies w
+        (S.left source.old) (S.left source.new) limit result) }
+    ensures whole { S.tells → OnOk result (S.left source.new ≡ []) }
+    ensures within { S.tells → (IsErrOf result (Cause.Read fault.TooLong) → ⊥)
+        → Took 0 (S.left source.old) (S.left source.new) (λ n. n ≤ max_input_bytes) }
+    ensures stood { D.tells → WasPlayed result
+        → (bodies : List (List ℕ)) × (w : World) × IsLegalFile (D.content disk.old) bodies w }
+    ensures read { IsErrOf result (Cause.Read fault.Failed)
+        → Rises (S.faults source.old) (S.faults source.new) }
+    ensures sink { IsErrOf result Cause.Sink → Rises (K.faults out.old) (K.faults out.new) }
+    ensures disk_only { IsErrOf result (Cause.Work stop.Disk)
+        → Rose (D.faults disk.old) (D.faults disk.new) }
+    ensures not_journal { D.tells → IsErrOf result (Cause.Work stop.NotJournal)
+        → (bodies : List (List ℕ)) (w : World) → IsLegalFile (D.content disk.old) bodies w → ⊥ }
+    ensures not_journal_kept { D.tells → IsErrOf result (Cause.Work stop.NotJournal)
+        → D.content disk.new ≡ D.content disk.old }
+    ensures not_journal_unread { IsErrOf result (Cause.Work stop.NotJournal)
+        → source.new ≡ source.old }
+    ensures not_journal_unsaid { K.tells → IsErrOf result (Cause.Work stop.NotJournal)
+        → K.written out.new ≡ K.written out.old }
+    ensures source_faults { S.faults source.old ≤ S.faults source.new }
+    ensures sink_faults { K.faults out.old ≤ K.faults out.new }
+    ensures disk_faults { D.faults disk.old ≤ D.faults disk.new }
 {
-    // The first cause decides the status, so a failure here has none of its own.
-    let _ = write_all(out, line);
+    let mut reader = match Reader::new(alloc) {
+        Ok(reader) => reader,
+        Err(_) => return Err(Cause::Read(ReadFault::Memory)),
+    };
+    match Engine::open(alloc, disk, limit) {
+        Ok(engine) => play(alloc, engine, &mut reader, source, out, disk),
+        Err(stop) => Err(Cause::Work(stop)),
+    }
 }

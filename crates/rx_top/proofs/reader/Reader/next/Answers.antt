@@ -67,12 +67,12 @@ returns-in-Err-clause-stops_long g c = λ told is.
     stops_long c.advance.new.self.line _ (g.S.Source.left c.pieces.source) _
     (comes_all c.pieces.self c.advance.new.self _ (g.S.Source.left c.pieces.source)
     (c.pieces.invariant.coming told) adv)
-    (c.in-Err.ensures.too_long told (same_err c.in-Err.stop _ is))
+    (c.in-Err.ensures.too_long told (same_err c.in-Err.fault _ is))
 
 pub returns-in-Err-clause-too_long : goal.returns-in-Err-clause-too_long
 returns-in-Err-clause-too_long g c = λ told is.
     took_long c.args.self.now.given c.pieces.self.given max_input_bytes _
     (g.S.Source.left c.pieces.source) _
     (c.pieces.invariant.took told) (sym c.in_ok-advance.ensures.given
-    ∙ c.in-Err.ensures.full (same_err c.in-Err.stop _ is))
-    (c.in-Err.ensures.too_long told (same_err c.in-Err.stop _ is))
+    ∙ c.in-Err.ensures.full (same_err c.in-Err.fault _ is))
+    (c.in-Err.ensures.too_long told (same_err c.in-Err.fault _ is))

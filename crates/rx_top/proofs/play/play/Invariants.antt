@@ -1,0 +1,23 @@
+use Rattle.std.proofs.Common.{◌≡◌, ◌++◌, ◌+◌, ◌-◌, ◌≤◌, List, ℕ, length}
+use Rattle.rx_engine.specs.Engine.{IsAt}
+use Rattle.rx_top.specs.Reader.{max_input_bytes, Took}
+use Rattle.rx_top.proofs.Exits.{Along}
+use Rattle.rx_top.proofs.play.play.Given as goal
+
+abbrev pub invariant-lines : goal.invariant-lines
+invariant-lines g l = record {
+  along : g.S.Source.tells → Along g.D.Disk g.D.Disk.tells g.K.Sink.tells l.fn.disk l.disk l.fn.first
+      l.engine (g.K.Sink.written l.fn.out) (g.K.Sink.written l.out) (g.S.Source.left l.fn.source)
+      (l.reader.unread ++ g.S.Source.left l.source) l.number l.refused;
+  at : g.D.Disk.tells → (bodies : List (List ℕ)) × IsAt g.D.Disk l.disk l.engine bodies;
+  took : g.S.Source.tells
+      → Took 0 (g.S.Source.left l.fn.source) (g.S.Source.left l.source) (λ n. n ≡ l.reader.given);
+  source_faults : g.S.Source.faults l.fn.source ≤ g.S.Source.faults l.source;
+  sink_faults : g.K.Sink.faults l.fn.out ≤ g.K.Sink.faults l.out;
+  disk_faults : g.D.Disk.faults l.fn.disk ≤ g.D.Disk.faults l.disk;
+  within : l.reader.given ≤ max_input_bytes;
+  number : l.number + length l.reader.unread ≤ l.reader.given;
+}
+
+abbrev pub decreases-lines : goal.decreases-lines
+decreases-lines g l = (max_input_bytes - l.reader.given) + length l.reader.unread
