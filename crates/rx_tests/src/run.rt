@@ -1,52 +1,91 @@
-// A run over a source and a sink in memory.
-use rx_outside::{MemorySink, MemorySource};
+// A run over a source, a sink and a disk in memory.
+use rx_disk::MemoryDisk;
+use rx_outside::{MemorySink, MemorySource, Source};
 use rx_top::{Words, rx};
 use rx_value::RxText;
 use std::alloc::{AllocError, Global};
 
-/// What stands around a script: the words, the most bytes that a read gives, and the numbers of
-/// the reads and writes that fail.
+/// The words of most runs.
+pub const RUN: &str = "run journal";
+
+/// What stands around a script: the most bytes that a read gives, and the numbers of the reads,
+/// the writes and the calls of the disk that fail.
 #[derive(Clone, Copy)]
-pub struct Setting {
-    pub words: &'static [&'static str],
+pub struct Setting<'a> {
     pub piece: usize,
-    pub read_fails: &'static [u64],
-    pub write_fails: &'static [u64],
+    pub read_fails: &'a [u64],
+    pub write_fails: &'a [u64],
+    pub disk_fails: &'a [u64],
 }
 
-impl Setting {
+impl<'a> Setting<'a> {
     /// A run in which nothing fails.
-    pub const PLAIN: Setting = Setting {
-        words: &["run", "journal"],
+    pub const PLAIN: Setting<'static> = Setting {
         piece: 4096,
         read_fails: &[],
         write_fails: &[],
+        disk_fails: &[],
     };
 }
 
-/// The status of a run, and what it wrote.
+/// The status of a run, what it wrote, and the disk after it.
 #[derive(Drop)]
 pub struct Ran {
     pub status: u8,
     pub output: Vec<u8>,
+    pub disk: MemoryDisk,
 }
 
-pub fn run(alloc: Global, setting: &Setting, script: &[u8]) -> Result<Ran, AllocError> {
-    let words = words(alloc, setting.words)?;
+/// Plays a script, on a disk that holds these bytes.
+pub fn run(
+    alloc: Global,
+    setting: &Setting<'_>,
+    words: &str,
+    script: &[u8],
+    held: &[u8],
+) -> Result<Ran, AllocError> {
+    let words = split(alloc, words)?;
     let fails = setting.read_fails.to_vec(alloc)?;
     let mut source = MemorySource::new(script.to_vec(alloc)?, setting.piece.max(1), fails);
+    run_from(alloc, setting, &words, &mut source, held)
+}
+
+/// The same for any source and any words.
+pub fn run_from<S: Source>(
+    alloc: Global,
+    setting: &Setting<'_>,
+    words: &Words,
+    source: &mut S,
+    held: &[u8],
+) -> Result<Ran, AllocError> {
     let mut sink = MemorySink::new(alloc, setting.write_fails.to_vec(alloc)?);
-    let status = rx(alloc, &words, &mut source, &mut sink);
+    let fails = setting.disk_fails.to_vec(alloc)?;
+    let mut disk = MemoryDisk::new(alloc, held.to_vec(alloc)?, fails);
+    let status = play(alloc, words, source, &mut sink, &mut disk);
+    let output = sink.bytes().to_vec(alloc)?;
     Ok(Ran {
         status,
-        output: sink.bytes().to_vec(alloc)?,
+        output,
+        disk,
     })
 }
 
-pub fn words(alloc: Global, texts: &[&str]) -> Result<Words, AllocError> {
+// A call of its own, since what `rx` ensures would burden the proof of every caller.
+fn play<S: Source>(
+    alloc: Global,
+    words: &Words,
+    source: &mut S,
+    sink: &mut MemorySink,
+    disk: &mut MemoryDisk,
+) -> u8 {
+    rx(alloc, words, source, sink, disk)
+}
+
+/// The words that stand in a text, between spaces.
+pub fn split(alloc: Global, text: &str) -> Result<Words, AllocError> {
     let mut words = Vec::new(alloc);
-    for text in texts {
-        words.push(RxText::new(alloc, *text)?)?;
+    for word in text.split_whitespace() {
+        words.push(RxText::new(alloc, word)?)?;
     }
     Ok(Words { words })
 }

@@ -1,100 +1,79 @@
-// The statuses of runs that end before their input does.
+// Runs that end before their input does.
 use crate::endless::Endless;
-use crate::run::{Setting, run, words};
-use rx_outside::MemorySink;
-use rx_top::rx;
+use crate::run::{RUN, Setting, run, run_from, split};
 use std::test::Fail;
 
-struct Ending {
-    shows: &'static str,
-    setting: Setting,
-    status: u8,
-    output: &'static str,
-}
+// Three lines that are refused, each of 4 bytes, and what they are answered.
+const SCRIPT: &[u8; 12] = b"{ }\n[ ]\n\"a\"\n";
 
-// A script of three lines that are refused, each of 4 bytes.
-const SCRIPT: &str = "{ }\n[ ]\n\"a\"\n";
+const REPLIES: &str = r#"{"code":5,"line":1,"name":"do","refused":"missing"}
+{"code":3,"line":2,"refused":"not_object"}
+{"code":3,"line":3,"refused":"not_object"}
+"#;
 
-const ENDINGS: &[Ending] = &[
-    Ending {
-        shows: "no words are no command",
-        setting: Setting {
-            words: &[],
-            ..Setting::PLAIN
-        },
-        status: 2,
-        output: "{\"stop\":\"usage\"}\n",
-    },
-    Ending {
-        shows: "a path does not begin with a hyphen",
-        setting: Setting {
-            words: &["run", "-j"],
-            ..Setting::PLAIN
-        },
-        status: 2,
-        output: "{\"stop\":\"usage\"}\n",
-    },
-    Ending {
-        shows: "no command has three words",
-        setting: Setting {
-            words: &["run", "j", "k"],
-            ..Setting::PLAIN
-        },
-        status: 2,
-        output: "{\"stop\":\"usage\"}\n",
-    },
-    Ending {
-        shows: "a failing source ends the run after the lines that were whole",
-        setting: Setting {
-            piece: 3,
-            read_fails: &[3],
-            ..Setting::PLAIN
-        },
-        status: 4,
-        output: "{\"code\":27,\"line\":1,\"refused\":\"not_yet\"}\n{\"stop\":\"read\"}\n",
-    },
-    Ending {
-        shows: "a failing sink ends the run",
-        setting: Setting {
-            write_fails: &[2],
-            ..Setting::PLAIN
-        },
-        status: 5,
-        output: "{\"code\":27,\"line\":1,\"refused\":\"not_yet\"}\n",
-    },
-    Ending {
-        shows: "the status stands where the sink fails on the last line",
-        setting: Setting {
-            piece: 3,
-            read_fails: &[3],
-            write_fails: &[2],
-            ..Setting::PLAIN
-        },
-        status: 4,
-        output: "{\"code\":27,\"line\":1,\"refused\":\"not_yet\"}\n",
-    },
-];
+const FIRST_REPLY: &str = r#"{"code":5,"line":1,"name":"do","refused":"missing"}
+"#;
+
+// The second read ends within the second line.
+const READ_FAILS: Setting<'static> = Setting {
+    piece: 3,
+    read_fails: &[3],
+    ..Setting::PLAIN
+};
 
 #[test]
-fn each_cause_has_its_status(rt: HostRuntime) -> Result<(), Fail> {
-    for ending in ENDINGS {
-        let ran = run(rt.alloc(), &ending.setting, SCRIPT.as_bytes())?;
-        assert!(rt;
-            ran.output.as_slice() == ending.output.as_bytes(),
-            "{}",
-            ending.shows
-        );
-        assert_eq!(rt; ran.status, ending.status, "{}", ending.shows);
+fn a_failing_source_ends_the_run_after_the_lines_that_were_whole(
+    rt: HostRuntime,
+) -> Result<(), Fail> {
+    let ran = run(rt.alloc(), &READ_FAILS, RUN, SCRIPT, &[])?;
+    let due = format!(in rt.alloc(); "{FIRST_REPLY}{{\"stop\":\"read\"}}\n")?;
+    assert!(rt; ran.output.as_slice() == due.as_str().as_bytes());
+    assert_eq!(rt; ran.status, 4);
+    Ok(())
+}
+
+#[test]
+fn a_failing_sink_ends_the_run_with_a_front_of_what_is_due(rt: HostRuntime) -> Result<(), Fail> {
+    for fails in [[1], [2], [3]] {
+        let setting = Setting {
+            write_fails: &fails,
+            ..Setting::PLAIN
+        };
+        let ran = run(rt.alloc(), &setting, RUN, SCRIPT, &[])?;
+        assert!(rt; REPLIES.as_bytes().starts_with(ran.output.as_slice()));
+        assert!(rt; ran.output.len() < REPLIES.len());
+        assert_eq!(rt; ran.status, 5);
     }
+    Ok(())
+}
+
+// The first cause is told, wherever the sink fails: before the source does, or on the line that
+// tells it.
+#[test]
+fn the_status_stands_where_the_sink_fails_on_the_last_line(rt: HostRuntime) -> Result<(), Fail> {
+    let due = format!(in rt.alloc(); "{FIRST_REPLY}{{\"stop\":\"read\"}}\n")?;
+    let mut ended = [false, false];
+    for fails in [[1], [2], [3], [4], [5]] {
+        let setting = Setting {
+            write_fails: &fails,
+            ..READ_FAILS
+        };
+        let ran = run(rt.alloc(), &setting, RUN, SCRIPT, &[])?;
+        assert!(rt; due.as_str().as_bytes().starts_with(ran.output.as_slice()));
+        let replied = ran.output.len() >= FIRST_REPLY.len();
+        assert_eq!(rt; ran.status, if replied { 4 } else { 5 });
+        let whole = ran.output.len() == due.len();
+        ended = [ended[0] || !replied, ended[1] || (replied && !whole)];
+    }
+    assert!(rt; ended[0] && ended[1]);
     Ok(())
 }
 
 #[test]
 fn an_input_ends_at_four_gibibytes(rt: HostRuntime) -> Result<(), Fail> {
-    let words = words(rt.alloc(), Setting::PLAIN.words)?;
-    let mut sink = MemorySink::new(rt.alloc(), Vec::new(rt.alloc()));
-    let status = rx(rt.alloc(), &words, &mut Endless, &mut sink);
-    assert_eq!(rt; status, 9);
-    assert!(rt; sink.bytes() == b"{\"stop\":\"too_long\"}\n".as_slice());
+    let words = split(rt.alloc(), RUN)?;
+    let ran = run_from(rt.alloc(), &Setting::PLAIN, &words, &mut Endless, &[])?;
+    assert_eq!(rt; ran.status, 9);
+    assert!(rt; ran.output.as_slice() == b"{\"stop\":\"too_long\"}\n".as_slice());
     Ok(())
 }

@@ -1,0 +1,167 @@
+// The words of a command.
+use crate::case::play_all;
+use crate::run::{Setting, run_from};
+use rx_outside::MemorySource;
+use rx_top::Words;
+use rx_value::RxText;
+use std::test::Fail;
+
+#[test]
+fn a_command_is_exactly_its_words(rt: HostRuntime) -> Result<(), Fail> {
+    play_all(rt.alloc(), COMMANDS)
+}
+
+// A word without a byte, which no text of words has.
+#[test]
+fn a_path_is_not_empty(rt: HostRuntime) -> Result<(), Fail> {
+    let mut words = Vec::new(rt.alloc());
+    words.push(RxText::new(rt.alloc(), "run")?)?;
+    words.push(RxText::new(rt.alloc(), "")?)?;
+    let nothing = Vec::new(rt.alloc());
+    let mut source = MemorySource::new(b"{}".to_vec(rt.alloc())?, 1, nothing);
+    let ran = run_from(
+        rt.alloc(),
+        &Setting::PLAIN,
+        &Words { words },
+        &mut source,
+        &[],
+    )?;
+    assert_eq!(rt; ran.status, 2);
+    assert!(rt; ran.output.as_slice() == b"{\"stop\":\"usage\"}\n".as_slice());
+    assert!(rt; ran.disk.bytes().is_empty());
+    Ok(())
+}
+
+const COMMANDS: &str = r#"
+== words that are no command
+$
+< {"stop":"usage"}
+! 2
+$ run
+< {"stop":"usage"}
+! 2
+$ journal
+< {"stop":"usage"}
+! 2
+$ Run journal
+< {"stop":"usage"}
+! 2
+$ run -j
+< {"stop":"usage"}
+! 2
+$ run -
+< {"stop":"usage"}
+! 2
+$ run j k
+< {"stop":"usage"}
+! 2
+$ fly j
+< {"stop":"usage"}
+! 2
+$ check j
+< {"stop":"usage"}
+! 2
+$ serve j c 80 1
+< {"stop":"usage"}
+! 2
+$ trial j 1 0
+< {"stop":"usage"}
+! 2
+$ compact j k
+< {"stop":"usage"}
+! 2
+$ --help
+< {"stop":"usage"}
+! 2
+
+== words that give no limit
+$ run j --max-journal
+< {"stop":"usage"}
+! 2
+$ run j --max-journal 8
+< {"stop":"usage"}
+! 2
+$ run j --max-journal 4294967296
+< {"stop":"usage"}
+! 2
+$ run j --max-journal 99999999999999999999999
+< {"stop":"usage"}
+! 2
+$ run j --max-journal -9
+< {"stop":"usage"}
+! 2
+$ run j --max-journal +9
+< {"stop":"usage"}
+! 2
+$ run j --max-journal 9x
+< {"stop":"usage"}
+! 2
+$ run j --max-journal 9.0
+< {"stop":"usage"}
+! 2
+$ run j --max-journal=
+< {"stop":"usage"}
+! 2
+$ run j --max-journal=8
+< {"stop":"usage"}
+! 2
+$ run j --max-journal =23
+< {"stop":"usage"}
+! 2
+$ run j --max-journal 23 --max-journal 23
+< {"stop":"usage"}
+! 2
+$ run j --max-journal=23 --max-journal 23
+< {"stop":"usage"}
+! 2
+$ --max-journal 23 run j
+< {"stop":"usage"}
+! 2
+$ --max-journal=23 run j
+< {"stop":"usage"}
+! 2
+$ run --max-journal 23
+< {"stop":"usage"}
+! 2
+$ run --max-journal j
+< {"stop":"usage"}
+! 2
+$ run j --max-journal 23 k
+< {"stop":"usage"}
+! 2
+$ run j --max-journa 23
+< {"stop":"usage"}
+! 2
+$ run j --max-journals=23
+< {"stop":"usage"}
+! 2
+$ run j -max-journal 23
+< {"stop":"usage"}
+! 2
+
+== a limit stands behind the command, before or behind the path
+$ run j --max-journal 23
+= 'RXJOURN1' 01 00000009 05 0000000000000001 00
+
+== a limit behind an equals sign
+$ run j --max-journal=23
+= 'RXJOURN1' 01 00000009 05 0000000000000001 00
+
+== a limit before the path
+$ run --max-journal 23 j
+= 'RXJOURN1' 01 00000009 05 0000000000000001 00
+
+== a limit behind an equals sign before the path
+$ run --max-journal=23 j
+= 'RXJOURN1' 01 00000009 05 0000000000000001 00
+
+== a limit with zeros in front
+$ run j --max-journal 00000000000000000000000000000023
+= 'RXJOURN1' 01 00000009 05 0000000000000001 00
+
+== a path may be any word that does not begin with a hyphen
+$ run run
+= 'RXJOURN1' 01 00000009 05 0000000000000001 00
+$ run j-é=--max-journal
+= 'RXJOURN1' 01 00000009 05 0000000000000001 01 00000009 05 0000000000000002 00
+"#;
