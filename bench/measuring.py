@@ -1,0 +1,65 @@
+"""What the benchmarks share: one program run on lines, timed, and the lines that both peers get."""
+import json
+import os
+import shutil
+import subprocess
+import sys
+import tempfile
+import time
+
+HERE = os.path.dirname(os.path.abspath(__file__))
+SEED = 7_919
+SCHEMA = {
+    "version": 0,
+    "primaryKey": "id",
+    "type": "object",
+    "properties": {"id": {"type": "string", "maxLength": 20}, "n": {"type": "integer"}},
+    "required": ["id"],
+}
+
+
+def program():
+    """The built rx: the first argument, or where the toolchain puts it."""
+    return sys.argv[1] if len(sys.argv) > 1 else os.path.join(HERE, "..", "crates", "rx", "out", "rx")
+
+
+def sqlite():
+    return shutil.which("sqlite3") or sys.exit("sqlite3 is not installed")
+
+
+def compact(value):
+    return json.dumps(value, separators=(",", ":"))
+
+
+def collection():
+    return compact({"do": "collection", "name": "c", "schema": SCHEMA})
+
+
+def documents(count):
+    """Each key below the count once, in an order that the seed mixes, with a number."""
+    for place in range(count):
+        yield f"k{place * SEED % count}", place % 2
+
+
+def measure(command, lines):
+    """The seconds and the peak memory in KiB of one run."""
+    with tempfile.TemporaryFile("w+") as source, tempfile.TemporaryFile() as sink:
+        for line in lines:
+            source.write(line + "\n")
+        source.flush()
+        source.seek(0)
+        start = time.perf_counter()
+        child = subprocess.Popen(command, stdin=source, stdout=sink)
+        _, status, usage = os.wait4(child.pid, 0)
+        seconds = time.perf_counter() - start
+        if os.waitstatus_to_exitcode(status) != 0:
+            sys.exit(f"{command[0]} ended with status {os.waitstatus_to_exitcode(status)}")
+        return seconds, usage.ru_maxrss
+
+
+def report(load, who, count, runs):
+    """Prints the best run, and answers its seconds."""
+    seconds = min(run[0] for run in runs)
+    memory = max(run[1] for run in runs)
+    print(f"{load}: {who} {count / seconds:,.0f} a second, {seconds:.3f} s, peak {memory:,} KiB")
+    return seconds
