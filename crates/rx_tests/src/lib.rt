@@ -9,6 +9,8 @@ mod case;
 #[cfg(test)]
 mod endless;
 #[cfg(test)]
+mod hashes;
+#[cfg(test)]
 mod journal;
 #[cfg(test)]
 mod limits;
