@@ -1,21 +1,23 @@
 #!/usr/bin/env python3
-"""Documents written and read a second, on a journal in memory-backed storage, beside sqlite3.
+"""Documents written and read a second, beside sqlite3.
 
-    bench/documents.py [PROGRAM]
+    bench/documents.py [PROGRAM] [FOLDER]
 
-Each load starts from 100,000 documents but the first two, and sqlite3 does the same on a database
-in the same folder, in WAL mode with synchronous=FULL. What it takes to make those documents is
-taken off both. The two take turns, three runs each, and the best time counts. Then the cost of one
-upsert as the collection grows, and the opening of a journal of 200,000 records.
+The files lie in FOLDER, or in memory-backed storage where it is left out. Upserts and gets start
+from 100,000 documents, and sqlite3 does the same on a database in the same folder, in WAL mode with
+synchronous=FULL. What it takes to make those documents is taken off both. The two take turns, three
+runs each, and the best time counts. Then the cost of one upsert as the collection grows, and the
+opening of a journal of 200,000 records.
 """
 import os
+import sys
 import tempfile
 
 from measuring import collection, compact, documents, measure, program, report, sqlite
 
 RUNS = 3
 COUNT = 100_000
-STORAGE = "/dev/shm" if os.path.isdir("/dev/shm") else None
+STORAGE = sys.argv[2] if len(sys.argv) > 2 else "/dev/shm"
 PRAGMAS = ["PRAGMA journal_mode=WAL;", "PRAGMA synchronous=FULL;"]
 TABLE = "CREATE TABLE c(id TEXT PRIMARY KEY, n INTEGER) WITHOUT ROWID;"
 

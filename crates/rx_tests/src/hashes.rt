@@ -3,9 +3,11 @@ use rx_schema::Schema;
 use serde_json::Value as Json;
 use std::test::Fail;
 
-const SCHEMA: &str = r#"{"title":"notes","version":0,"primaryKey":"id","type":"object","required":["id"],"properties":{"n":{"type":"integer"},"id":{"maxLength":20,"type":"string"}}}"#;
+const SCHEMA: &str =
+    r#"{"title":"notes","version":0,"primaryKey":"id","type":"object","required":["id"],"properties":{"n":{"type":"integer"},"id":{"maxLength":20,"type":"string"}}}"#;
 
-const CANONICAL: &str = r#"{"indexes":[],"primaryKey":"id","properties":{"id":{"maxLength":20,"type":"string"},"n":{"type":"integer"}},"required":["id"],"type":"object","version":0}"#;
+const CANONICAL: &str =
+    r#"{"indexes":[],"primaryKey":"id","properties":{"id":{"maxLength":20,"type":"string"},"n":{"type":"integer"}},"required":["id"],"type":"object","version":0}"#;
 
 // What sha256sum prints of the canonical text.
 const HASH: &str = "d3965597d0b8e1c41da9b2dc759684814b6376a695e3324ffc338dfea45c31a5";
