@@ -1,5 +1,5 @@
 -- What a line asks, with the JSON in it as the data that it stands for.
-use Rattle.std.specs.Prelude.{◌≡◌, ◌≤◌, ℕ, List, map, Bool, true, Option, is_some}
+use Rattle.std.specs.Prelude.{◌≡◌, ◌≤◌, ⊤, ℕ, List, map, Bool, true, Option, is_some}
 use Rattle.std.specs.List.{list_all}
 use Rattle.serde_json.specs.Data.{Data}
 use Rattle.serde_json.specs.Find.{as_object}
@@ -20,7 +20,10 @@ pub data Asked : Type 0 where
   Find : (coll : List ℕ) (query : Data) → Asked
   Count : (coll : List ℕ) (query : Data) → Asked
   Observe : (name coll : List ℕ) (query : Data) → Asked
+  Unobserve : (name : List ℕ) → Asked
+  Explain : (name : List ℕ) → Asked
   Tick : (at : ℕ) → Asked
+  Restart : Asked
 
 abbrev pub asked : Line → Asked
 asked (line.Collection name schema) = Collection name (view schema)
@@ -33,7 +36,10 @@ asked (line.Get coll key) = Get coll key
 asked (line.Find coll query) = Find coll (view query)
 asked (line.Count coll query) = Count coll (view query)
 asked (line.Observe name coll query) = Observe name coll (view query)
+asked (line.Unobserve name) = Unobserve name
+asked (line.Explain name) = Explain name
 asked (line.Tick at) = Tick at
+asked line.Restart = Restart
 
 abbrev pub is_object : Data → Bool
 is_object d = is_some (as_object d)
@@ -50,4 +56,7 @@ IsLawful (Get coll key) = is_name coll ≡ true
 IsLawful (Find coll query) = is_name coll ≡ true
 IsLawful (Count coll query) = is_name coll ≡ true
 IsLawful (Observe name coll query) = (is_name name ≡ true) × (is_name coll ≡ true)
+IsLawful (Unobserve name) = is_name name ≡ true
+IsLawful (Explain name) = is_name name ≡ true
 IsLawful (Tick at) = at ≤ largest
+IsLawful Restart = ⊤

@@ -10,7 +10,7 @@ use Rattle.rx_value.specs.Form.{missing, unexpected, text_at, whole_within}
 use Rattle.rx_value.specs.Name.{is_name}
 use Rattle.rx_value.specs.Named.{named}
 use Rattle.rx_value.specs.Value.{largest}
-use Rattle.rx_script.specs.Asked.{Asked, is_object, Collection, Insert, Bulk, Upsert, Patch, Remove, Get, Find, Count, Observe, Tick}
+use Rattle.rx_script.specs.Asked.{Asked, is_object, Collection, Insert, Bulk, Upsert, Patch, Remove, Get, Find, Count, Observe, Unobserve, Explain, Tick, Restart}
 use Rattle.rx_script.specs.declared.fault.LineFault.{LineFault}
 use Rattle.rx_script.specs.declared.fault.LineFault.TheVariants as fault
 
@@ -140,11 +140,22 @@ observe_of d =
     a_name (codes "name") name >> λ _. a_name (codes "in") coll >> λ _.
     Ok (Observe name coll (json_at (codes "query") d))
 
+-- a name alone
+abbrev pub name_of : Data → Result (List ℕ) LineFault
+name_of d =
+    has_form (codes "do" ∷ codes "name" ∷ []) [] d >> λ _.
+    a_text (codes "name") d >> λ name.
+    a_name (codes "name") name >> λ _.
+    Ok name
+
 abbrev pub tick_of : Data → Result Asked LineFault
 tick_of d =
     has_form (codes "do" ∷ codes "at" ∷ []) [] d >> λ _.
     a_moment (codes "at") d >> λ at.
     Ok (Tick at)
+
+abbrev pub restart_of : Data → Result Asked LineFault
+restart_of d = has_form (codes "do" ∷ []) [] d >> λ _. Ok Restart
 
 -- a form that has not come
 abbrev pub not_yet : Data → Result Asked LineFault
@@ -163,13 +174,13 @@ forms =
     ∷ (codes "find", λ d. query_of d >> λ m. Ok (Find m.0 m.1))
     ∷ (codes "count", λ d. query_of d >> λ m. Ok (Count m.0 m.1))
     ∷ (codes "observe", observe_of)
-    ∷ (codes "unobserve", not_yet)
-    ∷ (codes "explain", not_yet)
+    ∷ (codes "unobserve", λ d. name_of d >> λ name. Ok (Unobserve name))
+    ∷ (codes "explain", λ d. name_of d >> λ name. Ok (Explain name))
     ∷ (codes "replicate", not_yet)
     ∷ (codes "turn", not_yet)
     ∷ (codes "changes", not_yet)
     ∷ (codes "tick", tick_of)
-    ∷ (codes "restart", not_yet)
+    ∷ (codes "restart", restart_of)
     ∷ (codes "digest", not_yet)
     ∷ []
 

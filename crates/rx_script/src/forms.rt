@@ -1,10 +1,10 @@
 // The forms that a line may have.
 ghost use Rattle.std.specs.Prelude.{◌≡◌, true, IfOk};
 ghost use Rattle.serde_json.specs.View.{view};
-ghost use Rattle.rx_value.specs.Due.{DueBy};
+ghost use Rattle.rx_value.specs.Due.{Due, DueBy};
 ghost use Rattle.rx_value.specs.Name.{is_name};
 ghost use Rattle.rx_script.specs.Asked.{asked, is_object, IsLawful};
-ghost use Rattle.rx_script.specs.Line.{collection_of, document_of, bulk_of, patch_of, remove_of, get_of, query_of, observe_of, tick_of, form_of};
+ghost use Rattle.rx_script.specs.Line.{collection_of, document_of, bulk_of, patch_of, remove_of, get_of, query_of, observe_of, name_of, tick_of, restart_of, form_of};
 ghost use Rattle.rx_script.specs.declared.fault.LineFault.TheVariants.{Memory};
 
 use crate::fault::LineFault;
@@ -46,8 +46,14 @@ pub(crate) fn read_form(alloc: Global, json: Json) -> Result<Line, LineFault>
             Ok(Line::Count { coll, query })
         }
         Some("observe") => read_observe(alloc, json),
+        Some("unobserve") => Ok(Line::Unobserve {
+            name: read_name(alloc, json)?,
+        }),
+        Some("explain") => Ok(Line::Explain {
+            name: read_name(alloc, json)?,
+        }),
         Some("tick") => read_tick(alloc, json),
-        Some("unobserve" | "explain" | "restart") => Err(LineFault::NotYet),
+        Some("restart") => read_restart(alloc, json),
         Some("replicate" | "turn" | "changes" | "digest") => Err(LineFault::NotYet),
         Some(word) => Err(LineFault::UnknownDo(RxText::new(alloc, word)?)),
         None => Err(LineFault::WrongType(RxText::new(alloc, "do")?)),
@@ -156,6 +162,17 @@ fn read_observe(alloc: Global, mut json: Json) -> Result<Line, LineFault>
     Ok(Line::Observe { name, coll, query })
 }
 
+// A name alone.
+fn read_name(alloc: Global, json: Json) -> Result<RxText, LineFault>
+    ensures exact { Due Memory result (name_of (view json)) }
+    ensures name { IfOk result (λ name. is_name name ≡ true) }
+{
+    check_form(alloc, &json, &["do", "name"], &[])?;
+    let name = read_text(alloc, &json, "name")?;
+    check_name(alloc, "name", &name)?;
+    Ok(name)
+}
+
 fn read_tick(alloc: Global, json: Json) -> Result<Line, LineFault>
     ensures exact { DueBy Memory asked result (tick_of (view json)) }
     ensures lawful { IfOk result (λ line. IsLawful (asked line)) }
@@ -163,4 +180,12 @@ fn read_tick(alloc: Global, json: Json) -> Result<Line, LineFault>
     check_form(alloc, &json, &["do", "at"], &[])?;
     let at = read_moment(alloc, &json, "at")?;
     Ok(Line::Tick { at })
+}
+
+fn read_restart(alloc: Global, json: Json) -> Result<Line, LineFault>
+    ensures exact { DueBy Memory asked result (restart_of (view json)) }
+    ensures lawful { IfOk result (λ line. IsLawful (asked line)) }
+{
+    check_form(alloc, &json, &["do"], &[])?;
+    Ok(Line::Restart)
 }

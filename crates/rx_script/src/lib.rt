@@ -14,12 +14,14 @@
 //! | `find` | `in`, `query` |
 //! | `count` | `in`, `query` |
 //! | `observe` | `name`, `in`, `query` |
+//! | `unobserve` | `name` |
+//! | `explain` | `name` |
 //! | `tick` | `at` |
+//! | `restart` | |
 //!
 //! `in` and `name` are names, `key` and `rev` are texts, `doc` and `set` are objects, `docs` is a
 //! list of objects, `at` is a whole number from 0 to 2^53 - 1, and `schema` and `query` are any
-//! JSON. The lines `unobserve`, `explain`, `restart`,
-//! `replicate`, `turn`, `changes` and `digest` are known and not read yet.
+//! JSON. The lines `replicate`, `turn`, `changes` and `digest` are known and not read yet.
 //!
 //! The first fault counts: the line's length, its JSON, that it is an object; then `do`; then
 //! whether a member is missing, in the order of the table, or is none of these, by its bytes; then

@@ -62,9 +62,16 @@ pub enum Line {
         coll: RxText,
         query: Json,
     },
+    Unobserve {
+        name: RxText,
+    },
+    Explain {
+        name: RxText,
+    },
     Tick {
         at: u64,
     },
+    Restart,
 }
 
 impl Line {
