@@ -6,3 +6,4 @@ pub mod Pages
 pub mod Rows
 pub mod Commits
 pub mod Changes
+pub mod Equal

@@ -1,6 +1,7 @@
-ghost use Rattle.std.specs.Prelude.{◌≡◌, Bool, true, false, OnOk, OnErr};
+ghost use Rattle.std.specs.Prelude.{◌≡◌, Bool, List, true, false, OnOk, OnErr};
 ghost use Rattle.rx_collection.specs.Commit.{AreNext, with_rows};
 ghost use Rattle.rx_collection.specs.Held.{Held};
+ghost use Rattle.rx_document.specs.declared.stored.Stored.{Stored};
 
 use crate::collection::Collection;
 use rx_document::Stored;
@@ -14,6 +15,9 @@ pub trait Holder {
 
     ghost is_broken: { Self → Bool };
 
+    /// What it is after rows.
+    ghost written: { Self → List Stored → Self };
+
     fn collection(&self) -> &Collection
         requires { is_broken self.now ≡ false }
         ensures { result.now ≡ held self.now };
@@ -24,6 +28,7 @@ pub trait Holder {
         requires next { AreNext (held self.old) rows.items }
         ensures rows { OnOk result (held self.new ≡ with_rows (held self.old) rows.items) }
         ensures whole { OnOk result (is_broken self.new ≡ false) }
+        ensures written { OnOk result (self.new ≡ written self.old rows.items) }
         ensures broken { OnErr result (is_broken self.new ≡ true) };
 }
 
@@ -49,6 +54,8 @@ impl Holder for Plain {
     ghost held = { λ p. p.collection };
 
     ghost is_broken = { λ p. p.broken };
+
+    ghost written = { λ p rows. record { collection = with_rows p.collection rows; broken = false } };
 
     fn collection(&self) -> &Collection {
         &self.collection

@@ -6,6 +6,7 @@ mod collection;
 mod commit;
 mod holder;
 mod page;
+mod same;
 
 pub use all::All;
 pub use collection::{Collection, MOST_LWT};
