@@ -55,6 +55,7 @@ pub struct Journal {
     pub limit: u64,
     ghost begun: { 9 ≤ end },
     ghost short: { end < 2 ^ 32 },
+    ghost wide: { 9 ≤ limit },
     ghost limited: { limit < 2 ^ 32 },
 }
 
