@@ -11,9 +11,8 @@ use Rattle.rx_table.specs.declared.action.Action.{Action}
 use Rattle.rx_table.specs.declared.action.Action.TheVariants.{RunFullQueryAgain}
 use Rattle.rx_query.proofs.Numbers.{table_of-number_of}
 use Rattle.rx_query.specs.After.{after, AreThere}
-use Rattle.rx_query.specs.Asked.{Asked, asked}
+use Rattle.rx_query.specs.Asked.{Asked}
 use Rattle.rx_query.specs.States.{bits_of, state_of}
-use Rattle.rx_query.specs.declared.query.Query.{Query}
 use Rattle.rx_query.specs.declared.results.Row.{Row}
 use Rattle.rx_actions.proofs.TheTable.{table_right}
 use Rattle.rx_actions.specs.Right as right
@@ -39,17 +38,14 @@ abbrev pub ActsRightly : Asked → Change → Documents → List Row → Type 0
 ActsRightly q c new rows = table_of (bits_of q c rows) ≢ RunFullQueryAgain
     → right.IsRight (table_of (bits_of q c rows)) q c new rows
 
-module _ (query : Query) (c : Change) (old new : Documents)
-    (col : IsCollection (asked query).primary old) (col' : IsCollection (asked query).primary new)
+module _ (q : Asked) (limited : q.limit ≢ Some 0) (c : Change) (old new : Documents)
+    (col : IsCollection q.primary old) (col' : IsCollection q.primary new)
     (differ : DifferAt c.id old new) (change : c ≡ change_of c.id old new) where
-  abbrev q : Asked
-  q = asked query
-
   -- on rows from scratch
   pub acts_rightly : ActsRightly q c new (fresh q old)
   acts_rightly =
       subst (λ x. ActsRightly q x new (fresh q old)) (sym change)
-      (table_right q c.id old new (fresh q old) query.limited col col' differ
+      (table_right q c.id old new (fresh q old) limited col col' differ
       (fresh_is q old (are_keyed q.primary old col)))
 
   -- and gives rows from scratch
@@ -73,15 +69,13 @@ module _ (query : Query) (c : Change) (old new : Documents)
       ] refl at
 
 -- rows from scratch stay so
-pub stays_fresh : (query : Query) (c : Change) (rows : Option (List Row))
-    → StaysFresh (asked query) c rows
-    (rows_after (action_at (asked query) c rows) (asked query) c rows)
-stays_fresh query c rows old new col col' differ change is after at =
-    let q = asked query in
+pub stays_fresh : (q : Asked) → q.limit ≢ Some 0 → (c : Change) (rows : Option (List Row))
+    → StaysFresh q c rows (rows_after (action_at q c rows) q c rows)
+stays_fresh q limited c rows old new col col' differ change is after at =
     let Goal : Option (List Row) → Type 0 = λ x. rows_after (action_at q c x) q c x ≡ Some after
     → after ≡ fresh q new in
     subst Goal (sym is)
-    (kept_fresh query c old new col col' differ change
+    (kept_fresh q limited c old new col col' differ change
     (table_of (bits_of q c (fresh q old))) refl after) at
 
 -- ---- what `apply` leaves, where the query needn't run in full
@@ -99,25 +93,27 @@ rows_patched _ known q c rows = refl
 
 -- so the query is as after a change
 pub patched_is : (w now : Watched) (c : Change) (a : Action) (rows : Option (List Row))
-    (counts : Counts) → w ≡ now → a ≢ RunFullQueryAgain → a ≡ action_at (asked now.query) c now.rows
-    → rows ≡ option_map (after a (asked w.query) c) w.rows → counts ≡ counted a w.counts
+    (counts : Counts) → w ≡ now → a ≢ RunFullQueryAgain → a ≡ action_at now.query c now.rows
+    → rows ≡ option_map (after a w.query c) w.rows → counts ≡ counted a w.counts
     → (let x : Watched = record { query = w.query; rows = rows; emitted = w.emitted; counts = counts }
-    in x ≡ applied (action_at (asked now.query) c now.rows) c now)
+    in x ≡ applied (action_at now.query c now.rows) c now)
 patched_is w now c a rows counts same known is rows_is counts_is =
-    let patched = rows_is ∙ rows_patched a known (asked w.query) c w.rows in
+    let patched = rows_is ∙ rows_patched a known w.query c w.rows in
     (λ i. record { query = w.query; rows = patched i; emitted = w.emitted; counts = counts_is i })
     ∙ ap (applied a c) same ∙ ap (λ x. applied x c now) is
 
 -- and fresh rows stay fresh
 pub patched_fresh : (w now : Watched) (c : Change) (a : Action) (rows : Option (List Row))
-    (counts : Counts) → w ≡ now → a ≢ RunFullQueryAgain → a ≡ action_at (asked now.query) c now.rows
-    → rows ≡ option_map (after a (asked w.query) c) w.rows → counts ≡ counted a w.counts
-    → StaysFresh (asked now.query) c now.rows rows
-patched_fresh w now c a rows counts same known is rows_is counts_is =
-    subst (StaysFresh (asked now.query) c now.rows)
+    (counts : Counts) → w.query.limit ≢ Some 0 → w ≡ now → a ≢ RunFullQueryAgain
+    → a ≡ action_at now.query c now.rows → rows ≡ option_map (after a w.query c) w.rows
+    → counts ≡ counted a w.counts
+    → StaysFresh now.query c now.rows rows
+patched_fresh w now c a rows counts limited same known is rows_is counts_is =
+    subst (StaysFresh now.query c now.rows)
     (sym (ap (λ (x : Watched). x.rows)
     (patched_is w now c a rows counts same known is rows_is counts_is)))
-    (stays_fresh now.query c now.rows)
+    (stays_fresh now.query (subst (λ (x : Watched). x.query.limit ≢ Some 0) same limited) c
+    now.rows)
 
 -- the rows that the action needs are there
 pub there_for : (a : Action) (c : Change) (q : Asked) (old rows : Option (List Row)) → rows ≡ old

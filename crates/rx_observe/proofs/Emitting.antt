@@ -2,43 +2,57 @@
 use Rattle.std.proofs.Common.{◌≡◌, ℕ, true, false, not, cond, option_map, IfSome, Option, Some, None, List, [], ◌∷◌, bytes_eq, refl, sym, ap, ◌∙◌, subst}
 use Rattle.std.proofs.lemmas.Option.{same_Some}
 use Rattle.rx_value.specs.Named.{named}
-use Rattle.rx_query.specs.Asked.{asked}
 use Rattle.rx_query.specs.declared.results.Row.{Row}
 use Rattle.rx_collection.specs.Held.{Held}
 use Rattle.rx_observe.specs.Fresh.{fresh}
-use Rattle.rx_observe.specs.Observing.{Queries, AllRight, each, and_query, without, cooled}
-use Rattle.rx_observe.specs.Rows.{unseen, unseen_of, emitted, with_emission, emissions_of, emissions_due}
+use Rattle.rx_observe.specs.Observing.{Queries, AllRight, each, and_query, without, settled, cooled}
+use Rattle.rx_observe.specs.Rows.{unseen, emitted, with_emission, emissions_of, emissions_due}
 use Rattle.rx_observe.specs.Watched.{Watched, kept, IsRight}
 use Rattle.rx_observe.specs.declared.emission.Emission.{Emission}
-use Rattle.rx_observe.proofs.Unseen.{kept_seen, unseen_none}
+use Rattle.rx_observe.proofs.Unseen.{unseen_none, settled_none, seen_last}
 
 module _ (c : Held) where
-  -- emitted rows are right
-  kept_kept : (rows last : Option (List Row)) → kept rows (kept rows last) ≡ kept rows last
-  kept_kept None last = refl
-  kept_kept (Some r) last = refl
+  -- what is emitted of queries that are right are the rows from scratch
+  pub emitted_settled : (qs : Queries) → AllRight c qs → each emitted qs ≡ each (settled c) qs
+  emitted_settled [] all = refl
+  emitted_settled (q ∷ qs) all = λ i. (
+    q.0,
+    record {
+      query = q.1.query;
+      rows = q.1.rows;
+      emitted = all.0.from_scratch i;
+      counts = q.1.counts;
+    },
+  )
+      ∷ emitted_settled qs all.1 i
 
-  right_emitted : (qs : Queries) → AllRight c qs → AllRight c (each emitted qs)
-  right_emitted [] all = tt
-  right_emitted (q ∷ qs) all = (
+  -- such queries are right
+  kept_settled : (rows last : Option (List Row)) (r : List Row) → kept rows last ≡ Some r
+      → kept rows (Some r) ≡ Some r
+  kept_settled None last r is = refl
+  kept_settled (Some s) last r is = is
+
+  right_settled : (qs : Queries) → AllRight c qs → AllRight c (each (settled c) qs)
+  right_settled [] all = tt
+  right_settled (q ∷ qs) all = (
     record {
       keyed = all.0.keyed;
-      from_scratch = kept_kept q.1.rows q.1.emitted ∙ all.0.from_scratch;
+      from_scratch = kept_settled q.1.rows q.1.emitted (fresh q.1.query c.documents)
+          all.0.from_scratch;
     },
-    right_emitted qs all.1,
+    right_settled qs all.1,
   )
 
-  pub all_right_emitted : (qs now : Queries) → now ≡ each emitted qs → AllRight c qs
+  pub all_right_settled : (qs now : Queries) → now ≡ each (settled c) qs → AllRight c qs
       → AllRight c now
-  all_right_emitted qs now is all = subst (AllRight c) (sym is) (right_emitted qs all)
+  all_right_settled qs now is all = subst (AllRight c) (sym is) (right_settled qs all)
 
   -- and nothing is left to be shown
-  pub none_left : (qs : Queries) → emissions_of (each emitted qs) ≡ []
+  pub none_left : (qs : Queries) → emissions_due c (each (settled c) qs) ≡ []
   none_left [] = refl
   none_left (q ∷ qs) =
-      ap (λ o. with_emission q.0 o (emissions_of (each emitted qs)))
-      (unseen_none q.1.rows (kept q.1.rows q.1.emitted)
-      (λ r is. ap (λ o. kept o q.1.emitted) is))
+      ap (λ o. with_emission q.0 o (emissions_due c (each (settled c) qs)))
+      (settled_none (fresh q.1.query c.documents))
       ∙ none_left qs
 
   -- with one more
@@ -69,8 +83,8 @@ module _ (c : Held) where
   emissions_are_due [] all = refl
   emissions_are_due (q ∷ qs) all =
       ap (λ o. with_emission q.0 o (emissions_of qs))
-      (due_at q.1.rows q.1.emitted (fresh (asked q.1.query) c.documents) all.0.from_scratch)
-      ∙ ap (with_emission q.0 (unseen (Some (fresh (asked q.1.query) c.documents)) q.1.emitted))
+      (due_at q.1.rows q.1.emitted (fresh q.1.query c.documents) all.0.from_scratch)
+      ∙ ap (with_emission q.0 (unseen (Some (fresh q.1.query c.documents)) q.1.emitted))
       (emissions_are_due qs all.1)
 
   -- the query of a name is right
@@ -98,20 +112,21 @@ module _ (c : Held) where
   all_emitted name None es none = (refl, none)
   all_emitted name (Some rows) es none = cc
 
-  right_cooled : (qs : Queries) → emissions_of qs ≡ [] → AllRight c qs
+  right_cooled : (qs : Queries) → emissions_due c qs ≡ [] → AllRight c qs
       → AllRight c (each cooled qs)
   right_cooled [] none all = tt
   right_cooled (q ∷ qs) none all =
-      let seen = all_emitted q.0 (unseen_of q) (emissions_of qs) none in (
+      let rows = fresh q.1.query c.documents in
+      let seen = all_emitted q.0 (unseen (Some rows) q.1.emitted) (emissions_due c qs) none in (
         record {
           keyed = all.0.keyed;
-          from_scratch = kept_seen q.1.rows q.1.emitted seen.0 ∙ all.0.from_scratch;
+          from_scratch = seen_last rows q.1.emitted seen.0;
         },
         right_cooled qs seen.1 all.1,
       )
 
   pub all_right_cooled : (qs now : Queries) → now ≡ each cooled qs → AllRight c qs
-      → emissions_of qs ≡ [] → AllRight c now
+      → emissions_due c qs ≡ [] → AllRight c now
   all_right_cooled qs now is all none = subst (AllRight c) (sym is) (right_cooled qs none all)
 
 -- none of that name is left

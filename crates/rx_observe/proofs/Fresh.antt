@@ -143,6 +143,7 @@ found_is q docs keyed =
       window = refl;
     }
 
+-- and gives rows from scratch
 pub fresh_is : FreshIsFromScratch
 unfolding fresh
 fresh_is q ds keyed = record {
@@ -151,19 +152,25 @@ fresh_is q ds keyed = record {
   are_rows = refl;
 }
 
--- and no other rows are from scratch
-pub found_fresh : (q : Asked) (ds : Documents) (docs : List Stored)
-    → AreKeyed q.primary (values_of ds) → IsResult q (values_of ds) docs → map row_of docs ≡ fresh q ds
-unfolding fresh
-found_fresh q ds docs keyed r =
-    let all = values_of ds in
-    let one = one_result q all keyed in
-    ap (map row_of)
-    (one.no_other docs r ∙ sym (one.no_other (found q all) (found_is q all keyed)))
+-- and no other documents are
+pub result_found : (q : Asked) (docs rows : List Stored) → AreKeyed q.primary docs
+    → IsResult q docs rows → rows ≡ found q docs
+result_found q docs rows keyed is =
+    let one = one_result q docs keyed in
+    one.no_other rows is ∙ sym (one.no_other (found q docs) (found_is q docs keyed))
 
+-- the rows of what is found are those from scratch
+pub found_fresh : (q : Asked) (ds : Documents) (docs : List Stored) → docs ≡ found q (values_of ds)
+    → map row_of docs ≡ fresh q ds
+unfolding fresh
+found_fresh q ds docs is = ap (map row_of) is
+
+-- and no other rows are from scratch
 pub from_scratch_fresh : (q : Asked) (ds : Documents) (rows : List Row)
     → AreKeyed q.primary (values_of ds) → IsFromScratch q ds rows → rows ≡ fresh q ds
-from_scratch_fresh q ds rows keyed s = s.are_rows ∙ found_fresh q ds s.found keyed s.is_result
+from_scratch_fresh q ds rows keyed s =
+    s.are_rows
+    ∙ found_fresh q ds s.found (result_found q (values_of ds) s.found keyed s.is_result)
 
 -- the rows of lent documents
 pub lent_rows : (docs : List (Bor Stored))

@@ -1,20 +1,30 @@
 -- Rows put one after another.
-use Rattle.std.proofs.Common.{◌≡◌, false, List, [], ◌∷◌, refl, sym, ap, subst}
+use Rattle.std.proofs.Common.{◌≡◌, false, List, [], ◌∷◌, refl, sym, ap, ◌∙◌, subst}
 use Rattle.rx_document.specs.declared.stored.Stored.{Stored}
-use Rattle.rx_collection.specs.Commit.{with_row, with_rows}
+use Rattle.rx_collection.specs.Commit.{with_row}
 use Rattle.rx_collection.specs.Held.{Held}
-use Rattle.rx_observe.specs.Observing.{Observing, Queries, AllRight, queries_after, change_by, put_row, put_all}
+use Rattle.rx_observe.specs.Observing.{Observing, Queries, AllRight, each, queries_after, change_by, hear, put_all}
+use Rattle.rx_observe.specs.Watched.{Watched, stepped}
 use Rattle.rx_observe.proofs.Steps.{right_after}
 
--- the collection is the one with the rows
-pub put_all-collection : (o : Observing) (rows : List Stored)
-    → (put_all o rows).collection ≡ with_rows o.collection rows
-put_all-collection o [] = refl
-put_all-collection o (row ∷ rows) = put_all-collection (put_row o row) rows
+-- what is done to each query, and then something else
+each_then : (f g : Watched → Watched) (qs : Queries)
+    → each g (each f qs) ≡ each (λ w. g (f w)) qs
+each_then f g [] = refl
+each_then f g (q ∷ qs) = ap (λ rest. (q.0, g (f q.1)) ∷ rest) (each_then f g qs)
 
-pub put_all-broken : (o : Observing) (rows : List Stored) → (put_all o rows).broken ≡ o.broken
-put_all-broken o [] = refl
-put_all-broken o (row ∷ rows) = put_all-broken (put_row o row) rows
+-- where nothing is done to it
+each_same : (qs : Queries) → each (λ w. w) qs ≡ qs
+each_same [] = refl
+each_same (q ∷ qs) = ap (λ rest. q ∷ rest) (each_same qs)
+
+-- no rows leave all as it was
+pub put_none : (o : Observing) → put_all o [] ≡ o
+put_none o = λ i. record {
+  collection = o.collection;
+  queries = each_same o.queries i;
+  broken = o.broken;
+}
 
 -- a collection and queries that aren't broken
 abbrev pub whole : Held → Queries → Observing
@@ -32,4 +42,11 @@ module _ (c new : Held) (row : Stored) (qs now : Queries) (new_is : new ≡ with
   -- the other rows make of that what all make of what was before
   pub put_on : (rows : List Stored)
       → put_all (whole new now) rows ≡ put_all (whole c qs) (row ∷ rows)
-  put_on rows = ap (λ o. put_all o rows) (λ i. whole (new_is i) (now_is i))
+  put_on rows =
+      ap (λ o. put_all o rows) (λ i. whole (new_is i) (now_is i))
+      ∙ (λ i. record {
+        collection = (put_all (whole c qs) (row ∷ rows)).collection;
+        queries = each_then (stepped (with_row c row).documents (change_by c row))
+            (hear (with_row c row) rows) qs i;
+        broken = false;
+      })

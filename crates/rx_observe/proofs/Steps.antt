@@ -59,13 +59,14 @@ module _ {Y : Type 0} (shown : Y → List Row) (rows : Option (List Row)) (c : C
   given_warm None same some = cc
   given_warm (Some y) same some = ap (λ o. given o c) same
 
+-- a query's limit isn't 0
+pub limited_as : (query : Query) (q : Asked) → asked query ≡ q → q.limit ≢ Some 0
+limited_as query q is = subst (λ x. x.limit ≢ Some 0) is query.limited
+
 -- ---- a query that was right
 
-module _ (query : Query) (c : Change) (old new : Held) (becomes : Becomes c old new)
-    (keyed : (asked query).primary ≡ old.schema.primary) where
-  abbrev q : Asked
-  q = asked query
-
+module _ (q : Asked) (limited : q.limit ≢ Some 0) (c : Change) (old new : Held)
+    (becomes : Becomes c old new) (keyed : q.primary ≡ old.schema.primary) where
   col : IsCollection q.primary old.documents
   col = is_collection_for q.primary old keyed becomes.lawful_old
 
@@ -80,7 +81,7 @@ module _ (query : Query) (c : Change) (old new : Held) (becomes : Becomes c old 
   ready_at None emitted right = tt
   ready_at (Some rows) emitted right =
       subst (IsReady q c) (sym (same_Some rows (fresh q old.documents) right))
-      (λ known. (acts_rightly query c old.documents new.documents col col' becomes.differ
+      (λ known. (acts_rightly q limited c old.documents new.documents col col' becomes.differ
       becomes.change known).there)
 
   rows_at : (rows emitted : Option (List Row))
@@ -98,7 +99,7 @@ module _ (query : Query) (c : Change) (old new : Held) (becomes : Becomes c old 
       let known = known_patched (table_of (bits_of q c (fresh q old.documents))) answer in
       sym (rows_patched (table_of (bits_of q c (fresh q old.documents))) known q c
       (Some (fresh q old.documents)))
-      ∙ ap (λ r. Some r) (gives_fresh query c old.documents new.documents col col' becomes.differ
+      ∙ ap (λ r. Some r) (gives_fresh q limited c old.documents new.documents col col' becomes.differ
       becomes.change known)) answer
 
   -- the change as the query gets it counts alike
@@ -107,26 +108,21 @@ module _ (query : Query) (c : Change) (old new : Held) (becomes : Becomes c old 
   counts_at None n = refl
   counts_at (Some rows) n = refl
 
-module _ (c : Change) (w : Watched) (new : Held) (f : Follows c w new) where
-  abbrev wq : Asked
-  wq = asked w.query
-
-  pub keyed_after : wq.primary ≡ new.schema.primary
-  keyed_after = keyed_new w.query c f.old new f.becomes f.right.keyed
-
+module _ (c : Change) (w : Watched) (new : Held) (limited : w.query.limit ≢ Some 0)
+    (f : Follows c w new) where
   -- the action's rows are there
-  pub ready_for : IfSome w.rows (IsReady wq c)
+  pub ready_for : IfSome w.rows (IsReady w.query c)
   ready_for =
-      ready_at w.query c f.old new f.becomes f.right.keyed w.rows w.emitted f.right.from_scratch
+      ready_at w.query limited c f.old new f.becomes f.right.keyed w.rows w.emitted f.right.from_scratch
 
-  counts_for : counted (heard w c) w.counts ≡ counted (action_at wq c w.rows) w.counts
-  counts_for = counts_at w.query c f.old new f.becomes f.right.keyed w.rows w.counts
+  counts_for : counted (heard w c) w.counts ≡ counted (action_at w.query c w.rows) w.counts
+  counts_for = counts_at w.query limited c f.old new f.becomes f.right.keyed w.rows w.counts
 
   -- patched, it is as it is to be
   pub patched : answer_for (heard w c) ≡ Patched
       → applied (heard w c) (given w.rows c) w ≡ stepped new.documents c w
   patched answer =
-      let rows = rows_at w.query c f.old new f.becomes f.right.keyed w.rows w.emitted
+      let rows = rows_at w.query limited c f.old new f.becomes f.right.keyed w.rows w.emitted
       f.right.from_scratch answer in
       (λ i. record { query = w.query; rows = rows i; emitted = w.emitted; counts = counts_for i })
 
@@ -135,12 +131,12 @@ module _ (c : Change) (w : Watched) (new : Held) (f : Follows c w new) where
     pub is_cold : answer_for (heard w c) ≡ NeedsFull → now.rows ≡ None
     is_cold answer =
         ap (λ (v : Watched). v.rows) value
-        ∙ full_rows (heard w c) answer wq (given w.rows c) w.rows
+        ∙ full_rows (heard w c) answer w.query (given w.rows c) w.rows
 
-    pub filled : (rows : List Row) → rows ≡ fresh (asked now.query) new.documents
+    pub filled : (rows : List Row) → rows ≡ fresh now.query new.documents
         → (let v : Watched = record now { rows = Some rows } in v ≡ stepped new.documents c w)
     filled rows rows_is =
-        let rows' = rows_is ∙ ap (λ (v : Watched). fresh (asked v.query) new.documents) value in
+        let rows' = rows_is ∙ ap (λ (v : Watched). fresh v.query new.documents) value in
         (λ i. record {
           query = (value i).query;
           rows = Some (rows' i);
@@ -149,7 +145,7 @@ module _ (c : Change) (w : Watched) (new : Held) (f : Follows c w new) where
         })
         ∙ (λ i. record {
           query = w.query;
-          rows = Some (fresh wq new.documents);
+          rows = Some (fresh w.query new.documents);
           emitted = w.emitted;
           counts = counts_for i;
         })

@@ -72,3 +72,12 @@ kept_unseen (Some x) None r h = sym h
 kept_unseen (Some x) (Some last) r h =
     elim (same_rows x last) as (λ b. cond b None (Some x) ≡ Some r → Some r ≡ Some x)
     [ true ↦ (λ h. cc) | false ↦ (λ h. sym h) ] h
+
+-- what was emitted last isn't to be emitted again
+pub settled_none : (r : List Row) → unseen (Some r) (Some r) ≡ None
+settled_none r = unseen_none (Some r) (Some r) (λ s is. is)
+
+-- where no rows are unseen, they are those emitted last
+pub seen_last : (r : List Row) (last : Option (List Row)) → unseen (Some r) last ≡ None
+    → last ≡ Some r
+seen_last r last h = kept_seen (Some r) last h

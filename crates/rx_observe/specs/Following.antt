@@ -3,7 +3,6 @@ use Rattle.std.specs.Prelude.{◌≡◌, List, Option, Some, None}
 use Rattle.rx_document.specs.Change.{change_of, DifferAt}
 use Rattle.rx_document.specs.declared.change.Change.{Change}
 use Rattle.rx_table.specs.declared.action.Action.{Action}
-use Rattle.rx_query.specs.Asked.{asked}
 use Rattle.rx_query.specs.declared.results.Row.{Row}
 use Rattle.rx_collection.specs.Held.{Held}
 use Rattle.rx_collection.specs.Lawful.{IsLawful}
@@ -17,7 +16,7 @@ given (Some rows) c = c
 
 -- the table's action for it
 abbrev pub heard : Watched → Change → Action
-heard w c = action_at (asked w.query) (given w.rows c) w.rows
+heard w c = action_at w.query (given w.rows c) w.rows
 
 -- the change is what made one collection of the other
 pub record Becomes (c : Change) (old new : Held) : Type 0 where

@@ -1,5 +1,6 @@
 -- How the fields of an observed query are seen.
 use Rattle.std.specs.Prelude.{◌≡◌, false, List, Some}
+use Rattle.rx_query.specs.Asked.{asked}
 use Rattle.rx_query.specs.declared.results.Row.{Row}
 use Rattle.rx_observe.specs.Watched.{Watched}
 use Rattle.rx_observe.specs.declared.observed.Observed.TheInside.{Inside}
@@ -7,7 +8,7 @@ use Rattle.rx_observe.specs.declared.observed.Observed.TheInside.{Inside}
 -- as its parts
 abbrev pub seen : Inside → Watched
 seen o =
-    record { query = o.query; rows = o.rows; emitted = o.emitted; counts = o.counts }
+    record { query = asked o.query; rows = o.rows; emitted = o.emitted; counts = o.counts }
 
 -- rows that weren't touched since the last emission are those emitted last
 abbrev pub IsTouched : Inside → Type 0

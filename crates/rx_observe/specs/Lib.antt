@@ -1,6 +1,7 @@
 pub mod Fresh
 pub mod Counts
 pub mod Watched
+pub mod AskedCode
 pub mod Codes
 pub mod Applied
 pub mod Rows

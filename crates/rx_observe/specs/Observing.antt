@@ -5,9 +5,8 @@ use Rattle.std.specs.Str.{bytes_eq}
 use Rattle.rx_document.specs.Change.{change_of}
 use Rattle.rx_document.specs.declared.change.Change.{Change}
 use Rattle.rx_document.specs.declared.stored.Stored.{Stored}
-use Rattle.rx_query.specs.Asked.{asked}
-use Rattle.rx_query.specs.declared.query.Query.{Query}
-use Rattle.rx_collection.specs.Commit.{with_row}
+use Rattle.rx_query.specs.Asked.{Asked}
+use Rattle.rx_collection.specs.Commit.{with_row, with_rows}
 use Rattle.rx_collection.specs.Held.{Held}
 use Rattle.rx_observe.specs.Counts.{no_counts}
 use Rattle.rx_observe.specs.Fresh.{fresh}
@@ -39,28 +38,29 @@ change_by c row = change_of row.state.key c.documents (with_row c row).documents
 abbrev pub queries_after : Held → Stored → Queries → Queries
 queries_after c row = each (stepped (with_row c row).documents (change_by c row))
 
--- the collection with a row, and each query with the change
-abbrev pub put_row : Observing → Stored → Observing
-put_row o row = record {
-  collection = with_row o.collection row;
-  queries = queries_after o.collection row o.queries;
+-- an observed query after rows that its collection takes one after another
+abbrev pub hear : Held → List Stored → Watched → Watched
+hear c [] w = w
+hear c (row ∷ rows) w =
+    hear (with_row c row) rows (stepped (with_row c row).documents (change_by c row) w)
+
+-- the collection with rows, and each query after them
+abbrev pub put_all : Observing → List Stored → Observing
+put_all o rows = record {
+  collection = with_rows o.collection rows;
+  queries = each (hear o.collection rows) o.queries;
   broken = o.broken;
 }
-
--- with rows, one after another
-abbrev pub put_all : Observing → List Stored → Observing
-put_all o [] = o
-put_all o (row ∷ rows) = put_all (put_row o row) rows
 
 -- with other queries
 abbrev pub with_queries : Observing → Queries → Observing
 with_queries o qs = record { collection = o.collection; queries = qs; broken = o.broken }
 
 -- a query that has run once and of which nothing was emitted
-abbrev pub just_observed : Held → Query → Watched
+abbrev pub just_observed : Held → Asked → Watched
 just_observed c q = record {
   query = q;
-  rows = Some (fresh (asked q) c.documents);
+  rows = Some (fresh q c.documents);
   emitted = None;
   counts = no_counts;
 }
@@ -72,6 +72,15 @@ and_query qs name w = qs ++ (name, w) ∷ []
 -- the queries but those of that name
 abbrev pub without : List ℕ → Queries → Queries
 without name qs = filter (λ q. not (bytes_eq name q.0)) qs
+
+-- the rows from scratch are those emitted last
+abbrev pub settled : Held → Watched → Watched
+settled c w = record {
+  query = w.query;
+  rows = w.rows;
+  emitted = Some (fresh w.query c.documents);
+  counts = w.counts;
+}
 
 -- an observed query without the rows that it kept
 abbrev pub cooled : Watched → Watched

@@ -3,7 +3,6 @@ use Rattle.std.specs.Prelude.{ℕ, Bool, ◌&&◌, List, [], ◌∷◌, Option, 
 use Rattle.std.specs.Cmp.Lexicographic.{pointwise}
 use Rattle.std.specs.Str.{bytes_eq}
 use Rattle.rx_value.specs.Equal.{fields_eq}
-use Rattle.rx_query.specs.Asked.{asked}
 use Rattle.rx_query.specs.declared.results.Row.{Row}
 use Rattle.rx_collection.specs.Held.{Held}
 use Rattle.rx_observe.specs.Fresh.{fresh}
@@ -24,7 +23,7 @@ unseen None emitted = None
 unseen (Some rows) None = Some rows
 unseen (Some rows) (Some last) = if same_rows rows last then None else Some rows
 
--- with the rows that are kept emitted
+-- with the rows that are kept, or else those emitted last, emitted
 abbrev pub emitted : Watched → Watched
 emitted w =
     record { query = w.query; rows = w.rows; emitted = kept w.rows w.emitted; counts = w.counts }
@@ -47,5 +46,5 @@ emissions_of (q ∷ qs) = with_emission q.0 (unseen_of q) (emissions_of qs)
 abbrev pub emissions_due : Held → List (List ℕ × Watched) → List Emission
 emissions_due c [] = []
 emissions_due c (q ∷ qs) =
-    with_emission q.0 (unseen (Some (fresh (asked q.1.query) c.documents)) q.1.emitted)
+    with_emission q.0 (unseen (Some (fresh q.1.query c.documents)) q.1.emitted)
     (emissions_due c qs)

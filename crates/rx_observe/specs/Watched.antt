@@ -8,9 +8,8 @@ use Rattle.rx_table.specs.Rows.{table_of}
 use Rattle.rx_table.specs.declared.action.Action.{Action}
 use Rattle.rx_table.specs.declared.action.Action.TheVariants.{RunFullQueryAgain}
 use Rattle.rx_query.specs.After.{after, AreThere}
-use Rattle.rx_query.specs.Asked.{Asked, asked}
+use Rattle.rx_query.specs.Asked.{Asked}
 use Rattle.rx_query.specs.States.{bits_of}
-use Rattle.rx_query.specs.declared.query.Query.{Query}
 use Rattle.rx_query.specs.declared.results.Row.{Row}
 use Rattle.rx_actions.specs.Right.{IsCollection}
 use Rattle.rx_collection.specs.Held.{Held}
@@ -21,13 +20,13 @@ use Rattle.rx_observe.specs.declared.counts.Counts.{Counts}
 -- a query, its rows where they are kept, the rows that were emitted last, and its counts; a query
 -- without rows is cold, one with rows is warm
 pub record Watched : Type 0 where
-  pub query : Query
+  pub query : Asked
   pub rows : Option (List Row)
   pub emitted : Option (List Row)
   pub counts : Counts
 
 -- a cold query that nothing has happened to
-abbrev pub cold : Query → Watched
+abbrev pub cold : Asked → Watched
 cold q = record { query = q; rows = None; emitted = None; counts = no_counts }
 
 -- the change as a cold query gets it
@@ -47,7 +46,7 @@ rows_after a q c rows = if is_full a then None else option_map (after a q c) row
 abbrev pub applied : Action → Change → Watched → Watched
 applied a c w = record {
   query = w.query;
-  rows = rows_after a (asked w.query) c w.rows;
+  rows = rows_after a w.query c w.rows;
   emitted = w.emitted;
   counts = counted a w.counts;
 }
@@ -68,9 +67,9 @@ StaysFresh q c old_rows new_rows = (old new : Documents) → IsCollection q.prim
 abbrev pub stepped : Documents → Change → Watched → Watched
 stepped new c w = record {
   query = w.query;
-  rows = Some (fresh (asked w.query) new);
+  rows = Some (fresh w.query new);
   emitted = w.emitted;
-  counts = counted (action_at (asked w.query) c w.rows) w.counts;
+  counts = counted (action_at w.query c w.rows) w.counts;
 }
 
 -- the rows as they are kept, or else as they were emitted last
@@ -81,5 +80,5 @@ kept (Some rows) emitted = Some rows
 -- the query goes by the primary key of the schema; its rows are those from scratch, or those emitted
 -- last are, where it is cold
 pub record IsRight (c : Held) (w : Watched) : Type 0 where
-  pub keyed : (asked w.query).primary ≡ c.schema.primary
-  pub from_scratch : kept w.rows w.emitted ≡ Some (fresh (asked w.query) c.documents)
+  pub keyed : w.query.primary ≡ c.schema.primary
+  pub from_scratch : kept w.rows w.emitted ≡ Some (fresh w.query c.documents)

@@ -1,10 +1,8 @@
 ghost use Rattle.std.specs.Prelude.{◌≡◌, map, IfOk};
 ghost use Rattle.std.specs.Map.{values_of};
 ghost use Rattle.rx_query.specs.Asked.{asked};
-ghost use Rattle.rx_query.specs.Result.{IsResult};
 ghost use Rattle.rx_actions.specs.Right.{row_of};
-ghost use Rattle.rx_collection.specs.Lawful.{IsLawful};
-ghost use Rattle.rx_observe.specs.Fresh.{fresh};
+ghost use Rattle.rx_observe.specs.Fresh.{found, fresh};
 
 use rx_collection::Collection;
 use rx_document::Stored;
@@ -18,9 +16,8 @@ pub(crate) fn find_in<'a>(
     query: &Query,
 ) -> Result<Vec<&'a Stored>, AllocError>
     requires keyed { (asked query.now).primary ≡ collection.now.schema.primary }
-    ensures found { IfOk result (λ found. IsResult (asked query.now)
-        (values_of collection.now.documents) (map (λ d. d.now) found.items)) }
-    ensures lawful { IsLawful collection.now }
+    ensures { IfOk result (λ documents. map (λ d. d.now) documents.items
+        ≡ found (asked query.now) (values_of collection.now.documents)) }
 {
     let documents: Vec<&Stored> = collection.all().collect(alloc)?;
     query.scratch(alloc, documents.as_slice())

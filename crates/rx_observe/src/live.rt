@@ -2,10 +2,10 @@ ghost use Rattle.std.specs.Prelude.{◌≡◌, [], None, true, false, is_some, I
 ghost use Rattle.std.specs.Map.{values_of};
 ghost use Rattle.rx_value.specs.Named.{named};
 ghost use Rattle.rx_query.specs.Asked.{asked};
-ghost use Rattle.rx_query.specs.Result.{IsResult};
 ghost use Rattle.rx_collection.specs.Commit.{AreNext, with_rows};
-ghost use Rattle.rx_observe.specs.Observing.{AllRight, each, put_all, with_queries, just_observed, and_query, without, cooled};
-ghost use Rattle.rx_observe.specs.Rows.{emitted, emissions_of, emissions_due};
+ghost use Rattle.rx_observe.specs.Fresh.{found};
+ghost use Rattle.rx_observe.specs.Observing.{AllRight, each, put_all, with_queries, just_observed, and_query, without, settled, cooled};
+ghost use Rattle.rx_observe.specs.Rows.{emissions_due};
 ghost use Rattle.rx_observe.specs.Watched.{IsRight};
 
 use crate::emission::{Emission, Unseen, emit_all, look_all};
@@ -60,7 +60,7 @@ impl Live {
         requires new { named self.old.queries name ≡ None }
         requires keyed { (asked query).primary ≡ self.old.collection.schema.primary }
         ensures ok { OnOk result (self.new ≡ with_queries self.old
-            (and_query self.old.queries name (just_observed self.old.collection query))) }
+            (and_query self.old.queries name (just_observed self.old.collection (asked query)))) }
         ensures err { OnErr result (self.new ≡ self.old) }
     {
         let rows = run_in_full(alloc, &self.collection, &query)?;
@@ -70,17 +70,14 @@ impl Live {
         Ok(())
     }
 
-    /// Observes a query that was released, after all others.
-    pub fn adopt(&mut self, name: RxText, observed: Observed) -> Result<(), AllocError>
+    /// Observes queries that were released, where none is observed yet.
+    pub fn adopt(&mut self, queries: Vec<(RxText, Observed)>)
         requires whole { self.old.broken ≡ false }
-        requires new { named self.old.queries name ≡ None }
-        requires right { IsRight self.old.collection observed }
-        ensures ok { OnOk result
-            (self.new ≡ with_queries self.old (and_query self.old.queries name observed)) }
-        ensures err { OnErr result (self.new ≡ self.old) }
+        requires none { self.old.queries ≡ [] }
+        requires right { AllRight self.old.collection queries.items }
+        ensures { self.new ≡ with_queries self.old queries.items }
     {
-        self.queries.push((name, observed))?;
-        Ok(())
+        self.queries = queries;
     }
 
     pub fn observed(&self, name: &str) -> Option<&Observed>
@@ -106,8 +103,8 @@ impl Live {
     /// The documents of a query's result, lent.
     pub fn find<'a>(&'a self, alloc: Global, query: &Query) -> Result<Vec<&'a Stored>, AllocError>
         requires keyed { (asked query.now).primary ≡ self.now.collection.schema.primary }
-        ensures { IfOk result (λ found. IsResult (asked query.now)
-            (values_of self.now.collection.documents) (map (λ d. d.now) found.items)) }
+        ensures { IfOk result (λ documents. map (λ d. d.now) documents.items
+            ≡ found (asked query.now) (values_of self.now.collection.documents)) }
     {
         find_in(alloc, &self.collection, query)
     }
@@ -116,12 +113,11 @@ impl Live {
     /// those emitted last from then on.
     pub fn emissions(&mut self, alloc: Global) -> Result<Vec<Emission>, AllocError>
         requires whole { self.old.broken ≡ false }
-        ensures emissions { IfOk result (λ all. all.items ≡ emissions_of self.old.queries) }
         ensures due { IfOk result
             (λ all. all.items ≡ emissions_due self.old.collection self.old.queries) }
         ensures ok { OnOk result
-            (self.new ≡ with_queries self.old (each emitted self.old.queries)) }
-        ensures none_left { OnOk result (emissions_of self.new.queries ≡ []) }
+            (self.new ≡ with_queries self.old (each (settled self.old.collection) self.old.queries)) }
+        ensures none_left { OnOk result (emissions_due self.new.collection self.new.queries ≡ []) }
         ensures err { OnErr result (self.new ≡ self.old) }
     {
         let mut unseen = Unseen {
@@ -139,7 +135,8 @@ impl Live {
     pub fn release(self) -> Vec<(RxText, Observed)>
         requires whole { self.broken ≡ false }
         ensures value { result.items ≡ each cooled self.queries }
-        ensures right { emissions_of self.queries ≡ [] → AllRight self.collection result.items }
+        ensures right { emissions_due self.collection self.queries ≡ []
+            → AllRight self.collection result.items }
     {
         let Live {
             collection: _collection,
@@ -182,6 +179,8 @@ impl Holder for Live {
 
     ghost is_broken = { λ l. l.broken };
 
+    ghost written = { put_all };
+
     fn collection(&self) -> &Collection {
         &self.collection
     }
@@ -193,7 +192,7 @@ impl Holder for Live {
             (self.new.collection ≡ with_rows self.old.collection rows.items) }
         ensures whole { OnOk result (self.new.broken ≡ false) }
         ensures broken { OnErr result (self.new.broken ≡ true) }
-        ensures value { OnOk result (self.new ≡ put_all self.old rows.items) }
+        ensures written { OnOk result (self.new ≡ put_all self.old rows.items) }
     {
         self.broken = true;
         for row in rows {

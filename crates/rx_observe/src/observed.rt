@@ -56,7 +56,7 @@ impl Model for Observed {
 
 impl Observed {
     pub fn new(query: Query) -> Observed
-        ensures { result ≡ cold query }
+        ensures { result ≡ cold (asked query) }
     {
         Observed {
             query,
@@ -68,7 +68,7 @@ impl Observed {
     }
 
     pub fn query(&self) -> &Query
-        ensures { result.now ≡ self.now.query }
+        ensures { asked result.now ≡ self.now.query }
     {
         &self.query
     }
@@ -99,13 +99,13 @@ impl Observed {
     /// Changes the rows as the decision table says. A query that has to run in full is cold then.
     pub fn apply(&mut self, alloc: Global, change: &Change) -> Result<Applied, AllocError>
         requires cold { self.old.rows ≡ None → change.now.before ≡ Unknown }
-        requires there { IfSome self.old.rows (IsReady (asked self.old.query) change.now) }
+        requires there { IfSome self.old.rows (IsReady self.old.query change.now) }
         ensures answer { IfOk result (λ a. a
-            ≡ answer_for (action_at (asked self.old.query) change.now self.old.rows)) }
+            ≡ answer_for (action_at self.old.query change.now self.old.rows)) }
         ensures value { OnOk result (self.new ≡ applied
-            (action_at (asked self.old.query) change.now self.old.rows) change.now self.old) }
+            (action_at self.old.query change.now self.old.rows) change.now self.old) }
         ensures fresh { OnOk result
-            (StaysFresh (asked self.old.query) change.now self.old.rows self.new.rows) }
+            (StaysFresh self.old.query change.now self.old.rows self.new.rows) }
         ensures err { OnErr result (self.new ≡ self.old) }
     {
         let action = self.action(alloc, change);
@@ -122,7 +122,7 @@ impl Observed {
 
     fn action(&self, alloc: Global, change: &Change) -> Action
         requires { self.now.rows ≡ None → change.now.before ≡ Unknown }
-        ensures { result ≡ action_at (asked self.now.query) change.now self.now.rows }
+        ensures { result ≡ action_at self.now.query change.now self.now.rows }
     {
         match &self.rows {
             Some(rows) => decide(&self.query, change, rows),

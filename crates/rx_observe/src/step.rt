@@ -98,6 +98,8 @@ fn step(
     ensures { OnOk result
         (observed.new ≡ stepped collection.now.documents change.now observed.old) }
 {
+    // for the proof alone: a query's limit isn't 0
+    let _query = observed.query();
     match hear(alloc, observed, change)? {
         Applied::Patched => Ok(()),
         Applied::NeedsFull => {
@@ -109,7 +111,7 @@ fn step(
 }
 
 fn hear(alloc: Global, observed: &mut Observed, change: &Change) -> Result<Applied, AllocError>
-    requires { IfSome observed.old.rows (IsReady (asked observed.old.query) change.now) }
+    requires { IfSome observed.old.rows (IsReady observed.old.query change.now) }
     ensures answer { IfOk result (λ a. a ≡ answer_for (heard observed.old change.now)) }
     ensures value { OnOk result (observed.new ≡ applied (heard observed.old change.now)
         (given observed.old.rows change.now) observed.old) }

@@ -1,6 +1,5 @@
 use Rattle.std.proofs.Common.{◌≡◌, Bor, not, IfOk, OnOk, ap, ◌∙◌, subst}
 use Rattle.rx_document.specs.declared.change.Change.{Change}
-use Rattle.rx_query.specs.Asked.{asked}
 use Rattle.rx_query.specs.declared.results.Results.{Results}
 use Rattle.rx_observe.specs.Applied.{answer_for}
 use Rattle.rx_observe.specs.Watched.{action_at, applied}
@@ -14,7 +13,7 @@ returns-then-is_none-clause-answer c =
     c.in_ok-unknown.field-0 c.in_ok-unknown.ensures c.rows.result c.rows.ensures
     (c.is_none.ensures ∙ ap not c.if-is_none.true) in
     subst (λ (x : Change). IfOk c.apply.result
-    (λ a. a ≡ answer_for (action_at (asked w.query) x w.rows))) is c.apply.ensures.answer
+    (λ a. a ≡ answer_for (action_at w.query x w.rows))) is c.apply.ensures.answer
 
 pub returns-then-is_none-clause-value : goal.returns-then-is_none-clause-value
 returns-then-is_none-clause-value c =
@@ -23,7 +22,7 @@ returns-then-is_none-clause-value c =
     c.in_ok-unknown.field-0 c.in_ok-unknown.ensures c.rows.result c.rows.ensures
     (c.is_none.ensures ∙ ap not c.if-is_none.true) in
     subst (λ (x : Change). OnOk c.apply.result
-    (c.apply.new.self ≡ applied (action_at (asked w.query) x w.rows) x w)) is c.apply.ensures.value
+    (c.apply.new.self ≡ applied (action_at w.query x w.rows) x w)) is c.apply.ensures.value
 
 pub returns-clause-answer : goal.returns-clause-answer
 returns-clause-answer c =
@@ -31,7 +30,7 @@ returns-clause-answer c =
     let is = given_warm (λ (r : Bor Results). r.now) w.rows c.args.change.now c.rows.result
     c.rows.ensures (c.is_none.ensures ∙ ap not c.if-is_none.false) in
     subst (λ (x : Change). IfOk c.apply-2.result
-    (λ a. a ≡ answer_for (action_at (asked w.query) x w.rows))) is c.apply-2.ensures.answer
+    (λ a. a ≡ answer_for (action_at w.query x w.rows))) is c.apply-2.ensures.answer
 
 pub returns-clause-value : goal.returns-clause-value
 returns-clause-value c =
@@ -39,5 +38,5 @@ returns-clause-value c =
     let is = given_warm (λ (r : Bor Results). r.now) w.rows c.args.change.now c.rows.result
     c.rows.ensures (c.is_none.ensures ∙ ap not c.if-is_none.false) in
     subst (λ (x : Change). OnOk c.apply-2.result
-    (c.apply-2.new.self ≡ applied (action_at (asked w.query) x w.rows) x w)) is
+    (c.apply-2.new.self ≡ applied (action_at w.query x w.rows) x w)) is
     c.apply-2.ensures.value

@@ -1,14 +1,16 @@
 use Rattle.std.proofs.Common.{ap, ◌∙◌}
 use Rattle.rx_observe.specs.Lived.{observing}
-use Rattle.rx_observe.specs.Observing.{Observing}
+use Rattle.rx_observe.specs.Observing.{Observing, each, with_queries, settled}
 use Rattle.rx_observe.specs.Rows.{emissions_of, emissions_due}
-use Rattle.rx_observe.proofs.Emitting.{all_right_emitted, none_left, emissions_are_due}
+use Rattle.rx_observe.proofs.Emitting.{emitted_settled, all_right_settled, none_left, emissions_are_due}
 use Rattle.rx_observe.proofs.live.Live.emissions.Goals as goal
 
 pub invariant_of-self : goal.invariant_of-self
 invariant_of-self c =
-    λ whole. all_right_emitted c.self.inside.collection c.self.inside.queries.items
-    c.emit_all.new.queries.items c.emit_all.ensures (c.self.invariant whole)
+    let i = c.self.inside in
+    λ whole. let all = c.self.invariant whole in
+    all_right_settled i.collection i.queries.items c.emit_all.new.queries.items
+    (c.emit_all.ensures ∙ emitted_settled i.collection i.queries.items all) all
 
 pub returns-clause-due : goal.returns-clause-due
 returns-clause-due c =
@@ -18,7 +20,18 @@ returns-clause-due c =
     ∙ emissions_are_due o.collection o.queries (c.self.invariant whole)
     ∙ ap (λ (x : Observing). emissions_due x.collection x.queries) c.self.view_is
 
+pub returns-clause-ok : goal.returns-clause-ok
+returns-clause-ok c =
+    let o = observing c.self.inside in
+    let whole = ap (λ (x : Observing). x.broken) c.self.view_is ∙ c.requires.whole in
+    ap (with_queries o)
+    (c.emit_all.ensures ∙ emitted_settled o.collection o.queries (c.self.invariant whole))
+    ∙ ap (λ (x : Observing). with_queries x (each (settled x.collection) x.queries)) c.self.view_is
+
 pub returns-clause-none_left : goal.returns-clause-none_left
 returns-clause-none_left c =
-    ap emissions_of c.emit_all.ensures
-    ∙ none_left c.self.inside.collection c.self.inside.queries.items
+    let o = observing c.self.inside in
+    let whole = ap (λ (x : Observing). x.broken) c.self.view_is ∙ c.requires.whole in
+    ap (emissions_due o.collection)
+    (c.emit_all.ensures ∙ emitted_settled o.collection o.queries (c.self.invariant whole))
+    ∙ none_left o.collection o.queries

@@ -1,7 +1,7 @@
 use Rattle.std.proofs.Common.{◌≡◌, [], ap, ◌∙◌, subst}
 use Rattle.rx_observe.specs.Lived.{observing}
 use Rattle.rx_observe.specs.Observing.{Observing, AllRight}
-use Rattle.rx_observe.specs.Rows.{emissions_of}
+use Rattle.rx_observe.specs.Rows.{emissions_due}
 use Rattle.rx_observe.proofs.Emitting.{all_right_cooled}
 use Rattle.rx_observe.proofs.live.Live.release.Goals as goal
 
@@ -10,6 +10,7 @@ returns-clause-right c =
     let o = observing c.self.inside in
     let now = c.cool_all.new.queries.items in
     let whole = ap (λ (x : Observing). x.broken) c.self.view_is ∙ c.requires.whole in
-    let Right : Observing → Type 0 = λ x. emissions_of x.queries ≡ [] → AllRight x.collection now in
+    let Right : Observing → Type 0 = λ x. emissions_due x.collection x.queries ≡ []
+    → AllRight x.collection now in
     subst Right c.self.view_is
     (all_right_cooled o.collection o.queries now c.cool_all.ensures (c.self.invariant whole))

@@ -4,7 +4,7 @@ use Rattle.rx_collection.specs.Commit.{AreNext}
 use Rattle.rx_collection.specs.Held.{Held}
 use Rattle.rx_observe.specs.Observing.{Observing, put_all}
 use Rattle.rx_observe.proofs.Done.{empty_is}
-use Rattle.rx_observe.proofs.Putting.{whole, right_put, put_on, put_all-collection}
+use Rattle.rx_observe.proofs.Putting.{whole, right_put, put_on, put_none}
 use Rattle.rx_observe.proofs.live.LiveHolder.put_rows.Goals as goal
 
 pub loop-row-init : goal.loop-row-init
@@ -53,4 +53,11 @@ returns-clause-rows c =
     let none = empty_is rest.items (sym rest.ok.0 ∙ c.in-None.ensures.steps.0) in
     ap (λ rows. (put_all (whole i.collection i.queries.items) rows).collection) (sym none)
     ∙ ap (λ (o : Observing). o.collection) c.loop-row.invariant.1
-    ∙ put_all-collection c.args.self.now c.args.rows.items
+
+pub returns-clause-written : goal.returns-clause-written
+returns-clause-written c =
+    let i = c.loop-row.self-inside in
+    let rest = c.loop-row.row-iterator.rest in
+    let none = empty_is rest.items (sym rest.ok.0 ∙ c.in-None.ensures.steps.0) in
+    sym (put_none (whole i.collection i.queries.items))
+    ∙ ap (put_all (whole i.collection i.queries.items)) (sym none) ∙ c.loop-row.invariant.1

@@ -11,7 +11,7 @@ returns-in-Some c =
     let q = asked c.self.inside.query in
     let change = c.args.change.now in
     c.decide.ensures ∙ ap (action_at q change) (sym c.in-Some.is)
-    ∙ ap (λ (w : Watched). action_at (asked w.query) change w.rows) c.self.view_is
+    ∙ ap (λ (w : Watched). action_at w.query change w.rows) c.self.view_is
 
 -- a cold query is given no more than such a change
 pub returns-in-None : goal.returns-in-None
@@ -27,4 +27,4 @@ returns-in-None c =
     ∙ ap (λ (rows : List Row). table_of (bits_of q change rows)) c.new.ensures
     ∙ ap (λ x. table_of (bits_of q x [])) same
     ∙ ap (action_at q change) (sym c.in-None.is)
-    ∙ ap (λ (w : Watched). action_at (asked w.query) change w.rows) c.self.view_is
+    ∙ ap (λ (w : Watched). action_at w.query change w.rows) c.self.view_is
