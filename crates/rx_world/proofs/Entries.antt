@@ -1,12 +1,12 @@
 -- What holds of each holder at its name.
-use Rattle.std.proofs.Common.{◌≡◌, ℕ, Bool, true, false, cond, List, [], ◌∷◌, Option, Some, None, String, Global, string_bytes, bytes_eq, refl, sym, ap, ◌∙◌, subst, IfSome, option_copied}
+use Rattle.std.proofs.Common.{◌≡◌, ℕ, Bool, true, false, cond, List, [], ◌∷◌, map, Option, Some, None, String, Global, string_bytes, bytes_eq, refl, sym, ap, ◌∙◌, subst, IfSome, option_copied}
 use Rattle.std.specs.Borrow.{Bor}
 use Rattle.std.specs.List.{AllByRecursion}
-use Rattle.std.specs.Map.{lookup, set_value}
+use Rattle.std.specs.Map.{lookup, set_value, values_of}
 use Rattle.std.specs.String.{string_eq}
 use Rattle.std.proofs.lemmas.Slice.Eq.{bytes_eq-Decides}
 use Rattle.indexmap.specs.IndexMap.{insert_entry}
-use Rattle.rx_value.specs.Named.{by_name}
+use Rattle.rx_value.specs.Named.{by_name, by_bytes}
 use Rattle.rx_collection.specs.Held.{Held}
 use Rattle.rx_collection.specs.Lawful.{IsLawful}
 use Rattle.rx_world.specs.Holders.{AreWhole, IsWhole}
@@ -88,3 +88,15 @@ whole_left held broken name old new whole kept unbroken = record {
   called = ap (λ c. c.name) kept ∙ whole.called;
   lawful = subst IsLawful (sym kept) whole.lawful;
 }
+
+-- whole holders are so by the bytes of their names
+pub whole_by_bytes : {H : Type 0} (held : H → Held) (broken : H → Bool) (es : List (String Global × H))
+    → AreWhole held broken es → AllByRecursion (λ e. IsWhole held broken e.0 e.1) (by_bytes es)
+whole_by_bytes held broken [] whole = tt
+whole_by_bytes held broken (e ∷ es) whole = (whole.0, whole_by_bytes held broken es whole.1)
+
+-- the things of entries, and those by the bytes of the names
+pub values-by_bytes : {H : Type 0} (es : List (String Global × H))
+    → values_of es ≡ map (λ e. e.1) (by_bytes es)
+values-by_bytes [] = refl
+values-by_bytes (e ∷ es) = ap (λ hs. e.1 ∷ hs) (values-by_bytes es)

@@ -5,3 +5,4 @@ pub mod Commits
 pub mod Steps
 pub mod Valid
 pub mod Replays
+pub mod Alike

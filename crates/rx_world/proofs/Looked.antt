@@ -1,7 +1,7 @@
 -- What a name names after a change.
-use Rattle.std.proofs.Common.{◌≡◌, ◌≢◌, ℕ, true, false, cond, Bool, List, [], ◌∷◌, Some, option_map, refl, sym, ap, ◌∙◌, subst}
+use Rattle.std.proofs.Common.{◌≡◌, ◌≢◌, ℕ, true, false, true≢false, cond, Bool, List, [], ◌∷◌, Some, option_map, refl, sym, ap, ◌∙◌, subst}
 use Rattle.std.proofs.lemmas.Slice.Eq.{bytes_eq-Decides}
-use Rattle.std.specs.List.{AllByRecursion}
+use Rattle.std.specs.List.{AllByRecursion, IsDistinct}
 use Rattle.std.specs.Map.{keys_of}
 use Rattle.std.specs.Str.{bytes_eq}
 use Rattle.rx_value.specs.Named.{named, put_named, change_named}
@@ -84,6 +84,34 @@ module _ {X : Type 0} where
       elim (bytes_eq k e.0)
       as (λ b. cond b ((e.0, e.1) ∷ es) (e ∷ change_named es k (λ x. x)) ≡ e ∷ es)
       [ true ↦ refl | false ↦ ap (λ r. e ∷ r) (change_named-same es k) ]
+
+  -- a name that is none of the names is none of them after another one is put
+  apart_put : (l : List ℕ) (es : List (List ℕ × X)) (k : List ℕ) (x : X) → bytes_eq l k ≡ false
+      → AllByRecursion (λ y. bytes_eq l y ≡ false) (keys_of es)
+      → AllByRecursion (λ y. bytes_eq l y ≡ false) (keys_of (put_named es k x))
+  apart_put l [] k x apart all = (apart, tt)
+  apart_put l (e ∷ es) k x apart all =
+      elim (bytes_eq k e.0) as (λ b. AllByRecursion (λ y. bytes_eq l y ≡ false)
+      (keys_of (cond b ((e.0, x) ∷ es) (e ∷ put_named es k x)))) [
+        | true ↦ all
+        | false ↦ (all.0, apart_put l es k x apart all.1)
+      ]
+
+  -- names that come once do so after a thing is put
+  pub distinct_put_named : (es : List (List ℕ × X)) (k : List ℕ) (x : X)
+      → IsDistinct bytes_eq (keys_of es) → IsDistinct bytes_eq (keys_of (put_named es k x))
+  unfolding IsDistinct
+  distinct_put_named [] k x distinct = (tt, tt)
+  distinct_put_named (e ∷ es) k x distinct =
+      elim (bytes_eq k e.0) as (λ b. bytes_eq k e.0 ≡ b → IsDistinct bytes_eq
+      (keys_of (cond b ((e.0, x) ∷ es) (e ∷ put_named es k x)))) [
+        | true ↦ (λ is. distinct)
+        | false ↦ (λ is.
+            let apart : bytes_eq e.0 k ≡ false =
+            other_names e.0 k
+            (λ same. true≢false (sym ((bytes_eq-Decides k e.0).1 (sym same)) ∙ is)) in
+            (apart_put e.0 es k x apart distinct.0, distinct_put_named es k x distinct.1))
+      ] refl
 
 module _ {X : Type 0} (P : List ℕ → X → Type 0) where
   -- what holds of all and of one more holds after that one is put

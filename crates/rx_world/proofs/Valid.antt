@@ -1,7 +1,9 @@
--- The fields of documents stay valid.
+-- The fields of documents stay valid, and the names of collections distinct.
 use Rattle.std.proofs.Common.{◌≡◌, ℕ, ◌==◌, true, List, [], ◌∷◌, Option, Some, None, is_none, IfSome, option_map, sym, subst}
 use Rattle.std.proofs.lemmas.Bool.{and_parts}
-use Rattle.std.specs.List.{AllByRecursion, list_all}
+use Rattle.std.specs.List.{AllByRecursion, IsDistinct, list_all}
+use Rattle.std.specs.Map.{keys_of}
+use Rattle.std.specs.Str.{bytes_eq}
 use Rattle.rx_value.specs.Named.{named}
 use Rattle.rx_schema.specs.Validity.{first_fault}
 use Rattle.rx_schema.specs.declared.shape.Shape.{Shape}
@@ -12,10 +14,10 @@ use Rattle.rx_record.specs.Content.{Content, collection, rows, epoch}
 use Rattle.rx_record.specs.declared.record.RowOut.{RowOut}
 use Rattle.rx_world.specs.Schema.{schema_in}
 use Rattle.rx_world.specs.Step.{is_text, is_valid_state, is_due, takes, legal, step, with_new, stored_of, stored_rows, written_to}
-use Rattle.rx_world.specs.Valid.{AreValid, AllValid}
+use Rattle.rx_world.specs.Valid.{AreValid, AllValid, AreDistinct}
 use Rattle.rx_world.specs.World.{World, empty}
-use Rattle.rx_world.proofs.Looked.{all_put_named, all_change_named}
-use Rattle.rx_world.proofs.Steps.{nothing, rows_go}
+use Rattle.rx_world.proofs.Looked.{all_put_named, all_change_named, distinct_put_named}
+use Rattle.rx_world.proofs.Steps.{nothing, rows_go, rows_names}
 use Rattle.rx_world.proofs.Turns.{takes_parts}
 
 -- ---- a collection
@@ -85,3 +87,21 @@ valid_step (rows name lwt written) w is valid =
     let same : to.held ≡ c = let there = to.named in cc in
     valid_taken lwt written c (subst (λ x. takes lwt written x ≡ true) same to.taken) here) valid
 valid_step (epoch number) w is valid = valid
+
+-- ---- names
+
+-- no name comes twice in the empty world
+pub distinct_empty : AreDistinct empty
+unfolding IsDistinct
+distinct_empty = tt
+
+-- a record leaves names that come once
+pub distinct_step : (entry : Content) (w : World) → AreDistinct w → AreDistinct (step entry w)
+distinct_step (collection name schema) w distinct =
+    elim (schema_in schema) as (λ o. IsDistinct bytes_eq (keys_of (with_new name o w.collections))) [
+      | None ↦ distinct
+      | Some s ↦ distinct_put_named w.collections name (held_with name s []) distinct
+    ]
+distinct_step (rows name lwt written) w distinct =
+    subst (IsDistinct bytes_eq) (sym (rows_names name lwt written w)) distinct
+distinct_step (epoch number) w distinct = distinct

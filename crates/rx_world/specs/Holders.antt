@@ -2,10 +2,13 @@
 use Rattle.std.specs.Prelude.{◌≡◌, ℕ, List, Bool, false, String, string_bytes}
 use Rattle.std.specs.declared.alloc.Global.{Global}
 use Rattle.std.specs.List.{AllByRecursion}
-use Rattle.rx_value.specs.Named.{by_name, by_bytes}
+use Rattle.rx_value.specs.Named.{by_name, by_bytes, put_named, change_named}
+use Rattle.rx_document.specs.declared.stored.Stored.{Stored}
 use Rattle.rx_collection.specs.Held.{Held}
 use Rattle.rx_collection.specs.Lawful.{IsLawful}
-use Rattle.rx_world.specs.Valid.{AllValid}
+use Rattle.rx_record.specs.Content.{Content, collection, rows, epoch}
+use Rattle.rx_world.specs.Step.{stored_rows}
+use Rattle.rx_world.specs.Valid.{AllValid, AreDistinct}
 use Rattle.rx_world.specs.World.{World, world_with}
 use Rattle.rx_world.specs.declared.parts.Parts.{Parts}
 
@@ -33,11 +36,23 @@ pub record IsWhole {H : Type 0} (held : H → Held) (broken : H → Bool) (name 
 abbrev pub AreWhole : {H : Type 0} → (H → Held) → (H → Bool) → List (String Global × H) → Type 0
 AreWhole held broken es = AllByRecursion (λ e. IsWhole held broken (string_bytes e.0) e.1) es
 
--- each holder is so, and the fields of their documents are valid
+-- each holder is so, the fields of their documents are valid, and no name comes twice
 pub record AreSound {H : Type 0} (held : H → Held) (broken : H → Bool) (h : Holders H) : Type 0 where
   pub whole : AreWhole held broken h.entries
   pub valid : AllValid (world_in held h)
+  pub distinct : AreDistinct (world_in held h)
 
 -- the holders by the bytes of their names
 abbrev pub holders_in : {H : Type 0} → Holders H → List (List ℕ × H)
 holders_in h = by_bytes h.entries
+
+-- What a record makes of holders: a new one comes, the one of the name is what it is after the rows,
+-- or all stay.
+abbrev pub After : {H : Type 0} → (H → Held) → (H → List Stored → H) → (H → Type 0) → Content
+    → Holders H → Holders H → Type 0
+After {H} held written IsNew (collection name schema) old new =
+    (h : H) × IsNew h × (holders_in new ≡ put_named (holders_in old) name h)
+After held written IsNew (rows name lwt written_rows) old new =
+    holders_in new ≡ change_named (holders_in old) name
+    (λ h. written h (stored_rows (held h).name lwt written_rows))
+After held written IsNew (epoch number) old new = holders_in new ≡ holders_in old

@@ -1,6 +1,8 @@
--- Documents whose fields are valid.
+-- What holds of a world that records made.
 use Rattle.std.specs.Prelude.{◌≡◌, None}
-use Rattle.std.specs.List.{AllByRecursion}
+use Rattle.std.specs.List.{AllByRecursion, IsDistinct}
+use Rattle.std.specs.Map.{keys_of}
+use Rattle.std.specs.Str.{bytes_eq}
 use Rattle.rx_schema.specs.Validity.{first_fault}
 use Rattle.rx_collection.specs.Held.{Held}
 use Rattle.rx_world.specs.World.{World}
@@ -8,6 +10,10 @@ use Rattle.rx_world.specs.World.{World}
 -- the fields of each document of a collection are valid by its schema
 abbrev pub AreValid : Held → Type 0
 AreValid c = AllByRecursion (λ e. first_fault c.schema e.1.state.fields ≡ None) c.documents
+
+-- no name of a collection comes twice
+abbrev pub AreDistinct : World → Type 0
+AreDistinct w = IsDistinct bytes_eq (keys_of w.collections)
 
 -- the same in each collection
 abbrev pub AllValid : World → Type 0

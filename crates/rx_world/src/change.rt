@@ -1,8 +1,10 @@
-ghost use Rattle.std.specs.Prelude.{◌≡◌, true, false, OnOk, IfOk, IsErrOf};
+ghost use Rattle.std.specs.Prelude.{◌≡◌, true, false, Ok, OnOk, IfOk, IsErrOf};
+ghost use Rattle.std.specs.Option.{ForSome};
+ghost use Rattle.rx_collection.specs.Held.{Held};
 ghost use Rattle.rx_record.specs.Shown.{content};
 ghost use Rattle.rx_record.specs.Writable.{IsOrdered};
-ghost use Rattle.rx_world.specs.Holders.{AreWhole, holders_of, world_in};
-ghost use Rattle.rx_value.specs.Named.{by_name};
+ghost use Rattle.rx_world.specs.Holders.{After, AreWhole, holders_of, world_in};
+ghost use Rattle.rx_value.specs.Named.{by_bytes, by_name, put_named};
 ghost use Rattle.rx_world.specs.Schema.{schema_in};
 ghost use Rattle.rx_world.specs.Step.{step, legal, with_new};
 
@@ -33,6 +35,9 @@ pub(crate) fn change<H: Holder + Drop, F: Fn(Collection) -> Result<H, AllocError
         ≡ step (content entry) (world_in H.held (holders_of parts.old)))
         × (legal (content entry) (world_in H.held (holders_of parts.old)) ≡ true)) }
     ensures whole { OnOk result (AreWhole H.held H.is_broken parts.new.holders.entries) }
+    ensures holders { OnOk result (After H.held H.written
+        (λ h. (c : Held) × F.post make.now c (Ok h)) (content entry)
+        (holders_of parts.old) (holders_of parts.new)) }
     ensures illegal { IsErrOf result ApplyFault.Illegal
         → legal (content entry) (world_in H.held (holders_of parts.old)) ≡ false }
 {
@@ -65,6 +70,9 @@ fn add_collection<H: Holder + Drop, F: Fn(Collection) -> Result<H, AllocError>>(
     requires whole { AreWhole H.held H.is_broken holders.old.entries }
     ensures held { OnOk result (by_name H.held holders.new.entries
         ≡ with_new name (schema_in schema.now) (by_name H.held holders.old.entries)) }
+    ensures made { ForSome (schema_in schema.now) (λ s. OnOk result ((h : H)
+        × ((c : Held) × F.post make.now c (Ok h))
+        × (by_bytes holders.new.entries ≡ put_named (by_bytes holders.old.entries) name h))) }
     ensures whole { OnOk result (AreWhole H.held H.is_broken holders.new.entries) }
 {
     let Some(schema) = schema_in(alloc, schema)? else {

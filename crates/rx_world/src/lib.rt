@@ -8,6 +8,7 @@ mod legality;
 mod names;
 mod parts;
 mod rows;
+mod same;
 mod schema_text;
 mod world;
 

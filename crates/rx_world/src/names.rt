@@ -32,6 +32,8 @@ pub(crate) fn add<H: Holder + Drop>(
     requires { IsWhole H.held H.is_broken (string_bytes name) holder }
     ensures held { OnOk result (by_name H.held holders.new.entries
         ≡ put_named (by_name H.held holders.old.entries) (string_bytes name) (H.held holder)) }
+    ensures holders { OnOk result (by_bytes holders.new.entries
+        ≡ put_named (by_bytes holders.old.entries) (string_bytes name) holder) }
     ensures whole { AreWhole H.held H.is_broken holders.old.entries
         → OnOk result (AreWhole H.held H.is_broken holders.new.entries) }
 {
@@ -52,6 +54,9 @@ pub(crate) fn write<H: Holder>(
         (λ c. AreNext c (stored_rows c.name lwt rows.items)) }
     ensures held { OnOk result (by_name H.held holders.new.entries
         ≡ change_named (by_name H.held holders.old.entries) name.now (written_to lwt rows.items)) }
+    ensures holders { OnOk result (by_bytes holders.new.entries
+        ≡ change_named (by_bytes holders.old.entries) name.now
+        (λ h. H.written h (stored_rows (H.held h).name lwt rows.items))) }
     ensures whole { OnOk result (AreWhole H.held H.is_broken holders.new.entries) }
 {
     match holders.get_mut(name) {
@@ -70,6 +75,8 @@ fn write_to<H: Holder>(
     requires next { AreNext (H.held holder.old)
         (stored_rows (H.held holder.old).name lwt rows.items) }
     ensures held { OnOk result (H.held holder.new ≡ written_to lwt rows.items (H.held holder.old)) }
+    ensures written { OnOk result (holder.new
+        ≡ H.written holder.old (stored_rows (H.held holder.old).name lwt rows.items)) }
     ensures whole { OnOk result (H.is_broken holder.new ≡ false) }
 {
     let rows = stored_rows(alloc, holder.collection().name(), lwt, rows)?;

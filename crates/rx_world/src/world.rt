@@ -1,18 +1,20 @@
-ghost use Rattle.std.specs.Prelude.{◌≡◌, ◌<◌, true, false, length, map, Some, None, IfOk, IfSome, IfNone, IsErrOf, IsSome, option_map};
+ghost use Rattle.std.specs.Prelude.{◌≡◌, ◌<◌, true, false, length, map, Some, None, Ok, IfOk, IfSome, IfNone, IsErrOf, IsSome, option_map};
+ghost use Rattle.std.specs.Bool.{Decides};
 ghost use Rattle.std.specs.Fn.{FnOnceTakesAtMut};
 ghost use Rattle.std.specs.List.{AllByRecursion, IsDistinct};
 ghost use Rattle.std.specs.Option.{ForSome};
 ghost use Rattle.std.specs.Str.{bytes_eq};
 ghost use Rattle.rx_value.specs.Named.{named};
+ghost use Rattle.rx_collection.specs.Held.{Held};
 ghost use Rattle.rx_collection.specs.Lawful.{IsLawful};
 ghost use Rattle.rx_record.specs.Shown.{content};
 ghost use Rattle.rx_record.specs.Writable.{IsOrdered};
 ghost use Rattle.rx_world.specs.Commit.{IsValidState, commit};
 ghost use Rattle.rx_world.specs.Edit.{Edited, Leaves, LeavesWhole};
-ghost use Rattle.rx_world.specs.Holders.{IsWhole, holders_in, world_in};
+ghost use Rattle.rx_world.specs.Holders.{After, IsWhole, holders_in, world_in};
 ghost use Rattle.rx_world.specs.Lawful.{IsLawfulWorld};
 ghost use Rattle.rx_world.specs.Step.{step, legal};
-ghost use Rattle.rx_world.specs.Valid.{AreValid};
+ghost use Rattle.rx_world.specs.Valid.{AreValid, AreDistinct};
 ghost use Rattle.rx_world.specs.World.{empty};
 
 use crate::change::change;
@@ -21,6 +23,7 @@ use crate::legality::is_legal;
 use crate::names::{edit, find};
 use crate::parts::Parts;
 use crate::rows::commit_to;
+use crate::same::hold_same;
 use indexmap::IndexMap;
 use rx_collection::{Collection, Holder};
 use rx_record::Record;
@@ -67,6 +70,8 @@ impl<H: Holder + Drop> World<H> {
     pub fn len(&self) -> usize
         ensures count { result ≡ length (world_in H.held self.now).collections }
         ensures lawful { IsLawfulWorld (world_in H.held self.now) }
+        ensures whole { AllByRecursion (λ e. IsWhole H.held H.is_broken e.0 e.1) (holders_in self.now) }
+        ensures distinct { AreDistinct (world_in H.held self.now) }
     {
         self.parts.holders.len()
     }
@@ -123,12 +128,32 @@ impl<H: Holder + Drop> World<H> {
         ensures ok { IfOk result (λ world. (world_in H.held world
             ≡ step (content entry) (world_in H.held self))
             × (legal (content entry) (world_in H.held self) ≡ true)) }
+        ensures holders { IfOk result (λ world. After H.held H.written
+            (λ h. (c : Held) × F.post make.now c (Ok h)) (content entry) self world) }
         ensures illegal { IsErrOf result ApplyFault.Illegal
             → legal (content entry) (world_in H.held self) ≡ false }
     {
         let mut parts = self.parts;
         change(&mut parts, alloc, entry, make)?;
         Ok(World { parts })
+    }
+
+    /// Whether the collections are those of the other world, in the same order. So a journal that
+    /// was opened again is compared with the world that wrote it. The epoch is left aside.
+    pub fn has_same(&self, other: &World<H>) -> bool
+        ensures { Decides result ((world_in H.held self.now).collections
+            ≡ (world_in H.held other.now).collections) }
+    {
+        hold_same(&self.parts.holders, &other.parts.holders)
+    }
+
+    /// The holders, in the order of their making.
+    pub fn release(self, alloc: Global) -> Result<Vec<H>, AllocError>
+        ensures holders { IfOk result (λ all. all.items ≡ map (λ e. e.1) (holders_in self)) }
+        ensures whole { AllByRecursion (λ e. IsWhole H.held H.is_broken e.0 e.1) (holders_in self) }
+        ensures distinct { AreDistinct (world_in H.held self) }
+    {
+        self.parts.holders.into_values().collect(alloc)
     }
 
     /// The record that writes states to a collection, above all that it holds. Nothing is changed:

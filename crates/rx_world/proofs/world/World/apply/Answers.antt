@@ -1,8 +1,8 @@
 use Rattle.std.proofs.Common.{sym, subst}
 use Rattle.rx_record.specs.Shown.{content}
 use Rattle.rx_world.specs.Holders.{holders_of, world_in}
-use Rattle.rx_world.specs.Valid.{AllValid}
-use Rattle.rx_world.proofs.Valid.{valid_step}
+use Rattle.rx_world.specs.Valid.{AllValid, AreDistinct}
+use Rattle.rx_world.proofs.Valid.{valid_step, distinct_step}
 use Rattle.rx_world.proofs.world.World.apply.Goals as goal
 
 pub invariant_of-result : goal.invariant_of-result
@@ -13,4 +13,6 @@ invariant_of-result g c =
       whole = made.whole;
       valid = subst AllValid (sym made.ok.0)
           (valid_step (content c.args.entry) old made.ok.1 c.self.invariant.valid);
+      distinct = subst AreDistinct (sym made.ok.0)
+          (distinct_step (content c.args.entry) old c.self.invariant.distinct);
     }
