@@ -10,8 +10,11 @@ use Rattle.rx_schema.specs.declared.fault.SchemaFault.TheVariants as schema
 use Rattle.rx_selector.specs.declared.fault.SelectorFault.TheVariants as selector
 use Rattle.rx_query.specs.declared.fault.QueryFault.TheVariants as query
 use Rattle.rx_script.specs.declared.fault.LineFault.TheVariants as line
-use Rattle.rx_reply.specs.Answer.{collection, insert, bulk, get, find, count, tick, refused}
+use Rattle.rx_table.specs.declared.action.Action.TheVariants.{InsertFirst, InsertAtSortPosition, RunFullQueryAgain}
+use Rattle.rx_observe.specs.Counts.{no_counts, counted}
+use Rattle.rx_reply.specs.Answer.{collection, insert, bulk, get, find, count, unobserve, explain, tick, restart, refused}
 use Rattle.rx_reply.specs.Emission.{emission_line}
+use Rattle.rx_reply.specs.Explain.{named_actions}
 use Rattle.rx_reply.specs.Reply.{answer_line}
 use Rattle.rx_reply.specs.declared.refusal.Cause.TheVariants as cause
 use Rattle.rx_reply.specs.declared.refusal.DocumentFault.TheVariants.{Fields, Invalid, Key, Conflict}
@@ -64,6 +67,33 @@ rows_counted = refl
 clock_set : answer_line 7 tick ≡ ended (codes "{\"line\":7,\"ok\":\"tick\"}")
 unfolding serde_json_on_literals digits
 clock_set = refl
+
+no_more_observed : answer_line 8 unobserve ≡ ended (codes "{\"line\":8,\"ok\":\"unobserve\"}")
+unfolding serde_json_on_literals digits
+no_more_observed = refl
+
+inserted_first : answer_line 5 (explain (counted InsertFirst no_counts))
+    ≡ ended (codes "{\"actions\":{\"insertFirst\":1},\"changes\":1,\"full\":0,\"line\":5,\"ok\":\"explain\"}")
+unfolding serde_json_on_literals digits named_actions
+inserted_first = refl
+
+counted_by_name : answer_line 11
+    (explain (counted InsertFirst (counted RunFullQueryAgain (counted InsertAtSortPosition
+    (counted InsertFirst no_counts)))))
+    ≡ ended (codes "{\"actions\":{\"insertAtSortPosition\":1,\"insertFirst\":2,\"runFullQueryAgain\":1},"
+    ++ codes "\"changes\":4,\"full\":1,\"line\":11,\"ok\":\"explain\"}")
+unfolding serde_json_on_literals digits named_actions
+counted_by_name = refl
+
+nothing_counted : answer_line 9 (explain no_counts)
+    ≡ ended (codes "{\"actions\":{},\"changes\":0,\"full\":0,\"line\":9,\"ok\":\"explain\"}")
+unfolding serde_json_on_literals digits named_actions
+nothing_counted = refl
+
+epoch_begun : answer_line 10 (restart 2)
+    ≡ ended (codes "{\"epoch\":2,\"line\":10,\"ok\":\"restart\"}")
+unfolding serde_json_on_literals digits
+epoch_begun = refl
 
 no_json : answer_line 1 (refused (Line line.NotJson))
     ≡ ended (codes "{\"code\":2,\"line\":1,\"refused\":\"not_json\"}")

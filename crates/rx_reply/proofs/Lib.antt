@@ -1,2 +1,3 @@
+mod Counted
 mod Examples
 pub mod Floats

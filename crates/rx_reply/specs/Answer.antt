@@ -3,12 +3,14 @@ use Rattle.std.specs.Prelude.{ℕ, List, map, Bool}
 use Rattle.std.specs.Borrow.{Bor}
 use Rattle.rx_value.specs.Fields.{Pairs}
 use Rattle.rx_document.specs.declared.stored.Stored.{Stored}
+use Rattle.rx_observe.specs.declared.counts.Counts.{Counts}
 use Rattle.rx_reply.specs.declared.refusal.Refusal.{Refusal}
 use Rattle.rx_reply.specs.declared.reply.Reply.{Reply}
-use Rattle.rx_reply.specs.declared.reply.Reply.TheVariants.{Collection, Insert, Upsert, Patch, Remove, Bulk, Get, Find, Count, Observe, Tick, Refused}
+use Rattle.rx_reply.specs.declared.reply.Reply.TheVariants.{Collection, Insert, Upsert, Patch, Remove, Bulk, Get, Find, Count, Observe, Unobserve, Explain, Tick, Restart, Refused}
 
 -- a collection is there, new or not; a document is written; documents are written, read, found,
--- counted; a query is observed; the clock is set; or the line is refused
+-- counted; a query is observed, no more observed, explained; the clock is set; an epoch begins; or
+-- the line is refused
 pub data Answer : Type 0 where
   collection : Bool → Answer
   insert : List ℕ → Answer
@@ -20,14 +22,17 @@ pub data Answer : Type 0 where
   find : List Pairs → Answer
   count : ℕ → Answer
   observe : Answer
+  unobserve : Answer
+  explain : Counts → Answer
   tick : Answer
+  restart : ℕ → Answer
   refused : Refusal → Answer
 
 -- the fields of lent documents
 abbrev pub rows_of : List (Bor Stored) → List Pairs
 rows_of = map (λ d. d.now.state.fields)
 
--- the answer of a reply, which lends documents
+-- the answer of a reply, which lends documents and counts
 abbrev pub said : Reply → Answer
 said (Collection new) = collection new
 said (Insert rev) = insert rev
@@ -39,5 +44,8 @@ said (Get doc) = get doc.now
 said (Find rows) = find (rows_of rows.items)
 said (Count n) = count n
 said Observe = observe
+said Unobserve = unobserve
+said (Explain counts) = explain counts.now
 said Tick = tick
+said (Restart epoch) = restart epoch
 said (Refused refusal) = refused refusal

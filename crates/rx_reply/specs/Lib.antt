@@ -1,5 +1,6 @@
 pub mod Answer
 pub mod Writing
 pub mod Form
+pub mod Explain
 pub mod Reply
 pub mod Emission

@@ -3,7 +3,8 @@ use Rattle.std.specs.Prelude.{ℕ, List, codes, Bool, true, false}
 use Rattle.serde_json.specs.Data.{Data, boolean, string, object, Members, no_members, member}
 use Rattle.rx_value.specs.Writing.{fields_data}
 use Rattle.rx_document.specs.Revision.{revision_text}
-use Rattle.rx_reply.specs.Answer.{Answer, collection, insert, upsert, patch, remove, bulk, get, find, count, observe, tick, refused}
+use Rattle.rx_reply.specs.Answer.{Answer, collection, insert, upsert, patch, remove, bulk, get, find, count, observe, unobserve, explain, tick, restart, refused}
+use Rattle.rx_reply.specs.Explain.{explain_data}
 use Rattle.rx_reply.specs.Form.{form_of, form_data}
 use Rattle.rx_reply.specs.Writing.{number_data, list_data, output_line}
 
@@ -41,7 +42,12 @@ answer_data line (count n) = object
     (member (codes "count") (number_data n)
     (member (codes "line") (number_data line) (ok_members (codes "count") no_members)))
 answer_data line observe = line_object line (ok_members (codes "observe") no_members)
+answer_data line unobserve = line_object line (ok_members (codes "unobserve") no_members)
+answer_data line (explain counts) = explain_data line counts
 answer_data line tick = line_object line (ok_members (codes "tick") no_members)
+answer_data line (restart epoch) = object
+    (member (codes "epoch") (number_data epoch)
+    (member (codes "line") (number_data line) (ok_members (codes "restart") no_members)))
 answer_data line (refused refusal) = form_data line (form_of refusal)
 
 abbrev pub answer_line : ℕ → Answer → List ℕ

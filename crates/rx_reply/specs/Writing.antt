@@ -16,6 +16,11 @@ abbrev pub optional_member : List ℕ → Option Data → Members → Members
 optional_member name None more = more
 optional_member name (Some d) more = member name d more
 
+-- the members with these data at a name, where there are any
+abbrev pub with_data : List ℕ → Option Data → Members → Members
+with_data name None ms = ms
+with_data name (Some d) ms = put name d ms
+
 -- the members with a text at a name, where there is one
 abbrev pub with_text : List ℕ → Option (List ℕ) → Members → Members
 with_text name None ms = ms

@@ -2,6 +2,7 @@
 #![tactic(auto)]
 
 mod emission;
+mod explain;
 mod form;
 mod refusal;
 mod reply;

@@ -5,9 +5,11 @@ ghost use Rattle.rx_reply.specs.Answer as answer;
 ghost use Rattle.rx_reply.specs.Answer.{said, rows_of};
 ghost use Rattle.rx_reply.specs.Reply.{line_object, ok_members, written_data, answer_data, answer_line, is_refusal};
 
+use crate::explain::explain_json;
 use crate::refusal::Refusal;
 use crate::writing::{output_line, rows_json, texts_json};
 use rx_document::Stored;
+use rx_observe::Counts;
 use rx_value::{RxText, fields_json};
 use serde_json::{Value as Json, json};
 use std::alloc::{AllocError, Global};
@@ -27,7 +29,13 @@ pub enum Reply<'a> {
     Find { rows: Vec<&'a Stored> },
     Count { count: u64 },
     Observe,
+    /// The query's rows are printed no more.
+    Unobserve,
+    /// How the changes since the query was observed were answered, also before a restart.
+    Explain { counts: &'a Counts },
     Tick,
+    /// The epoch that begins.
+    Restart { epoch: u64 },
     Refused(Refusal),
 }
 
@@ -60,7 +68,10 @@ impl Reply<'_> {
             Reply::Find { rows } => find_json(alloc, number, rows.as_slice()),
             Reply::Count { count } => count_json(alloc, number, *count),
             Reply::Observe => plain_json(alloc, number, "observe"),
+            Reply::Unobserve => plain_json(alloc, number, "unobserve"),
+            Reply::Explain { counts } => explain_json(alloc, number, counts),
             Reply::Tick => plain_json(alloc, number, "tick"),
+            Reply::Restart { epoch } => restart_json(alloc, number, *epoch),
             Reply::Refused(refusal) => refusal.form().json(alloc, number),
         }
     }
@@ -116,4 +127,10 @@ fn count_json(alloc: Global, number: u64, count: u64) -> Result<Json, AllocError
     ensures { IfOk result (λ j. view j ≡ answer_data number (answer.count count)) }
 {
     json!(in alloc; {"count": count, "line": number, "ok": "count"})
+}
+
+fn restart_json(alloc: Global, number: u64, epoch: u64) -> Result<Json, AllocError>
+    ensures { IfOk result (λ j. view j ≡ answer_data number (answer.restart epoch)) }
+{
+    json!(in alloc; {"epoch": epoch, "line": number, "ok": "restart"})
 }
