@@ -1,0 +1,9 @@
+pub mod Places
+pub mod Writing
+pub mod Showing
+pub mod Adding
+pub mod Dropping
+pub mod Moving
+pub mod Settling
+pub mod Editing
+pub mod Carrying

@@ -1,0 +1,361 @@
+-- What a line makes of a session: its collections with their queries, and the places of all.
+use Rattle.std.proofs.Common.{◌≡◌, ℕ, true, false, not, Option, Some, None, List, [], ◌∷◌, ◌++◌, map, filter, Result, Ok, Err, refl, sym, ap, ◌∙◌, subst, IfOk}
+use Rattle.std.specs.List.{AllByRecursion, IsDistinct, flat_map, list_any}
+use Rattle.std.specs.Map.{keys_of}
+use Rattle.std.specs.Str.{bytes_eq}
+use Rattle.rx_value.specs.Named.{named}
+use Rattle.rx_query.specs.Asked.{Asked}
+use Rattle.rx_record.specs.Content.{Content, collection, rows, epoch}
+use Rattle.rx_observe.specs.Observing.{Observing, hear}
+use Rattle.rx_world.specs.Holders.{Holders, holders_in}
+use Rattle.rx_world.specs.Step.{step, legal, stored_rows}
+use Rattle.rx_world.specs.Valid.{AreDistinct}
+use Rattle.rx_world.specs.World.{world_with}
+use Rattle.rx_world.proofs.Looked.{all_change_named, all_put_named, keys-change_named}
+use Rattle.rx_world.proofs.Valid.{distinct_step}
+use Rattle.rx_session.specs.Applied.{IsAfter, coll_written, with_written, settled_in, lines_in, unobserved, watched_in}
+use Rattle.rx_session.specs.Doing.{after, heard, newly_observed, has_key, set_clock, write, watch, unwatch}
+use Rattle.rx_session.specs.Emissions.{emissions, emission_due, settled, settled_query}
+use Rattle.rx_session.specs.Lives.{with_query}
+use Rattle.rx_session.specs.Placed.{ArePlaced, AreQuietBut, AreUnwatched, IsQuiet, Lives, place_named, queries_of, world_of}
+use Rattle.rx_session.specs.Session.{Session, is_observed}
+use Rattle.rx_session.specs.declared.place.Place.{Place}
+use Rattle.rx_session.proofs.Places.{any-queries_of, colls, distinct_in, world_colls}
+use Rattle.rx_session.proofs.Writing.{heard_queries, placed_after, quiet_after, quiet_but}
+use Rattle.rx_session.proofs.Showing.{lines_of_one, quiet_lines, quiet_queries, settled_all_quiet, settled_colls, settled_placed, settled_queries}
+use Rattle.rx_session.proofs.Adding.{added_colls, added_placed, added_queries, added_quiet, place_in}
+use Rattle.rx_session.proofs.Dropping.{all_in_first, dropped_colls, dropped_placed, dropped_queries, dropped_quiet, none_found, rest_of, undropped_placed, undropped_queries}
+
+-- ---- where no query is observed
+
+-- none is after a record
+pub unwatched_after : (content : Content) (ls new : Lives) → IsAfter content ls new
+    → AreUnwatched ls → AreUnwatched new
+unwatched_after (collection name schema) ls new after none =
+    subst AreUnwatched (sym after.2)
+    (all_put_named (λ n (l : Observing). l.queries ≡ []) ls name after.0 after.1 none)
+unwatched_after (rows name lwt written) ls new after none =
+    subst AreUnwatched (sym after)
+    (all_change_named (λ n (l : Observing). l.queries ≡ []) ls name (with_written lwt written)
+    (λ l at here. ap (map (λ q.
+    (q.0, hear l.collection (stored_rows l.collection.name lwt written) q.1))) here) none)
+unwatched_after (epoch number) ls new after none = subst AreUnwatched (sym after) none
+
+-- the same of what may have failed
+pub unwatched_in : {W E : Type 0} (lives : W → Lives) (content : Content) (ls : Lives) (made : Result W E)
+    → IfOk made (λ w. IsAfter content ls (lives w)) → AreUnwatched ls
+    → IfOk made (λ w. AreUnwatched (lives w))
+unwatched_in lives content ls (Ok w) after none = unwatched_after content ls (lives w) after none
+unwatched_in lives content ls (Err e) after none = tt
+
+-- ---- sessions
+
+-- a session by its parts
+abbrev pub session_of : Holders Observing → ℕ → List Place → Session
+session_of h moment ps =
+    record { world = world_of h; moment = moment; queries = queries_of (holders_in h) ps }
+
+-- worlds of the same collections and the same epoch
+pub same_world : (h g : Holders Observing) → colls (holders_in h) ≡ colls (holders_in g)
+    → h.epoch ≡ g.epoch → world_of h ≡ world_of g
+same_world h g same epochs =
+    ap (λ cs. world_with cs h.epoch) (world_colls h ∙ same ∙ sym (world_colls g))
+    ∙ ap (world_with (world_of g).collections) epochs
+
+module _ (h : Holders Observing) (ps : List Place) (quiet : AllByRecursion IsQuiet (holders_in h))
+  where
+    -- where all is quiet, all is settled
+    pub all_settled : map (settled_query (world_of h)) (queries_of (holders_in h) ps)
+        ≡ queries_of (holders_in h) ps
+    all_settled = quiet_queries (world_of h) (holders_in h) (world_colls h) ps quiet
+
+    -- and nothing is to be emitted
+    pub none_due : flat_map (emission_due (world_of h)) (queries_of (holders_in h) ps) ≡ []
+    none_due = quiet_lines (world_of h) (holders_in h) (world_colls h) ps quiet
+
+    -- so it is at another moment
+    pub at_session : (moment at : ℕ)
+        → session_of h at ps ≡ settled (after (set_clock at) (session_of h moment ps))
+    at_session moment at =
+        ap (λ qs. record { world = world_of h; moment = at; queries = qs }) (sym all_settled)
+
+-- ---- after a record
+
+-- a record was applied to settled collections, and the emissions that are due were written
+pub record IsWritten (content : Content) (old new last : Holders Observing) (ps : List Place)
+    : Type 0 where
+  pub placed : ArePlaced (holders_in old) ps
+  pub distinct : AreDistinct (world_of old)
+  pub quiet : AllByRecursion IsQuiet (holders_in old)
+  pub allowed : legal content (world_of old) ≡ true
+  pub stepped : world_of new ≡ step content (world_of old)
+  pub applied : IsAfter content (holders_in old) (holders_in new)
+  pub emitted : holders_in last ≡ settled_in (coll_written content) (holders_in new)
+  pub epochs : last.epoch ≡ new.epoch
+
+module _ (content : Content) (old new last : Holders Observing) (moment : ℕ) (ps : List Place)
+    (so : IsWritten content old new last ps) where
+  -- all are in their places
+  placed_then : ArePlaced (holders_in new) ps
+  placed_then =
+      placed_after content (world_of old) (holders_in old) (holders_in new) ps (world_colls old) so.placed
+      so.allowed so.applied
+
+  -- the queries have heard of the record
+  heard_then : queries_of (holders_in new) ps
+      ≡ map (heard (world_of old) content) (queries_of (holders_in old) ps)
+  heard_then =
+      heard_queries content (world_of old) (holders_in old) (holders_in new) ps (world_colls old) so.placed
+      so.allowed so.applied
+
+  -- no name of a collection comes twice
+  distinct_then : AreDistinct (world_of new)
+  distinct_then = subst AreDistinct (sym so.stepped) (distinct_step content (world_of old) so.distinct)
+
+  -- all is quiet where no documents are written
+  quiet_then : coll_written content ≡ None → AllByRecursion IsQuiet (holders_in new)
+  quiet_then is = quiet_after content (holders_in old) (holders_in new) is so.applied so.quiet
+
+  -- and all others are where some are
+  quiet_others : (coll : List ℕ) → coll_written content ≡ Some coll
+      → AreQuietBut coll (holders_in new)
+  quiet_others coll is = quiet_but content coll (holders_in old) (holders_in new) is so.applied so.quiet
+
+  -- the lines are those of the collection whose documents were written
+  lines_by : (o : Option (List ℕ)) → coll_written content ≡ o
+      → lines_in o (holders_in new)
+      ≡ flat_map (emission_due (world_of new)) (queries_of (holders_in new) ps)
+  lines_by None is = sym (none_due new ps (quiet_then is))
+  lines_by (Some coll) is =
+      sym (lines_of_one (world_of new) (holders_in new) (world_colls new) coll (quiet_others coll is) ps
+      placed_then)
+
+  pub written_lines : lines_in (coll_written content) (holders_in new)
+      ≡ emissions (after (write content) (session_of old moment ps))
+  written_lines =
+      lines_by (coll_written content) refl
+      ∙ ap (λ qs. flat_map (emission_due (world_of new)) qs) heard_then
+      ∙ ap (λ w. flat_map (emission_due w)
+      (map (heard (world_of old) content) (queries_of (holders_in old) ps))) so.stepped
+
+  -- once they are emitted
+  queries_by : (o : Option (List ℕ)) → coll_written content ≡ o
+      → queries_of (settled_in o (holders_in new)) ps
+      ≡ map (settled_query (world_of new)) (queries_of (holders_in new) ps)
+  queries_by None is = sym (all_settled new ps (quiet_then is))
+  queries_by (Some coll) is =
+      settled_queries (world_of new) (holders_in new) (world_colls new) coll (quiet_others coll is) ps
+
+  colls_by : (o : Option (List ℕ)) → colls (settled_in o (holders_in new)) ≡ colls (holders_in new)
+  colls_by None = refl
+  colls_by (Some coll) = settled_colls (holders_in new) coll
+
+  placed_by : (o : Option (List ℕ)) → ArePlaced (settled_in o (holders_in new)) ps
+  placed_by None = placed_then
+  placed_by (Some coll) = settled_placed (holders_in new) coll ps placed_then
+
+  quiet_by : (o : Option (List ℕ)) → coll_written content ≡ o
+      → AllByRecursion IsQuiet (settled_in o (holders_in new))
+  quiet_by None is = quiet_then is
+  quiet_by (Some coll) is =
+      settled_all_quiet (holders_in new) coll (distinct_in new distinct_then) (quiet_others coll is)
+
+  -- the world is that after the record
+  written_world : world_of last ≡ step content (world_of old)
+  written_world =
+      same_world last new (ap colls so.emitted ∙ colls_by (coll_written content)) so.epochs ∙ so.stepped
+
+  -- the queries have heard of it, and are settled
+  written_queries : queries_of (holders_in last) ps
+      ≡ map (settled_query (step content (world_of old)))
+      (map (heard (world_of old) content) (queries_of (holders_in old) ps))
+  written_queries =
+      ap (λ ls. queries_of ls ps) so.emitted ∙ queries_by (coll_written content) refl
+      ∙ ap (map (settled_query (world_of new))) heard_then
+      ∙ ap (λ w. map (settled_query w)
+      (map (heard (world_of old) content) (queries_of (holders_in old) ps))) so.stepped
+
+  pub written_session : session_of last moment ps
+      ≡ settled (after (write content) (session_of old moment ps))
+  written_session =
+      λ i. record { world = written_world i; moment = moment; queries = written_queries i }
+
+  pub written_placed : ArePlaced (holders_in last) ps
+  written_placed = subst (λ ls. ArePlaced ls ps) (sym so.emitted) (placed_by (coll_written content))
+
+  pub written_distinct : AreDistinct (world_of last)
+  written_distinct =
+      subst AreDistinct (sym written_world) (distinct_step content (world_of old) so.distinct)
+
+  pub written_quiet : AllByRecursion IsQuiet (holders_in last)
+  written_quiet =
+      subst (AllByRecursion IsQuiet) (sym so.emitted) (quiet_by (coll_written content) refl)
+
+-- ---- once a query is observed
+
+-- no place has a name that no query has
+pub free_place : (name : List ℕ) (h : Holders Observing) (moment : ℕ) (ps : List Place)
+    → ArePlaced (holders_in h) ps → is_observed name (session_of h moment ps) ≡ false
+    → list_any (λ p. bytes_eq name p.name) ps ≡ false
+free_place name h moment ps placed free = sym (any-queries_of name (holders_in h) ps placed) ∙ free
+
+-- a query was observed in settled collections, and the emissions that are due were written
+pub record IsWatched (name coll : List ℕ) (q : Asked) (old last : Holders Observing) (ps : List Place)
+    : Type 0 where
+  pub placed : ArePlaced (holders_in old) ps
+  pub distinct : AreDistinct (world_of old)
+  pub quiet : AllByRecursion IsQuiet (holders_in old)
+  pub free : list_any (λ p. bytes_eq name p.name) ps ≡ false
+  pub keyed : has_key q.primary (named (world_of old).collections coll) ≡ true
+  pub emitted : holders_in last ≡ settled_in (Some coll) (watched_in name coll q (holders_in old))
+  pub epochs : last.epoch ≡ old.epoch
+
+module _ (name coll : List ℕ) (q : Asked) (old last : Holders Observing) (moment : ℕ) (ps : List Place)
+    (so : IsWatched name coll q old last ps) where
+  -- the collections with the query
+  abbrev more : Lives
+  more = watched_in name coll q (holders_in old)
+
+  -- they are those of the world
+  same_then : (world_of old).collections ≡ colls more
+  same_then = world_colls old ∙ sym (added_colls (holders_in old) coll name q)
+
+  -- there is a place more
+  added_then : ArePlaced more (ps ++ place_in coll name ∷ [])
+  added_then =
+      added_placed (holders_in old) ps name coll so.placed so.free q (world_of old) (world_colls old)
+      so.keyed (distinct_in old so.distinct)
+
+  -- and a query more
+  query_then : queries_of more (ps ++ place_in coll name ∷ [])
+      ≡ queries_of (holders_in old) ps ++ newly_observed (world_of old) name coll q ∷ []
+  query_then =
+      added_queries (holders_in old) ps name coll so.placed so.free q (world_of old) (world_colls old)
+      so.keyed
+
+  -- all others are quiet
+  quiet_rest : AreQuietBut coll more
+  quiet_rest = added_quiet (holders_in old) coll name q so.quiet
+
+  -- no name of a collection comes twice
+  distinct_more : IsDistinct bytes_eq (keys_of more)
+  distinct_more =
+      subst (IsDistinct bytes_eq) (sym (keys-change_named (with_query name q) (holders_in old) coll))
+      (distinct_in old so.distinct)
+
+  pub watched_lines : lines_in (Some coll) more
+      ≡ emissions (after (watch name coll q) (session_of old moment ps))
+  watched_lines =
+      sym (lines_of_one (world_of old) more same_then coll quiet_rest (ps ++ place_in coll name ∷ [])
+      added_then)
+      ∙ ap (λ qs. flat_map (emission_due (world_of old)) qs) query_then
+
+  -- the world stays
+  watched_world : world_of last ≡ world_of old
+  watched_world =
+      same_world last old
+      (ap colls so.emitted ∙ settled_colls more coll ∙ added_colls (holders_in old) coll name q)
+      so.epochs
+
+  -- all queries are settled
+  watched_queries : queries_of (holders_in last) (ps ++ place_in coll name ∷ [])
+      ≡ map (settled_query (world_of old))
+      (queries_of (holders_in old) ps ++ newly_observed (world_of old) name coll q ∷ [])
+  watched_queries =
+      ap (λ ls. queries_of ls (ps ++ place_in coll name ∷ [])) so.emitted
+      ∙ settled_queries (world_of old) more same_then coll quiet_rest (ps ++ place_in coll name ∷ [])
+      ∙ ap (map (settled_query (world_of old))) query_then
+
+  pub watched_session : session_of last moment (ps ++ place_in coll name ∷ [])
+      ≡ settled (after (watch name coll q) (session_of old moment ps))
+  watched_session =
+      λ i. record { world = watched_world i; moment = moment; queries = watched_queries i }
+
+  pub watched_placed : ArePlaced (holders_in last) (ps ++ place_in coll name ∷ [])
+  watched_placed =
+      subst (λ ls. ArePlaced ls (ps ++ place_in coll name ∷ [])) (sym so.emitted)
+      (settled_placed more coll (ps ++ place_in coll name ∷ []) added_then)
+
+  pub watched_distinct : AreDistinct (world_of last)
+  watched_distinct = subst AreDistinct (sym watched_world) so.distinct
+
+  pub watched_quiet : AllByRecursion IsQuiet (holders_in last)
+  watched_quiet =
+      subst (AllByRecursion IsQuiet) (sym so.emitted)
+      (settled_all_quiet more coll distinct_more quiet_rest)
+
+-- ---- once a query is observed no more
+
+-- the query of a name was left out of settled collections
+pub record IsLeft (name : List ℕ) (old new : Holders Observing) (ps : List Place) : Type 0 where
+  pub placed : ArePlaced (holders_in old) ps
+  pub distinct : AreDistinct (world_of old)
+  pub quiet : AllByRecursion IsQuiet (holders_in old)
+  pub dropped : holders_in new ≡ unobserved name (place_named name ps) (holders_in old)
+  pub epochs : new.epoch ≡ old.epoch
+
+module _ (name : List ℕ) (old new : Holders Observing) (moment : ℕ) (ps : List Place)
+    (so : IsLeft name old new ps) where
+  -- by its place
+  left_colls : (o : Option Place) → colls (unobserved name o (holders_in old)) ≡ colls (holders_in old)
+  left_colls None = refl
+  left_colls (Some p) = dropped_colls (holders_in old) p.coll name
+
+  left_queries : (o : Option Place) → queries_of (unobserved name o (holders_in old)) (rest_of name ps)
+      ≡ filter (λ x. not (bytes_eq name x.name)) (queries_of (holders_in old) ps)
+  left_queries None = undropped_queries name (holders_in old) ps
+  left_queries (Some p) = dropped_queries name (holders_in old) ps p.coll
+
+  left_placed : (o : Option Place) → place_named name ps ≡ o
+      → ArePlaced (unobserved name o (holders_in old)) (rest_of name ps)
+  left_placed None is =
+      undropped_placed (holders_in old) ps name so.placed (none_found (λ p. bytes_eq name p.name) ps is)
+  left_placed (Some p) is =
+      dropped_placed (holders_in old) ps name p.coll so.placed (distinct_in old so.distinct)
+      (all_in_first name ps p so.placed.distinct is)
+
+  left_quiet : (o : Option Place) → AllByRecursion IsQuiet (unobserved name o (holders_in old))
+  left_quiet None = so.quiet
+  left_quiet (Some p) = dropped_quiet (holders_in old) p.coll name so.quiet
+
+  -- the world stays
+  without_world : world_of new ≡ world_of old
+  without_world = same_world new old (ap colls so.dropped ∙ left_colls (place_named name ps)) so.epochs
+
+  -- the other queries stay
+  without_queries : queries_of (holders_in new) (rest_of name ps)
+      ≡ filter (λ x. not (bytes_eq name x.name)) (queries_of (holders_in old) ps)
+  without_queries =
+      ap (λ ls. queries_of ls (rest_of name ps)) so.dropped ∙ left_queries (place_named name ps)
+
+  pub without_placed : ArePlaced (holders_in new) (rest_of name ps)
+  without_placed =
+      subst (λ ls. ArePlaced ls (rest_of name ps)) (sym so.dropped) (left_placed (place_named name ps) refl)
+
+  pub without_distinct : AreDistinct (world_of new)
+  without_distinct = subst AreDistinct (sym without_world) so.distinct
+
+  pub without_quiet : AllByRecursion IsQuiet (holders_in new)
+  without_quiet = subst (AllByRecursion IsQuiet) (sym so.dropped) (left_quiet (place_named name ps))
+
+  pub without_lines : emissions (after (unwatch name) (session_of old moment ps)) ≡ []
+  without_lines =
+      sym (ap (λ qs. flat_map (emission_due (world_of old)) qs) without_queries)
+      ∙ sym (ap (λ w. flat_map (emission_due w) (queries_of (holders_in new) (rest_of name ps)))
+      without_world)
+      ∙ none_due new (rest_of name ps) without_quiet
+
+  -- nothing of them is to be emitted
+  without_settled : queries_of (holders_in new) (rest_of name ps)
+      ≡ map (settled_query (world_of old))
+      (filter (λ x. not (bytes_eq name x.name)) (queries_of (holders_in old) ps))
+  without_settled =
+      sym (all_settled new (rest_of name ps) without_quiet)
+      ∙ ap (map (settled_query (world_of new))) without_queries
+      ∙ ap (λ w. map (settled_query w)
+      (filter (λ x. not (bytes_eq name x.name)) (queries_of (holders_in old) ps))) without_world
+
+  pub without_session : session_of new moment (rest_of name ps)
+      ≡ settled (after (unwatch name) (session_of old moment ps))
+  without_session =
+      λ i. record { world = without_world i; moment = moment; queries = without_settled i }

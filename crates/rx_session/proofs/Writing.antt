@@ -1,0 +1,244 @@
+-- What a record makes of the queries, of their places, and of what is to be emitted.
+use Rattle.std.proofs.Common.{◌≡◌, ◌≢◌, ℕ, true, false, cond, Bool, List, [], ◌∷◌, map, Option, Some, None, is_none, is_some, option_map, refl, sym, ap, ◌∙◌, subst, true≢false}
+use Rattle.std.proofs.lemmas.Bool.{and_parts}
+use Rattle.std.proofs.lemmas.Slice.Eq.{bytes_eq-Decides}
+use Rattle.std.specs.Prelude.{filter, option_and_then, IsSome}
+use Rattle.std.specs.List.{AllByRecursion}
+use Rattle.std.specs.Map.{keys_of}
+use Rattle.std.specs.Str.{bytes_eq}
+use Rattle.rx_value.specs.Named.{named, change_named, put_named}
+use Rattle.rx_collection.specs.Held.{Held}
+use Rattle.rx_record.specs.Content.{Content, collection, rows, epoch}
+use Rattle.rx_record.specs.declared.record.RowOut.{RowOut}
+use Rattle.rx_observe.specs.Observing.{Observing, hear}
+use Rattle.rx_observe.specs.Rows.{emissions_due}
+use Rattle.rx_observe.specs.Watched.{Watched}
+use Rattle.rx_world.specs.Step.{legal, stored_rows}
+use Rattle.rx_world.specs.World.{World}
+use Rattle.rx_world.proofs.Looked.{all_change_named, all_put_named, equal_names, named-change_other, named-change_same, named-put_other, other_names}
+use Rattle.rx_session.specs.Applied.{IsAfter, coll_written, with_written}
+use Rattle.rx_session.specs.Doing.{heard, rows_heard, with_watched}
+use Rattle.rx_session.specs.Placed.{Lives, ArePlaced, AreQuietBut, IsQuiet, names_in, queries_of, watched_at}
+use Rattle.rx_session.specs.Session.{Observed}
+use Rattle.rx_session.specs.declared.place.Place.{Place}
+use Rattle.rx_session.proofs.Places.{all_map, all_of, colls, keys-map, map_same, named-colls, named-map, observed_at, placed_changed, queries_become, queries_stay, query_at}
+
+-- ---- a new collection
+
+-- nothing there is none
+none_is : {X : Type 0} (o : Option X) → is_none o ≡ true → o ≡ None
+none_is None is = refl
+none_is (Some x) is = cc
+
+-- what makes nothing was made of nothing
+nothing_mapped : {X Y : Type 0} (f : X → Y) (o : Option X) → option_map f o ≡ None → o ≡ None
+nothing_mapped f None is = refl
+nothing_mapped f (Some x) is = cc
+
+-- the name of a legal new collection isn't held
+pub free_name : (name schema : List ℕ) (w : World) (ls : Lives) → w.collections ≡ colls ls
+    → legal (collection name schema) w ≡ true → named ls name ≡ None
+free_name name schema w ls same allowed =
+    let is = (and_parts _ _ (and_parts _ _ (and_parts _ _ allowed).0).0).1 in
+    let none : named (colls ls) name ≡ None =
+    ap (λ cs. named cs name) (sym same) ∙ none_is (named w.collections name) is in
+    nothing_mapped (λ (l : Observing). l.collection) (named ls name) (sym (named-colls ls name) ∙ none)
+
+-- a name that is held is another than one that isn't
+other_held : (ls : Lives) (name coll : List ℕ) → named ls name ≡ None → IsSome (named ls coll)
+    → coll ≢ name
+other_held ls name coll none held same =
+    true≢false (sym held ∙ ap (λ n. is_some (named ls n)) same ∙ ap is_some none)
+
+-- no place is in a collection that isn't held
+none_in : (name : List ℕ) (ps : List Place) → AllByRecursion (λ p. p.coll ≢ name) ps
+    → names_in name ps ≡ []
+none_in name [] all = refl
+none_in name (p ∷ ps) all =
+    let other = other_names name p.coll (λ same. all.0 (sym same)) in
+    ap (λ b. map (λ (q : Place). q.name)
+    (cond b (p ∷ filter (λ q. bytes_eq name q.coll) ps) (filter (λ q. bytes_eq name q.coll) ps)))
+    other ∙ none_in name ps all.1
+
+module _ (ls : Lives) (ps : List Place) (name : List ℕ) (l : Observing) (none : named ls name ≡ None)
+    (placed : ArePlaced ls ps) where
+  -- each place is in another collection
+  all_other : AllByRecursion (λ p. p.coll ≢ name) ps
+  all_other =
+      all_map (λ p. IsSome (named ls p.coll)) (λ p. p.coll ≢ name)
+      (λ p held. other_held ls name p.coll none held) ps placed.held
+
+  -- the collection of each place stays
+  new_other : (p : Place) → p.coll ≢ name
+      → named (put_named ls name l) p.coll ≡ named ls p.coll
+  new_other p other = named-put_other ls name p.coll l other
+
+  -- so do the queries
+  new_queries : queries_of (put_named ls name l) ps ≡ queries_of ls ps
+  new_queries =
+      queries_stay ls (put_named ls name l) ps
+      (all_map (λ p. p.coll ≢ name) (λ p. watched_at (put_named ls name l) p ≡ watched_at ls p)
+      (λ p other. ap (option_and_then (λ (x : Observing). named x.queries p.name)) (new_other p other))
+      ps all_other)
+
+  -- a collection without queries has no place
+  new_placed : l.queries ≡ [] → ArePlaced (put_named ls name l) ps
+  new_placed empty = record {
+    distinct = placed.distinct;
+    held = all_map (λ p. IsSome (named ls p.coll))
+        (λ p. IsSome (named (put_named ls name l) p.coll))
+        (λ p held. ap is_some (new_other p (other_held ls name p.coll none held)) ∙ held)
+        ps placed.held;
+    listed = all_put_named (λ n (x : Observing). keys_of x.queries ≡ names_in n ps) ls name l
+        (ap (λ qs. keys_of qs) empty ∙ sym (none_in name ps all_other)) placed.listed;
+  }
+
+-- ---- rows
+
+-- what is done to a query of a place
+observed_then : (f : Watched → Watched) (p : Place) (o : Option Watched)
+    → option_map (observed_at p) (option_map f o)
+    ≡ option_map (λ (x : Observed). with_watched (f x.watched) x) (option_map (observed_at p) o)
+observed_then f p None = refl
+observed_then f p (Some v) = refl
+
+module _ (w : World) (ls : Lives) (same : w.collections ≡ colls ls) (lwt : ℕ) (written : List RowOut)
+  where
+    -- the query of a place in the collection that takes the rows
+    told : (p : Place) (o : Option Observing) (c : Option Held)
+        → c ≡ option_map (λ (l : Observing). l.collection) o
+        → option_map (observed_at p)
+        (option_and_then (λ (l : Observing). named l.queries p.name)
+        (option_map (with_written lwt written) o))
+        ≡ option_map (λ (x : Observed). with_watched (rows_heard c lwt written x.watched) x)
+        (option_map (observed_at p) (option_and_then (λ (l : Observing). named l.queries p.name) o))
+    told p None c is = refl
+    told p (Some l) c is =
+        let h = hear l.collection (stored_rows l.collection.name lwt written) in
+        subst (λ (x : Option Held). option_map (observed_at p)
+        (named (map (λ (e : List ℕ × Watched). (e.0, h e.1)) l.queries) p.name)
+        ≡ option_map (λ (y : Observed). with_watched (rows_heard x lwt written y.watched) y)
+        (option_map (observed_at p) (named l.queries p.name))) (sym is)
+        (ap (option_map (observed_at p)) (named-map h l.queries p.name)
+        ∙ observed_then h p (named l.queries p.name))
+
+    -- the choice by the name
+    told_here : (p : Place) (o : Option Watched)
+        → option_map (λ (x : Observed).
+        with_watched (rows_heard (named w.collections p.coll) lwt written x.watched) x)
+        (option_map (observed_at p) o)
+        ≡ option_map (heard w (rows p.coll lwt written)) (option_map (observed_at p) o)
+    told_here p None = refl
+    told_here p (Some v) =
+        ap (λ (c : Bool). Some (cond c
+        (with_watched (rows_heard (named w.collections p.coll) lwt written v) (observed_at p v))
+        (observed_at p v))) (sym (equal_names p.coll))
+
+    -- a place in the collection of the rows
+    heard_same : (p : Place)
+        → query_at (change_named ls p.coll (with_written lwt written)) p
+        ≡ option_map (heard w (rows p.coll lwt written)) (query_at ls p)
+    heard_same p =
+        ap (λ o. option_map (observed_at p)
+        (option_and_then (λ (l : Observing). named l.queries p.name) o))
+        (named-change_same (with_written lwt written) ls p.coll)
+        ∙ told p (named ls p.coll) (named w.collections p.coll)
+        (ap (λ cs. named cs p.coll) same ∙ named-colls ls p.coll)
+        ∙ told_here p (watched_at ls p)
+
+    -- a query of another collection
+    not_told : (name : List ℕ) (p : Place) (o : Option Watched) → bytes_eq name p.coll ≡ false
+        → option_map (observed_at p) o
+        ≡ option_map (heard w (rows name lwt written)) (option_map (observed_at p) o)
+    not_told name p None other = refl
+    not_told name p (Some v) other =
+        ap (λ (c : Bool). Some (cond c
+        (with_watched (rows_heard (named w.collections name) lwt written v) (observed_at p v))
+        (observed_at p v))) (sym other)
+
+    -- a place in another collection
+    heard_other : (name : List ℕ) (p : Place) → bytes_eq name p.coll ≡ false
+        → query_at (change_named ls name (with_written lwt written)) p
+        ≡ option_map (heard w (rows name lwt written)) (query_at ls p)
+    heard_other name p other =
+        let apart : p.coll ≢ name =
+        λ is. true≢false (sym ((bytes_eq-Decides name p.coll).1 (sym is)) ∙ other) in
+        ap (λ o. option_map (observed_at p)
+        (option_and_then (λ (l : Observing). named l.queries p.name) o))
+        (named-change_other (with_written lwt written) ls name p.coll apart)
+        ∙ not_told name p (watched_at ls p) other
+
+    -- each place
+    heard_at : (name : List ℕ) (p : Place)
+        → query_at (change_named ls name (with_written lwt written)) p
+        ≡ option_map (heard w (rows name lwt written)) (query_at ls p)
+    heard_at name p =
+        elim (bytes_eq name p.coll) as (λ b. bytes_eq name p.coll ≡ b
+        → query_at (change_named ls name (with_written lwt written)) p
+        ≡ option_map (heard w (rows name lwt written)) (query_at ls p)) [
+          | true ↦ (λ is.
+              subst (λ n. query_at (change_named ls n (with_written lwt written)) p
+              ≡ option_map (heard w (rows n lwt written)) (query_at ls p))
+              (sym ((bytes_eq-Decides name p.coll).0 is)) (heard_same p))
+          | false ↦ (λ is. heard_other name p is)
+        ] refl
+
+-- ---- a record
+
+-- each query hears a record
+pub heard_queries : (content : Content) (w : World) (ls new : Lives) (ps : List Place)
+    → w.collections ≡ colls ls → ArePlaced ls ps → legal content w ≡ true → IsAfter content ls new
+    → queries_of new ps ≡ map (heard w content) (queries_of ls ps)
+heard_queries (collection name schema) w ls new ps same placed allowed after =
+    ap (λ ls. queries_of ls ps) after.2
+    ∙ new_queries ls ps name after.0 (free_name name schema w ls same allowed) placed
+    ∙ sym (map_same (heard w (collection name schema)) (λ o. refl) (queries_of ls ps))
+heard_queries (rows name lwt written) w ls new ps same placed allowed after =
+    ap (λ ls. queries_of ls ps) after
+    ∙ queries_become (heard w (rows name lwt written)) ls
+    (change_named ls name (with_written lwt written)) ps
+    (all_of _ (heard_at w ls same lwt written name) ps)
+heard_queries (epoch number) w ls new ps same placed allowed after =
+    ap (λ ls. queries_of ls ps) after
+    ∙ sym (map_same (heard w (epoch number)) (λ o. refl) (queries_of ls ps))
+
+-- all stays in its places
+pub placed_after : (content : Content) (w : World) (ls new : Lives) (ps : List Place)
+    → w.collections ≡ colls ls → ArePlaced ls ps → legal content w ≡ true → IsAfter content ls new
+    → ArePlaced new ps
+placed_after (collection name schema) w ls new ps same placed allowed after =
+    subst (λ ls. ArePlaced ls ps) (sym after.2)
+    (new_placed ls ps name after.0 (free_name name schema w ls same allowed) placed after.1)
+placed_after (rows name lwt written) w ls new ps same placed allowed after =
+    subst (λ ls. ArePlaced ls ps) (sym after)
+    (placed_changed (with_written lwt written)
+    (λ l. keys-map (hear l.collection (stored_rows l.collection.name lwt written)) l.queries)
+    ls name ps placed)
+placed_after (epoch number) w ls new ps same placed allowed after =
+    subst (λ ls. ArePlaced ls ps) (sym after) placed
+
+-- rows are heard in their collection alone, so there's nothing to be emitted of the others
+pub quiet_but : (content : Content) (coll : List ℕ) (ls new : Lives) → coll_written content ≡ Some coll
+    → IsAfter content ls new → AllByRecursion IsQuiet ls → AreQuietBut coll new
+quiet_but (collection name schema) coll ls new is after quiet = cc
+quiet_but (rows name lwt written) coll ls new is after quiet =
+    let same : name ≡ coll = cc in
+    let P = λ (n : List ℕ) (l : Observing).
+    (bytes_eq name n ≡ false → emissions_due l.collection l.queries ≡ []) in
+    let each : AllByRecursion (λ e. P e.0 e.1) ls =
+    all_map IsQuiet (λ e. P e.0 e.1) (λ e is other. is) ls quiet in
+    subst (λ n. AreQuietBut n new) same
+    (subst (AreQuietBut name) (sym after)
+    (all_change_named P ls name (with_written lwt written)
+    (λ l at was other. absurd (true≢false (sym (equal_names name) ∙ other))) each))
+quiet_but (epoch number) coll ls new is after quiet = cc
+
+-- after another record there's nothing to be emitted of any
+pub quiet_after : (content : Content) (ls new : Lives) → coll_written content ≡ None
+    → IsAfter content ls new → AllByRecursion IsQuiet ls → AllByRecursion IsQuiet new
+quiet_after (collection name schema) ls new is after quiet =
+    subst (AllByRecursion IsQuiet) (sym after.2)
+    (all_put_named (λ n (l : Observing). emissions_due l.collection l.queries ≡ []) ls name after.0
+    (ap (emissions_due after.0.collection) after.1) quiet)
+quiet_after (rows name lwt written) ls new is after quiet = cc
+quiet_after (epoch number) ls new is after quiet = subst (AllByRecursion IsQuiet) (sym after) quiet

@@ -1,0 +1,14 @@
+use Rattle.std.proofs.Common.{sym, subst}
+use Rattle.rx_world.specs.Holders.{holders_in}
+use Rattle.rx_session.specs.Placed.{ArePlaced}
+use Rattle.rx_session.proofs.Places.{bare_placed, bare_quiet}
+use Rattle.rx_session.proofs.session.Session.new.Goals as goal
+
+pub invariant_of-result : goal.invariant_of-result
+invariant_of-result c =
+    let ls = holders_in c.args.world in
+    record {
+      placed = subst (ArePlaced ls) (sym c.new.ensures.items) (bare_placed ls c.requires.unwatched);
+      distinct = c.len.ensures.distinct;
+      quiet = bare_quiet ls c.requires.unwatched;
+    }

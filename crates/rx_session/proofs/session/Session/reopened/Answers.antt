@@ -1,0 +1,42 @@
+use Rattle.std.proofs.Common.{◌≡◌, [], subst}
+use Rattle.rx_session.specs.Doing.{after, restart}
+use Rattle.rx_session.specs.Emissions.{emissions, settled}
+use Rattle.rx_session.specs.Inside.{seen}
+use Rattle.rx_session.specs.Session.{Session}
+use Rattle.rx_session.proofs.Carrying.{carried_distinct, carried_emissions, carried_placed, carried_quiet, carried_session}
+use Rattle.rx_session.proofs.session.Session.reopened.Goals as goal
+
+pub returns-in_err-carry_all-clause-emissions : goal.returns-in_err-carry_all-clause-emissions
+returns-in_err-carry_all-clause-emissions c =
+    let i = c.self.inside in
+    let number = c.args.world.epoch in
+    subst (λ (s : Session). emissions (after (restart number) s) ≡ []) c.self.view_is
+    (carried_emissions i.world i.moment number i.places.items c.self.invariant.quiet)
+
+pub invariant_of-result : goal.invariant_of-result
+invariant_of-result c =
+    let i = c.self.inside in
+    let new = c.carry_all.new.world in
+    let lives = c.in_ok-carry_all.ensures.lives in
+    record {
+      placed = carried_placed i.world new lives i.places.items c.self.invariant.placed;
+      distinct = carried_distinct i.world new lives c.self.invariant.distinct;
+      quiet = carried_quiet i.world new lives c.self.invariant.quiet;
+    }
+
+pub returns-clause-session : goal.returns-clause-session
+returns-clause-session c =
+    let i = c.self.inside in
+    let new = c.carry_all.new.world in
+    let number = c.args.world.epoch in
+    subst (λ (s : Session). seen (record { world = new; moment = i.moment; places = i.places })
+    ≡ settled (after (restart number) s)) c.self.view_is
+    (carried_session i.world i.moment number i.places.items c.self.invariant.quiet new
+    c.in_ok-carry_all.ensures.lives c.in_ok-carry_all.ensures.epoch)
+
+pub returns-clause-emissions : goal.returns-clause-emissions
+returns-clause-emissions c =
+    let i = c.self.inside in
+    let number = c.args.world.epoch in
+    subst (λ (s : Session). emissions (after (restart number) s) ≡ []) c.self.view_is
+    (carried_emissions i.world i.moment number i.places.items c.self.invariant.quiet)

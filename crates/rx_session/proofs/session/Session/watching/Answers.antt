@@ -1,0 +1,87 @@
+use Rattle.std.proofs.Common.{◌≡◌, true, false, ◌∷◌, [], ◌++◌, string_bytes, sym, ap, ◌∙◌, subst}
+use Rattle.rx_value.specs.Named.{named}
+use Rattle.rx_query.specs.Asked.{asked}
+use Rattle.rx_world.specs.Holders.{holders_in}
+use Rattle.rx_session.specs.Doing.{after, has_key, watch}
+use Rattle.rx_session.specs.Emissions.{emissions, settled}
+use Rattle.rx_session.specs.Placed.{ArePlaced}
+use Rattle.rx_session.specs.Session.{Session, is_observed}
+use Rattle.rx_session.proofs.Adding.{name_free, place_in}
+use Rattle.rx_session.proofs.Settling.{IsWatched, free_place, session_of, watched_lines, watched_session, watched_placed, watched_distinct, watched_quiet}
+use Rattle.rx_session.proofs.session.Session.watching.Goals as goal
+
+pub observe_in-requires-clause-free : goal.observe_in-requires-clause-free
+observe_in-requires-clause-free c =
+    let i = c.self.inside in
+    let w = c.args.watch in
+    name_free (holders_in i.world) i.places.items w.name w.coll c.self.invariant.placed
+    (free_place w.name i.world i.moment i.places.items c.self.invariant.placed
+    (subst (λ (s : Session). is_observed w.name s ≡ false) (sym c.self.view_is) c.requires.0))
+
+pub observe_in-requires-clause-keyed : goal.observe_in-requires-clause-keyed
+observe_in-requires-clause-keyed c =
+    let w = c.args.watch in
+    subst (λ (s : Session).
+    has_key (asked w.query).primary (named s.world.collections w.coll) ≡ true) (sym c.self.view_is)
+    c.requires.1
+
+-- what was done to the collections
+done : (c : goal.In_ok-add_place)
+    → IsWatched c.args.watch.name c.args.watch.coll (asked c.args.watch.query) c.self.inside.world
+    c.observe_in.new.world c.self.inside.places.items
+done c =
+    let i = c.self.inside in
+    let w = c.args.watch in
+    record {
+      placed = c.self.invariant.placed;
+      distinct = c.self.invariant.distinct;
+      quiet = c.self.invariant.quiet;
+      free = free_place w.name i.world i.moment i.places.items c.self.invariant.placed
+          (subst (λ (s : Session). is_observed w.name s ≡ false) (sym c.self.view_is) c.requires.0);
+      keyed = subst (λ (s : Session).
+          has_key (asked w.query).primary (named s.world.collections w.coll) ≡ true)
+          (sym c.self.view_is) c.requires.1;
+      emitted = c.in_ok-observe_in.ensures.lives;
+      epochs = c.in_ok-observe_in.ensures.epoch;
+    }
+
+-- the places, with the new one
+added : (c : goal.In_ok-add_place)
+    → c.add_place.new.places.items
+    ≡ c.self.inside.places.items ++ place_in c.args.watch.coll c.args.watch.name ∷ []
+added c = c.in_ok-add_place.ensures
+
+pub invariant_of-result : goal.invariant_of-result
+invariant_of-result c =
+    let i = c.self.inside in
+    let w = c.args.watch in
+    let last = c.observe_in.new.world in
+    let ps = i.places.items in
+    record {
+      placed = subst (ArePlaced (holders_in last)) (sym (added c))
+          (watched_placed w.name w.coll (asked w.query) i.world last i.moment ps (done c));
+      distinct = watched_distinct w.name w.coll (asked w.query) i.world last i.moment ps (done c);
+      quiet = watched_quiet w.name w.coll (asked w.query) i.world last i.moment ps (done c);
+    }
+
+pub returns-clause-session : goal.returns-clause-session
+returns-clause-session c =
+    let i = c.self.inside in
+    let w = c.args.watch in
+    let last = c.observe_in.new.world in
+    subst (λ (s : Session). session_of last i.moment c.add_place.new.places.items
+    ≡ settled (after (watch w.name w.coll (asked w.query)) s)) c.self.view_is
+    (ap (session_of last i.moment) (added c)
+    ∙ watched_session w.name w.coll (asked w.query) i.world last i.moment i.places.items (done c))
+
+pub returns-clause-emissions : goal.returns-clause-emissions
+returns-clause-emissions c =
+    let i = c.self.inside in
+    let w = c.args.watch in
+    let old = string_bytes c.args.text.now in
+    c.in_ok-observe_in.ensures.text
+    ∙ ap (λ bs. old ++ bs)
+    (watched_lines w.name w.coll (asked w.query) i.world c.observe_in.new.world i.moment i.places.items
+    (done c))
+    ∙ ap (λ (s : Session). old ++ emissions (after (watch w.name w.coll (asked w.query)) s))
+    c.self.view_is

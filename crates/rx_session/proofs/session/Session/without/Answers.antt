@@ -1,0 +1,61 @@
+use Rattle.std.proofs.Common.{◌≡◌, [], sym, ap, ◌∙◌, subst}
+use Rattle.rx_world.specs.Holders.{holders_in}
+use Rattle.rx_session.specs.Applied.{unobserved}
+use Rattle.rx_session.specs.Doing.{after, unwatch}
+use Rattle.rx_session.specs.Emissions.{emissions, settled}
+use Rattle.rx_session.specs.Placed.{ArePlaced, place_named}
+use Rattle.rx_session.specs.Session.{Session}
+use Rattle.rx_session.proofs.Dropping.{rest_of}
+use Rattle.rx_session.proofs.Settling.{IsLeft, session_of, without_lines, without_session, without_placed, without_distinct, without_quiet}
+use Rattle.rx_session.proofs.session.Session.without.Goals as goal
+
+-- what was done to the collections
+done : (c : goal.After-drop_place)
+    → IsLeft c.args.name.now c.self.inside.world c.unobserve_at.new.world c.self.inside.places.items
+done c =
+    let i = c.self.inside in
+    let name = c.args.name.now in
+    record {
+      placed = c.self.invariant.placed;
+      distinct = c.self.invariant.distinct;
+      quiet = c.self.invariant.quiet;
+      dropped = c.unobserve_at.ensures.lives
+          ∙ ap (λ o. unobserved name o (holders_in i.world))
+          (c.find_place.ensures ∙ ap (place_named name) c.as_slice.ensures.value);
+      epochs = c.unobserve_at.ensures.epoch;
+    }
+
+-- the places that are left
+left : (c : goal.After-drop_place)
+    → c.drop_place.new.places.items ≡ rest_of c.args.name.now c.self.inside.places.items
+left c = c.drop_place.ensures
+
+pub invariant_of-result : goal.invariant_of-result
+invariant_of-result c =
+    let i = c.self.inside in
+    let name = c.args.name.now in
+    let new = c.unobserve_at.new.world in
+    let ps = i.places.items in
+    record {
+      placed = subst (ArePlaced (holders_in new)) (sym (left c))
+          (without_placed name i.world new i.moment ps (done c));
+      distinct = without_distinct name i.world new i.moment ps (done c);
+      quiet = without_quiet name i.world new i.moment ps (done c);
+    }
+
+pub returns-clause-session : goal.returns-clause-session
+returns-clause-session c =
+    let i = c.self.inside in
+    let name = c.args.name.now in
+    let new = c.unobserve_at.new.world in
+    subst (λ (s : Session). session_of new i.moment c.drop_place.new.places.items
+    ≡ settled (after (unwatch name) s)) c.self.view_is
+    (ap (session_of new i.moment) (left c)
+    ∙ without_session name i.world new i.moment i.places.items (done c))
+
+pub returns-clause-emissions : goal.returns-clause-emissions
+returns-clause-emissions c =
+    let i = c.self.inside in
+    let name = c.args.name.now in
+    subst (λ (s : Session). emissions (after (unwatch name) s) ≡ []) c.self.view_is
+    (without_lines name i.world c.unobserve_at.new.world i.moment i.places.items (done c))

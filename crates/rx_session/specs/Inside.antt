@@ -1,0 +1,22 @@
+-- How the fields of a session are seen.
+use Rattle.std.specs.List.{AllByRecursion}
+use Rattle.rx_world.specs.Holders.{holders_in}
+use Rattle.rx_world.specs.Valid.{AreDistinct}
+use Rattle.rx_session.specs.Placed.{queries_of, world_of, ArePlaced, IsQuiet}
+use Rattle.rx_session.specs.Session.{Session}
+use Rattle.rx_session.specs.declared.session.Session.TheInside.{Inside}
+
+-- as its parts
+abbrev pub seen : Inside → Session
+seen s = record {
+  world = world_of s.world;
+  moment = s.moment;
+  queries = queries_of (holders_in s.world) s.places.items;
+}
+
+-- the places are those of the collections' queries, no name of a collection comes twice, and nothing
+-- is to be emitted
+pub record IsSettled (s : Inside) : Type 0 where
+  pub placed : ArePlaced (holders_in s.world) s.places.items
+  pub distinct : AreDistinct (world_of s.world)
+  pub quiet : AllByRecursion IsQuiet (holders_in s.world)

@@ -1,0 +1,9 @@
+pub mod Session
+pub mod Emissions
+pub mod Doing
+pub mod Placed
+pub mod Inside
+pub mod Codes
+pub mod Lives
+pub mod Applied
+pub mod Shown

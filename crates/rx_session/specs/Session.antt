@@ -1,0 +1,32 @@
+-- What there is between two lines.
+use Rattle.std.specs.Prelude.{ℕ, List, map, Bool, Option, option_map}
+use Rattle.std.specs.List.{list_any}
+use Rattle.std.specs.Str.{bytes_eq}
+use Rattle.rx_value.specs.Named.{named}
+use Rattle.rx_observe.specs.Watched.{Watched}
+use Rattle.rx_observe.specs.declared.counts.Counts.{Counts}
+use Rattle.rx_world.specs.World.{World}
+
+-- an observed query, its name, and the collection that it is observed in
+pub record Observed : Type 0 where
+  pub name : List ℕ
+  pub coll : List ℕ
+  pub watched : Watched
+
+-- the world, the present moment, and the observed queries in the order of observing
+pub record Session : Type 0 where
+  pub world : World
+  pub moment : ℕ
+  pub queries : List Observed
+
+-- a query of that name is observed
+abbrev pub is_observed : List ℕ → Session → Bool
+is_observed name s = list_any (λ o. bytes_eq name o.name) s.queries
+
+-- observed queries by their names
+abbrev pub by_query : List Observed → List (List ℕ × Observed)
+by_query os = map (λ o. (o.name, o)) os
+
+-- the counts of the query of a name
+abbrev pub counts_of : List ℕ → Session → Option Counts
+counts_of name s = option_map (λ o. o.watched.counts) (named (by_query s.queries) name)

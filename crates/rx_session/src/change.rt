@@ -1,0 +1,21 @@
+use rx_query::Query;
+use rx_record::Record;
+use rx_value::RxText;
+
+/// What a line changes in a session.
+#[derive(Drop)]
+pub enum Change {
+    Nothing,
+    Tick(u64),
+    Write(Record),
+    Watch(Watch),
+    Unwatch(RxText),
+}
+
+/// A query that is to be observed, its name, and the name of its collection.
+#[derive(Drop)]
+pub struct Watch {
+    pub name: RxText,
+    pub coll: RxText,
+    pub query: Query,
+}

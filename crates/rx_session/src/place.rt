@@ -1,0 +1,8 @@
+use rx_value::RxText;
+
+// Where a query is observed: its name, and the name of its collection.
+#[derive(Drop)]
+pub(crate) struct Place {
+    pub name: RxText,
+    pub coll: RxText,
+}

@@ -1,0 +1,158 @@
+ghost use Rattle.std.specs.Prelude.{◌≡◌, ◌<◌, [], true, false, Some, None, length, map, option_map, IfSome, IfOk, IsErrOf, IsSome};
+ghost use Rattle.std.specs.Bool.{Decides};
+ghost use Rattle.std.specs.List.{AllByRecursion, IsDistinct};
+ghost use Rattle.std.specs.Option.{ForSome};
+ghost use Rattle.std.specs.Str.{bytes_eq};
+ghost use Rattle.rx_value.specs.Named.{named};
+ghost use Rattle.rx_collection.specs.Lawful.{IsLawful};
+ghost use Rattle.rx_record.specs.Shown.{content};
+ghost use Rattle.rx_record.specs.Writable.{IsOrdered};
+ghost use Rattle.rx_world.specs.Commit.{IsValidState, commit};
+ghost use Rattle.rx_world.specs.Holders.{holders_in};
+ghost use Rattle.rx_world.specs.Lawful.{IsLawfulWorld};
+ghost use Rattle.rx_world.specs.Step.{legal};
+ghost use Rattle.rx_world.specs.Valid.{AreValid};
+ghost use Rattle.rx_session.specs.Placed.{AreUnwatched, place_named, world_of};
+ghost use Rattle.rx_session.specs.Session.{is_observed, counts_of};
+
+use crate::place::Place;
+use rx_observe::{Counts, Live};
+use rx_record::Record;
+use rx_value::{RxText, State};
+use rx_world::{StepFault, World};
+use std::alloc::{AllocError, Global};
+use std::marker::Model;
+
+/// Collections with their observed queries, and the present moment. Between two lines nothing is
+/// to be emitted.
+#[derive(Drop)]
+pub struct Session {
+    pub(crate) world: World<Live>,
+    pub(crate) moment: u64,
+    /// The observed queries in the order of observing.
+    pub(crate) places: Vec<Place>,
+}
+
+impl Model for Session {
+    ghost use Rattle.rx_session.specs.Session.{Session};
+    ghost use Rattle.rx_session.specs.Codes.{session_code};
+
+    ghost Value = { Session };
+
+    ghost coded = { session_code };
+
+    ghost use Rattle.rx_session.specs.Inside.{seen, IsSettled};
+
+    ghost view = { seen };
+
+    ghost invariant = { IsSettled };
+}
+
+impl Session {
+    /// The session at the start of a run, at the moment 0.
+    pub fn new(alloc: Global, world: World<Live>) -> Session
+        requires unwatched { AreUnwatched (holders_in world) }
+        ensures { result ≡ record { world = world_of world; moment = 0; queries = [] } }
+    {
+        // This tells that no name comes twice.
+        let _ = world.len();
+        Session {
+            world,
+            moment: 0,
+            places: Vec::new(alloc),
+        }
+    }
+
+    /// The collection of that name, with its observed queries.
+    pub fn holder(&self, name: &str) -> Option<&Live>
+        ensures held { option_map (λ l. l.now.collection) result
+            ≡ named self.now.world.collections name.now }
+        ensures whole { IfSome result (λ l. l.now.broken ≡ false) }
+        ensures called { IfSome result (λ l. l.now.collection.name ≡ name.now) }
+        ensures lawful { IfSome result (λ l. IsLawful l.now.collection) }
+        ensures valid { IfSome result (λ l. AreValid l.now.collection) }
+    {
+        self.world.holder(name)
+    }
+
+    /// The present moment, as it was set last.
+    pub fn moment(&self) -> u64
+        ensures { result ≡ self.now.moment }
+    {
+        self.moment
+    }
+
+    /// How many collections there are.
+    pub fn collections(&self) -> usize
+        ensures count { result ≡ length self.now.world.collections }
+        ensures lawful { IsLawfulWorld self.now.world }
+    {
+        self.world.len()
+    }
+
+    /// The number of the present epoch.
+    pub fn epoch(&self) -> u64
+        ensures { result ≡ self.now.world.epoch }
+    {
+        self.world.epoch()
+    }
+
+    /// The record that writes states to a collection at the present moment. Nothing is changed.
+    pub fn commit(&self, alloc: Global, name: &str, states: Vec<State>) -> Result<Record, StepFault>
+        requires held { IsSome (named self.now.world.collections name.now) }
+        requires some { 0 < length states.items }
+        requires distinct { IsDistinct bytes_eq (map (λ s. s.key) states.items) }
+        requires valid { ForSome (named self.now.world.collections name.now)
+            (λ c. AllByRecursion (IsValidState c.schema) states.items) }
+        ensures ok { IfOk result (λ entry. commit self.now.world name.now states.items self.now.moment
+            ≡ Some (content entry)) }
+        ensures legal { IfOk result (λ entry. legal (content entry) self.now.world ≡ true) }
+        ensures ordered { IfOk result (λ entry. IsOrdered (content entry)) }
+        ensures clock_end { IsErrOf result StepFault.ClockEnd
+            → commit self.now.world name.now states.items self.now.moment ≡ None }
+    {
+        self.world.commit(alloc, name, states, self.moment)
+    }
+
+    /// Whether the collections are those of the world.
+    pub fn has_same(&self, world: &World<Live>) -> bool
+        ensures { Decides result (self.now.world.collections ≡ (world_of world.now).collections) }
+    {
+        self.world.has_same(world)
+    }
+
+    /// How many queries are observed.
+    pub fn queries(&self) -> usize
+        ensures { result ≡ length self.now.queries }
+    {
+        self.places.len()
+    }
+
+    /// Whether a query of that name is observed.
+    pub fn is_observed(&self, name: &RxText) -> bool
+        ensures { result ≡ is_observed name.now self.now }
+    {
+        find_place(self.places.as_slice(), name).is_some()
+    }
+
+    /// What the query of that name saw, if it is observed.
+    pub fn counts(&self, name: &RxText) -> Option<&Counts>
+        ensures { option_map (λ c. c.now) result ≡ counts_of name.now self.now }
+    {
+        let place = find_place(self.places.as_slice(), name)?;
+        let live = self.world.holder(place.coll.as_str())?;
+        Some(live.observed(name.as_str())?.counts())
+    }
+}
+
+/// The place of the query of that name.
+pub(crate) fn find_place<'a>(places: &'a [Place], name: &RxText) -> Option<&'a Place>
+    ensures { option_map (λ p. p.now) result ≡ place_named name.now places.now }
+{
+    for place in places {
+        if *name == place.name {
+            return Some(place);
+        }
+    }
+    None
+}
