@@ -7,11 +7,11 @@ use Rattle.rx_value.specs.Due.{◌>>◌, or_fault}
 use Rattle.rx_script.specs.Asked.{is_object}
 use Rattle.rx_script.specs.Line.{max_line_bytes, demand, json_of, form_of, line_of}
 use Rattle.rx_script.specs.declared.fault.LineFault.TheVariants as fault
+use Rattle.rx_session.specs.Session.{Session}
 use Rattle.rx_engine.specs.Faults.{of_line, lifted}
 use Rattle.rx_engine.specs.Lines.{perform}
 use Rattle.rx_engine.specs.Meaning.{meaning, meaning_of}
 use Rattle.rx_engine.specs.Outcome.{outcome_of}
-use Rattle.rx_engine.specs.Session.{Session}
 
 -- a line that is too long is nothing else
 too_long : (line : List ℕ) → max_line_bytes < length line → line_of line ≡ Err fault.TooLong

@@ -1,10 +1,8 @@
 -- Runs that leave legal files join.
-use Rattle.std.proofs.Common.{◌≡◌, inl, inr, ℕ, ◌<◌, ◌≤◌, ◌^◌, List, [], ◌∷◌, ◌++◌, Option, Some, refl, sym, ◌∙◌, ap, subst, arith, append_assoc, append-nil}
+use Rattle.std.proofs.Common.{◌≡◌, inr, ℕ, ◌<◌, ◌≤◌, ◌^◌, List, [], ◌++◌, Some, refl, sym, ◌∙◌, ap, subst, arith, append_assoc, append-nil}
 use Rattle.rx_disk.specs.declared.disk.Disk.{Ghosts}
-use Rattle.rx_disk.specs.Moments.{LeavesOnly}
 use Rattle.rx_disk.proofs.Moments.{started, weaker, joined}
 use Rattle.rx_frame.specs.File.{StandsFor, IsWhole, end_of}
-use Rattle.rx_journal.specs.Ready.{IsReady}
 use Rattle.rx_journal.specs.declared.journal.Journal.{Journal}
 use Rattle.rx_world.specs.World.{World}
 use Rattle.rx_world.specs.Replay.{replay}

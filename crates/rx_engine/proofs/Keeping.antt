@@ -1,5 +1,5 @@
 -- Appending the body of a legal record leaves legal files alone.
-use Rattle.std.proofs.Common.{◌≡◌, ℕ, ◌+◌, ◌<◌, ◌^◌, true, List, [], ◌∷◌, ◌++◌, length, drop, Some, Result, Ok, Err, IfOk, refl, sym, ◌∙◌, ap, subst, arith, append-nil}
+use Rattle.std.proofs.Common.{◌≡◌, ℕ, ◌+◌, ◌<◌, ◌^◌, true, List, [], ◌∷◌, ◌++◌, length, Some, Result, Ok, Err, IfOk, refl, sym, ◌∙◌, ap, subst, arith, append-nil}
 use Rattle.rx_disk.specs.declared.disk.Disk.{Ghosts}
 use Rattle.rx_disk.proofs.Moments.{weaker}
 use Rattle.rx_frame.specs.File.{StandsFor, end_of}
@@ -12,8 +12,9 @@ use Rattle.rx_world.specs.World.{World}
 use Rattle.rx_world.proofs.Replays.{replay-more}
 use Rattle.rx_engine.specs.Engine.{IsFull}
 use Rattle.rx_engine.specs.Holds.{StandsLegally, GrowsLegally}
-use Rattle.rx_engine.specs.Outcome.{Doing, nothing, set_clock, write, watch}
-use Rattle.rx_engine.specs.Shown.{MayDo, HasOrder}
+use Rattle.rx_session.specs.Doing.{Doing, nothing, set_clock, write, watch, unwatch, restart, MayDo}
+use Rattle.rx_session.specs.Session.{Session}
+use Rattle.rx_engine.specs.Shown.{HasOrder}
 use Rattle.rx_engine.proofs.Growing.{none_yet}
 
 abbrev first : List (List ℕ) → List ℕ
@@ -79,11 +80,13 @@ is_full bodies body end would limit is grown past =
     }
 
 -- what may be done has the order of its record
-pub has_order : (d : Doing) (w : World) → MayDo d w → HasOrder d
-has_order nothing w may = tt
-has_order (set_clock at) w may = tt
-has_order (write c) w may = may.1
-has_order (watch o) w may = tt
+pub has_order : (d : Doing) (s : Session) → MayDo d s → HasOrder d
+has_order nothing s may = tt
+has_order (set_clock at) s may = tt
+has_order (write c) s may = may.1
+has_order (watch name coll q) s may = tt
+has_order (unwatch name) s may = tt
+has_order (restart number) s may = tt
 
 -- what is known of what was answered
 pub if_ok : {A E : Type 0} (r : Result A E) (P Q : A → Type 0) → IfOk r P → ((x : A) → P x → Q x)

@@ -6,9 +6,6 @@ pub mod Replaying
 pub mod Setting
 pub mod Live
 pub mod EachRow
-pub mod Found
 pub mod Reading
+pub mod Rows
 pub mod Lines
-pub mod Done
-pub mod Settling
-pub mod Touching

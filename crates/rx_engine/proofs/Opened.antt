@@ -1,9 +1,9 @@
 -- Opening a journal that is a legal file.
-use Rattle.std.proofs.Common.{◌≡◌, ◌⊎◌, inl, inr, ◌≤◌, ℕ, ◌+◌, ◌<◌, ◌^◌, true, false, true≢false, List, [], ◌∷◌, ◌++◌, length, Option, Some, None, is_some, refl, sym, ◌∙◌, ap, subst, arith, append-nil}
+use Rattle.std.proofs.Common.{◌≡◌, inl, inr, ℕ, ◌+◌, true, true≢false, List, [], ◌∷◌, ◌++◌, Option, Some, None, is_some, refl, sym, ◌∙◌, ap, subst, arith, append-nil}
 use Rattle.rx_disk.specs.declared.disk.Disk.{Ghosts}
 use Rattle.rx_disk.specs.Moments.{LeavesOnly}
 use Rattle.rx_disk.proofs.Moments.{weaker}
-use Rattle.rx_frame.specs.File.{StandsFor, IsWhole, end_of}
+use Rattle.rx_frame.specs.File.{StandsFor, IsWhole}
 use Rattle.rx_frame.proofs.Records.{stands_for_one}
 use Rattle.rx_journal.specs.Image.{image_bytes}
 use Rattle.rx_journal.specs.Opening.{Opens, IsNoWorse}
@@ -16,8 +16,8 @@ use Rattle.rx_world.specs.Step.{step, legal}
 use Rattle.rx_world.specs.World.{World, empty}
 use Rattle.rx_world.proofs.Replays.{replay_from-nothing}
 use Rattle.rx_world.proofs.Steps.{epoch_legal}
-use Rattle.rx_engine.specs.Holds.{Holds, StandsLegally, GrowsLegally, IsLegalFile}
-use Rattle.rx_engine.specs.Opening.{epoch_body}
+use Rattle.rx_engine.specs.Holds.{Holds, GrowsLegally, IsLegalFile}
+use Rattle.rx_engine.specs.Opening.{epoch_body, next_epoch}
 use Rattle.rx_engine.proofs.Growing.{none_yet, grows_on}
 
 some_is : (a b : World) → Some a ≡ Some b → a ≡ b
@@ -106,3 +106,36 @@ module _ {D : Type 0} (d : Ghosts D) (old : D) (bodies : List (List ℕ)) (w : W
       subst (λ (bs : List (List ℕ)). GrowsLegally d mid new bs (epoch_body w ∷ [])) (sym (append-nil bodies))
       (subst (λ (k : ℕ). GrowsLegally d mid new bodies (content_bytes (epoch k) ∷ [])) is next) in
       grows_on d old mid new bodies [] (epoch_body w ∷ []) (after_opening mid [] run) from_here
+
+-- what the disk of a journal holds
+module _ {D : Type 0} (d : Ghosts D) (disk : D) (journal : Journal) (bodies : List (List ℕ)) (w : World)
+    (holds : Holds d disk journal bodies w) where
+  -- is a legal file
+  pub held_legal : IsLegalFile (d.content disk) bodies w
+  held_legal = record {
+    stands = inr holds.ready.whole;
+    short = omega (arith, holds.ready.ends, journal.short);
+    plays = holds.played;
+  }
+
+  -- and each image stands for the bodies
+  held_alike : (c : List ℕ) → d.image disk c → StandsFor c bodies
+  held_alike c now =
+      inr (subst (λ (l : List ℕ). IsWhole l bodies) (sym (holds.ready.durable c now)) holds.ready.whole)
+
+  -- opening it again leaves legal files alone
+  pub grows_again : (new : D) (n : ℕ) → n ≡ w.epoch + 1
+      → (IsLegalFile (d.content disk) bodies w → ((c : List ℕ) → d.image disk c → StandsFor c bodies)
+      → GrowsLegally d disk new bodies (epoch_body w ∷ []))
+      → GrowsLegally d disk new bodies (content_bytes (epoch n) ∷ [])
+  grows_again new n is run =
+      subst (λ (k : ℕ). GrowsLegally d disk new bodies (content_bytes (epoch k) ∷ [])) (sym is)
+      (run held_legal held_alike)
+
+  -- a disk that holds the next epoch's record holds it by any number that is the next one
+  pub holds_again : (new : D) (again : Journal) (n : ℕ) → n ≡ w.epoch + 1
+      → Holds d new again (bodies ++ epoch_body w ∷ []) (next_epoch w)
+      → Holds d new again (bodies ++ content_bytes (epoch n) ∷ []) (step (epoch n) w)
+  holds_again new again n is next =
+      subst (λ (k : ℕ). Holds d new again (bodies ++ content_bytes (epoch k) ∷ []) (step (epoch k) w))
+      (sym is) next

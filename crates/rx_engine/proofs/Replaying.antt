@@ -1,14 +1,14 @@
 -- Playing the records of an image one after another.
-use Rattle.std.proofs.Common.{◌≡◌, ◌≤◌, ℕ, ◌+◌, List, [], ◌∷◌, ◌++◌, length, true, false, Option, Some, None, Result, Ok, Err, refl, sym, ◌∙◌, ap, subst, arith, length-append}
+use Rattle.std.proofs.Common.{◌≡◌, ◌≤◌, ℕ, ◌+◌, List, [], ◌∷◌, ◌++◌, length, true, false, Some, None, Ok, Err, sym, ◌∙◌, ap, arith, length-append}
 use Rattle.rx_frame.specs.File.{IsWhole, end_of, size_bytes}
-use Rattle.rx_frame.specs.Frames.{bytes_left, StillLends}
+use Rattle.rx_frame.specs.Frames.{StillLends}
 use Rattle.rx_frame.specs.Gate.{NextIs}
 use Rattle.rx_frame.specs.declared.reading.Frames.{Frames}
 use Rattle.rx_record.specs.Content.{Content, collection, rows, epoch, record_of}
 use Rattle.rx_record.specs.Writable.{IsWritable, IsOrdered}
 use Rattle.rx_record.specs.declared.at.At.{At}
 use Rattle.rx_world.specs.Replay.{played, replay_from, replay}
-use Rattle.rx_world.specs.Step.{step, stepped, legal}
+use Rattle.rx_world.specs.Step.{step, legal}
 use Rattle.rx_world.specs.World.{World, empty}
 use Rattle.rx_world.proofs.Replays.{replay_from-first, replay_from-none, replay_from-nothing, stepped-legal, stepped-illegal}
 

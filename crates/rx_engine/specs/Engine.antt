@@ -2,16 +2,14 @@
 use Rattle.std.specs.Prelude.{◌≡◌, ◌<◌, ℕ, List, [], ◌++◌, ◌∷◌, string_bytes}
 use Rattle.rx_disk.specs.declared.disk.Disk.{Ghosts}
 use Rattle.rx_frame.specs.File.{end_of}
-use Rattle.rx_record.specs.Content.{Content, content_bytes}
 use Rattle.rx_engine.specs.Holds.{Holds}
-use Rattle.rx_engine.specs.Meaning.{Meaning, bodies_of}
-use Rattle.rx_engine.specs.Session.{Session}
-use Rattle.rx_engine.specs.Shown.{session_in}
+use Rattle.rx_engine.specs.Meaning.{Meaning}
+use Rattle.rx_session.specs.Session.{Session}
 use Rattle.rx_engine.specs.declared.engine.Engine.{Engine}
 use Rattle.rx_engine.specs.declared.engine.Output.{Output}
 
 unfoldable pub session_of : Engine → Session
-session_of e = session_in e.session
+session_of e = e.session
 
 abbrev pub limit_of : Engine → ℕ
 limit_of e = e.journal.limit

@@ -1,5 +1,5 @@
 -- Why a line changes nothing, from the faults of its parts. Want of memory stays so.
-use Rattle.std.specs.Prelude.{⊤, Bool, if◌then◌else◌, Option, Some, None, Result, Ok, Err}
+use Rattle.std.specs.Prelude.{⊤, Bool, if◌then◌else◌, None, Result, Ok, Err}
 use Rattle.rx_value.specs.declared.fault.ValueFault.{ValueFault}
 use Rattle.rx_value.specs.declared.fault.ValueFault.TheVariants as value
 use Rattle.rx_schema.specs.Validity.{Fault as Invalidity, missing, unknown, of_kind, of_bounds, of_length}

@@ -1,15 +1,10 @@
-pub mod Found
-pub mod Session
 pub mod Faults
 pub mod Documents
 pub mod Outcome
 pub mod Writes
 pub mod Queries
 pub mod Lines
-pub mod Emissions
 pub mod Meaning
-pub mod Watched
-pub mod Touched
 pub mod Shown
 pub mod Stops
 pub mod Opening

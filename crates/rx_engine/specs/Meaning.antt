@@ -1,11 +1,12 @@
 -- What a line means.
 use Rattle.std.specs.Prelude.{ℕ, List, [], ◌∷◌, ◌++◌, map, Bool}
-use Rattle.rx_record.specs.Content.{Content, content_bytes}
+use Rattle.rx_record.specs.Content.{Content, epoch, content_bytes}
 use Rattle.rx_reply.specs.Reply.{answer_line, is_refusal}
-use Rattle.rx_engine.specs.Emissions.{emissions, settled, after}
+use Rattle.rx_session.specs.Doing.{Doing, write, restart, after}
+use Rattle.rx_session.specs.Emissions.{emissions, settled}
+use Rattle.rx_session.specs.Session.{Session}
 use Rattle.rx_engine.specs.Lines.{outcome}
-use Rattle.rx_engine.specs.Outcome.{Doing, nothing, set_clock, write, watch, Outcome}
-use Rattle.rx_engine.specs.Session.{Session}
+use Rattle.rx_engine.specs.Outcome.{Outcome}
 
 -- the records, the reply with the emissions after it, whether it is a refusal, and the next session
 pub record Meaning : Type 0 where
@@ -21,6 +22,7 @@ bodies_of cs = map content_bytes cs
 -- the records of what a line does
 abbrev pub records_of : Doing → List Content
 records_of (write content) = content ∷ []
+records_of (restart number) = epoch number ∷ []
 records_of _ = []
 
 abbrev pub meaning_of : ℕ → Outcome → Session → Meaning

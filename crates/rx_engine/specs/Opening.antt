@@ -3,7 +3,7 @@ use Rattle.std.specs.Prelude.{ℕ, ◌+◌, List, []}
 use Rattle.rx_record.specs.Content.{epoch, content_bytes}
 use Rattle.rx_world.specs.World.{World}
 use Rattle.rx_world.specs.Step.{step}
-use Rattle.rx_engine.specs.Session.{Session}
+use Rattle.rx_session.specs.Session.{Session}
 
 -- the record of the next epoch
 abbrev pub epoch_body : World → List ℕ
@@ -13,6 +13,10 @@ epoch_body w = content_bytes (epoch (w.epoch + 1))
 abbrev pub session_on : World → Session
 session_on w = record { world = w; moment = 0; queries = [] }
 
+-- the world in its next epoch
+abbrev pub next_epoch : World → World
+next_epoch w = step (epoch (w.epoch + 1)) w
+
 -- the session after an opening
 unfoldable pub opened : World → Session
-opened w = session_on (step (epoch (w.epoch + 1)) w)
+opened w = session_on (next_epoch w)

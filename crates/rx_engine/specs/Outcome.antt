@@ -6,18 +6,12 @@ use Rattle.rx_reply.specs.Answer.{Answer, refused}
 use Rattle.rx_reply.specs.declared.refusal.Refusal.TheVariants.{Clock, NoCollection}
 use Rattle.rx_value.specs.Named.{named}
 use Rattle.rx_value.specs.declared.state.State.{State}
-use Rattle.rx_value.specs.Due.{◌>>◌, or_fault}
+use Rattle.rx_value.specs.Due.{or_fault}
 use Rattle.rx_world.specs.Commit.{commit_to}
-use Rattle.rx_engine.specs.Session.{Observed, Session}
+use Rattle.rx_session.specs.Doing.{Doing, nothing, write}
+use Rattle.rx_session.specs.Session.{Session}
 use Rattle.rx_engine.specs.declared.fault.Fault.{Fault}
 use Rattle.rx_engine.specs.declared.fault.Fault.TheVariants.{Refused, Memory}
-
--- nothing is changed, the clock is set, a record is written, or a query is observed
-pub data Doing : Type 0 where
-  nothing : Doing
-  set_clock : ℕ → Doing
-  write : Content → Doing
-  watch : Observed → Doing
 
 pub record Outcome : Type 0 where
   pub doing : Doing

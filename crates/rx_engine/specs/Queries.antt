@@ -1,25 +1,32 @@
 -- The lines that read documents and observe queries.
-use Rattle.std.specs.Prelude.{⊤, ℕ, List, map, length, Bool, not, nat_lt, None, Result, Ok, Err}
-use Rattle.std.specs.List.{list_any}
-use Rattle.std.specs.Str.{bytes_eq}
+use Rattle.std.specs.Prelude.{ℕ, List, length, not, nat_lt, Result, Ok}
 use Rattle.serde_json.specs.Data.{Data}
-use Rattle.rx_value.specs.Due.{◌>>◌}
+use Rattle.rx_value.specs.Due.{◌>>◌, or_fault}
+use Rattle.rx_value.specs.Fields.{Pairs}
 use Rattle.rx_schema.specs.Writing.{kinds_of}
 use Rattle.rx_query.specs.Asked.{Asked}
 use Rattle.rx_query.specs.Reading.{query_of}
 use Rattle.rx_collection.specs.Held.{Held}
-use Rattle.rx_reply.specs.Answer.{get, find, count, observe}
-use Rattle.rx_reply.specs.declared.refusal.Refusal.TheVariants.{Exists, TooMany}
+use Rattle.rx_document.specs.Documents.{Documents}
+use Rattle.rx_observe.specs.Fresh.{fresh}
+use Rattle.rx_reply.specs.Answer.{get, find, count, observe, unobserve, explain}
+use Rattle.rx_reply.specs.declared.refusal.Refusal.TheVariants.{Exists, NoQuery, TooMany}
+use Rattle.rx_session.specs.Doing.{watch, unwatch}
+use Rattle.rx_session.specs.Emissions.{fields_of}
+use Rattle.rx_session.specs.Session.{Session, is_observed, counts_of}
 use Rattle.rx_engine.specs.Documents.{document_at}
 use Rattle.rx_engine.specs.Faults.{of_query, lifted, demand}
-use Rattle.rx_engine.specs.Found.{rows_found}
-use Rattle.rx_engine.specs.Outcome.{Outcome, say, watch, collection_at}
-use Rattle.rx_engine.specs.Session.{Session, max_queries}
+use Rattle.rx_engine.specs.Outcome.{Outcome, say, collection_at}
 use Rattle.rx_engine.specs.declared.fault.Fault.{Fault}
+use Rattle.rx_engine.specs.declared.fault.Fault.TheVariants.{Refused}
 
 abbrev pub get_line : List ℕ → List ℕ → Session → Result Outcome Fault
 get_line coll key s =
     collection_at coll s >> λ c. document_at c key >> λ d. Ok (say (get d))
+
+-- the fields of the rows that a query gives from scratch
+abbrev pub rows_found : Asked → Documents → List Pairs
+rows_found q documents = fields_of (fresh q documents)
 
 -- what a query asks of a collection
 abbrev pub query_on : Held → Data → Result Asked Fault
@@ -34,9 +41,9 @@ count_line coll d s =
     collection_at coll s >> λ c. query_on c d >> λ q.
     Ok (say (count (length (rows_found q c.documents))))
 
--- a query of that name is observed
-abbrev pub is_observed : List ℕ → Session → Bool
-is_observed name s = list_any (λ o. bytes_eq o.name name) s.queries
+-- the most observed queries
+abbrev pub max_queries : ℕ
+max_queries = 256
 
 abbrev pub observe_line : List ℕ → List ℕ → Data → Session → Result Outcome Fault
 observe_line name coll d s =
@@ -44,7 +51,13 @@ observe_line name coll d s =
     demand (not (is_observed name s)) Exists >> λ _.
     query_on c d >> λ q.
     demand (nat_lt (length s.queries) max_queries) TooMany >> λ _.
-    Ok (record {
-      doing = watch (record { name = name; coll = coll; query = q; emitted = None });
-      answer = observe;
-    })
+    Ok (record { doing = watch name coll q; answer = observe })
+
+abbrev pub unobserve_line : List ℕ → Session → Result Outcome Fault
+unobserve_line name s =
+    demand (is_observed name s) NoQuery >> λ _.
+    Ok (record { doing = unwatch name; answer = unobserve })
+
+abbrev pub explain_line : List ℕ → Session → Result Outcome Fault
+explain_line name s =
+    or_fault (Refused NoQuery) (counts_of name s) >> λ counts. Ok (say (explain counts))

@@ -16,10 +16,11 @@ use Rattle.rx_reply.specs.Answer.{Answer, collection, insert, upsert, patch, rem
 use Rattle.rx_reply.specs.declared.refusal.DocumentFault.TheVariants.{Key}
 use Rattle.rx_reply.specs.declared.refusal.Refusal.TheVariants.{SchemaDiffers, TooMany, Document, Twice, Clock}
 use Rattle.rx_world.specs.World.{World, max_collections}
+use Rattle.rx_session.specs.Doing.{write}
+use Rattle.rx_session.specs.Session.{Session}
 use Rattle.rx_engine.specs.Documents.{state_of, valid_by, with_fields, keeps_key, document_at, has_revision, is_free, next_revision}
 use Rattle.rx_engine.specs.Faults.{of_schema, of_value, lifted, demand}
-use Rattle.rx_engine.specs.Outcome.{Outcome, say, write, collection_at, commit}
-use Rattle.rx_engine.specs.Session.{Session}
+use Rattle.rx_engine.specs.Outcome.{Outcome, say, collection_at, commit}
 use Rattle.rx_engine.specs.declared.fault.Fault.{Fault}
 use Rattle.rx_engine.specs.declared.fault.Fault.TheVariants.{Refused}
 

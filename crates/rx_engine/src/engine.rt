@@ -1,32 +1,28 @@
-ghost use Rattle.std.specs.Prelude.{◌≡◌, ◌≤◌, ◌<◌, ◌+◌, ◌^◌, ◌⊎◌, ℕ, List, [], ◌∷◌, ◌++◌, true, IfOk, IsErrOf, string_bytes};
+ghost use Rattle.std.specs.Prelude.{◌≡◌, ◌≤◌, ◌<◌, ◌^◌, ◌⊎◌, ℕ, List, [], ◌∷◌, ◌++◌, IfOk, OnOk, IsErrOf, string_bytes};
 ghost use Rattle.rx_disk.specs.Disk.{Rose};
 ghost use Rattle.rx_frame.specs.File.{StandsFor, end_of};
 ghost use Rattle.rx_outside.specs.declared.stop.Stop.TheVariants as Stop;
-ghost use Rattle.rx_record.specs.Content.{epoch};
-ghost use Rattle.rx_record.specs.Shown.{content};
 ghost use Rattle.rx_reply.specs.Reply.{answer_line, is_refusal};
-ghost use Rattle.rx_world.specs.Step.{step, legal};
+ghost use Rattle.rx_session.specs.Doing.{restart, after, MayDo};
+ghost use Rattle.rx_session.specs.Emissions.{emissions, settled};
+ghost use Rattle.rx_session.specs.Shown.{done_by};
 ghost use Rattle.rx_world.specs.World.{World};
-ghost use Rattle.rx_engine.specs.Emissions.{after};
 ghost use Rattle.rx_engine.specs.Engine.{IsAt, Answers, IsFull, session_of, limit_of};
-ghost use Rattle.rx_engine.specs.Holds.{Holds, GrowsLegally, IsLegalFile};
+ghost use Rattle.rx_engine.specs.Holds.{GrowsLegally, IsLegalFile};
 ghost use Rattle.rx_engine.specs.Lines.{outcome};
 ghost use Rattle.rx_engine.specs.Meaning.{meaning, bodies_of, records_of};
 ghost use Rattle.rx_engine.specs.Opening.{epoch_body, opened};
-ghost use Rattle.rx_engine.specs.Shown.{session_in, doing_of, MayDo};
-ghost use Rattle.rx_engine.specs.Watched.{world_of};
+ghost use Rattle.rx_engine.specs.Shown.{doing_of};
 
-use crate::keep::{keep, keep_change};
-use crate::opening::start;
-use crate::plan::Change;
-use crate::replay::replay;
-use crate::session::Session;
-use crate::stopping::of_open;
+use crate::asking::plan;
+use crate::keep::keep_change;
+use crate::opening::{Opened, goes_on, open};
+use crate::plan::Todo;
 use rx_disk::Disk;
 use rx_journal::Journal;
 use rx_outside::Stop;
-use rx_record::Record;
-use std::alloc::Global;
+use rx_session::{Change, Session};
+use std::alloc::{AllocError, Global};
 
 /// What a line is answered: its reply and the emissions after it, each ended by a line feed.
 #[derive(Debug, Drop)]
@@ -79,16 +75,8 @@ impl Engine {
         ensures disk_only { IsErrOf result Stop.Disk → Rose (D.faults disk.old) (D.faults disk.new) }
         ensures faults { D.faults disk.old ≤ D.faults disk.new }
     {
-        let (journal, image) = match Journal::open(alloc, disk, limit) {
-            Ok(pair) => pair,
-            Err(fault) => return Err(of_open(fault)),
-        };
-        let world = replay(alloc, &image)?;
-        let entry = Record::Epoch {
-            number: world.epoch() + 1,
-        };
-        let journal = keep(alloc, journal, disk, &entry)?;
-        let session = start(alloc, world, entry)?;
+        let Opened { journal, world } = open(alloc, disk, limit)?;
+        let session = Session::new(alloc, world);
         Ok(Engine { journal, session })
     }
 
@@ -124,83 +112,152 @@ impl Engine {
             ⊎ (end_of (bodies ++ bodies_of (meaning number text.now (session_of self)).records)
             ≤ limit_of self)) }
         ensures disk_only { IsErrOf result Stop.Disk → Rose (D.faults disk.old) (D.faults disk.new) }
+        ensures not_journal { D.tells → IsErrOf result Stop.NotJournal → ⊥ }
+        ensures faults { D.faults disk.old ≤ D.faults disk.new }
+    {
+        let Planned {
+            todo,
+            text,
+            refused,
+        } = plan_line(alloc, &self.session, text, number)?;
+        let (engine, text) = self.done(alloc, disk, todo, text)?;
+        Ok((engine, Output { text, refused }))
+    }
+
+    // The engine after what a line is to do, and the text with the emissions that are due then.
+    fn done<D: Disk>(
+        self,
+        alloc: Global,
+        disk: &mut D,
+        todo: Todo,
+        text: String,
+    ) -> Result<(Engine, String), Stop>
+        requires at { D.tells → (bodies : List (List ℕ)) × IsAt D.Disk disk.old self bodies }
+        requires may { MayDo (doing_of todo) (session_of self) }
+        ensures session { IfOk result (λ p. session_of p.0
+            ≡ settled (after (doing_of todo) (session_of self))) }
+        ensures text { IfOk result (λ p. string_bytes p.1
+            ≡ string_bytes text ++ emissions (after (doing_of todo) (session_of self))) }
+        ensures moments { D.tells → (bodies : List (List ℕ)) → IsAt D.Disk disk.old self bodies
+            → GrowsLegally D.Disk disk.old disk.new bodies (bodies_of (records_of (doing_of todo))) }
+        ensures at { D.tells → (bodies : List (List ℕ)) → IsAt D.Disk disk.old self bodies
+            → IfOk result (λ p. IsAt D.Disk disk.new p.0
+            (bodies ++ bodies_of (records_of (doing_of todo)))) }
+        ensures limit { IfOk result (λ p. limit_of p.0 ≡ limit_of self) }
+        ensures full { D.tells → (bodies : List (List ℕ)) → IsAt D.Disk disk.old self bodies
+            → (would limit : ℕ) → IsErrOf result (Stop.Full would limit)
+            → (limit ≡ limit_of self)
+            × IsFull bodies (bodies_of (records_of (doing_of todo))) would limit }
+        ensures fits { D.tells → (bodies : List (List ℕ)) → IsAt D.Disk disk.old self bodies
+            → IfOk result (λ _. (bodies_of (records_of (doing_of todo)) ≡ [])
+            ⊎ (end_of (bodies ++ bodies_of (records_of (doing_of todo))) ≤ limit_of self)) }
+        ensures disk_only { IsErrOf result Stop.Disk → Rose (D.faults disk.old) (D.faults disk.new) }
+        ensures not_journal { D.tells → IsErrOf result Stop.NotJournal → ⊥ }
+        ensures faults { D.faults disk.old ≤ D.faults disk.new }
+    {
+        match todo {
+            Todo::Change(change) => self.changed(alloc, disk, change, text),
+            Todo::Restart(epoch) => Ok((self.reopened(alloc, disk, epoch)?, text)),
+        }
+    }
+
+    // The engine after a change, and the text with the emissions that are due then.
+    fn changed<D: Disk>(
+        self,
+        alloc: Global,
+        disk: &mut D,
+        change: Change,
+        text: String,
+    ) -> Result<(Engine, String), Stop>
+        requires at { D.tells → (bodies : List (List ℕ)) × IsAt D.Disk disk.old self bodies }
+        requires may { MayDo (done_by change) (session_of self) }
+        ensures session { IfOk result (λ p. session_of p.0
+            ≡ settled (after (done_by change) (session_of self))) }
+        ensures text { IfOk result (λ p. string_bytes p.1
+            ≡ string_bytes text ++ emissions (after (done_by change) (session_of self))) }
+        ensures moments { D.tells → (bodies : List (List ℕ)) → IsAt D.Disk disk.old self bodies
+            → GrowsLegally D.Disk disk.old disk.new bodies (bodies_of (records_of (done_by change))) }
+        ensures at { D.tells → (bodies : List (List ℕ)) → IsAt D.Disk disk.old self bodies
+            → IfOk result (λ p. IsAt D.Disk disk.new p.0
+            (bodies ++ bodies_of (records_of (done_by change)))) }
+        ensures limit { IfOk result (λ p. limit_of p.0 ≡ limit_of self) }
+        ensures full { D.tells → (bodies : List (List ℕ)) → IsAt D.Disk disk.old self bodies
+            → (would limit : ℕ) → IsErrOf result (Stop.Full would limit)
+            → (limit ≡ limit_of self)
+            × IsFull bodies (bodies_of (records_of (done_by change))) would limit }
+        ensures fits { D.tells → (bodies : List (List ℕ)) → IsAt D.Disk disk.old self bodies
+            → IfOk result (λ _. (bodies_of (records_of (done_by change)) ≡ [])
+            ⊎ (end_of (bodies ++ bodies_of (records_of (done_by change))) ≤ limit_of self)) }
+        ensures disk_only { IsErrOf result Stop.Disk → Rose (D.faults disk.old) (D.faults disk.new) }
         ensures not_journal { IsErrOf result Stop.NotJournal → ⊥ }
         ensures faults { D.faults disk.old ≤ D.faults disk.new }
     {
-        let played = play(alloc, &self.session, self.journal, disk, text, number)?;
-        let mut text = played.text;
-        let session = self.session.next(alloc, played.change, &mut text)?;
-        let engine = Engine {
-            journal: played.journal,
-            session,
-        };
-        let output = Output {
-            text,
-            refused: played.refused,
-        };
-        Ok((engine, output))
+        let mut text = text;
+        let Engine { journal, session } = self;
+        let journal = keep_change(alloc, journal, disk, &change)?;
+        let session = session.next(alloc, change, &mut text)?;
+        Ok((Engine { journal, session }, text))
+    }
+
+    // The engine on the journal opened again, which is to give the collections that there are.
+    fn reopened<D: Disk>(self, alloc: Global, disk: &mut D, epoch: u64) -> Result<Engine, Stop>
+        requires at { D.tells → (bodies : List (List ℕ)) × IsAt D.Disk disk.old self bodies }
+        requires next { MayDo (restart epoch) (session_of self) }
+        ensures session { IfOk result (λ e. session_of e
+            ≡ settled (after (restart epoch) (session_of self))) }
+        ensures quiet { OnOk result (emissions (after (restart epoch) (session_of self)) ≡ []) }
+        ensures moments { D.tells → (bodies : List (List ℕ)) → IsAt D.Disk disk.old self bodies
+            → GrowsLegally D.Disk disk.old disk.new bodies (bodies_of (records_of (restart epoch))) }
+        ensures at { D.tells → (bodies : List (List ℕ)) → IsAt D.Disk disk.old self bodies
+            → IfOk result (λ e. IsAt D.Disk disk.new e
+            (bodies ++ bodies_of (records_of (restart epoch)))) }
+        ensures limit { IfOk result (λ e. limit_of e ≡ limit_of self) }
+        ensures full { D.tells → (bodies : List (List ℕ)) → IsAt D.Disk disk.old self bodies
+            → (would limit : ℕ) → IsErrOf result (Stop.Full would limit)
+            → (limit ≡ limit_of self)
+            × IsFull bodies (bodies_of (records_of (restart epoch))) would limit }
+        ensures fits { D.tells → (bodies : List (List ℕ)) → IsAt D.Disk disk.old self bodies
+            → IfOk result (λ _. end_of (bodies ++ bodies_of (records_of (restart epoch)))
+            ≤ limit_of self) }
+        ensures disk_only { IsErrOf result Stop.Disk → Rose (D.faults disk.old) (D.faults disk.new) }
+        ensures not_journal { D.tells → IsErrOf result Stop.NotJournal → ⊥ }
+        ensures faults { D.faults disk.old ≤ D.faults disk.new }
+    {
+        let Engine { journal, session } = self;
+        let Opened { journal, world } = open(alloc, disk, journal.limit)?;
+        if !goes_on(&session, &world, epoch) {
+            return Err(Stop::NotJournal);
+        }
+        let session = session.reopened(alloc, world)?;
+        Ok(Engine { journal, session })
     }
 }
 
-// What was done of a line when its records are on the disk.
+// What a line is to do, and what it is answered then.
 #[derive(Drop)]
-struct Played {
-    journal: Journal,
-    change: Change,
+struct Planned {
+    todo: Todo,
     text: String,
     refused: bool,
 }
 
-// The session is lent, so that no exit drops it.
-fn play<D: Disk>(
+fn plan_line(
     alloc: Global,
     session: &Session,
-    journal: Journal,
-    disk: &mut D,
     text: &[u8],
     number: u64,
-) -> Result<Played, Stop>
-    requires { D.tells → (bodies : List (List ℕ))
-        × Holds D.Disk disk.old journal bodies (world_of session.now.world) }
-    ensures doing { IfOk result (λ p. doing_of p.change ≡ (outcome text.now (session_in session.now)).doing) }
-    ensures may { IfOk result (λ p. MayDo (doing_of p.change) (world_of session.now.world)) }
+) -> Result<Planned, AllocError>
+    ensures doing { IfOk result (λ p. doing_of p.todo ≡ (outcome text.now session.now).doing) }
+    ensures may { IfOk result (λ p. MayDo (doing_of p.todo) session.now) }
     ensures reply { IfOk result (λ p. string_bytes p.text
-        ≡ answer_line number (outcome text.now (session_in session.now)).answer) }
+        ≡ answer_line number (outcome text.now session.now).answer) }
     ensures refused { IfOk result (λ p. p.refused
-        ≡ is_refusal (outcome text.now (session_in session.now)).answer) }
-    ensures moments { D.tells → (bodies : List (List ℕ))
-        → Holds D.Disk disk.old journal bodies (world_of session.now.world)
-        → GrowsLegally D.Disk disk.old disk.new bodies
-        (bodies_of (records_of (outcome text.now (session_in session.now)).doing)) }
-    ensures holds { D.tells → (bodies : List (List ℕ))
-        → Holds D.Disk disk.old journal bodies (world_of session.now.world)
-        → IfOk result (λ p. Holds D.Disk disk.new p.journal
-        (bodies ++ bodies_of (records_of (outcome text.now (session_in session.now)).doing))
-        (after (outcome text.now (session_in session.now)).doing (session_in session.now)).world) }
-    ensures limit { IfOk result (λ p. p.journal.limit ≡ journal.limit) }
-    ensures full { D.tells → (bodies : List (List ℕ))
-        → Holds D.Disk disk.old journal bodies (world_of session.now.world)
-        → (would limit : ℕ) → IsErrOf result (Stop.Full would limit)
-        → (limit ≡ journal.limit) × IsFull bodies
-        (bodies_of (records_of (outcome text.now (session_in session.now)).doing)) would limit }
-    ensures fits { D.tells → (bodies : List (List ℕ))
-        → Holds D.Disk disk.old journal bodies (world_of session.now.world)
-        → IfOk result (λ _. (bodies_of (records_of (outcome text.now (session_in session.now)).doing) ≡ [])
-        ⊎ (end_of (bodies ++ bodies_of (records_of (outcome text.now (session_in session.now)).doing))
-        ≤ journal.limit)) }
-    ensures disk_only { IsErrOf result Stop.Disk → Rose (D.faults disk.old) (D.faults disk.new) }
-    ensures not_journal { IsErrOf result Stop.NotJournal → ⊥ }
-    ensures faults { D.faults disk.old ≤ D.faults disk.new }
+        ≡ is_refusal (outcome text.now session.now).answer) }
 {
-    let plan = session.plan(alloc, text)?;
-    let text = plan.reply.line(alloc, number)?;
-    let refused = plan.reply.is_refusal();
-    let change = plan.change;
-    let journal = keep_change(alloc, journal, disk, &change)?;
-    Ok(Played {
-        journal,
-        change,
-        text,
-        refused,
+    let plan = plan(alloc, session, text)?;
+    Ok(Planned {
+        text: plan.reply.line(alloc, number)?,
+        refused: plan.reply.is_refusal(),
+        todo: plan.todo,
     })
 }

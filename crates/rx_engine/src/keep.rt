@@ -6,22 +6,23 @@ ghost use Rattle.rx_outside.specs.declared.stop.Stop.TheVariants as Stop;
 ghost use Rattle.rx_record.specs.Content.{content_bytes};
 ghost use Rattle.rx_record.specs.Shown.{content};
 ghost use Rattle.rx_record.specs.Writable.{IsOrdered};
+ghost use Rattle.rx_session.specs.Doing.{after, MayDo};
+ghost use Rattle.rx_session.specs.Session.{Session};
+ghost use Rattle.rx_session.specs.Shown.{done_by};
 ghost use Rattle.rx_world.specs.Step.{step, legal};
 ghost use Rattle.rx_world.specs.World.{World};
 ghost use Rattle.rx_engine.specs.Holds.{Holds, GrowsLegally};
 ghost use Rattle.rx_frame.specs.File.{end_of};
-ghost use Rattle.rx_engine.specs.Emissions.{after};
 ghost use Rattle.rx_engine.specs.Engine.{IsFull};
 ghost use Rattle.rx_engine.specs.Meaning.{bodies_of, records_of};
-ghost use Rattle.rx_engine.specs.Session.{Session};
-ghost use Rattle.rx_engine.specs.Shown.{doing_of, MayDo, HasOrder};
+ghost use Rattle.rx_engine.specs.Shown.{HasOrder};
 
-use crate::plan::Change;
 use crate::stopping::of_append;
 use rx_disk::Disk;
 use rx_journal::Journal;
 use rx_outside::Stop;
 use rx_record::Record;
+use rx_session::Change;
 use std::alloc::Global;
 
 /// Puts a record that is legal on what the disk holds behind it.
@@ -63,23 +64,23 @@ pub(crate) fn keep_change<D: Disk>(
     change: &Change,
 ) -> Result<Journal, Stop>
     requires holds { D.tells → (bodies : List (List ℕ)) × (w : World) × Holds D.Disk disk.old journal bodies w }
-    requires ordered { HasOrder (doing_of change.now) }
+    requires ordered { HasOrder (done_by change.now) }
     ensures moments { D.tells → (bodies : List (List ℕ)) (s : Session)
-        → Holds D.Disk disk.old journal bodies s.world → MayDo (doing_of change.now) s.world
-        → GrowsLegally D.Disk disk.old disk.new bodies (bodies_of (records_of (doing_of change.now))) }
+        → Holds D.Disk disk.old journal bodies s.world → MayDo (done_by change.now) s
+        → GrowsLegally D.Disk disk.old disk.new bodies (bodies_of (records_of (done_by change.now))) }
     ensures holds { D.tells → (bodies : List (List ℕ)) (s : Session)
-        → Holds D.Disk disk.old journal bodies s.world → MayDo (doing_of change.now) s.world
+        → Holds D.Disk disk.old journal bodies s.world → MayDo (done_by change.now) s
         → IfOk result (λ kept. Holds D.Disk disk.new kept
-        (bodies ++ bodies_of (records_of (doing_of change.now))) (after (doing_of change.now) s).world) }
+        (bodies ++ bodies_of (records_of (done_by change.now))) (after (done_by change.now) s).world) }
     ensures limit { IfOk result (λ kept. kept.limit ≡ journal.limit) }
     ensures full { D.tells → (bodies : List (List ℕ)) (s : Session)
         → Holds D.Disk disk.old journal bodies s.world
         → (would limit : ℕ) → IsErrOf result (Stop.Full would limit)
-        → (limit ≡ journal.limit) × IsFull bodies (bodies_of (records_of (doing_of change.now))) would limit }
+        → (limit ≡ journal.limit) × IsFull bodies (bodies_of (records_of (done_by change.now))) would limit }
     ensures fits { D.tells → (bodies : List (List ℕ)) (s : Session)
         → Holds D.Disk disk.old journal bodies s.world
-        → IfOk result (λ _. (bodies_of (records_of (doing_of change.now)) ≡ [])
-        ⊎ (end_of (bodies ++ bodies_of (records_of (doing_of change.now))) ≤ journal.limit)) }
+        → IfOk result (λ _. (bodies_of (records_of (done_by change.now)) ≡ [])
+        ⊎ (end_of (bodies ++ bodies_of (records_of (done_by change.now))) ≤ journal.limit)) }
     ensures disk_only { IsErrOf result Stop.Disk → Rose (D.faults disk.old) (D.faults disk.new) }
     ensures not_journal { IsErrOf result Stop.NotJournal → ⊥ }
     ensures faults { D.faults disk.old ≤ D.faults disk.new }
@@ -89,5 +90,6 @@ pub(crate) fn keep_change<D: Disk>(
         Change::Nothing => Ok(journal),
         Change::Tick(_) => Ok(journal),
         Change::Watch(_) => Ok(journal),
+        Change::Unwatch(_) => Ok(journal),
     }
 }

@@ -4,8 +4,6 @@
 mod asking;
 mod bulk;
 mod documents;
-mod doing;
-mod emitting;
 mod engine;
 mod fault;
 mod keep;
@@ -14,10 +12,7 @@ mod opening;
 mod plan;
 mod queries;
 mod replay;
-mod rows;
-mod session;
 mod stopping;
-mod watch;
 mod writes;
 
 pub use engine::{Engine, Output};

@@ -1,19 +1,16 @@
-use crate::watch::Watch;
-use rx_record::Record;
 use rx_reply::Reply;
+use rx_session::Change;
 
-/// What a line changes.
+/// What a line is to do: to change the session, or to open the journal again in that epoch.
 #[derive(Drop)]
-pub(crate) enum Change {
-    Nothing,
-    Tick(u64),
-    Write(Record),
-    Watch(Watch),
+pub(crate) enum Todo {
+    Change(Change),
+    Restart(u64),
 }
 
 /// What a line is to do, and what it is answered then.
 #[derive(Drop)]
 pub(crate) struct Plan<'a> {
-    pub change: Change,
+    pub todo: Todo,
     pub reply: Reply<'a>,
 }

@@ -4,22 +4,20 @@ ghost use Rattle.serde_json.specs.View.{view};
 ghost use Rattle.rx_value.specs.Due.{DueBy};
 ghost use Rattle.rx_query.specs.Asked.{asked};
 ghost use Rattle.rx_reply.specs.Answer.{said};
+ghost use Rattle.rx_session.specs.Doing.{MayDo};
 ghost use Rattle.rx_engine.specs.Outcome.{say};
-ghost use Rattle.rx_engine.specs.Queries.{get_line, find_line, count_line, observe_line, query_on, is_observed};
-ghost use Rattle.rx_engine.specs.Shown.{session_in, doing_of, planned, MayDo};
-ghost use Rattle.rx_engine.specs.Watched.{world_of};
+ghost use Rattle.rx_engine.specs.Queries.{get_line, find_line, count_line, observe_line, unobserve_line, explain_line, query_on};
+ghost use Rattle.rx_engine.specs.Shown.{doing_of, planned};
 ghost use Rattle.rx_engine.specs.declared.fault.Fault.TheVariants.{Memory};
 
 use crate::documents::document_at;
 use crate::fault::Fault;
-use crate::lookup::collection_at;
-use crate::plan::{Change, Plan};
-use crate::rows::rows;
-use crate::session::Session;
-use crate::watch::Watch;
-use rx_collection::Collection;
+use crate::lookup::{collection_at, live_at};
+use crate::plan::{Plan, Todo};
+use rx_collection::{Collection, Holder};
 use rx_query::Query;
 use rx_reply::{Refusal, Reply};
+use rx_session::{Change, Session, Watch};
 use rx_value::RxText;
 use serde_json::Value as Json;
 use std::alloc::Global;
@@ -33,8 +31,8 @@ pub(crate) fn get_line<'a>(
     coll: &RxText,
     key: &RxText,
 ) -> Result<Plan<'a>, Fault>
-    ensures exact { DueBy Memory planned result (get_line coll.now key.now (session_in session.now)) }
-    ensures may { IfOk result (λ p. MayDo (doing_of p.change) (world_of session.now.world)) }
+    ensures exact { DueBy Memory planned result (get_line coll.now key.now session.now) }
+    ensures may { IfOk result (λ p. MayDo (doing_of p.todo) session.now) }
 {
     let collection = collection_at(alloc, session, coll)?;
     let doc = document_at(collection, key.as_str())?;
@@ -48,12 +46,12 @@ pub(crate) fn find_line<'a>(
     query: &Json,
 ) -> Result<Plan<'a>, Fault>
     ensures exact { DueBy Memory planned result
-        (find_line coll.now (view query.now) (session_in session.now)) }
-    ensures may { IfOk result (λ p. MayDo (doing_of p.change) (world_of session.now.world)) }
+        (find_line coll.now (view query.now) session.now) }
+    ensures may { IfOk result (λ p. MayDo (doing_of p.todo) session.now) }
 {
-    let collection = collection_at(alloc, session, coll)?;
-    let query = read_query(alloc, collection, query)?;
-    let rows = rows(alloc, collection, &query)?;
+    let live = live_at(alloc, session, coll)?;
+    let query = read_query(alloc, live.collection(), query)?;
+    let rows = live.find(alloc, &query)?;
     Ok(say(Reply::Find { rows }))
 }
 
@@ -64,12 +62,12 @@ pub(crate) fn count_line<'a>(
     query: &Json,
 ) -> Result<Plan<'a>, Fault>
     ensures exact { DueBy Memory planned result
-        (count_line coll.now (view query.now) (session_in session.now)) }
-    ensures may { IfOk result (λ p. MayDo (doing_of p.change) (world_of session.now.world)) }
+        (count_line coll.now (view query.now) session.now) }
+    ensures may { IfOk result (λ p. MayDo (doing_of p.todo) session.now) }
 {
-    let collection = collection_at(alloc, session, coll)?;
-    let query = read_query(alloc, collection, query)?;
-    let count = rows(alloc, collection, &query)?.len() as u64;
+    let live = live_at(alloc, session, coll)?;
+    let query = read_query(alloc, live.collection(), query)?;
+    let count = live.find(alloc, &query)?.len() as u64;
     Ok(say(Reply::Count { count }))
 }
 
@@ -81,35 +79,53 @@ pub(crate) fn observe_line<'a>(
     query: &Json,
 ) -> Result<Plan<'a>, Fault>
     ensures exact { DueBy Memory planned result
-        (observe_line name coll (view query.now) (session_in session.now)) }
-    ensures may { IfOk result (λ p. MayDo (doing_of p.change) (world_of session.now.world)) }
+        (observe_line name coll (view query.now) session.now) }
+    ensures may { IfOk result (λ p. MayDo (doing_of p.todo) session.now) }
 {
     let collection = collection_at(alloc, session, &coll)?;
-    if is_observed(session, &name) {
+    if session.is_observed(&name) {
         return Err(Fault::Refused(Refusal::Exists));
     }
     let query = read_query(alloc, collection, query)?;
-    if session.watches.len() >= MAX_QUERIES {
+    if session.queries() >= MAX_QUERIES {
         return Err(Fault::Refused(Refusal::TooMany));
     }
-    let watch = Watch {
-        name,
-        coll,
-        query,
-        emitted: None,
-    };
+    let watch = Watch { name, coll, query };
     Ok(Plan {
-        change: Change::Watch(watch),
+        todo: Todo::Change(Change::Watch(watch)),
         reply: Reply::Observe,
     })
 }
 
+pub(crate) fn unobserve_line<'a>(session: &'a Session, name: RxText) -> Result<Plan<'a>, Fault>
+    ensures exact { DueBy Memory planned result (unobserve_line name session.now) }
+    ensures may { IfOk result (λ p. MayDo (doing_of p.todo) session.now) }
+{
+    if !session.is_observed(&name) {
+        return Err(Fault::Refused(Refusal::NoQuery));
+    }
+    Ok(Plan {
+        todo: Todo::Change(Change::Unwatch(name)),
+        reply: Reply::Unobserve,
+    })
+}
+
+pub(crate) fn explain_line<'a>(session: &'a Session, name: &RxText) -> Result<Plan<'a>, Fault>
+    ensures exact { DueBy Memory planned result (explain_line name.now session.now) }
+    ensures may { IfOk result (λ p. MayDo (doing_of p.todo) session.now) }
+{
+    match session.counts(name) {
+        Some(counts) => Ok(say(Reply::Explain { counts })),
+        None => Err(Fault::Refused(Refusal::NoQuery)),
+    }
+}
+
 /// A reply that changes nothing.
-fn say(reply: Reply<'_>) -> Plan<'_>
+pub(crate) fn say(reply: Reply<'_>) -> Plan<'_>
     ensures { planned result ≡ say (said reply.entry) }
 {
     Plan {
-        change: Change::Nothing,
+        todo: Todo::Change(Change::Nothing),
         reply,
     }
 }
@@ -121,16 +137,4 @@ fn read_query(alloc: Global, collection: &Collection, query: &Json) -> Result<Qu
 {
     let schema = collection.schema();
     Ok(Query::read(alloc, query, schema.kinds(), schema.primary())?)
-}
-
-/// Whether a query of that name is observed.
-fn is_observed(session: &Session, name: &RxText) -> bool
-    ensures { result ≡ is_observed name.now (session_in session.now) }
-{
-    for watch in session.watches.as_slice() {
-        if watch.name == *name {
-            return true;
-        }
-    }
-    false
 }

@@ -9,9 +9,9 @@ ghost use Rattle.rx_value.specs.Named.{named};
 ghost use Rattle.rx_reply.specs.Answer.{said};
 ghost use Rattle.rx_world.specs.Commit.{IsValidState};
 ghost use Rattle.rx_world.specs.Valid.{AreValid};
+ghost use Rattle.rx_session.specs.Doing.{MayDo};
 ghost use Rattle.rx_engine.specs.Outcome.{commit};
-ghost use Rattle.rx_engine.specs.Shown.{session_in, doing_of, planned, MayDo};
-ghost use Rattle.rx_engine.specs.Watched.{world_of};
+ghost use Rattle.rx_engine.specs.Shown.{doing_of, planned};
 ghost use Rattle.rx_engine.specs.Writes.{made, make, inserted, upserted, patched, removed, insert_line, upsert_line, patch_line, remove_line, bulk_line};
 ghost use Rattle.rx_engine.specs.declared.fault.Fault.TheVariants.{Memory};
 
@@ -22,12 +22,12 @@ use crate::documents::{
 };
 use crate::fault::{Fault, of_document};
 use crate::lookup::collection_at;
-use crate::plan::{Change, Plan};
-use crate::session::Session;
+use crate::plan::{Plan, Todo};
 use rx_collection::{Collection, Holder};
 use rx_record::Record;
 use rx_reply::{DocumentFault, Refusal, Reply};
 use rx_schema::Schema;
+use rx_session::{Change, Session};
 use rx_value::{RxText, State, read_fields};
 use rx_world::MAX_COLLECTIONS;
 use serde_json::Value as Json;
@@ -41,25 +41,25 @@ pub(crate) fn make<'a>(
     schema: &Json,
 ) -> Result<Plan<'a>, Fault>
     requires { is_name name ≡ true }
-    ensures exact { DueBy Memory planned result (make name (view schema.now) (session_in session.now)) }
-    ensures may { IfOk result (λ p. MayDo (doing_of p.change) (world_of session.now.world)) }
+    ensures exact { DueBy Memory planned result (make name (view schema.now) session.now) }
+    ensures may { IfOk result (λ p. MayDo (doing_of p.todo) session.now) }
 {
     let schema = Schema::read(alloc, schema)?;
-    if let Some(holder) = session.world.holder(name.as_str()) {
+    if let Some(holder) = session.holder(name.as_str()) {
         if holder.collection().schema().canonical() != schema.canonical() {
             return Err(Fault::Refused(Refusal::SchemaDiffers));
         }
         return Ok(Plan {
-            change: Change::Nothing,
+            todo: Todo::Change(Change::Nothing),
             reply: Reply::Collection { new: false },
         });
     }
-    if session.world.len() >= MAX_COLLECTIONS {
+    if session.collections() >= MAX_COLLECTIONS {
         return Err(Fault::Refused(Refusal::TooMany));
     }
     let schema = schema.canonical().copy(alloc)?;
     Ok(Plan {
-        change: Change::Write(Record::Collection { name, schema }),
+        todo: Todo::Change(Change::Write(Record::Collection { name, schema })),
         reply: Reply::Collection { new: true },
     })
 }
@@ -141,19 +141,19 @@ fn write<'a>(
     states: Vec<State>,
     reply: Reply<'a>,
 ) -> Result<Plan<'a>, Fault>
-    requires held { named (world_of session.now.world).collections collection.now.name
+    requires held { named session.now.world.collections collection.now.name
         ≡ Some collection.now }
     requires some { 0 < length states.items }
     requires distinct { IsDistinct bytes_eq (map (λ s. s.key) states.items) }
     requires valid { AllByRecursion (IsValidState collection.now.schema) states.items }
     ensures exact { DueBy Memory planned result (commit collection.now.name states.items (said reply.entry)
-        collection.now (session_in session.now)) }
-    ensures may { IfOk result (λ p. MayDo (doing_of p.change) (world_of session.now.world)) }
+        collection.now session.now) }
+    ensures may { IfOk result (λ p. MayDo (doing_of p.todo) session.now) }
 {
     let name = collection.name().as_str();
-    let entry = session.world.commit(alloc, name, states, session.moment)?;
+    let entry = session.commit(alloc, name, states)?;
     Ok(Plan {
-        change: Change::Write(entry),
+        todo: Todo::Change(Change::Write(entry)),
         reply,
     })
 }
@@ -166,12 +166,12 @@ fn write_one<'a>(
     state: State,
     reply: Reply<'a>,
 ) -> Result<Plan<'a>, Fault>
-    requires held { named (world_of session.now.world).collections collection.now.name
+    requires held { named session.now.world.collections collection.now.name
         ≡ Some collection.now }
     requires valid { IsValidState collection.now.schema state }
     ensures exact { DueBy Memory planned result (commit collection.now.name (state ∷ []) (said reply.entry)
-        collection.now (session_in session.now)) }
-    ensures may { IfOk result (λ p. MayDo (doing_of p.change) (world_of session.now.world)) }
+        collection.now session.now) }
+    ensures may { IfOk result (λ p. MayDo (doing_of p.todo) session.now) }
 {
     let states = vec![in alloc; state]?;
     write(alloc, session, collection, states, reply)
@@ -184,8 +184,8 @@ pub(crate) fn insert_line<'a>(
     doc: &Json,
 ) -> Result<Plan<'a>, Fault>
     ensures exact { DueBy Memory planned result
-        (insert_line coll.now (view doc.now) (session_in session.now)) }
-    ensures may { IfOk result (λ p. MayDo (doing_of p.change) (world_of session.now.world)) }
+        (insert_line coll.now (view doc.now) session.now) }
+    ensures may { IfOk result (λ p. MayDo (doing_of p.todo) session.now) }
 {
     let collection = collection_at(alloc, session, coll)?;
     let state = inserted(alloc, collection, doc)?;
@@ -200,8 +200,8 @@ pub(crate) fn upsert_line<'a>(
     doc: &Json,
 ) -> Result<Plan<'a>, Fault>
     ensures exact { DueBy Memory planned result
-        (upsert_line coll.now (view doc.now) (session_in session.now)) }
-    ensures may { IfOk result (λ p. MayDo (doing_of p.change) (world_of session.now.world)) }
+        (upsert_line coll.now (view doc.now) session.now) }
+    ensures may { IfOk result (λ p. MayDo (doing_of p.todo) session.now) }
 {
     let collection = collection_at(alloc, session, coll)?;
     let state = upserted(alloc, collection, doc)?;
@@ -218,8 +218,8 @@ pub(crate) fn patch_line<'a>(
     rev: &Option<RxText>,
 ) -> Result<Plan<'a>, Fault>
     ensures exact { DueBy Memory planned result
-        (patch_line coll.now key (view set.now) rev.now (session_in session.now)) }
-    ensures may { IfOk result (λ p. MayDo (doing_of p.change) (world_of session.now.world)) }
+        (patch_line coll.now key (view set.now) rev.now session.now) }
+    ensures may { IfOk result (λ p. MayDo (doing_of p.todo) session.now) }
 {
     let collection = collection_at(alloc, session, coll)?;
     let state = patched(alloc, collection, key, set, rev)?;
@@ -235,8 +235,8 @@ pub(crate) fn remove_line<'a>(
     rev: &Option<RxText>,
 ) -> Result<Plan<'a>, Fault>
     ensures exact { DueBy Memory planned result
-        (remove_line coll.now key rev.now (session_in session.now)) }
-    ensures may { IfOk result (λ p. MayDo (doing_of p.change) (world_of session.now.world)) }
+        (remove_line coll.now key rev.now session.now) }
+    ensures may { IfOk result (λ p. MayDo (doing_of p.todo) session.now) }
 {
     let collection = collection_at(alloc, session, coll)?;
     let state = removed(alloc, collection, key, rev)?;
@@ -251,8 +251,8 @@ pub(crate) fn bulk_line<'a>(
     docs: &[Json],
 ) -> Result<Plan<'a>, Fault>
     ensures exact { DueBy Memory planned result
-        (bulk_line coll.now (map view docs.now) (session_in session.now)) }
-    ensures may { IfOk result (λ p. MayDo (doing_of p.change) (world_of session.now.world)) }
+        (bulk_line coll.now (map view docs.now) session.now) }
+    ensures may { IfOk result (λ p. MayDo (doing_of p.todo) session.now) }
 {
     let collection = collection_at(alloc, session, coll)?;
     let states = read_rows(alloc, collection, docs)?;
@@ -261,11 +261,11 @@ pub(crate) fn bulk_line<'a>(
     if !states.is_empty() {
         return write(alloc, session, collection, states, reply);
     }
-    if collection.stamp(session.moment).is_none() {
+    if collection.stamp(session.moment()).is_none() {
         return Err(Fault::Refused(Refusal::Clock));
     }
     Ok(Plan {
-        change: Change::Nothing,
+        todo: Todo::Change(Change::Nothing),
         reply,
     })
 }

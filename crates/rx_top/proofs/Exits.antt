@@ -5,7 +5,7 @@ use Rattle.rx_disk.specs.declared.disk.Disk.{Ghosts}
 use Rattle.rx_engine.specs.Engine.{IsAt, IsFull, session_of, limit_of}
 use Rattle.rx_engine.specs.Holds.{GrowsLegally, Leaves}
 use Rattle.rx_engine.specs.Meaning.{Meaning, bodies_of, meaning}
-use Rattle.rx_engine.specs.Session.{Session}
+use Rattle.rx_session.specs.Session.{Session}
 use Rattle.rx_engine.specs.declared.engine.Engine.{Engine}
 use Rattle.rx_engine.specs.declared.engine.Output.{Output}
 use Rattle.rx_engine.proofs.Growing.{grows_on}

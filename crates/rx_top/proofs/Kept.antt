@@ -4,7 +4,7 @@ use Rattle.std.proofs.lemmas.Bool.Decides.{leb_tells}
 use Rattle.std.proofs.lemmas.List.{take_all, length-take-le}
 use Rattle.rx_engine.proofs.Cut.{same_when_cut}
 use Rattle.rx_engine.specs.Meaning.{Meaning, meaning}
-use Rattle.rx_engine.specs.Session.{Session}
+use Rattle.rx_session.specs.Session.{Session}
 use Rattle.rx_script.specs.Line.{max_line_bytes}
 use Rattle.rx_top.specs.Lines.{is_blank}
 use Rattle.rx_top.specs.Reader.{kept}

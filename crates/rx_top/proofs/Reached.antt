@@ -6,7 +6,7 @@ use Rattle.rx_frame.specs.File.{end_of}
 use Rattle.rx_engine.specs.Engine.{IsAt, session_of}
 use Rattle.rx_engine.specs.Holds.{GrowsLegally, Leaves, StandsLegally}
 use Rattle.rx_engine.specs.Meaning.{Meaning, bodies_of}
-use Rattle.rx_engine.specs.Session.{Session}
+use Rattle.rx_session.specs.Session.{Session}
 use Rattle.rx_engine.specs.declared.engine.Engine.{Engine}
 use Rattle.rx_engine.proofs.Growing.{grows_on, held}
 use Rattle.rx_top.specs.Story.{bodies_in, wrote, after_all, meant, next, Steps}

@@ -5,7 +5,7 @@ use Rattle.rx_disk.specs.declared.disk.Disk.{Ghosts}
 use Rattle.rx_engine.specs.Engine.{IsFull}
 use Rattle.rx_engine.specs.Holds.{IsLegalFile, StandsLegally}
 use Rattle.rx_engine.specs.Opening.{epoch_body, opened}
-use Rattle.rx_engine.specs.Session.{Session}
+use Rattle.rx_session.specs.Session.{Session}
 use Rattle.rx_frame.specs.File.{end_of}
 use Rattle.rx_outside.specs.Failed.{Rises}
 use Rattle.rx_outside.specs.Sink.{WritesFront}

@@ -1,6 +1,6 @@
 -- The story of a run, line after line.
 use Rattle.std.proofs.Common.{◌≡◌, ◌∙◌, refl, sym, ap, ℕ, ◌+◌, suc, Bool, true, false, not, cond, ◌&&◌, ◌||◌, ◌==◌, List, [], ◌∷◌, ◌++◌, length, arith, append_assoc, append-nil, length-append}
-use Rattle.rx_engine.specs.Session.{Session}
+use Rattle.rx_session.specs.Session.{Session}
 use Rattle.rx_top.specs.Lines.{Cut, cut, byte_before, last_line, lines}
 use Rattle.rx_top.specs.Reader.{is_within}
 use Rattle.rx_top.specs.Story.{said, bodies_in, is_refused, next, told, wrote, any_refused, after_all}

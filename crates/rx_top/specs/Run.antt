@@ -4,7 +4,7 @@ use Rattle.rx_disk.specs.declared.disk.Disk.{Ghosts}
 use Rattle.rx_engine.specs.Engine.{IsFull}
 use Rattle.rx_engine.specs.Holds.{GrowsLegally, IsLegalFile, Leaves}
 use Rattle.rx_engine.specs.Opening.{epoch_body, opened}
-use Rattle.rx_engine.specs.Session.{Session}
+use Rattle.rx_session.specs.Session.{Session}
 use Rattle.rx_frame.specs.File.{StandsFor, end_of}
 use Rattle.rx_outside.specs.Sink.{WritesFront}
 use Rattle.rx_outside.specs.declared.stop.Stop.TheVariants.{Full}

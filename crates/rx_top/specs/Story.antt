@@ -3,7 +3,7 @@ use Rattle.std.specs.Prelude.{ℕ, ◌+◌, List, [], ◌∷◌, ◌++◌, Bool,
 use Rattle.rx_disk.specs.declared.disk.Disk.{Ghosts}
 use Rattle.rx_engine.specs.Holds.{GrowsLegally}
 use Rattle.rx_engine.specs.Meaning.{Meaning, meaning, bodies_of}
-use Rattle.rx_engine.specs.Session.{Session}
+use Rattle.rx_session.specs.Session.{Session}
 use Rattle.rx_top.specs.Lines.{is_blank}
 
 -- what a blank line means

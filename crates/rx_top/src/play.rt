@@ -47,7 +47,7 @@ pub(crate) fn play<S: Source, K: Sink, D: Disk>(
     ensures sink { IsErrOf result Cause.Sink → Rises (K.faults out.old) (K.faults out.new) }
     ensures disk_only { IsErrOf result (Cause.Work stop.Disk)
         → Rose (D.faults disk.old) (D.faults disk.new) }
-    ensures not_journal { IsErrOf result (Cause.Work stop.NotJournal) → ⊥ }
+    ensures not_journal { D.tells → IsErrOf result (Cause.Work stop.NotJournal) → ⊥ }
     ensures source_faults { S.faults source.old ≤ S.faults source.new }
     ensures sink_faults { K.faults out.old ≤ K.faults out.new }
     ensures disk_faults { D.faults disk.old ≤ D.faults disk.new }
@@ -117,7 +117,7 @@ fn say<K: Sink, D: Disk>(
     ensures sink { IsErrOf result Cause.Sink → Rises (K.faults out.old) (K.faults out.new) }
     ensures disk_only { IsErrOf result (Cause.Work stop.Disk)
         → Rose (D.faults disk.old) (D.faults disk.new) }
-    ensures not_journal { IsErrOf result (Cause.Work stop.NotJournal) → ⊥ }
+    ensures not_journal { D.tells → IsErrOf result (Cause.Work stop.NotJournal) → ⊥ }
     ensures sink_faults { K.faults out.old ≤ K.faults out.new }
     ensures disk_faults { D.faults disk.old ≤ D.faults disk.new }
 {

@@ -118,8 +118,8 @@ pub fn rx<S: Source, K: Sink, D: Disk>(
     ensures not_journal { result ≡ 7 → D.tells → (bodies : List (List ℕ)) (w : World)
         → IsLegalFile (D.content disk.old) bodies w → ⊥ }
     ensures not_journal_kept { result ≡ 7 → D.tells → D.content disk.new ≡ D.content disk.old }
-    ensures not_journal_unread { result ≡ 7 → source.new ≡ source.old }
-    ensures not_journal_line { result ≡ 7 → Stops K.tells (K.faults out.old) (K.faults out.new)
+    ensures not_journal_unread { result ≡ 7 → D.tells → source.new ≡ source.old }
+    ensures not_journal_line { result ≡ 7 → D.tells → Stops K.tells (K.faults out.old) (K.faults out.new)
         (K.written out.old) (K.written out.new) [] (named (codes "not_journal")) }
     ensures stood { (result < 2) ⊎ (result ≡ 4) ⊎ (result ≡ 5) ⊎ (result ≡ 9) → D.tells
         → (bodies : List (List ℕ)) × (w : World) × IsLegalFile (D.content disk.old) bodies w }
@@ -180,9 +180,9 @@ fn run<S: Source, K: Sink, D: Disk>(
         → (bodies : List (List ℕ)) (w : World) → IsLegalFile (D.content disk.old) bodies w → ⊥ }
     ensures not_journal_kept { D.tells → IsErrOf result (Cause.Work stop.NotJournal)
         → D.content disk.new ≡ D.content disk.old }
-    ensures not_journal_unread { IsErrOf result (Cause.Work stop.NotJournal)
+    ensures not_journal_unread { D.tells → IsErrOf result (Cause.Work stop.NotJournal)
         → source.new ≡ source.old }
-    ensures not_journal_unsaid { K.tells → IsErrOf result (Cause.Work stop.NotJournal)
+    ensures not_journal_unsaid { D.tells → K.tells → IsErrOf result (Cause.Work stop.NotJournal)
         → K.written out.new ≡ K.written out.old }
     ensures source_faults { S.faults source.old ≤ S.faults source.new }
     ensures sink_faults { K.faults out.old ≤ K.faults out.new }

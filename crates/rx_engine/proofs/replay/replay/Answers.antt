@@ -1,7 +1,7 @@
-use Rattle.std.proofs.Common.{◌≡◌, ◌≤◌, ℕ, ◌+◌, length, ◌∙◌, sym, arith, rules}
+use Rattle.std.proofs.Common.{arith, rules}
 use Rattle.rx_frame.specs.Frames.{bytes_left}
 use Rattle.rx_journal.specs.Image.{image_bytes}
-use Rattle.rx_engine.specs.Watched.{world_of}
+use Rattle.rx_session.specs.Placed.{world_of}
 use Rattle.rx_engine.proofs.Replaying.{goes_on, refused, done, shorter}
 use Rattle.rx_engine.proofs.replay.replay.Goals as goal
 
@@ -22,6 +22,7 @@ loop-body-preserved c = (
     c.in_ok-world.ensures.epoch,
     shorter (bytes_left c.loop-body.frames) c.in-Some.body.now (bytes_left c.next.new.self) c.in-Some.ensures.some,
   ),
+  c.in_ok-world.ensures.unwatched,
 )
 
 pub returns-clause-ok : goal.returns-clause-ok

@@ -1,7 +1,7 @@
 use Rattle.std.proofs.Common.{◌++◌, ◌∷◌, [], ℕ, refl, subst}
 use Rattle.rx_engine.specs.Engine.{limit_of}
 use Rattle.rx_engine.specs.Opening.{epoch_body, opened}
-use Rattle.rx_engine.specs.Session.{Session}
+use Rattle.rx_session.specs.Session.{Session}
 use Rattle.rx_outside.specs.declared.stop.Stop.TheVariants.{NotJournal}
 use Rattle.rx_top.specs.Run.{Exit}
 use Rattle.rx_top.proofs.Heads.{no_reader, open_stopped, played, same_open}

@@ -1,146 +1,24 @@
-use Rattle.std.proofs.Common.{◌≡◌, ◌≤◌, ℕ, ◌+◌, List, [], ◌∷◌, ◌++◌, ◌∙◌, ap, sym, subst, rules}
-use Rattle.rx_frame.specs.File.{end_of}
-use Rattle.rx_record.specs.Content.{epoch, content_bytes}
-use Rattle.rx_world.specs.Step.{step}
-use Rattle.rx_world.specs.World.{World}
-use Rattle.rx_engine.specs.Engine.{IsFull, session_of}
+use Rattle.std.proofs.Common.{◌++◌, ◌∷◌, [], ◌∙◌, ap, sym, subst, rules}
+use Rattle.rx_session.specs.Session.{Session}
+use Rattle.rx_engine.specs.Engine.{session_of}
 use Rattle.rx_engine.specs.Holds.{Holds}
-use Rattle.rx_engine.specs.Opening.{epoch_body, opened}
-use Rattle.rx_engine.specs.Session.{Session}
-use Rattle.rx_engine.specs.Watched.{world_of}
-use Rattle.rx_engine.proofs.Keeping.{end_with, is_full}
-use Rattle.rx_engine.proofs.Opened.{holds_its_own, is_legal, holds_these, same_world, never_refused, kept, after_opening, after_epoch, next_legal}
+use Rattle.rx_engine.specs.Opening.{epoch_body, session_on, opened}
 use Rattle.rx_engine.proofs.engine.Engine.open.Goals as goal
 
-pub returns-in-Err-clause-moments : goal.returns-in-Err-clause-moments
-returns-in-Err-clause-moments g c told bodies w lawful alike =
-    after_opening g.D.Disk c.args.disk.now bodies w lawful alike c.open.new.disk (epoch_body w ∷ [])
-    (c.open.ensures.moments told)
-
-pub returns-in_err-world-clause-moments : goal.returns-in_err-world-clause-moments
-returns-in_err-world-clause-moments g c told bodies w lawful alike =
-    after_opening g.D.Disk c.args.disk.now bodies w lawful alike c.open.new.disk (epoch_body w ∷ [])
-    (c.open.ensures.moments told)
-
-pub returns-in_err-world-clause-not_journal : goal.returns-in_err-world-clause-not_journal
-returns-in_err-world-clause-not_journal g c told err bodies w lawful =
-    never_refused g.D.Disk c.args.disk.now c.open.new.disk c.in-Ok.pair.0 c.in-Ok.pair.1
-    (c.in-Ok.ensures.opened told) bodies w lawful (c.in_err-world.ensures.not_journal (search rules))
-
-pub returns-in_err-world-clause-not_journal_kept : goal.returns-in_err-world-clause-not_journal_kept
-returns-in_err-world-clause-not_journal_kept g c told err =
-    kept g.D.Disk c.args.disk.now c.open.new.disk c.in-Ok.pair.0 c.in-Ok.pair.1
-    (c.in-Ok.ensures.opened told) (c.in_err-world.ensures.not_journal (search rules))
-
-pub keep-requires-clause-holds : goal.keep-requires-clause-holds
-keep-requires-clause-holds g c told =
-    let o = c.in-Ok.ensures.opened told in (
-      o.shows.bodies,
-      world_of c.in_ok-world.world,
-      holds_its_own g.D.Disk c.args.disk.now c.open.new.disk c.in-Ok.pair.0 c.in-Ok.pair.1
-          (world_of c.in_ok-world.world) o c.in_ok-world.ensures.ok,
-    )
-
-pub returns-in_err-journal-clause-moments : goal.returns-in_err-journal-clause-moments
-returns-in_err-journal-clause-moments g c told bodies w lawful alike =
-    let d = g.D.Disk in
-    let o = c.in-Ok.ensures.opened told in
-    let holds = holds_these d c.args.disk.now c.open.new.disk c.in-Ok.pair.0 c.in-Ok.pair.1 o bodies w lawful in
-    let world : world_of c.in_ok-world.world ≡ w =
-    same_world d c.args.disk.now c.open.new.disk c.in-Ok.pair.0 c.in-Ok.pair.1 o bodies w lawful
-    (world_of c.in_ok-world.world) c.in_ok-world.ensures.ok in
-    let number : c.epoch.result + 1 ≡ w.epoch + 1 =
-    ap (λ (n : ℕ). n + 1) c.epoch.ensures ∙ ap (λ (x : World). x.epoch + 1) world in
-    after_epoch d c.args.disk.now bodies w lawful alike c.open.new.disk c.keep.new.disk (c.epoch.result + 1)
-    number (c.open.ensures.moments told)
-    (c.keep.ensures.moments told bodies w holds (next_legal w (c.epoch.result + 1) number))
-
-pub returns-in_err-session-clause-moments : goal.returns-in_err-session-clause-moments
-returns-in_err-session-clause-moments g c told bodies w lawful alike =
-    let d = g.D.Disk in
-    let o = c.in-Ok.ensures.opened told in
-    let holds = holds_these d c.args.disk.now c.open.new.disk c.in-Ok.pair.0 c.in-Ok.pair.1 o bodies w lawful in
-    let world : world_of c.in_ok-world.world ≡ w =
-    same_world d c.args.disk.now c.open.new.disk c.in-Ok.pair.0 c.in-Ok.pair.1 o bodies w lawful
-    (world_of c.in_ok-world.world) c.in_ok-world.ensures.ok in
-    let number : c.epoch.result + 1 ≡ w.epoch + 1 =
-    ap (λ (n : ℕ). n + 1) c.epoch.ensures ∙ ap (λ (x : World). x.epoch + 1) world in
-    after_epoch d c.args.disk.now bodies w lawful alike c.open.new.disk c.keep.new.disk (c.epoch.result + 1)
-    number (c.open.ensures.moments told)
-    (c.keep.ensures.moments told bodies w holds (next_legal w (c.epoch.result + 1) number))
-
-pub returns-clause-moments : goal.returns-clause-moments
-returns-clause-moments g c told bodies w lawful alike =
-    let d = g.D.Disk in
-    let o = c.in-Ok.ensures.opened told in
-    let holds = holds_these d c.args.disk.now c.open.new.disk c.in-Ok.pair.0 c.in-Ok.pair.1 o bodies w lawful in
-    let world : world_of c.in_ok-world.world ≡ w =
-    same_world d c.args.disk.now c.open.new.disk c.in-Ok.pair.0 c.in-Ok.pair.1 o bodies w lawful
-    (world_of c.in_ok-world.world) c.in_ok-world.ensures.ok in
-    let number : c.epoch.result + 1 ≡ w.epoch + 1 =
-    ap (λ (n : ℕ). n + 1) c.epoch.ensures ∙ ap (λ (x : World). x.epoch + 1) world in
-    after_epoch d c.args.disk.now bodies w lawful alike c.open.new.disk c.keep.new.disk (c.epoch.result + 1)
-    number (c.open.ensures.moments told)
-    (c.keep.ensures.moments told bodies w holds (next_legal w (c.epoch.result + 1) number))
+pub returns-in_err-journal-clause-not_journal : goal.returns-in_err-journal-clause-not_journal
+returns-in_err-journal-clause-not_journal g c told err bodies w lawful =
+    c.in_err-journal.ensures.not_journal told (search rules) bodies w lawful
 
 pub returns-in_err-journal-clause-full : goal.returns-in_err-journal-clause-full
 returns-in_err-journal-clause-full g c told bodies w lawful would most err =
-    let d = g.D.Disk in
-    let o = c.in-Ok.ensures.opened told in
-    let holds = holds_these d c.args.disk.now c.open.new.disk c.in-Ok.pair.0 c.in-Ok.pair.1 o bodies w lawful in
-    let world : world_of c.in_ok-world.world ≡ w =
-    same_world d c.args.disk.now c.open.new.disk c.in-Ok.pair.0 c.in-Ok.pair.1 o bodies w lawful
-    (world_of c.in_ok-world.world) c.in_ok-world.ensures.ok in
-    let number : c.epoch.result + 1 ≡ w.epoch + 1 =
-    ap (λ (n : ℕ). n + 1) c.epoch.ensures ∙ ap (λ (x : World). x.epoch + 1) world in
-    let full = c.in_err-journal.ensures.full would most (search rules) in (
-      full.1 ∙ c.in-Ok.ensures.limit,
-      subst (λ (n : ℕ). IsFull bodies (content_bytes (epoch n) ∷ []) would most) number
-          (is_full bodies (content_bytes (epoch (c.epoch.result + 1))) c.in-Ok.pair.0.end would most
-          holds.ready.ends full.0 full.2),
-    )
-
-pub returns-clause-stood : goal.returns-clause-stood
-returns-clause-stood g c told =
-    let o = c.in-Ok.ensures.opened told in (
-      o.shows.bodies,
-      world_of c.in_ok-world.world,
-      is_legal g.D.Disk c.args.disk.now c.open.new.disk c.in-Ok.pair.0 c.in-Ok.pair.1
-          (world_of c.in_ok-world.world) o c.in_ok-world.ensures.ok,
-    )
+    c.in_err-journal.ensures.full told bodies w lawful would most (search rules)
 
 pub returns-clause-opened : goal.returns-clause-opened
 unfolding session_of opened
 returns-clause-opened g c told bodies w lawful =
-    let d = g.D.Disk in
-    let o = c.in-Ok.ensures.opened told in
-    let holds = holds_these d c.args.disk.now c.open.new.disk c.in-Ok.pair.0 c.in-Ok.pair.1 o bodies w lawful in
-    let world : world_of c.in_ok-world.world ≡ w =
-    same_world d c.args.disk.now c.open.new.disk c.in-Ok.pair.0 c.in-Ok.pair.1 o bodies w lawful
-    (world_of c.in_ok-world.world) c.in_ok-world.ensures.ok in
-    let number : c.epoch.result + 1 ≡ w.epoch + 1 =
-    ap (λ (n : ℕ). n + 1) c.epoch.ensures ∙ ap (λ (x : World). x.epoch + 1) world in
-    let session = c.in_ok-session.ensures ∙ ap opened world in (
+    let o = c.in_ok-journal.ensures.opened told bodies w lawful in
+    let session = c.new-session.ensures ∙ ap session_on o.0 in (
       session,
-      subst (λ (x : Session). Holds d c.keep.new.disk c.in_ok-journal.journal (bodies ++ epoch_body w ∷ []) x.world)
-          (sym session)
-          (subst (λ (n : ℕ). Holds d c.keep.new.disk c.in_ok-journal.journal (bodies ++ content_bytes (epoch n) ∷ [])
-          (step (epoch n) w)) number
-          (c.in_ok-journal.ensures.holds told bodies w holds (next_legal w (c.epoch.result + 1) number))),
+      subst (λ (s : Session). Holds g.D.Disk c.open.new.disk c.in_ok-journal.field-0.journal
+          (bodies ++ epoch_body w ∷ []) s.world) (sym session) o.1,
     )
-
-pub returns-clause-fits : goal.returns-clause-fits
-returns-clause-fits g c told bodies w lawful =
-    let d = g.D.Disk in
-    let o = c.in-Ok.ensures.opened told in
-    let holds = holds_these d c.args.disk.now c.open.new.disk c.in-Ok.pair.0 c.in-Ok.pair.1 o bodies w lawful in
-    let world : world_of c.in_ok-world.world ≡ w =
-    same_world d c.args.disk.now c.open.new.disk c.in-Ok.pair.0 c.in-Ok.pair.1 o bodies w lawful
-    (world_of c.in_ok-world.world) c.in_ok-world.ensures.ok in
-    let number : c.epoch.result + 1 ≡ w.epoch + 1 =
-    ap (λ (n : ℕ). n + 1) c.epoch.ensures ∙ ap (λ (x : World). x.epoch + 1) world in
-    subst (λ (n : ℕ). end_of (bodies ++ content_bytes (epoch n) ∷ []) ≤ c.args.limit) number
-    (subst (λ (n : ℕ). end_of (bodies ++ content_bytes (epoch (c.epoch.result + 1)) ∷ []) ≤ n) c.in-Ok.ensures.limit
-    (subst (λ (n : ℕ). n ≤ c.in-Ok.pair.0.limit)
-    (end_with bodies (content_bytes (epoch (c.epoch.result + 1))) c.in-Ok.pair.0.end holds.ready.ends)
-    c.in_ok-journal.ensures.fits))
