@@ -9,6 +9,8 @@ mod case;
 #[cfg(test)]
 mod endless;
 #[cfg(test)]
+mod explained;
+#[cfg(test)]
 mod hashes;
 #[cfg(test)]
 mod journal;
@@ -26,6 +28,8 @@ mod revisions;
 mod run;
 #[cfg(test)]
 mod schemas;
+#[cfg(test)]
+mod screens;
 #[cfg(test)]
 mod selectors;
 #[cfg(test)]

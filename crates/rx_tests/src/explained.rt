@@ -1,0 +1,550 @@
+// Observed queries that are forgotten, explained and opened again.
+use crate::case::play_all;
+use std::test::Fail;
+
+#[test]
+fn observed_queries_are_explained_and_forgotten(rt: HostRuntime) -> Result<(), Fail> {
+    play_all(rt.alloc(), EXPLAINED)
+}
+
+#[test]
+fn observed_queries_outlive_an_opening(rt: HostRuntime) -> Result<(), Fail> {
+    play_all(rt.alloc(), OPENED)
+}
+
+const EXPLAINED: &str = r#"
+== no query has that name
+> {"do":"unobserve","name":"q"}
+< {"code":17,"line":L,"refused":"no_query"}
+> {"do":"explain","name":"q"}
+< {"code":17,"line":L,"refused":"no_query"}
+> {"do":"unobserve"}
+< {"code":5,"line":L,"name":"name","refused":"missing"}
+> {"do":"explain"}
+< {"code":5,"line":L,"name":"name","refused":"missing"}
+> {"do":"explain","name":"q","in":"c"}
+< {"code":6,"line":L,"name":"in","refused":"unexpected"}
+> {"do":"unobserve","name":5}
+< {"code":7,"line":L,"name":"name","refused":"wrong_type"}
+> {"do":"explain","name":"Q"}
+< {"code":8,"line":L,"name":"name","refused":"name"}
+> {"do":"restart","at":5}
+< {"code":6,"line":L,"name":"at","refused":"unexpected"}
+
+== the first document comes first
+> C(c)
+< made
+> {"do":"observe","name":"q","in":"c","query":{"selector":{"n":1}}}
+< {"line":L,"ok":"observe"}
+< {"emit":"q","rows":[]}
+> {"do":"explain","name":"q"}
+< {"actions":{},"changes":0,"full":0,"line":L,"ok":"explain"}
+> I(c,a,1)
+< {"line":L,"ok":"insert","rev":"1-c"}
+< {"emit":"q","rows":[{"id":"a","n":1}]}
+> I(c,a,1)
+< {"code":14,"line":L,"refused":"conflict","rev":"1-c"}
+> {"do":"explain","name":"q"}
+< {"actions":{"insertFirst":1},"changes":1,"full":0,"line":L,"ok":"explain"}
+
+== a full window that loses a row is queried again
+> C(c)
+< made
+> I(c,a,1)
+< insert 1-c
+> I(c,b,2)
+< insert 1-c
+> I(c,d,3)
+< insert 1-c
+> {"do":"observe","name":"q","in":"c","query":{"sort":[{"n":"asc"}],"limit":2}}
+< {"line":L,"ok":"observe"}
+< {"emit":"q","rows":[{"id":"a","n":1},{"id":"b","n":2}]}
+> {"do":"remove","in":"c","key":"a"}
+< {"line":L,"ok":"remove","rev":"2-c"}
+< {"emit":"q","rows":[{"id":"b","n":2},{"id":"d","n":3}]}
+> {"do":"explain","name":"q"}
+< {"actions":{"runFullQueryAgain":1},"changes":1,"full":1,"line":L,"ok":"explain"}
+
+== a full window whose row moves past its end is queried again
+> C(c)
+< made
+> I(c,a,1)
+< insert 1-c
+> I(c,b,2)
+< insert 1-c
+> I(c,d,3)
+< insert 1-c
+> {"do":"observe","name":"q","in":"c","query":{"sort":[{"n":"asc"}],"limit":2}}
+< {"line":L,"ok":"observe"}
+< {"emit":"q","rows":[{"id":"a","n":1},{"id":"b","n":2}]}
+> {"do":"patch","in":"c","key":"b","set":{"n":5}}
+< {"line":L,"ok":"patch","rev":"2-c"}
+< {"emit":"q","rows":[{"id":"a","n":1},{"id":"d","n":3}]}
+> {"do":"explain","name":"q"}
+< {"actions":{"runFullQueryAgain":1},"changes":1,"full":1,"line":L,"ok":"explain"}
+
+== a change among the skipped rows needs nothing
+> C(c)
+< made
+> I(c,a,1)
+< insert 1-c
+> I(c,b,2)
+< insert 1-c
+> I(c,d,3)
+< insert 1-c
+> {"do":"observe","name":"q","in":"c","query":{"sort":[{"n":"asc"}],"skip":2}}
+< {"line":L,"ok":"observe"}
+< {"emit":"q","rows":[{"id":"d","n":3}]}
+> {"do":"patch","in":"c","key":"b","set":{"n":0}}
+< {"line":L,"ok":"patch","rev":"2-c"}
+> {"do":"explain","name":"q"}
+< {"actions":{"doNothing":1},"changes":1,"full":0,"line":L,"ok":"explain"}
+
+== a removal among the skipped rows takes the first row away
+> C(c)
+< made
+> I(c,a,1)
+< insert 1-c
+> I(c,b,2)
+< insert 1-c
+> I(c,d,3)
+< insert 1-c
+> {"do":"observe","name":"q","in":"c","query":{"sort":[{"n":"asc"}],"skip":1}}
+< {"line":L,"ok":"observe"}
+< {"emit":"q","rows":[{"id":"b","n":2},{"id":"d","n":3}]}
+> {"do":"remove","in":"c","key":"a"}
+< {"line":L,"ok":"remove","rev":"2-c"}
+< {"emit":"q","rows":[{"id":"d","n":3}]}
+> {"do":"explain","name":"q"}
+< {"actions":{"removeFirstItem":1},"changes":1,"full":0,"line":L,"ok":"explain"}
+
+== the one place is taken by a smaller document
+> C(c)
+< made
+> I(c,b,2)
+< insert 1-c
+> {"do":"observe","name":"q","in":"c","query":{"sort":[{"n":"asc"}],"limit":1}}
+< {"line":L,"ok":"observe"}
+< {"emit":"q","rows":[{"id":"b","n":2}]}
+> I(c,a,1)
+< {"line":L,"ok":"insert","rev":"1-c"}
+< {"emit":"q","rows":[{"id":"a","n":1}]}
+> {"do":"explain","name":"q"}
+< {"actions":{"removeFirstInsertFirst":1},"changes":1,"full":0,"line":L,"ok":"explain"}
+
+== documents come before a full window
+> C(c)
+< made
+> I(c,a,5)
+< insert 1-c
+> I(c,b,6)
+< insert 1-c
+> I(c,d,7)
+< insert 1-c
+> {"do":"observe","name":"q","in":"c","query":{"sort":[{"n":"asc"}],"limit":2}}
+< {"line":L,"ok":"observe"}
+< {"emit":"q","rows":[{"id":"a","n":5},{"id":"b","n":6}]}
+> I(c,e,1)
+< {"line":L,"ok":"insert","rev":"1-c"}
+< {"emit":"q","rows":[{"id":"e","n":1},{"id":"a","n":5}]}
+> {"do":"patch","in":"c","key":"d","set":{"n":0}}
+< {"line":L,"ok":"patch","rev":"2-c"}
+< {"emit":"q","rows":[{"id":"d","n":0},{"id":"e","n":1}]}
+> {"do":"explain","name":"q"}
+< {"actions":{"removeLastInsertFirst":2},"changes":2,"full":0,"line":L,"ok":"explain"}
+
+== a change while all matching documents are skipped
+> C(c)
+< made
+> I(c,a,1)
+< insert 1-c
+> {"do":"observe","name":"q","in":"c","query":{"skip":5}}
+< {"line":L,"ok":"observe"}
+< {"emit":"q","rows":[]}
+> {"do":"patch","in":"c","key":"a","set":{"n":2}}
+< {"line":L,"ok":"patch","rev":"2-c"}
+> {"do":"explain","name":"q"}
+< {"actions":{"doNothing":1},"changes":1,"full":0,"line":L,"ok":"explain"}
+
+== the rows of a bulk count one by one, by rising keys
+> C(c)
+< made
+> {"do":"observe","name":"q","in":"c","query":{}}
+< {"line":L,"ok":"observe"}
+< {"emit":"q","rows":[]}
+> {"do":"bulk","in":"c","docs":[{"id":"d"},{"id":"a"},{"id":"b"}]}
+< {"line":L,"ok":"bulk","revs":["1-c","1-c","1-c"]}
+< {"emit":"q","rows":[{"id":"a"},{"id":"b"},{"id":"d"}]}
+> {"do":"explain","name":"q"}
+< {"actions":{"insertFirst":1,"insertLast":2},"changes":3,"full":0,"line":L,"ok":"explain"}
+
+== each place of a row that stays
+> C(c)
+< made
+> {"do":"bulk","in":"c","docs":[{"id":"a"},{"id":"b"},{"id":"d"}]}
+< {"line":L,"ok":"bulk","revs":["1-c","1-c","1-c"]}
+> {"do":"observe","name":"q","in":"c","query":{}}
+< {"line":L,"ok":"observe"}
+< {"emit":"q","rows":[{"id":"a"},{"id":"b"},{"id":"d"}]}
+> {"do":"patch","in":"c","key":"a","set":{"n":1}}
+< {"line":L,"ok":"patch","rev":"2-c"}
+< {"emit":"q","rows":[{"id":"a","n":1},{"id":"b"},{"id":"d"}]}
+> {"do":"patch","in":"c","key":"b","set":{"n":2}}
+< {"line":L,"ok":"patch","rev":"2-c"}
+< {"emit":"q","rows":[{"id":"a","n":1},{"id":"b","n":2},{"id":"d"}]}
+> {"do":"patch","in":"c","key":"d","set":{"n":3}}
+< {"line":L,"ok":"patch","rev":"2-c"}
+< {"emit":"q","rows":[{"id":"a","n":1},{"id":"b","n":2},{"id":"d","n":3}]}
+> {"do":"patch","in":"c","key":"d","set":{}}
+< {"line":L,"ok":"patch","rev":"3-c"}
+> {"do":"explain","name":"q"}
+< {"actions":{"removeFirstInsertFirst":1,"removeLastInsertLast":2,"replaceExisting":1},"changes":4,"full":0,"line":L,"ok":"explain"}
+
+== each place of a row that goes
+> C(c)
+< made
+> {"do":"bulk","in":"c","docs":[{"id":"a"},{"id":"b"},{"id":"d"},{"id":"e"}]}
+< {"line":L,"ok":"bulk","revs":["1-c","1-c","1-c","1-c"]}
+> {"do":"observe","name":"q","in":"c","query":{}}
+< {"line":L,"ok":"observe"}
+< {"emit":"q","rows":[{"id":"a"},{"id":"b"},{"id":"d"},{"id":"e"}]}
+> {"do":"remove","in":"c","key":"b"}
+< {"line":L,"ok":"remove","rev":"2-c"}
+< {"emit":"q","rows":[{"id":"a"},{"id":"d"},{"id":"e"}]}
+> {"do":"remove","in":"c","key":"e"}
+< {"line":L,"ok":"remove","rev":"2-c"}
+< {"emit":"q","rows":[{"id":"a"},{"id":"d"}]}
+> {"do":"remove","in":"c","key":"a"}
+< {"line":L,"ok":"remove","rev":"2-c"}
+< {"emit":"q","rows":[{"id":"d"}]}
+> {"do":"explain","name":"q"}
+< {"actions":{"removeExisting":1,"removeFirstItem":1,"removeLastItem":1},"changes":3,"full":0,"line":L,"ok":"explain"}
+
+== skipped rows change places with the window
+> C(c)
+< made
+> I(c,a,1)
+< insert 1-c
+> I(c,b,2)
+< insert 1-c
+> I(c,d,3)
+< insert 1-c
+> {"do":"observe","name":"q","in":"c","query":{"sort":[{"n":"asc"}],"skip":2}}
+< {"line":L,"ok":"observe"}
+< {"emit":"q","rows":[{"id":"d","n":3}]}
+> {"do":"patch","in":"c","key":"b","set":{"n":0}}
+< {"line":L,"ok":"patch","rev":"2-c"}
+> {"do":"patch","in":"c","key":"b","set":{"n":4}}
+< {"line":L,"ok":"patch","rev":"3-c"}
+< {"emit":"q","rows":[{"id":"b","n":4}]}
+> {"do":"explain","name":"q"}
+< {"actions":{"doNothing":1,"removeFirstInsertLast":1},"changes":2,"full":0,"line":L,"ok":"explain"}
+
+== each place of a row that comes
+> C(c)
+< made
+> {"do":"observe","name":"q","in":"c","query":{"sort":[{"n":"asc"}]}}
+< {"line":L,"ok":"observe"}
+< {"emit":"q","rows":[]}
+> I(c,m,5)
+< {"line":L,"ok":"insert","rev":"1-c"}
+< {"emit":"q","rows":[{"id":"m","n":5}]}
+> I(c,z,1)
+< {"line":L,"ok":"insert","rev":"1-c"}
+< {"emit":"q","rows":[{"id":"z","n":1},{"id":"m","n":5}]}
+> I(c,a,9)
+< {"line":L,"ok":"insert","rev":"1-c"}
+< {"emit":"q","rows":[{"id":"z","n":1},{"id":"m","n":5},{"id":"a","n":9}]}
+> I(c,b,5)
+< {"line":L,"ok":"insert","rev":"1-c"}
+< {"emit":"q","rows":[{"id":"z","n":1},{"id":"b","n":5},{"id":"m","n":5},{"id":"a","n":9}]}
+> {"do":"insert","in":"c","doc":{"id":"y"}}
+< {"line":L,"ok":"insert","rev":"1-c"}
+< {"emit":"q","rows":[{"id":"y"},{"id":"z","n":1},{"id":"b","n":5},{"id":"m","n":5},{"id":"a","n":9}]}
+> {"do":"explain","name":"q"}
+< {"actions":{"insertAtSortPosition":1,"insertFirst":3,"insertLast":1},"changes":5,"full":0,"line":L,"ok":"explain"}
+
+== rows go by a removal, by a change, and once
+> C(c)
+< made
+> {"do":"bulk","in":"c","docs":[{"id":"a","n":1},{"id":"b","n":2},{"id":"d","n":3},{"id":"e","n":4},{"id":"f","n":5}]}
+< {"line":L,"ok":"bulk","revs":["1-c","1-c","1-c","1-c","1-c"]}
+> {"do":"observe","name":"q","in":"c","query":{"selector":{"n":{"$gt":0}},"sort":[{"n":"asc"}]}}
+< {"line":L,"ok":"observe"}
+< {"emit":"q","rows":[{"id":"a","n":1},{"id":"b","n":2},{"id":"d","n":3},{"id":"e","n":4},{"id":"f","n":5}]}
+> {"do":"remove","in":"c","key":"a"}
+< {"line":L,"ok":"remove","rev":"2-c"}
+< {"emit":"q","rows":[{"id":"b","n":2},{"id":"d","n":3},{"id":"e","n":4},{"id":"f","n":5}]}
+> {"do":"patch","in":"c","key":"f","set":{"n":-5}}
+< {"line":L,"ok":"patch","rev":"2-c"}
+< {"emit":"q","rows":[{"id":"b","n":2},{"id":"d","n":3},{"id":"e","n":4}]}
+> {"do":"upsert","in":"c","doc":{"id":"d"}}
+< {"line":L,"ok":"upsert","rev":"2-c"}
+< {"emit":"q","rows":[{"id":"b","n":2},{"id":"e","n":4}]}
+> {"do":"remove","in":"c","key":"d"}
+< {"line":L,"ok":"remove","rev":"3-c"}
+> {"do":"explain","name":"q"}
+< {"actions":{"doNothing":1,"removeExisting":1,"removeFirstItem":1,"removeLastItem":1},"changes":4,"full":0,"line":L,"ok":"explain"}
+
+== a change that moves no row
+> {"do":"collection","name":"c","schema":S2}
+< made
+> {"do":"bulk","in":"c","docs":[{"id":"a","n":1},{"id":"b","n":2},{"id":"d","n":3}]}
+< {"line":L,"ok":"bulk","revs":["1-c","1-c","1-c"]}
+> {"do":"observe","name":"q","in":"c","query":{"sort":[{"n":"desc"}],"limit":3}}
+< {"line":L,"ok":"observe"}
+< {"emit":"q","rows":[{"id":"d","n":3},{"id":"b","n":2},{"id":"a","n":1}]}
+> {"do":"patch","in":"c","key":"a","set":{"t":"last"}}
+< {"line":L,"ok":"patch","rev":"2-c"}
+< {"emit":"q","rows":[{"id":"d","n":3},{"id":"b","n":2},{"id":"a","n":1,"t":"last"}]}
+> {"do":"patch","in":"c","key":"d","set":{"t":"first"}}
+< {"line":L,"ok":"patch","rev":"2-c"}
+< {"emit":"q","rows":[{"id":"d","n":3,"t":"first"},{"id":"b","n":2},{"id":"a","n":1,"t":"last"}]}
+> {"do":"patch","in":"c","key":"b","set":{"t":"middle"}}
+< {"line":L,"ok":"patch","rev":"2-c"}
+< {"emit":"q","rows":[{"id":"d","n":3,"t":"first"},{"id":"b","n":2,"t":"middle"},{"id":"a","n":1,"t":"last"}]}
+> {"do":"insert","in":"c","doc":{"id":"e","n":0}}
+< insert 1-c
+> {"do":"patch","in":"c","key":"e","set":{"t":"outside"}}
+< {"line":L,"ok":"patch","rev":"2-c"}
+> {"do":"explain","name":"q"}
+< {"actions":{"doNothing":2,"removeFirstInsertFirst":1,"removeLastInsertLast":1,"replaceExisting":1},"changes":5,"full":0,"line":L,"ok":"explain"}
+
+== a change that moves a row
+> C(c)
+< made
+> {"do":"bulk","in":"c","docs":[{"id":"a","n":1},{"id":"b","n":2},{"id":"d","n":3}]}
+< {"line":L,"ok":"bulk","revs":["1-c","1-c","1-c"]}
+> {"do":"observe","name":"q","in":"c","query":{"sort":[{"n":"asc"}]}}
+< {"line":L,"ok":"observe"}
+< {"emit":"q","rows":[{"id":"a","n":1},{"id":"b","n":2},{"id":"d","n":3}]}
+> {"do":"patch","in":"c","key":"a","set":{"n":9}}
+< {"line":L,"ok":"patch","rev":"2-c"}
+< {"emit":"q","rows":[{"id":"b","n":2},{"id":"d","n":3},{"id":"a","n":9}]}
+> {"do":"patch","in":"c","key":"a","set":{"n":0}}
+< {"line":L,"ok":"patch","rev":"3-c"}
+< {"emit":"q","rows":[{"id":"a","n":0},{"id":"b","n":2},{"id":"d","n":3}]}
+> {"do":"upsert","in":"c","doc":{"id":"b","n":3}}
+< {"line":L,"ok":"upsert","rev":"2-c"}
+< {"emit":"q","rows":[{"id":"a","n":0},{"id":"b","n":3},{"id":"d","n":3}]}
+> {"do":"upsert","in":"c","doc":{"id":"d"}}
+< {"line":L,"ok":"upsert","rev":"2-c"}
+< {"emit":"q","rows":[{"id":"d"},{"id":"a","n":0},{"id":"b","n":3}]}
+> {"do":"explain","name":"q"}
+< {"actions":{"removeExistingAndInsertAtSortPosition":4},"changes":4,"full":0,"line":L,"ok":"explain"}
+
+== a full window behind skipped rows
+> C(c)
+< made
+> {"do":"bulk","in":"c","docs":[{"id":"a","n":1},{"id":"b","n":2},{"id":"d","n":3},{"id":"e","n":4},{"id":"f","n":5}]}
+< {"line":L,"ok":"bulk","revs":["1-c","1-c","1-c","1-c","1-c"]}
+> {"do":"observe","name":"q","in":"c","query":{"sort":[{"n":"asc"}],"skip":1,"limit":2}}
+< {"line":L,"ok":"observe"}
+< {"emit":"q","rows":[{"id":"b","n":2},{"id":"d","n":3}]}
+> {"do":"patch","in":"c","key":"f","set":{"n":6}}
+< {"line":L,"ok":"patch","rev":"2-c"}
+> {"do":"patch","in":"c","key":"f","set":{"n":0}}
+< {"line":L,"ok":"patch","rev":"3-c"}
+< {"emit":"q","rows":[{"id":"a","n":1},{"id":"b","n":2}]}
+> {"do":"patch","in":"c","key":"a","set":{"n":9}}
+< {"line":L,"ok":"patch","rev":"2-c"}
+< {"emit":"q","rows":[{"id":"b","n":2},{"id":"d","n":3}]}
+> {"do":"patch","in":"c","key":"b","set":{"n":-1}}
+< {"line":L,"ok":"patch","rev":"2-c"}
+< {"emit":"q","rows":[{"id":"f","n":0},{"id":"d","n":3}]}
+> {"do":"patch","in":"c","key":"d","set":{"n":8}}
+< {"line":L,"ok":"patch","rev":"2-c"}
+< {"emit":"q","rows":[{"id":"f","n":0},{"id":"e","n":4}]}
+> {"do":"remove","in":"c","key":"b"}
+< {"line":L,"ok":"remove","rev":"3-c"}
+< {"emit":"q","rows":[{"id":"e","n":4},{"id":"d","n":8}]}
+> {"do":"remove","in":"c","key":"a"}
+< {"line":L,"ok":"remove","rev":"3-c"}
+> {"do":"bulk","in":"c","docs":[{"id":"a","n":-2},{"id":"g","n":7}]}
+< {"line":L,"ok":"bulk","revs":["4-c","1-c"]}
+< {"emit":"q","rows":[{"id":"f","n":0},{"id":"e","n":4}]}
+> {"do":"explain","name":"q"}
+< {"actions":{"doNothing":3,"runFullQueryAgain":6},"changes":9,"full":6,"line":L,"ok":"explain"}
+
+== a window of one
+> C(c)
+< made
+> {"do":"observe","name":"q","in":"c","query":{"selector":{"n":{"$exists":true}},"sort":[{"n":"desc"}],"limit":1}}
+< {"line":L,"ok":"observe"}
+< {"emit":"q","rows":[]}
+> I(c,a,1)
+< {"line":L,"ok":"insert","rev":"1-c"}
+< {"emit":"q","rows":[{"id":"a","n":1}]}
+> I(c,b,2)
+< {"line":L,"ok":"insert","rev":"1-c"}
+< {"emit":"q","rows":[{"id":"b","n":2}]}
+> I(c,d,2)
+< insert 1-c
+> {"do":"patch","in":"c","key":"d","set":{"n":3}}
+< {"line":L,"ok":"patch","rev":"2-c"}
+< {"emit":"q","rows":[{"id":"d","n":3}]}
+> {"do":"patch","in":"c","key":"d","set":{"n":1}}
+< {"line":L,"ok":"patch","rev":"3-c"}
+< {"emit":"q","rows":[{"id":"b","n":2}]}
+> {"do":"upsert","in":"c","doc":{"id":"b"}}
+< {"line":L,"ok":"upsert","rev":"2-c"}
+< {"emit":"q","rows":[{"id":"a","n":1}]}
+> {"do":"patch","in":"c","key":"a","set":{"n":7}}
+< {"line":L,"ok":"patch","rev":"2-c"}
+< {"emit":"q","rows":[{"id":"a","n":7}]}
+> {"do":"explain","name":"q"}
+< {"actions":{"doNothing":1,"insertFirst":1,"removeFirstInsertFirst":2,"runFullQueryAgain":3},"changes":7,"full":3,"line":L,"ok":"explain"}
+
+== a window behind all documents
+> C(c)
+< made
+> {"do":"observe","name":"q","in":"c","query":{"skip":2}}
+< {"line":L,"ok":"observe"}
+< {"emit":"q","rows":[]}
+> I(c,d,1)
+< insert 1-c
+> I(c,b,1)
+< insert 1-c
+> I(c,a,1)
+< {"line":L,"ok":"insert","rev":"1-c"}
+< {"emit":"q","rows":[{"id":"d","n":1}]}
+> I(c,e,1)
+< {"line":L,"ok":"insert","rev":"1-c"}
+< {"emit":"q","rows":[{"id":"d","n":1},{"id":"e","n":1}]}
+> {"do":"remove","in":"c","key":"b"}
+< {"line":L,"ok":"remove","rev":"2-c"}
+< {"emit":"q","rows":[{"id":"e","n":1}]}
+> {"do":"remove","in":"c","key":"a"}
+< {"line":L,"ok":"remove","rev":"2-c"}
+< {"emit":"q","rows":[]}
+> {"do":"bulk","in":"c","docs":[{"id":"a"},{"id":"b"}]}
+< {"line":L,"ok":"bulk","revs":["3-c","3-c"]}
+< {"emit":"q","rows":[{"id":"d","n":1},{"id":"e","n":1}]}
+> {"do":"explain","name":"q"}
+< {"actions":{"insertLast":1,"removeFirstItem":2,"runFullQueryAgain":5},"changes":8,"full":5,"line":L,"ok":"explain"}
+
+== a change that no query of the collection sees counts, and one of another collection doesn't
+> C(c)
+< made
+> C(d)
+< made
+> {"do":"observe","name":"q","in":"c","query":{"selector":{"n":1}}}
+< {"line":L,"ok":"observe"}
+< {"emit":"q","rows":[]}
+> I(d,a,1)
+< insert 1-d
+> I(c,a,2)
+< insert 1-c
+> {"do":"bulk","in":"c","docs":[]}
+< {"line":L,"ok":"bulk","revs":[]}
+> {"do":"explain","name":"q"}
+< {"actions":{"doNothing":1},"changes":1,"full":0,"line":L,"ok":"explain"}
+
+== a query that is forgotten emits no more, and its name is free
+> C(c)
+< made
+> {"do":"observe","name":"q","in":"c","query":{}}
+< {"line":L,"ok":"observe"}
+< {"emit":"q","rows":[]}
+> {"do":"observe","name":"p","in":"c","query":{}}
+< {"line":L,"ok":"observe"}
+< {"emit":"p","rows":[]}
+> {"do":"observe","name":"o","in":"c","query":{}}
+< {"line":L,"ok":"observe"}
+< {"emit":"o","rows":[]}
+> I(c,a,1)
+< {"line":L,"ok":"insert","rev":"1-c"}
+< {"emit":"q","rows":[{"id":"a","n":1}]}
+< {"emit":"p","rows":[{"id":"a","n":1}]}
+< {"emit":"o","rows":[{"id":"a","n":1}]}
+> {"do":"unobserve","name":"q"}
+< {"line":L,"ok":"unobserve"}
+> {"do":"unobserve","name":"q"}
+< {"code":17,"line":L,"refused":"no_query"}
+> {"do":"explain","name":"q"}
+< {"code":17,"line":L,"refused":"no_query"}
+> {"do":"remove","in":"c","key":"a"}
+< {"line":L,"ok":"remove","rev":"2-c"}
+< {"emit":"p","rows":[]}
+< {"emit":"o","rows":[]}
+> {"do":"observe","name":"q","in":"c","query":{}}
+< {"line":L,"ok":"observe"}
+< {"emit":"q","rows":[]}
+> {"do":"explain","name":"q"}
+< {"actions":{},"changes":0,"full":0,"line":L,"ok":"explain"}
+> I(c,b,1)
+< {"line":L,"ok":"insert","rev":"1-c"}
+< {"emit":"p","rows":[{"id":"b","n":1}]}
+< {"emit":"o","rows":[{"id":"b","n":1}]}
+< {"emit":"q","rows":[{"id":"b","n":1}]}
+"#;
+
+const OPENED: &str = r#"
+== a query is cold after an opening, and emits with its next change
+> C(c)
+< made
+> I(c,a,1)
+< insert 1-c
+> {"do":"observe","name":"q","in":"c","query":{}}
+< {"line":L,"ok":"observe"}
+< {"emit":"q","rows":[{"id":"a","n":1}]}
+> {"do":"restart"}
+< {"epoch":2,"line":L,"ok":"restart"}
+> {"do":"patch","in":"c","key":"a","set":{"n":2}}
+< {"line":L,"ok":"patch","rev":"2-c"}
+< {"emit":"q","rows":[{"id":"a","n":2}]}
+> {"do":"explain","name":"q"}
+< {"actions":{"runFullQueryAgain":1},"changes":1,"full":1,"line":L,"ok":"explain"}
+
+== counts and the last emitted result stay, and the second change finds the query warm
+> C(c)
+< made
+> {"do":"observe","name":"q","in":"c","query":{}}
+< {"line":L,"ok":"observe"}
+< {"emit":"q","rows":[]}
+> I(c,a,1)
+< {"line":L,"ok":"insert","rev":"1-c"}
+< {"emit":"q","rows":[{"id":"a","n":1}]}
+> {"do":"restart"}
+< {"epoch":2,"line":L,"ok":"restart"}
+> {"do":"explain","name":"q"}
+< {"actions":{"insertFirst":1},"changes":1,"full":0,"line":L,"ok":"explain"}
+> {"do":"patch","in":"c","key":"a","set":{}}
+< {"line":L,"ok":"patch","rev":"2-c"}
+> {"do":"explain","name":"q"}
+< {"actions":{"insertFirst":1,"runFullQueryAgain":1},"changes":2,"full":1,"line":L,"ok":"explain"}
+> {"do":"restart"}
+< {"epoch":3,"line":L,"ok":"restart"}
+> {"do":"bulk","in":"c","docs":[{"id":"b"},{"id":"d"}]}
+< {"line":L,"ok":"bulk","revs":["1-c","1-c"]}
+< {"emit":"q","rows":[{"id":"a","n":1},{"id":"b"},{"id":"d"}]}
+> {"do":"explain","name":"q"}
+< {"actions":{"insertFirst":1,"insertLast":1,"runFullQueryAgain":2},"changes":4,"full":2,"line":L,"ok":"explain"}
+
+== the present moment stays, and what was stored
+> C(c)
+< made
+> {"do":"tick","at":50}
+< {"line":L,"ok":"tick"}
+> I(c,a,1)
+< insert 1-c
+> {"do":"tick","at":70}
+< {"line":L,"ok":"tick"}
+> {"do":"restart"}
+< {"epoch":2,"line":L,"ok":"restart"}
+> C(c)
+< {"line":L,"new":false,"ok":"collection"}
+> I(c,a,1)
+< {"code":14,"line":L,"refused":"conflict","rev":"1-c"}
+> I(c,b,1)
+< insert 1-c
+> {"do":"get","in":"c","key":"b"}
+< {"doc":{"id":"b","n":1},"line":L,"lwt":70,"ok":"get","rev":"1-c"}
+$ run journal
+> {"do":"restart"}
+< {"epoch":4,"line":L,"ok":"restart"}
+> {"do":"get","in":"c","key":"a"}
+< {"doc":{"id":"a","n":1},"line":L,"lwt":50,"ok":"get","rev":"1-c"}
+> {"do":"explain","name":"q"}
+< {"code":17,"line":L,"refused":"no_query"}
+"#;
