@@ -13,7 +13,7 @@ use Rattle.std.specs.declared.cmp.Ordering.TheVariants.{Less, Equal, Greater}
 use Rattle.serde_json.specs.Data.{Data, string, object, Items, no_items, item}
 use Rattle.serde_json.specs.Find.{get, get_member, as_array}
 use Rattle.serde_json.specs.View.{items_of}
-use Rattle.rx_value.specs.Due.{◌>>=◌, or_fault, only_if, unless}
+use Rattle.rx_value.specs.Due.{◌>>=◌, or_fault, only_if, unless, demand}
 use Rattle.rx_value.specs.Form.{is_among, text_at, integer_within}
 use Rattle.rx_value.specs.Name.{is_field_name}
 use Rattle.rx_value.specs.Named.{named}
@@ -22,7 +22,7 @@ use Rattle.rx_value.specs.Value.{largest}
 use Rattle.rx_value.specs.declared.kinds.Kind.{Kind}
 use Rattle.rx_value.specs.declared.kinds.Kind.TheVariants as kind
 use Rattle.rx_schema.specs.Names.{indexes_of, indexes_in, first_unbounded, first_unbounded_in, is_bounded, is_bounded_if, texts_of, property_at, first_stranger, required_of, is_index, given_names, index_of, each_index, index_list_of}
-use Rattle.rx_schema.specs.Property.{says, is_word, demand, kind_of, known_property, length_of, bound_at, is_range, bounds_of, rule_of, property_of}
+use Rattle.rx_schema.specs.Property.{says, is_word, kind_of, known_property, length_of, bound_at, is_range, bounds_of, rule_of, property_of}
 use Rattle.rx_schema.specs.Reading.{primary_of, required_names}
 use Rattle.rx_schema.specs.Writing.{names_data, rule_members, properties_members, schema_data}
 use Rattle.rx_schema.specs.declared.fault.SchemaFault.TheVariants as fault
@@ -376,7 +376,7 @@ bounded_again d s n r h =
 
 -- one name, and then the others
 unbounded_step : (d : Data) (s : Shape) (n : List ℕ) (ns : List (List ℕ)) (b : Bool) → WasRead d s
-    → is_bounded_if (property_at n d) ≡ b → cond b (first_unbounded d ns) (Some n) ≡ None
+    → is_bounded_if (property_at n d) ≡ b → cond (not b) (Some n) (first_unbounded d ns) ≡ None
     → (first_unbounded d ns ≡ None → first_unbounded (schema_data s) ns ≡ None)
     → first_unbounded (schema_data s) (n ∷ ns) ≡ None
 unbounded_step d s n ns false r is h rest = cc

@@ -4,13 +4,13 @@ use Rattle.std.proofs.lemmas.Bool.{leb-true, lt-ltb}
 use Rattle.std.specs.Prelude.{nat_le, nat_lt, int_le}
 use Rattle.serde_json.specs.Data.{Data, object, Members, no_members, member}
 use Rattle.serde_json.specs.Find.{get, as_number, as_u64, as_i64, of_integer}
-use Rattle.rx_value.specs.Due.{◌>>=◌, or_fault}
+use Rattle.rx_value.specs.Due.{◌>>=◌, or_fault, demand}
 use Rattle.rx_value.specs.Form.{whole_within, integer_within}
 use Rattle.rx_value.specs.Name.{is_field_name}
 use Rattle.rx_value.specs.Value.{largest}
 use Rattle.rx_value.specs.declared.kinds.Kind.{Kind}
 use Rattle.rx_value.specs.declared.kinds.Kind.TheVariants as kind
-use Rattle.rx_schema.specs.Property.{demand, kind_of, known_property, length_of, bound_at, is_range, bounds_of, rule_of, property_of, most_code_points}
+use Rattle.rx_schema.specs.Property.{kind_of, known_property, length_of, bound_at, is_range, bounds_of, rule_of, property_of, most_code_points}
 use Rattle.rx_schema.specs.Reading.{version_of, most_version, properties_of}
 use Rattle.rx_schema.specs.Writing.{rule_members, properties_members, schema_data}
 use Rattle.rx_schema.specs.declared.fault.SchemaFault.TheVariants as fault

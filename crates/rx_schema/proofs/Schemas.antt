@@ -11,7 +11,7 @@ use Rattle.std.specs.declared.cmp.Ordering.{Ordering}
 use Rattle.std.specs.declared.cmp.Ordering.TheVariants.{Less, Equal, Greater}
 use Rattle.serde_json.specs.Data.{Data, object, Members, no_members, member}
 use Rattle.serde_json.specs.Find.{get, get_member, as_object}
-use Rattle.rx_value.specs.Due.{◌>>◌, ◌>>=◌, or_fault, only_if}
+use Rattle.rx_value.specs.Due.{◌>>◌, ◌>>=◌, or_fault, only_if, demand}
 use Rattle.rx_value.specs.Form.{is_among, text_at, unexpected}
 use Rattle.rx_value.specs.Name.{is_field_name}
 use Rattle.rx_value.specs.Named.{named}
@@ -19,7 +19,7 @@ use Rattle.rx_value.specs.Order.{text_cmp}
 use Rattle.rx_value.specs.declared.kinds.Kind.TheVariants as kind
 use Rattle.rx_value.proofs.Ordered.{text_ties}
 use Rattle.rx_schema.specs.Names.{property_at, required_of, indexes_of}
-use Rattle.rx_schema.specs.Property.{demand, no_keyword, told, says, is_word, kind_of, known_property, length_of, rule_of, property_of}
+use Rattle.rx_schema.specs.Property.{no_keyword, told, says, is_word, kind_of, known_property, length_of, rule_of, property_of}
 use Rattle.rx_schema.specs.Reading.{an_object, schema_words, is_off, known_schema, version_of, properties_of, is_key, primary_of, few_enough, required_names, schema_of}
 use Rattle.rx_schema.specs.declared.fault.SchemaFault.TheVariants as fault
 use Rattle.rx_schema.specs.declared.rule.Rule.{Rule}

@@ -1,6 +1,6 @@
 -- Names in the members of a schema, and the properties that they name.
 use Rattle.std.specs.Prelude.{ℕ, nat_le, List, [], ◌∷◌, length, Bool, true, false, not, ◌&&◌, codes, Option, Some, None, is_some, is_none, Result, Ok, if◌then◌else◌}
-use Rattle.std.specs.List.{list_all}
+use Rattle.std.specs.List.{find, list_all}
 use Rattle.std.specs.Option.{option_or}
 use Rattle.rx_value.specs.Due.{◌>>◌, ◌>>=◌, or_fault, only_if, unless}
 use Rattle.rx_value.specs.Form.{is_among}
@@ -24,9 +24,7 @@ property_at name d = get (codes "properties") d >>= get name
 
 -- the first of the names that is no property
 abbrev pub first_stranger : Data → List (List ℕ) → Option (List ℕ)
-first_stranger d [] = None
-first_stranger d (name ∷ names) =
-    if is_none (property_at name d) then Some name else first_stranger d names
+first_stranger d names = find (λ name. is_none (property_at name d)) names
 
 -- the names that a list holds
 abbrev pub listed_of : Data → Option (List (List ℕ))
@@ -95,9 +93,7 @@ is_bounded_if (Some p) = is_bounded p
 
 -- the first of the names that may not be indexed
 abbrev pub first_unbounded : Data → List (List ℕ) → Option (List ℕ)
-first_unbounded d [] = None
-first_unbounded d (name ∷ names) =
-    if is_bounded_if (property_at name d) then first_unbounded d names else Some name
+first_unbounded d names = find (λ name. not (is_bounded_if (property_at name d))) names
 
 -- the first in all indexes
 abbrev pub first_unbounded_in : Data → List (List (List ℕ)) → Option (List ℕ)

@@ -1,7 +1,7 @@
 -- A property: what its JSON says of the values that it takes.
 use Rattle.std.specs.Prelude.{⊤, ℕ, ℤ, pos, negsuc, ◌-◌, int_le, List, [], ◌∷◌, Bool, true, false, ◌||◌, codes, Option, Some, None, is_some, is_none, option_map, Result, Ok, Err, if◌then◌else◌}
 use Rattle.std.specs.Str.{bytes_eq}
-use Rattle.rx_value.specs.Due.{◌>>◌, ◌>>=◌, or_fault, only_if, unless}
+use Rattle.rx_value.specs.Due.{◌>>◌, ◌>>=◌, demand, or_fault, only_if, unless}
 use Rattle.rx_value.specs.Form.{text_at, whole_within, integer_within, unexpected}
 use Rattle.rx_value.specs.Name.{is_field_name}
 use Rattle.rx_value.specs.Value.{largest}
@@ -22,10 +22,6 @@ most_code_points = 131072
 -- the code points of a text whose length isn't given
 abbrev pub usual_code_points : ℕ
 usual_code_points = 8192
-
--- the test holds, or that fault
-abbrev pub demand : {E : Type 0} → Bool → E → Result ⊤ E
-demand b fault = if b then Ok tt else Err fault
 
 -- no word is at fault
 abbrev pub no_keyword : Option (List ℕ) → Result ⊤ SchemaFault

@@ -2,12 +2,12 @@
 use Rattle.std.specs.Prelude.{⊤, ℕ, nat_le, sum_by, filter, List, [], ◌∷◌, length, Bool, true, false, not, ◌&&◌, ◌||◌, codes, Option, Some, None, is_some, Result, Ok}
 use Rattle.std.specs.Map.{keys_of}
 use Rattle.std.specs.Str.{bytes_eq}
-use Rattle.rx_value.specs.Due.{◌>>◌, ◌>>=◌, or_fault, only_if}
+use Rattle.rx_value.specs.Due.{◌>>◌, ◌>>=◌, demand, or_fault, only_if}
 use Rattle.rx_value.specs.Form.{is_among, text_at, whole_within, unexpected}
 use Rattle.serde_json.specs.Data.{Data, Members, no_members, member}
 use Rattle.serde_json.specs.Find.{get, as_bool, as_object}
 use Rattle.rx_schema.specs.Names.{property_at, required_of, indexes_of}
-use Rattle.rx_schema.specs.Property.{demand, no_keyword, says, told, most_code_points, property_of}
+use Rattle.rx_schema.specs.Property.{no_keyword, says, told, most_code_points, property_of}
 use Rattle.rx_schema.specs.declared.fault.SchemaFault.{SchemaFault}
 use Rattle.rx_schema.specs.declared.fault.SchemaFault.TheVariants.{NotObject, Keyword, Version, Primary, TooMany}
 use Rattle.rx_schema.specs.declared.rule.Rule.{Rule}

@@ -1,5 +1,7 @@
 -- Which fields are valid, or their first fault.
 use Rattle.std.specs.Prelude.{⊤, ◌≡◌, ℕ, ◌<◌, ℤ, pos, int_lt, int_rem, nat_lt, nat_eq, Bool, true, false, not, ◌&&◌, List, [], ◌∷◌, length, if◌then◌else◌, Option, Some, None, is_none, option_map, Result, Ok, Err}
+use Rattle.std.specs.List.{find}
+use Rattle.std.specs.Map.{keys_of}
 use Rattle.std.specs.Option.{option_or}
 use Rattle.std.specs.Ordering.{int_eq}
 use Rattle.std.specs.Str.{bytes_eq, chars}
@@ -79,15 +81,11 @@ fault_of _ is_key name v = Some (of_kind name)
 
 -- the first of the names that the fields lack
 abbrev pub first_missing : List (List ℕ) → Pairs → Option (List ℕ)
-first_missing [] ps = None
-first_missing (name ∷ names) ps =
-    if is_none (named ps name) then Some name else first_missing names ps
+first_missing names ps = find (λ name. is_none (named ps name)) names
 
 -- the first field that is no property
 abbrev pub first_unknown : List (List ℕ × Rule) → Pairs → Option (List ℕ)
-first_unknown rules [] = None
-first_unknown rules (p ∷ ps) = if is_none
-    (named rules p.0) then Some p.0 else first_unknown rules ps
+first_unknown rules ps = find (λ name. is_none (named rules name)) (keys_of ps)
 
 -- the fault of the first field that has one
 abbrev pub first_bad : Shape → Pairs → Option Fault

@@ -1,5 +1,5 @@
 -- What is due of a reader: what is read, or the first fault. Want of memory is free.
-use Rattle.std.specs.Prelude.{◌≡◌, ◌⊎◌, Bool, if◌then◌else◌, Option, Some, None, Result, Ok, Err}
+use Rattle.std.specs.Prelude.{⊤, ◌≡◌, ◌⊎◌, Bool, if◌then◌else◌, Option, Some, None, Result, Ok, Err}
 
 -- one reading after another: the first fault decides
 infixl 10 ◌>>◌
@@ -21,6 +21,15 @@ only_if b o = if b then o else None
 abbrev pub or_fault : {A E : Type 0} → E → Option A → Result A E
 or_fault e (Some x) = Ok x
 or_fault e None = Err e
+
+-- nothing, where the test holds, or that fault
+abbrev pub demand : {E : Type 0} → Bool → E → Result ⊤ E
+demand b e = if b then Ok tt else Err e
+
+-- what was read, or its fault as another
+abbrev pub lifted : {A E F : Type 0} → (E → F) → Result A E → Result A F
+lifted fault (Ok x) = Ok x
+lifted fault (Err e) = Err (fault e)
 
 -- the fault of what was found, else the rest
 abbrev pub unless : {A B E : Type 0} → (A → E) → Option A → Result B E → Result B E

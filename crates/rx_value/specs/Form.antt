@@ -1,6 +1,7 @@
 -- The members of a JSON object against a form of needed and optional names.
 use Rattle.std.specs.Prelude.{ℕ, ℤ, List, [], ◌∷◌, map, Bool, false, not, ◌&&◌, ◌||◌, nat_le, int_le, if◌then◌else◌, Option, Some, None, is_none}
 use Rattle.std.specs.Borrow.{Bor}
+use Rattle.std.specs.List.{find}
 use Rattle.std.specs.Str.{bytes_eq}
 use Rattle.serde_json.specs.Data.{Data, Members, no_members, member}
 use Rattle.serde_json.specs.Find.{get, as_str, as_number, as_integer, as_i64, as_u64, as_object}
@@ -12,8 +13,7 @@ texts = map (λ s. s.now)
 
 -- the first of the names that the object lacks
 abbrev pub missing : List (List ℕ) → Data → Option (List ℕ)
-missing [] d = None
-missing (name ∷ names) d = if is_none (get name d) then Some name else missing names d
+missing names d = find (λ name. is_none (get name d)) names
 
 -- the name stands in the list
 abbrev pub is_among : List (List ℕ) → List ℕ → Bool
