@@ -41,7 +41,7 @@ fn words<R: Env + AllocGlobal>(rt: &R) -> Result<Words, AllocError> {
     let mut words = Vec::new(rt.alloc());
     match env::args(rt) {
         Ok(args) => for word in args.skip(1) {
-            words.push(RxText::from(word))?;
+            words.push(RxText::from_string(rt.alloc(), word)?)?;
         },
         Err(e) if e.kind() == io::ErrorKind::InvalidData => {}
         Err(_) => return Err(AllocError),

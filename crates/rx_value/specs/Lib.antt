@@ -1,3 +1,4 @@
+pub mod Text
 pub mod Due
 pub mod Order
 pub mod Named

@@ -43,7 +43,7 @@ fn compact(alloc: Global, json: &Json) -> Result<RxText, AllocError>
     ensures reads_back { depth (view json.now) ≤ max_depth
         → IfOk result (λ t. read t ≡ Some (view json.now)) }
 {
-    Ok(RxText::from(json.to_string(alloc)?))
+    RxText::from_string(alloc, json.to_string(alloc)?)
 }
 
 /// The JSON object of the fields.
