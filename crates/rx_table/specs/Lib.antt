@@ -1,2 +1,4 @@
+pub mod Counts
+pub mod Log
 pub mod Rows
 pub mod States

@@ -17,6 +17,7 @@ use Rattle.rx_table.specs.declared.action.Action.TheVariants.{
   InsertAtSortPosition,
   RemoveExistingAndInsertAtSortPosition,
   RunFullQueryAgain,
+  InsertAtSortPositionRemoveLast,
 }
 use Rattle.rx_table.specs.declared.states.StateName.{StateName}
 use Rattle.rx_table.specs.declared.states.StateName.TheVariants.{
@@ -76,7 +77,7 @@ action_of is =
     else if not was_matching && is_before_first && is_find_one then RemoveFirstInsertFirst
     else if not was_matching && is_before_first then RemoveLastInsertFirst
     else if not was_matching && not was_limit_reached then InsertAtSortPosition
-    else if not was_matching then RunFullQueryAgain
+    else if not was_matching then InsertAtSortPositionRemoveLast
     -- it matched and still does
     else if was_results_empty then DoNothing
     else if not sort_params_changed && is WasLast then RemoveLastInsertLast
@@ -90,6 +91,7 @@ action_of is =
     else if was_before_first && is_after_last && not was_limit_reached then RemoveFirstInsertLast
     else if was_after_last && is_before_first && not has_skip && is_find_one then RemoveFirstInsertFirst
     else if was_after_last && is_before_first && not has_skip then RemoveLastInsertFirst
+    else if was_after_last && not is_before_first && not is_after_last then InsertAtSortPositionRemoveLast
     else RunFullQueryAgain
 
 -- the action of the states that these bits answer

@@ -1,5 +1,5 @@
 -- The states as the bits of a number.
-use Rattle.std.specs.Prelude.{ℕ, Bool, ◌==◌}
+use Rattle.std.specs.Prelude.{ℕ, Bool, ◌==◌, List, [], ◌∷◌}
 use Rattle.std.specs.Int.{bit_at}
 use Rattle.rx_table.specs.declared.states.StateName.{StateName}
 use Rattle.rx_table.specs.declared.states.StateName.TheVariants.{
@@ -57,3 +57,11 @@ is_set bits i = bit_at bits i == 1
 -- whether a state holds, by the answers in these bits
 abbrev pub holds : ℕ → StateName → Bool
 holds bits state = is_set bits (index_of state)
+
+-- all states, by their numbers
+abbrev pub all_states : List StateName
+all_states =
+    IsInsert ∷ IsUpdate ∷ IsDelete ∷ HasLimit ∷ IsFindOne ∷ HasSkip ∷ WasResultsEmpty
+    ∷ PreviousUnknown ∷ WasLimitReached ∷ SortParamsChanged ∷ WasInResult ∷ WasFirst ∷ WasLast
+    ∷ WasSortedBeforeFirst ∷ WasSortedAfterLast ∷ IsSortedBeforeFirst ∷ IsSortedAfterLast
+    ∷ WasMatching ∷ DoesMatchNow ∷ []

@@ -30,4 +30,7 @@ pub enum Action {
     RemoveExistingAndInsertAtSortPosition,
     /// Runs the query over all documents again, since the answers don't tell its rows.
     RunFullQueryAgain,
+    /// Takes out the last row, and puts the document in front of the first row left that it
+    /// precedes, or behind all that are left.
+    InsertAtSortPositionRemoveLast,
 }

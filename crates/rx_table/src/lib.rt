@@ -8,10 +8,12 @@
 
 mod action;
 mod ask;
+mod counts;
 mod rows;
 mod states;
 
 pub use action::Action;
 pub use ask::Ask;
+pub use counts::Counts;
 pub use rows::table;
 pub use states::StateName;

@@ -73,7 +73,7 @@ fn entering_action(bits: u32) -> Action
         _ if is_before_first && is_find_one => Action::RemoveFirstInsertFirst,
         _ if is_before_first => Action::RemoveLastInsertFirst,
         _ if !was_limit_reached => Action::InsertAtSortPosition,
-        _ => Action::RunFullQueryAgain,
+        _ => Action::InsertAtSortPositionRemoveLast,
     }
 }
 
@@ -127,6 +127,9 @@ fn moving_action(bits: u32) -> Action
             Action::RemoveFirstInsertFirst
         }
         _ if was_after_last && is_before_first && !has_skip => Action::RemoveLastInsertFirst,
+        _ if was_after_last && !is_before_first && !is_after_last => {
+            Action::InsertAtSortPositionRemoveLast
+        }
         _ => Action::RunFullQueryAgain,
     }
 }
