@@ -1,8 +1,8 @@
 -- Answers as the bits of a number.
 use Rattle.std.proofs.Common.{◌≡◌, ℕ, zero, suc, ◌+◌, ◌*◌, ◌/◌, ◌%◌, ◌^◌, ◌<◌, Bool, true, false, eqb, cond, List, [], ◌∷◌, get_or, length, map, refl, sym, ap, ◌∙◌, arith}
 use Rattle.std.proofs.lemmas.Nat.Bits.{bit_at-suc, bit_at_lowest, bit_at-zero}
-use Rattle.rx_query.specs.States.{number, number_of, all_states}
-use Rattle.rx_table.specs.States.{holds, is_set, index_of, state_count}
+use Rattle.rx_query.specs.States.{number, number_of}
+use Rattle.rx_table.specs.States.{all_states, holds, is_set, index_of, state_count}
 use Rattle.rx_table.specs.Rows.{action_of, table_of}
 use Rattle.rx_table.specs.declared.states.StateName.{StateName}
 use Rattle.rx_table.specs.declared.states.StateName.TheVariants.{IsInsert, IsUpdate, IsDelete, HasLimit, IsFindOne, HasSkip, WasResultsEmpty, PreviousUnknown, WasLimitReached, SortParamsChanged, WasInResult, WasFirst, WasLast, WasSortedBeforeFirst, WasSortedAfterLast, IsSortedBeforeFirst, IsSortedAfterLast, WasMatching, DoesMatchNow}

@@ -1,21 +1,26 @@
 -- The result of a query: there is one, and a sort of lent documents gives it.
-use Rattle.std.proofs.Common.{◌≡◌, ℕ, zero, suc, Bool, true, false, cond, Bor, Option, Some, None, List, [], ◌∷◌, map, filter, take, drop, Ordering, Less, refl, sym, ap, ◌∙◌, subst}
+use Rattle.std.proofs.Common.{◌≡◌, ℕ, zero, suc, Bool, true, false, cond, Bor, Option, Some, None, List, [], ◌∷◌, map, filter, take, drop, Ordering, Less, Equal, refl, sym, ap, ◌∙◌, subst}
 use Rattle.std.proofs.lemmas.Bool.{false≢true}
-use Rattle.std.proofs.lemmas.Cmp.{on_total}
+use Rattle.std.proofs.lemmas.Cmp.{on_total, tied_itself}
 use Rattle.std.proofs.lemmas.List.Sorted.{IsPermutation-map, IsPermutation-sym, IsPermutation-trans}
 use Rattle.std.proofs.lemmas.Slice.Eq.{bytes_eq-Decides}
 use Rattle.std.specs.Cmp.{IsTotalOrder, Equal-is}
 use Rattle.std.specs.List.{AllByRecursion, IsDistinct}
 use Rattle.std.specs.List.Sorted.{IsPermutation, IsSortedBy, IsStrictlySortedBy}
+use Rattle.std.specs.Map.{keys_of, values_of}
 use Rattle.std.specs.Ordering.{is_lt, eq_by_cmp}
 use Rattle.std.specs.Str.{bytes_eq}
-use Rattle.rx_value.specs.Named.{named}
+use Rattle.rx_value.proofs.Ordered.{text_total}
+use Rattle.rx_value.specs.Named.{named, AreRising}
+use Rattle.rx_value.specs.Order.{text_cmp}
 use Rattle.rx_value.specs.declared.value.Value.TheVariants.{Text}
+use Rattle.rx_document.specs.Documents.{Documents}
 use Rattle.rx_document.specs.declared.stored.Stored.{Stored}
 use Rattle.rx_query.specs.Asked.{Asked}
-use Rattle.rx_query.specs.Result.{is_due, stored_cmp, cut, IsResult, AreKeyed, ResultsAreDetermined}
+use Rattle.rx_query.specs.Lists.{sorted}
+use Rattle.rx_query.specs.Result.{is_due, stored_cmp, stored_before, cut, result_of, AreKeyed, ResultsAreDetermined, CollectionsAreKeyed}
 use Rattle.rx_query.proofs.Orders.{query_total, keys_decide}
-use Rattle.rx_query.proofs.Sorting.{sorted, sorted-permutes, one_order, ordered-sorted, strict_from_sort}
+use Rattle.rx_query.proofs.Sorting.{sorted-permutes, one_order, ordered-sorted, strict_from_sort}
 
 -- ---- lists seen through a function
 
@@ -118,13 +123,11 @@ stored_total q = on_total (λ (d : Stored). d.state.fields) (query_total q)
 pub one_result : ResultsAreDetermined
 one_result q docs keyed =
     let due = filter (is_due q) docs in
-    let precedes : Stored → Stored → Bool = λ x y. is_lt (stored_cmp q x y) in
-    let all = sorted precedes due in
-    let once = sorted-permutes precedes due in
+    let all = sorted (stored_before q) due in
+    let once = sorted-permutes (stored_before q) due in
     let up = ordered-sorted (stored_cmp q) (stored_total q) due
     (distinct_due q docs keyed.distinct keyed.carried) in
     record {
-      rows = cut q.limit (drop q.skip all);
       is_result = record { all = all; each_once = once; in_order = up; window = refl };
       no_other = λ others r.
           r.window
@@ -146,7 +149,7 @@ lent_cmp q a b = stored_cmp q a.now b.now
 pub sort_gives : (q : Asked) (docs all rows : List (Bor Stored)) → AreKeyed q.primary (lent docs)
     → IsPermutation (filter (λ d. is_due q d.now) docs) all
     → IsSortedBy (λ a b. is_lt (lent_cmp q a b)) all → rows ≡ cut q.limit (drop q.skip all)
-    → IsResult q (lent docs) (lent rows)
+    → lent rows ≡ result_of q (lent docs)
 sort_gives q docs all rows keyed moved up window =
     let now : Bor Stored → Stored = λ d. d.now in
     let due = filter (λ (d : Bor Stored). is_due q d.now) docs in
@@ -154,7 +157,8 @@ sort_gives q docs all rows keyed moved up window =
     let differ = distinct_mapped now (eq_by_cmp (stored_cmp q)) due
     (subst (IsDistinct (eq_by_cmp (stored_cmp q))) (sym same)
     (distinct_due q (lent docs) keyed.distinct keyed.carried)) in
-    record {
+    (one_result q (lent docs) keyed).no_other (lent rows)
+    (record {
       all = lent all;
       each_once =
           subst (λ xs. IsPermutation xs (lent all)) same (IsPermutation-map now due all moved);
@@ -163,4 +167,46 @@ sort_gives q docs all rows keyed moved up window =
       window =
           ap (map now) window ∙ map-cut now q.limit (drop q.skip all)
           ∙ ap (cut q.limit) (map-drop now q.skip all);
-    }
+    })
+
+-- ---- documents by rising keys have distinct ones
+
+-- a lower key is another
+pub other_key : (k l : List ℕ) → text_cmp k l ≡ Less → bytes_eq k l ≡ false
+other_key k l h =
+    not_so (bytes_eq k l) (λ e.
+    let same = (bytes_eq-Decides k l).0 e in
+    let level : text_cmp k l ≡ Equal =
+    ap (λ n. text_cmp k n) (sym same) ∙ tied_itself text_total k in
+    let bad : Less ≡ Equal = sym h ∙ level in cc)
+
+-- a lower key is another than all
+below : (k : List ℕ) (ds : Documents) → AllByRecursion (λ e. e.1.state.key ≡ e.0) ds
+    → AllByRecursion (λ l. text_cmp k l ≡ Less) (keys_of ds)
+    → AllByRecursion (λ l. bytes_eq k l ≡ false) (map (λ d. d.state.key) (values_of ds))
+below k [] keyed h = tt
+below k (d ∷ ds) keyed h = (ap (bytes_eq k) keyed.0 ∙ other_key k d.0 h.0, below k ds keyed.1 h.1)
+
+-- rising keys are distinct
+distinct_keys : (ds : Documents) → AreRising ds → AllByRecursion (λ e. e.1.state.key ≡ e.0) ds
+    → IsDistinct bytes_eq (map (λ d. d.state.key) (values_of ds))
+unfolding IsDistinct IsStrictlySortedBy
+distinct_keys [] up keyed = tt
+distinct_keys (d ∷ ds) up keyed = (
+  subst (λ k. AllByRecursion (λ l. bytes_eq k l ≡ false)
+      (map (λ e. e.state.key) (values_of ds))) (sym keyed.0) (below d.0 ds keyed.1 up.0),
+  distinct_keys ds up.1 keyed.1,
+)
+
+-- what holds of all entries' documents
+pub all_values : (P : Stored → Type 0) (ds : Documents) → AllByRecursion (λ e. P e.1) ds
+    → AllByRecursion P (values_of ds)
+all_values P [] h = tt
+all_values P (d ∷ ds) h = (h.0, all_values P ds h.1)
+
+pub are_keyed : CollectionsAreKeyed
+are_keyed primary ds c = record {
+  distinct = distinct_keys ds c.rising c.keyed;
+  carried =
+      all_values (λ d. named d.state.fields primary ≡ Some (Text d.state.key)) ds c.carried;
+}

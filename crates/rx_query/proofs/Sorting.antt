@@ -7,6 +7,7 @@ use Rattle.std.specs.Cmp.{IsTotalOrder}
 use Rattle.std.specs.List.{AllByRecursion, Contains, IsDistinct}
 use Rattle.std.specs.List.Sorted.{IsStrictlySortedBy, IsSortedBy, IsPermutation}
 use Rattle.std.specs.Ordering.{is_lt, is_eq, eq_by_cmp, ordering_reverse}
+use Rattle.rx_query.specs.Lists.{placed, sorted}
 
 -- ---- members
 
@@ -41,16 +42,6 @@ in-permutation xs ys z p i =
     in_from_place ys there.0 z there.1 there.2
 
 -- ---- insertion
-
--- with x before the first of those that it precedes, or at the end
-abbrev pub placed : {X : Type 0} → (X → X → Bool) → X → List X → List X
-placed before x [] = x ∷ []
-placed before x (y ∷ ys) = cond (before x y) (x ∷ y ∷ ys) (y ∷ placed before x ys)
-
--- in order
-abbrev pub sorted : {X : Type 0} → (X → X → Bool) → List X → List X
-sorted before [] = []
-sorted before (x ∷ xs) = placed before x (sorted before xs)
 
 -- one more
 placed-permutes : {X : Type 0} (before : X → X → Bool) (x : X) (xs : List X)

@@ -18,6 +18,7 @@ use Rattle.rx_table.specs.declared.action.Action.TheVariants.{
   InsertAtSortPosition,
   RemoveExistingAndInsertAtSortPosition,
   RunFullQueryAgain,
+  InsertAtSortPositionRemoveLast,
 }
 use Rattle.rx_query.specs.Asked.{Asked}
 use Rattle.rx_query.specs.Lists.{placed, without_last, without_first, replaced_first}
@@ -68,6 +69,7 @@ after ReplaceExisting q c rows = with_replaced c rows
 after InsertAtSortPosition q c rows = with_placed q c rows
 after RemoveExistingAndInsertAtSortPosition q c rows = with_placed q c (without_changed c rows)
 after RunFullQueryAgain q c rows = rows
+after InsertAtSortPositionRemoveLast q c rows = with_placed q c (without_last rows)
 
 -- the action takes out the first or the last row
 abbrev pub removes_end : Action → Bool
@@ -77,6 +79,7 @@ removes_end RemoveFirstInsertLast = true
 removes_end RemoveLastInsertFirst = true
 removes_end RemoveFirstInsertFirst = true
 removes_end RemoveLastInsertLast = true
+removes_end InsertAtSortPositionRemoveLast = true
 removes_end _ = false
 
 -- it takes out or replaces the document's old row

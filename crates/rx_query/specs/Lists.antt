@@ -19,6 +19,11 @@ abbrev pub placed : {X : Type 0} → (X → X → Bool) → X → List X → Lis
 placed precedes x [] = x ∷ []
 placed precedes x (y ∷ ys) = if precedes x y then x ∷ y ∷ ys else y ∷ placed precedes x ys
 
+-- in order: each is put before the first that it precedes
+abbrev pub sorted : {X : Type 0} → (X → X → Bool) → List X → List X
+sorted precedes [] = []
+sorted precedes (x ∷ xs) = placed precedes x (sorted precedes xs)
+
 -- without the last one
 abbrev pub without_last : {X : Type 0} → List X → List X
 without_last [] = []

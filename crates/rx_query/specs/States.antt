@@ -8,6 +8,7 @@ use Rattle.rx_document.specs.declared.change.Before.{Before}
 use Rattle.rx_document.specs.declared.change.Before.TheVariants.{Unknown, Absent, Live}
 use Rattle.rx_document.specs.declared.change.Change.{Change}
 use Rattle.rx_selector.specs.Holding.{all_hold}
+use Rattle.rx_table.specs.States.{all_states}
 use Rattle.rx_table.specs.declared.states.StateName.{StateName}
 use Rattle.rx_table.specs.declared.states.StateName.TheVariants.{
   IsInsert,
@@ -98,14 +99,6 @@ state_of q c rows DoesMatchNow = some_passes (is_match q) c.after
 abbrev pub number : List Bool → ℕ
 number [] = 0
 number (b ∷ bs) = (if b then 1 else 0) + 2 * number bs
-
--- all states, by their numbers
-abbrev pub all_states : List StateName
-all_states =
-    IsInsert ∷ IsUpdate ∷ IsDelete ∷ HasLimit ∷ IsFindOne ∷ HasSkip ∷ WasResultsEmpty
-    ∷ PreviousUnknown ∷ WasLimitReached ∷ SortParamsChanged ∷ WasInResult ∷ WasFirst ∷ WasLast
-    ∷ WasSortedBeforeFirst ∷ WasSortedAfterLast ∷ IsSortedBeforeFirst ∷ IsSortedAfterLast
-    ∷ WasMatching ∷ DoesMatchNow ∷ []
 
 -- answers as the bits of a number
 unfoldable pub number_of : (StateName → Bool) → ℕ

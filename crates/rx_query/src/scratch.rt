@@ -1,6 +1,6 @@
 ghost use Rattle.std.specs.Prelude.{◌≡◌, IfOk, map, filter, drop};
 ghost use Rattle.rx_query.specs.Asked.{asked};
-ghost use Rattle.rx_query.specs.Result.{is_due, AreKeyed, cut, IsResult};
+ghost use Rattle.rx_query.specs.Result.{is_due, AreKeyed, cut, result_of};
 
 use crate::query::Query;
 use rx_document::Stored;
@@ -15,8 +15,8 @@ impl Query {
         docs: &[&'a Stored],
     ) -> Result<Vec<&'a Stored>, AllocError>
         requires { AreKeyed (asked self.now).primary (map (λ d. d.now) docs.now) }
-        ensures { IfOk result (λ rows. IsResult (asked self.now) (map (λ d. d.now) docs.now)
-            (map (λ r. r.now) rows.items)) }
+        ensures { IfOk result (λ rows. map (λ r. r.now) rows.items
+            ≡ result_of (asked self.now) (map (λ d. d.now) docs.now)) }
     {
         let mut rows = self.due(alloc, docs)?;
         rows.sort_unstable_by(|a, b| self.before(&a.state.fields, &b.state.fields));

@@ -1,5 +1,5 @@
 use Rattle.rx_query.proofs.Orders.{query_total, keys_decide}
-use Rattle.rx_query.proofs.Rows.{one_result}
+use Rattle.rx_query.proofs.Rows.{one_result, are_keyed}
 use Rattle.rx_query.proofs.laws.query_laws.Goals as goal
 
 pub returns-clause-total : goal.returns-clause-total
@@ -10,3 +10,6 @@ returns-clause-strict c = keys_decide
 
 pub returns-clause-one_result : goal.returns-clause-one_result
 returns-clause-one_result c = one_result
+
+pub returns-clause-keyed : goal.returns-clause-keyed
+returns-clause-keyed c = are_keyed
