@@ -1,14 +1,14 @@
 -- What goes in and out is what the action says.
 use Rattle.std.proofs.Common.{◌≡◌, suc, subst, ◌++◌, [], Bool, ℕ, ◌+◌, ◌-◌, ◌<◌, ◌≤◌, Some, None, List, ◌∷◌, length, insert, remove, sym, ap, ◌∙◌, arith}
 use Rattle.rx_document.specs.declared.change.Change.{Change}
-use Rattle.rx_table.specs.declared.action.Action.TheVariants.{RemoveLastInsertFirst, RemoveLastInsertLast, ReplaceExisting, InsertAtSortPosition, RemoveExistingAndInsertAtSortPosition}
+use Rattle.rx_table.specs.declared.action.Action.TheVariants.{RemoveLastInsertFirst, RemoveLastInsertLast, ReplaceExisting, InsertAtSortPosition, RemoveExistingAndInsertAtSortPosition, InsertAtSortPositionRemoveLast}
 use Rattle.rx_query.specs.After.{row_after, with_row, after}
 use Rattle.rx_query.specs.Asked.{Asked}
 use Rattle.rx_query.specs.Lists.{placed, without_last, without_first, replaced_first}
 use Rattle.rx_query.specs.States.{precedes, is_changed}
 use Rattle.rx_query.specs.declared.results.Row.{Row}
 use Rattle.rx_actions.specs.Moves.{IsFirst, IsFirstBut}
-use Rattle.rx_actions.proofs.Firsts.{remove_found, replace_found, last_to_first, last_for_last, placed_is_insert, placed_without_earlier, placed_without_later}
+use Rattle.rx_actions.proofs.Firsts.{remove_last, remove_found, replace_found, last_to_first, last_for_last, placed_is_insert, placed_without_earlier, placed_without_later}
 
 -- one row precedes another
 abbrev by_order : Asked → Row → Row → Bool
@@ -51,30 +51,35 @@ module _ (q : Asked) (c : Change) (row : Row) (is : row_after c ≡ Some row) (r
       (subst (λ k. IsFirstBut (by_order q row) rows k i) e first)
       ∙ with_is (placed (by_order q)) rows
 
-  -- what is done where the old row stood before the new place, and where it stood behind it
-  placed_anew : (old : ℕ) → old < length rows → IsFirst (is_changed c) rows old
+  -- what goes in where the old row goes out
+  pub placed_anew : (old : ℕ) → old < length rows → IsFirst (is_changed c) rows old
       → placed (by_order q) row (remove rows old)
       ≡ after RemoveExistingAndInsertAtSortPosition q c rows
   placed_anew old h first =
       ap (placed (by_order q) row) (remove_found (is_changed c) rows old h first)
       ∙ with_is (placed (by_order q)) (without_first (is_changed c) rows)
 
-  -- in its new place, behind the old one
-  pub to_later : (old i : ℕ) → old < length rows → IsFirst (is_changed c) rows old → old < i
-      → i ≤ length rows → IsFirstBut (by_order q row) rows old i
-      → remove (insert rows i row) old ≡ after RemoveExistingAndInsertAtSortPosition q c rows
-  to_later old i h first lt le but =
-      placed_without_earlier (by_order q) row rows old i lt le but.earlier but.here
-      ∙ placed_anew old h first
+  -- and where the last row does
+  pub placed_for_last : (last : ℕ) → last ≡ length rows - 1
+      → placed (by_order q) row (remove rows last) ≡ after InsertAtSortPositionRemoveLast q c rows
+  placed_for_last last is =
+      ap (λ n. placed (by_order q) row (remove rows n)) is
+      ∙ ap (placed (by_order q) row) (remove_last rows)
+      ∙ with_is (placed (by_order q)) (without_last rows)
 
-  -- in its new place, before the old one
-  pub to_earlier : (old i : ℕ) → old < length rows → IsFirst (is_changed c) rows old → i ≤ old
-      → IsFirstBut (by_order q row) rows old i
-      → remove (insert rows i row) (old + 1) ≡ after RemoveExistingAndInsertAtSortPosition q c rows
-  to_earlier old i h first le but =
+module _ (q : Asked) (row : Row) (rows : List Row) (out i : ℕ) (h : out < length rows)
+    (but : IsFirstBut (by_order q row) rows out i) where
+  -- in its new place, behind the row that goes out
+  pub to_later : out < i → i ≤ length rows
+      → remove (insert rows i row) out ≡ placed (by_order q) row (remove rows out)
+  to_later lt le = placed_without_earlier (by_order q) row rows out i lt le but.earlier but.here
+
+  -- in its new place, before it
+  pub to_earlier : i ≤ out
+      → remove (insert rows i row) (out + 1) ≡ placed (by_order q) row (remove rows out)
+  to_earlier le =
       let apart = but.not_out (omega arith) in
-      let lower : i < old = grind (arith, apart) in
-      let next : old + 1 ≡ suc old = omega arith in
+      let lower : i < out = grind (arith, apart) in
+      let next : out + 1 ≡ suc out = omega arith in
       ap (remove (insert rows i row)) next
-      ∙ placed_without_later (by_order q) row rows old i lower h but.earlier but.here
-      ∙ placed_anew old h first
+      ∙ placed_without_later (by_order q) row rows out i lower h but.earlier but.here

@@ -4,7 +4,7 @@ use Rattle.std.specs.List.{list_any}
 use Rattle.rx_query.specs.After.{removes_end, uses_existing, inserts}
 use Rattle.rx_query.specs.Lists.{placed, without_last, without_first, replaced_first}
 use Rattle.rx_table.specs.declared.action.Action.{Action}
-use Rattle.rx_table.specs.declared.action.Action.TheVariants.{DoNothing, InsertFirst, InsertLast, RemoveFirstItem, RemoveLastItem, RemoveFirstInsertLast, RemoveLastInsertFirst, RemoveFirstInsertFirst, RemoveLastInsertLast, RemoveExisting, ReplaceExisting, InsertAtSortPosition, RemoveExistingAndInsertAtSortPosition, RunFullQueryAgain}
+use Rattle.rx_table.specs.declared.action.Action.TheVariants.{DoNothing, InsertFirst, InsertLast, RemoveFirstItem, RemoveLastItem, RemoveFirstInsertLast, RemoveLastInsertFirst, RemoveFirstInsertFirst, RemoveLastInsertLast, RemoveExisting, ReplaceExisting, InsertAtSortPosition, RemoveExistingAndInsertAtSortPosition, RunFullQueryAgain, InsertAtSortPositionRemoveLast}
 
 module _ {X : Type 0} (before : X → X → Bool) (mine : X → Bool) (now : Option X) where
   -- the list with the change's row first, last, in its place by the order, or in place of the row
@@ -44,6 +44,7 @@ module _ {X : Type 0} (before : X → X → Bool) (mine : X → Bool) (now : Opt
   after InsertAtSortPosition rows = with_placed rows
   after RemoveExistingAndInsertAtSortPosition rows = with_placed (without_existing rows)
   after RunFullQueryAgain rows = rows
+  after InsertAtSortPositionRemoveLast rows = with_placed (without_last rows)
 
 -- the action's rows are there
 pub record AreThere {X : Type 0} (mine : X → Bool) (now : Option X) (action : Action)

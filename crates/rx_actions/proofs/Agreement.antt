@@ -6,13 +6,13 @@ use Rattle.std.specs.Ordering.{is_lt}
 use Rattle.rx_value.specs.Fields.{Pairs}
 use Rattle.rx_document.specs.declared.change.Change.{Change}
 use Rattle.rx_table.specs.declared.action.Action.{Action}
-use Rattle.rx_table.specs.declared.action.Action.TheVariants.{DoNothing, InsertFirst, InsertLast, RemoveFirstItem, RemoveLastItem, RemoveFirstInsertLast, RemoveLastInsertFirst, RemoveFirstInsertFirst, RemoveLastInsertLast, RemoveExisting, ReplaceExisting, InsertAtSortPosition, RemoveExistingAndInsertAtSortPosition, RunFullQueryAgain}
+use Rattle.rx_table.specs.declared.action.Action.TheVariants.{DoNothing, InsertFirst, InsertLast, RemoveFirstItem, RemoveLastItem, RemoveFirstInsertLast, RemoveLastInsertFirst, RemoveFirstInsertFirst, RemoveLastInsertLast, RemoveExisting, ReplaceExisting, InsertAtSortPosition, RemoveExistingAndInsertAtSortPosition, RunFullQueryAgain, InsertAtSortPositionRemoveLast}
 use Rattle.rx_table.specs.declared.states.StateName.{StateName}
 use Rattle.rx_table.specs.declared.states.StateName.TheVariants.{IsInsert, IsUpdate, IsDelete, HasLimit, IsFindOne, HasSkip, WasResultsEmpty, PreviousUnknown, WasLimitReached, SortParamsChanged, WasInResult, WasFirst, WasLast, WasSortedBeforeFirst, WasSortedAfterLast, IsSortedBeforeFirst, IsSortedAfterLast, WasMatching, DoesMatchNow}
 use Rattle.rx_query.specs.After as spec
 use Rattle.rx_query.specs.After.{row_after}
 use Rattle.rx_query.specs.Asked.{Asked}
-use Rattle.rx_query.specs.Lists.{some_passes, first_passes, last_passes, without_first}
+use Rattle.rx_query.specs.Lists.{some_passes, first_passes, last_passes, without_last, without_first}
 use Rattle.rx_query.specs.States.{live_before, is_unknown, precedes, is_changed, before_first, after_last, state_of}
 use Rattle.rx_query.specs.declared.results.Row.{Row}
 use Rattle.rx_actions.proofs.Actions.{after, with_placed}
@@ -144,6 +144,13 @@ module _ (q : Asked) (c : Change) (now : Carried q c.id c.after) where
       cond_both (p r) rows (r ∷ without_first p rows) (AllByRecursion (Carries q)) (λ _. all.1)
       (λ _. (all.0, all_without p rows all.1))
 
+  -- so do those before the last
+  all_without_last : (rows : List Row) → AllByRecursion (Carries q) rows
+      → AllByRecursion (Carries q) (without_last rows)
+  all_without_last [] all = tt
+  all_without_last (r ∷ []) all = tt
+  all_without_last (r ∷ s ∷ rows) all = (all.0, all_without_last (s ∷ rows) all.1)
+
   -- each action
   pub after_agrees : (action : Action) (rows : List Row) → AllByRecursion (Carries q) rows
       → spec.after action q c rows
@@ -163,3 +170,5 @@ module _ (q : Asked) (c : Change) (now : Carried q c.id c.after) where
   after_agrees RemoveExistingAndInsertAtSortPosition rows all =
       put_agrees (without_first (is_changed c) rows) (all_without (is_changed c) rows all)
   after_agrees RunFullQueryAgain rows all = refl
+  after_agrees InsertAtSortPositionRemoveLast rows all =
+      put_agrees (without_last rows) (all_without_last rows all)

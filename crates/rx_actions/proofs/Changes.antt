@@ -5,7 +5,7 @@ use Rattle.rx_query.specs.Result.{cut}
 use Rattle.rx_table.specs.Rows.{action_of}
 use Rattle.rx_table.specs.declared.states.StateName.{StateName}
 use Rattle.std.specs.List.{list_any, AllByRecursion}
-use Rattle.rx_query.specs.Lists.{placed, some_passes, first_passes, last_passes}
+use Rattle.rx_query.specs.Lists.{sorted, some_passes, first_passes, last_passes}
 use Rattle.rx_actions.proofs.Actions.{after, AreThere}
 use Rattle.rx_table.specs.declared.action.Action.{Action}
 use Rattle.rx_table.specs.declared.action.Action.TheVariants.{RunFullQueryAgain}
@@ -26,11 +26,6 @@ pub record Query (X : Type 0) : Type 0 where
   pub alike : X → X → Bool
   pub skip : ℕ
   pub limit : Option ℕ
-
--- the rows in order
-abbrev pub sorted : {X : Type 0} → (X → X → Bool) → List X → List X
-sorted before [] = []
-sorted before (x ∷ xs) = placed before x (sorted before xs)
 
 -- the selected rows in order, in the window
 abbrev pub result : {X : Type 0} → Query X → List X → List X

@@ -2,8 +2,7 @@
 use Rattle.std.proofs.Common.{◌≡◌, Bool, true, false, not, cond, List, [], ◌∷◌, filter, refl, sym, ap, ◌∙◌, subst, Option, Some, None}
 use Rattle.std.proofs.lemmas.Bool.{false≢true, cond_both}
 use Rattle.std.specs.List.{AllByRecursion}
-use Rattle.rx_query.specs.Lists.{placed}
-use Rattle.rx_actions.proofs.Changes.{sorted}
+use Rattle.rx_query.specs.Lists.{placed, sorted}
 use Rattle.rx_actions.proofs.Changes.{Query, Keys, has_key, held, others_of, IsCollection, IsLawful}
 use Rattle.rx_actions.proofs.Ranks.{Ordered, NoneIs, Stands}
 use Rattle.rx_actions.proofs.Readings.{Others}

@@ -28,12 +28,7 @@ module _ {X : Type 0} (mine : X → Bool) where
   any-none [] h = refl
   any-none (x ∷ xs) h = rw (h.0) (any-none xs h.1)
 
-  -- the first row hasn't it
-  pub first-none : (xs : List X) → NoneIs mine xs → first_passes mine xs ≡ false
-  first-none [] h = refl
-  first-none (x ∷ xs) h = h.0
-
-  -- nor the last
+  -- the last row hasn't it
   pub last-none : (xs : List X) → NoneIs mine xs → last_passes mine xs ≡ false
   last-none [] h = refl
   last-none (x ∷ []) h = h.0

@@ -1,5 +1,5 @@
 -- Rows by their places, in the words of the actions.
-use Rattle.std.proofs.Common.{◌≡◌, ◌≢◌, ℕ, zero, suc, ◌-◌, ◌<◌, ◌≤◌, Bool, true, false, List, [], ◌∷◌, ◌++◌, length, get_or, drop, insert, remove, refl, ap, ◌∙◌, arith}
+use Rattle.std.proofs.Common.{◌≡◌, ◌≢◌, ℕ, zero, suc, ◌-◌, ◌<◌, ◌≤◌, Bool, true, false, List, [], ◌∷◌, ◌++◌, length, get_or, insert, remove, refl, ap, ◌∙◌, arith}
 use Rattle.std.specs.List.{list_any}
 use Rattle.rx_query.specs.Lists.{placed, without_last, without_first, replaced_first}
 use Rattle.rx_actions.specs.Moves.{IsFirst, IsFirstBut}
@@ -15,16 +15,6 @@ none_any p (y ∷ ys) h =
 -- ---- one row in or out
 
 module _ {X : Type 0} where
-  -- at the end
-  pub insert_last : (xs : List X) (x : X) → insert xs (length xs) x ≡ xs ++ x ∷ []
-  insert_last [] x = refl
-  insert_last (y ∷ ys) x = ap (λ zs. y ∷ zs) (insert_last ys x)
-
-  -- the first
-  pub remove_first : (xs : List X) → remove xs 0 ≡ drop 1 xs
-  remove_first [] = refl
-  remove_first (y ∷ ys) = refl
-
   -- the last
   pub remove_last : (xs : List X) → remove xs (length xs - 1) ≡ without_last xs
   remove_last [] = refl

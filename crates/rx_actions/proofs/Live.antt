@@ -17,23 +17,12 @@ use Rattle.rx_value.specs.Named.{named, AreRising}
 use Rattle.rx_value.specs.Order.{text_cmp}
 use Rattle.rx_document.specs.Documents.{Documents, live}
 use Rattle.rx_query.specs.declared.results.Row.{Row}
-use Rattle.rx_actions.specs.Right.{row_of}
+use Rattle.rx_query.specs.Result.{row_of}
+use Rattle.rx_query.proofs.Rows.{other_key}
 use Rattle.rx_actions.proofs.Changes.{has_key, held, others_of, IsCollection}
 use Rattle.rx_actions.proofs.RowOrder.{row_keys}
 
 -- ---- rising keys
-
--- a lower key is another
-pub other : (k l : List ℕ) → text_cmp k l ≡ Less → bytes_eq k l ≡ false
-other k l h = go (bytes_eq k l) refl
-  where
-    go : (b : Bool) → bytes_eq k l ≡ b → b ≡ false
-    go false e = refl
-    go true e =
-        let same = (bytes_eq-Decides k l).0 e in
-        let level : text_cmp k l ≡ Equal = ap (λ n. text_cmp k n) (sym same)
-        ∙ tied_itself text_total k in
-        let bad : Less ≡ Equal = sym h ∙ level in cc
 
 -- either way round
 other_back : (k l : List ℕ) → text_cmp k l ≡ Less → bytes_eq l k ≡ false
@@ -51,7 +40,7 @@ module _ {X : Type 0} where
   none_below : (k : List ℕ) (es : List (List ℕ × X))
       → AllByRecursion (λ l. text_cmp k l ≡ Less) (keys_of es) → named es k ≡ None
   none_below k [] below = refl
-  none_below k (e ∷ es) below = rw (other k e.0 below.0) (none_below k es below.1)
+  none_below k (e ∷ es) below = rw (other_key k e.0 below.0) (none_below k es below.1)
 
   -- what is below the first is below all
   below_all : (k : List ℕ) (l : List ℕ) (es : List (List ℕ × X)) → text_cmp k l ≡ Less

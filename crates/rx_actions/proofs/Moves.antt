@@ -258,7 +258,7 @@ module _ {X : Type 0} (before : X → X → Bool) (mine : X → Bool) (T : List 
             ∙ sym (in_window 0 (omega arith) (omega arith)))
       ]
 
-  -- the later table: the row stood behind the window, and stands inside it
+  -- the row stood behind the window, and stands inside it
   pub moves_inside : list_any mine R ≡ false → last_passes (not_before before mine old) R ≡ true
       → first_passes (not_after before mine new) R ≡ false
       → last_passes (not_before before mine new) R ≡ false → placed before new (without_last R) ≡ R'

@@ -7,14 +7,14 @@ use Rattle.std.proofs.lemmas.List.{take_all}
 use Rattle.std.proofs.Common.{length-drop}
 use Rattle.std.specs.List.{list_any}
 use Rattle.rx_query.specs.Lists.{placed, some_passes}
-use Rattle.rx_actions.proofs.Changes.{sorted}
+use Rattle.rx_query.specs.Lists.{sorted}
 use Rattle.rx_query.specs.Result.{cut}
 use Rattle.rx_actions.proofs.Changes.{table}
 use Rattle.rx_actions.proofs.Actions.{after}
 use Rattle.rx_query.specs.After.{removes_end, uses_existing, inserts}
 use Rattle.rx_actions.proofs.Changes.{Query, result, Keys, has_key, held, others_of, IsCollection, states_at, IsLawful, IsPatch}
 use Rattle.rx_table.specs.declared.action.Action.{Action}
-use Rattle.rx_table.specs.declared.action.Action.TheVariants.{DoNothing, InsertFirst, InsertLast, RemoveFirstItem, RemoveLastItem, RemoveFirstInsertLast, RemoveLastInsertFirst, RemoveFirstInsertFirst, RemoveLastInsertLast, RemoveExisting, ReplaceExisting, InsertAtSortPosition, RemoveExistingAndInsertAtSortPosition}
+use Rattle.rx_table.specs.declared.action.Action.TheVariants.{DoNothing, InsertFirst, InsertLast, RemoveFirstItem, RemoveLastItem, RemoveFirstInsertLast, RemoveLastInsertFirst, RemoveFirstInsertFirst, RemoveLastInsertLast, RemoveExisting, ReplaceExisting, InsertAtSortPosition, RemoveExistingAndInsertAtSortPosition, InsertAtSortPositionRemoveLast}
 use Rattle.rx_actions.proofs.Windows.{put, window, length-put, length-window}
 use Rattle.rx_actions.proofs.Ranks.{rank, rank-alike, placed_is, Stands}
 use Rattle.rx_actions.proofs.Readings.{Others}
@@ -162,6 +162,10 @@ module _ {X : Type 0} (q : Query X) (mine : X → Bool) (T : List X) (others : O
     enters_between = λ some nia nib nlr. patch InsertAtSortPosition no no (λ _. is_there new)
         (Enter.enters_between q.before mine T others q.skip m new stands (some_is _ some) nia nib
         (lim.short _ fits_none nlr));
+    enters_between_full = λ some nia nib lr. patch InsertAtSortPositionRemoveLast
+        (λ _. some_is _ some) no (λ _. is_there new)
+        (Enter.enters_between_full q.before mine T others q.skip m new stands (some_is _ some) nia
+        nib (lim.full _ lr));
   }
 
   -- for one that stays
@@ -203,6 +207,10 @@ module _ {X : Type 0} (q : Query X) (mine : X → Bool) (T : List X) (others : O
     moves_to_first = λ out wa ib nhs. patch RemoveLastInsertFirst (λ _. first-some _ _ ib) no
         (λ _. is_there new) (Move.moves_to_first q.before mine T others q.skip m old old_stands new
         new_stands out ib (no_skip _ nhs));
+    moves_inside = λ out wa nib nia. patch InsertAtSortPositionRemoveLast
+        (λ _. last-some _ _ wa) no (λ _. is_there new)
+        (Move.moves_inside q.before mine T others q.skip m old old_stands new new_stands out wa nib
+        nia);
   }
 
 -- the place of a row whose sort fields stay

@@ -4,7 +4,7 @@ use Rattle.std.proofs.Common.{◌≡◌, true, false, ◌&&◌, ◌||◌, not, �
 use Rattle.std.proofs.lemmas.Bool.{cond_both}
 use Rattle.rx_actions.proofs.Changes.{States, table}
 use Rattle.rx_table.specs.declared.action.Action.{Action}
-use Rattle.rx_table.specs.declared.action.Action.TheVariants.{DoNothing, InsertFirst, InsertLast, RemoveFirstItem, RemoveLastItem, RemoveFirstInsertLast, RemoveLastInsertFirst, RemoveFirstInsertFirst, RemoveLastInsertLast, RemoveExisting, ReplaceExisting, InsertAtSortPosition, RemoveExistingAndInsertAtSortPosition, RunFullQueryAgain}
+use Rattle.rx_table.specs.declared.action.Action.TheVariants.{DoNothing, InsertFirst, InsertLast, RemoveFirstItem, RemoveLastItem, RemoveFirstInsertLast, RemoveLastInsertFirst, RemoveFirstInsertFirst, RemoveLastInsertLast, RemoveExisting, ReplaceExisting, InsertAtSortPosition, RemoveExistingAndInsertAtSortPosition, RunFullQueryAgain, InsertAtSortPositionRemoveLast}
 
 pub record Leaves (P : Action → Type 0) (s : States) : Type 0 where
   pub leaves_empty : (s WasResultsEmpty) ≡ true → P DoNothing
@@ -29,6 +29,9 @@ pub record Enters (P : Action → Type 0) (s : States) : Type 0 where
       → P RemoveLastInsertFirst
   pub enters_between : (s WasResultsEmpty) ≡ false → (s IsSortedAfterLast) ≡ false
       → (s IsSortedBeforeFirst) ≡ false → (s WasLimitReached) ≡ false → P InsertAtSortPosition
+  pub enters_between_full : (s WasResultsEmpty) ≡ false → (s IsSortedAfterLast) ≡ false
+      → (s IsSortedBeforeFirst) ≡ false → (s WasLimitReached) ≡ true
+      → P InsertAtSortPositionRemoveLast
 
 pub record Stays (P : Action → Type 0) (s : States) : Type 0 where
   pub stays_empty : (s WasResultsEmpty) ≡ true → P DoNothing
@@ -50,6 +53,9 @@ pub record Stays (P : Action → Type 0) (s : States) : Type 0 where
       → P RemoveFirstInsertFirst
   pub moves_to_first : (s WasInResult) ≡ false → (s WasSortedAfterLast) ≡ true
       → (s IsSortedBeforeFirst) ≡ true → (s HasSkip) ≡ false → P RemoveLastInsertFirst
+  pub moves_inside : (s WasInResult) ≡ false → (s WasSortedAfterLast) ≡ true
+      → (s IsSortedBeforeFirst) ≡ false → (s IsSortedAfterLast) ≡ false
+      → P InsertAtSortPositionRemoveLast
 
 -- a property of actions that holds of the action of each row, where the row's states are what the
 -- rows above it leave
@@ -107,7 +113,9 @@ table_rows P s each =
     cond_both (not (s WasMatching) && not (s WasLimitReached)) _ _ P
     (λ e19. (each.enters (grind arith) (grind arith)).enters_between (grind arith) (grind arith)
     (grind arith) (grind arith)) (λ n19.
-    cond_both (not (s WasMatching)) _ _ P (λ _. each.full) (λ n20.
+    cond_both (not (s WasMatching)) _ _ P
+    (λ e20. (each.enters (grind arith) (grind arith)).enters_between_full (grind arith) (grind arith)
+    (grind arith) (grind arith)) (λ n20.
     cond_both ((s WasResultsEmpty)) _ _ P
     (λ e21. (each.stays (grind arith) (grind arith)).stays_empty (grind arith)) (λ n21.
     cond_both (not (s SortParamsChanged) && (s WasLast)) _ _ P
@@ -139,4 +147,7 @@ table_rows P s each =
     cond_both ((s WasSortedAfterLast) && (s IsSortedBeforeFirst) && not (s HasSkip)) _ _ P
     (λ e32. (each.stays (grind arith) (grind arith)).moves_to_first (grind arith) (grind arith)
     (grind arith) (grind arith)) (λ n32.
-    each.full))))))))))))))))))))))))))))))))
+    cond_both ((s WasSortedAfterLast) && not (s IsSortedBeforeFirst) && not (s IsSortedAfterLast)) _
+    _ P (λ e33. (each.stays (grind arith) (grind arith)).moves_inside (grind arith) (grind arith)
+    (grind arith) (grind arith)) (λ n33.
+    each.full)))))))))))))))))))))))))))))))))

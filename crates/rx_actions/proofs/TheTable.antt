@@ -1,33 +1,27 @@
 -- The table is right.
-use Rattle.std.proofs.Common.{◌≡◌, ◌≢◌, ℕ, Bool, true, false, cond, Option, Some, None, option_map, List, [], ◌∷◌, map, filter, take, drop, zero, suc, refl, sym, ap, ◌∙◌, subst}
+use Rattle.std.proofs.Common.{◌≡◌, ℕ, Bool, true, false, cond, Option, Some, None, option_map, List, [], ◌∷◌, filter, take, drop, zero, suc, refl, sym, ap, ◌∙◌, subst}
 use Rattle.std.proofs.lemmas.Bool.{cond_both}
 use Rattle.std.proofs.lemmas.Option.{same_Some}
-use Rattle.std.specs.declared.cmp.Ordering.TheVariants.{Less}
-use Rattle.std.specs.List.{AllByRecursion, IsDistinct}
-use Rattle.std.specs.List.Sorted.{IsStrictlySortedBy}
-use Rattle.std.specs.Map.{keys_of, values_of}
+use Rattle.std.specs.List.{AllByRecursion}
 use Rattle.std.specs.Str.{bytes_eq}
 use Rattle.rx_value.specs.Fields.{Pairs}
-use Rattle.rx_value.specs.Named.{named, AreRising}
-use Rattle.rx_value.specs.Order.{text_cmp}
-use Rattle.rx_value.specs.declared.value.Value.TheVariants.{Text}
+use Rattle.rx_value.specs.Named.{named}
 use Rattle.rx_document.specs.Change.{before_of, change_of}
 use Rattle.rx_document.specs.Documents.{Documents, live}
 use Rattle.rx_table.specs.Rows.{action_of, table_of}
 use Rattle.rx_query.proofs.Numbers.{table_of-number_of}
-use Rattle.rx_query.proofs.Rows.{one_result}
-use Rattle.rx_query.specs.After as spec
 use Rattle.rx_query.specs.After.{row_after}
 use Rattle.rx_query.specs.Asked.{Asked}
-use Rattle.rx_query.specs.Result.{cut, AreKeyed}
+use Rattle.rx_query.specs.Lists.{sorted}
+use Rattle.rx_query.specs.Result.{cut, row_of, IsCollection}
 use Rattle.rx_query.specs.States.{live_before, is_unknown, is_changed, state_of, bits_of}
 use Rattle.rx_query.specs.declared.results.Row.{Row}
-use Rattle.rx_actions.specs.Right.{row_of, IsCollection, IsFromScratch, TableIsRight}
+use Rattle.rx_actions.specs.Right.{TableIsRight}
 use Rattle.rx_actions.proofs.Agreement.{there_mapped, states_agree, after_agrees}
-use Rattle.rx_actions.proofs.Changes.{held, sorted, result, states_at, IsPatch}
+use Rattle.rx_actions.proofs.Changes.{held, result, states_at, IsPatch}
 use Rattle.rx_actions.proofs.Collections.{all-filter, all-sorted}
-use Rattle.rx_actions.proofs.FromScratch.{all_values, result_rows, from_scratch_is}
-use Rattle.rx_actions.proofs.Live.{other, same_but, live_rows, Keyed, others_live, distinct_live, row_with, held_live}
+use Rattle.rx_actions.proofs.FromScratch.{fresh_is}
+use Rattle.rx_actions.proofs.Live.{same_but, live_rows, others_live, distinct_live, row_with, held_live}
 use Rattle.rx_actions.proofs.Right.{table_is_right}
 use Rattle.rx_actions.proofs.RowOrder.{row_keys, rows_query, lawful, Carries}
 
@@ -92,47 +86,6 @@ module _ (q : Asked) (es : Documents) (col : IsCollection q.primary es) where
       all_held (Carries q) (λ r. bytes_eq r.id id) (live_rows es) live_carry (row_with id x)
       (held_live id es col.rising col.keyed ∙ ap (option_map (row_with id)) (sym is ∙ at))
 
-  -- ---- there is a result
-
-  -- a lower key is another than all
-  below : (k : List ℕ) (ds : Documents) → Keyed ds
-      → AllByRecursion (λ l. text_cmp k l ≡ Less) (keys_of ds)
-      → AllByRecursion (λ l. bytes_eq k l ≡ false) (map (λ d. d.state.key) (values_of ds))
-  below k [] keyed h = tt
-  below k (d ∷ ds) keyed h =
-      (ap (bytes_eq k) keyed.0 ∙ other k d.0 h.0, below k ds keyed.1 h.1)
-
-  -- rising keys are distinct
-  distinct_keys : (ds : Documents) → AreRising ds → Keyed ds
-      → IsDistinct bytes_eq (map (λ d. d.state.key) (values_of ds))
-  unfolding IsDistinct IsStrictlySortedBy
-  distinct_keys [] up keyed = tt
-  distinct_keys (d ∷ ds) up keyed = (
-    subst (λ k. AllByRecursion (λ l. bytes_eq k l ≡ false)
-        (map (λ e. e.state.key) (values_of ds)))
-        (sym keyed.0) (below d.0 ds keyed.1 up.0),
-    distinct_keys ds up.1 keyed.1,
-  )
-
-  -- the documents are as a query from scratch needs them
-  are_keyed : AreKeyed q.primary (values_of es)
-  are_keyed = record {
-    distinct = distinct_keys es col.rising col.keyed;
-    carried = all_values (λ d. named d.state.fields q.primary ≡ Some (Text d.state.key)) es
-        col.carried;
-  }
-
-  -- the core's result is one from scratch
-  pub is_from_scratch : q.limit ≢ Some 0 → (rows : List Row)
-      → rows ≡ result (rows_query q) (live_rows es) → IsFromScratch q es rows
-  is_from_scratch some rows is =
-      let one = one_result q (values_of es) are_keyed in
-      record {
-        found = one.rows;
-        is_result = one.is_result;
-        are_rows = is ∙ sym (result_rows q some es col one.rows one.is_result);
-      }
-
 -- ---- the table
 
 -- what was before is what the old document says
@@ -157,7 +110,7 @@ table_right q id old new rows some col col' differ scratch known =
     let before = live (named old id) in
     let was = option_map (row_with id) (live_before c.before) in
     let now = row_after c in
-    let is : rows ≡ R = from_scratch_is q some old col rows scratch in
+    let is : rows ≡ R = scratch ∙ fresh_is q old col in
     let all : AllByRecursion (Carries q) rows =
     subst (AllByRecursion (Carries q)) (sym is) (result_carry q old col) in
     let at_before = key_carries q old col id (live_before c.before) (was_live before) in
@@ -186,6 +139,5 @@ table_right q id old new rows some col col' differ scratch known =
         to_insert = λ h. there_mapped (row_with id) c.after ∙ there.to_insert h;
       };
       from_scratch =
-          is_from_scratch q new col' some (spec.after action q c rows)
-          (after_agrees q c at_after action rows all ∙ p'.gives known);
+          after_agrees q c at_after action rows all ∙ p'.gives known ∙ sym (fresh_is q new col');
     }

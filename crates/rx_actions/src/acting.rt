@@ -1,7 +1,9 @@
-ghost use Rattle.std.specs.Prelude.{◌≡◌, ◌≢◌, ◌<◌, ◌≤◌, true, Some, length, IsSome, IfOk, OnOk, OnErr};
+ghost use Rattle.std.specs.Prelude.{◌≡◌, ◌≢◌, ◌<◌, ◌≤◌, true, Some, length, remove, IsSome, IfOk, OnOk, OnErr};
 ghost use Rattle.std.specs.Option.{ForSome};
 ghost use Rattle.rx_query.specs.After.{row_after, after, inserts, AreThere};
 ghost use Rattle.rx_query.specs.Asked.{asked};
+ghost use Rattle.rx_query.specs.Lists.{placed};
+ghost use Rattle.rx_query.specs.States.{precedes};
 ghost use Rattle.rx_table.specs.declared.action.Action.TheVariants.{RunFullQueryAgain};
 ghost use Rattle.rx_actions.specs.Moves.{moved};
 
@@ -116,9 +118,27 @@ fn row_places(
         Action::InsertAtSortPosition => (sorted_place(query, &row.fields, results, len), None),
         Action::RemoveExistingAndInsertAtSortPosition => {
             let old = old_place(change, results);
-            let into = sorted_place(query, &row.fields, results, old);
-            (into, Some(if old < into { old } else { old + 1 }))
+            sorted_place_for(query, row, results, old)
         }
+        Action::InsertAtSortPositionRemoveLast => sorted_place_for(query, row, results, len - 1),
         _ => unreachable!(),
     }
+}
+
+// Where the new row goes in by the order of the others, where one row goes out for it.
+fn sorted_place_for(
+    query: &Query,
+    row: &Row,
+    results: &Results,
+    out: usize,
+) -> (usize, Option<usize>)
+    requires { out < length results.now }
+    ensures into { result.0 ≤ length results.now }
+    ensures out { ForSome result.1 (λ out. out ≤ length results.now) }
+    ensures moved { moved results.now result.0 result.1 row.now
+        ≡ placed (λ x y. precedes (asked query.now) x.fields y.fields) row.now
+        (remove results.now out) }
+{
+    let into = sorted_place(query, &row.fields, results, out);
+    (into, Some(if out < into { out } else { out + 1 }))
 }

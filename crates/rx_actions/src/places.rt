@@ -1,4 +1,4 @@
-ghost use Rattle.std.specs.Prelude.{◌≡◌, ◌<◌, ◌≤◌, true, Some, length};
+ghost use Rattle.std.specs.Prelude.{◌≡◌, ◌<◌, ◌≤◌, ◌^◌, true, Some, length};
 ghost use Rattle.std.specs.List.{list_any};
 ghost use Rattle.rx_query.specs.Asked.{asked};
 ghost use Rattle.rx_query.specs.States.{precedes, is_changed};
@@ -27,6 +27,7 @@ pub(crate) fn old_place(change: &Change, results: &Results) -> usize
 // and to put one in moves those behind it, so each is looked at.
 pub(crate) fn sorted_place(query: &Query, fields: &Fields, results: &Results, out: usize) -> usize
     ensures within { result ≤ length results.now }
+    ensures fits { length results.now < 2 ^ 64 }
     ensures first { IsFirstBut (λ row. precedes (asked query.now) fields.now row.fields) results.now
         out result }
 {

@@ -1,4 +1,4 @@
-ghost use Rattle.std.specs.Prelude.{◌≡◌};
+ghost use Rattle.std.specs.Prelude.{◌≡◌, None};
 ghost use Rattle.rx_query.specs.Asked.{asked};
 ghost use Rattle.rx_query.specs.States.{bits_of};
 ghost use Rattle.rx_query.proofs.Numbers.{number_of_in_range};
@@ -32,6 +32,8 @@ impl<'a> Facts<'a> {
 
 impl Ask for Facts<'_> {
     ghost bits = { bits_in };
+
+    ghost log = { λ _. None };
 
     #[tactic(auto, using(rx_query::proofs::Numbers::state_held))]
     fn state(&mut self, which: StateName) -> bool {

@@ -1,7 +1,7 @@
-use Rattle.std.proofs.Common.{ap}
+use Rattle.std.proofs.Common.{◌-◌, ap, ◌∙◌}
 use Rattle.rx_query.specs.After.{removes_end}
 use Rattle.rx_query.specs.Asked.{asked}
-use Rattle.rx_actions.proofs.Acted.{in_front, at_end, in_place, in_order, to_later, to_earlier}
+use Rattle.rx_actions.proofs.Acted.{in_front, at_end, in_place, in_order, placed_anew, placed_for_last}
 use Rattle.rx_actions.proofs.acting.row_places.Goals as goal
 
 -- in front, for the last row
@@ -37,20 +37,21 @@ returns-in-InsertAtSortPosition-clause-moved c =
     c.args.results.now c.sorted_place.result c.len-len.result c.len-len.ensures
     c.sorted_place.ensures.within c.sorted_place.ensures.first)
 
--- behind the old row's place
-pub returns-then-old-into-clause-moved : goal.returns-then-old-into-clause-moved
-returns-then-old-into-clause-moved c =
+-- for the old row
+pub returns-in-RemoveExistingAndInsertAtSortPosition-clause-moved :
+    goal.returns-in-RemoveExistingAndInsertAtSortPosition-clause-moved
+returns-in-RemoveExistingAndInsertAtSortPosition-clause-moved c =
     rw c.in-RemoveExistingAndInsertAtSortPosition.is
-    (to_later (asked c.args.query.now) c.args.change.now c.args.row.now c.requires.row
-    c.args.results.now c.old_place-old.result c.sorted_place-into.result
-    c.old_place-old.ensures.within c.old_place-old.ensures.first c.if-old-into.true
-    c.sorted_place-into.ensures.within c.sorted_place-into.ensures.first)
+    (c.sorted_place_for.ensures.moved
+    ∙ placed_anew (asked c.args.query.now) c.args.change.now c.args.row.now c.requires.row
+    c.args.results.now c.old_place-old.result c.old_place-old.ensures.within
+    c.old_place-old.ensures.first)
 
--- at the old row's place or before it
-pub returns-else-old-into-clause-moved : goal.returns-else-old-into-clause-moved
-returns-else-old-into-clause-moved c =
-    rw c.in-RemoveExistingAndInsertAtSortPosition.is
-    (to_earlier (asked c.args.query.now) c.args.change.now c.args.row.now c.requires.row
-    c.args.results.now c.old_place-old.result c.sorted_place-into.result
-    c.old_place-old.ensures.within c.old_place-old.ensures.first c.if-old-into.false
-    c.sorted_place-into.ensures.first)
+-- for the last row
+pub returns-in-InsertAtSortPositionRemoveLast-clause-moved :
+    goal.returns-in-InsertAtSortPositionRemoveLast-clause-moved
+returns-in-InsertAtSortPositionRemoveLast-clause-moved c =
+    rw c.in-InsertAtSortPositionRemoveLast.is
+    (c.sorted_place_for-in-InsertAtSortPositionRemoveLast.ensures.moved
+    ∙ placed_for_last (asked c.args.query.now) c.args.change.now c.args.row.now c.requires.row
+    c.args.results.now _ (ap (λ n. n - 1) c.len-len.ensures))
