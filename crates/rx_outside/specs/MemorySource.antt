@@ -1,5 +1,6 @@
 -- What a source in memory tells.
 use Rattle.std.specs.Prelude.{ℕ, List, drop}
+use Rattle.rx_outside.specs.declared.calls.Calls.{Calls}
 use Rattle.rx_outside.specs.declared.memory_source.MemorySource.{MemorySource}
 
 -- the bytes not yet given
@@ -10,13 +11,9 @@ source_left source = drop source.at source.bytes.items
 abbrev pub source_piece : MemorySource → ℕ
 source_piece source = source.piece
 
--- the numbers of the calls that fail
-abbrev pub source_fails : MemorySource → List ℕ
-source_fails source = source.calls.fails.items
-
--- how many calls were made
-abbrev pub source_calls : MemorySource → ℕ
-source_calls source = source.calls.made
+-- its numbered calls
+abbrev pub source_calls : MemorySource → Calls
+source_calls source = source.calls
 
 -- how many calls failed
 abbrev pub source_faults : MemorySource → ℕ

@@ -14,6 +14,7 @@ mod stop;
 mod tests;
 mod writing;
 
+pub use calls::Calls;
 pub use failed::Failed;
 pub use memory_sink::MemorySink;
 pub use memory_source::MemorySource;

@@ -1,7 +1,7 @@
-ghost use Rattle.std.specs.Prelude.{◌≡◌, ◌<◌, ◌≤◌, ◌++◌, [], length, take, false};
-ghost use Rattle.std.specs.Prelude.{if◌then◌else◌, IfOk, OnOk, OnErr};
-ghost use Rattle.rx_outside.specs.Calls.{is_listed};
-ghost use Rattle.rx_outside.specs.Failed.{Rises, one_more};
+ghost use Rattle.std.specs.Prelude.{◌≡◌, ◌<◌, ◌≤◌, ◌++◌, ◌⊎◌, [], length, take};
+ghost use Rattle.std.specs.Prelude.{IfOk, OnErr, MatchResult};
+ghost use Rattle.rx_outside.specs.Calls.{Answers, Fails, Starves};
+ghost use Rattle.rx_outside.specs.Failed.{Rises};
 
 use crate::calls::Calls;
 use crate::failed::Failed;
@@ -13,26 +13,21 @@ use std::alloc::Global;
 pub struct MemorySink {
     bytes: Vec<u8>,
     calls: Calls,
-    starved: u64,
 }
 
 impl MemorySink {
-    ghost use Rattle.rx_outside.specs.MemorySink.{sink_written, sink_calls, sink_fails};
-    ghost use Rattle.rx_outside.specs.MemorySink.{sink_faults, sink_starved};
+    ghost use Rattle.rx_outside.specs.MemorySink.{sink_written, sink_calls};
 
     /// Holds nothing at first. The calls whose numbers, counted from 1, stand in `fails` fail, and so
     /// do those that find no memory.
     pub fn new(alloc: Global, fails: Vec<u64>) -> MemorySink
         ensures written { sink_written result ≡ [] }
-        ensures fails { sink_fails result ≡ fails.items }
-        ensures calls { sink_calls result ≡ 0 }
-        ensures faults { sink_faults result ≡ 0 }
-        ensures starved { sink_starved result ≡ 0 }
+        ensures calls { sink_calls result
+            ≡ record { fails = fails; made = 0; failed = 0; starved = 0 } }
     {
         MemorySink {
             bytes: Vec::new(alloc),
             calls: Calls::new(fails),
-            starved: 0,
         }
     }
 
@@ -45,15 +40,14 @@ impl MemorySink {
 
     /// How many calls failed for want of memory alone.
     pub fn starved(&self) -> u64
-        ensures { result ≡ sink_starved self.now }
+        ensures { result ≡ (sink_calls self.now).starved }
     {
-        self.starved
+        self.calls.starved
     }
 }
 
 impl Sink for MemorySink {
-    ghost use Rattle.rx_outside.specs.MemorySink.{sink_written, sink_calls, sink_fails};
-    ghost use Rattle.rx_outside.specs.MemorySink.{sink_faults, sink_starved};
+    ghost use Rattle.rx_outside.specs.MemorySink.{sink_written, sink_calls, sink_faults};
 
     ghost tells = { Unit };
 
@@ -70,30 +64,20 @@ impl Sink for MemorySink {
         ensures count { sink_faults self.old ≤ sink_faults self.new }
         ensures failed { OnErr result (Rises (sink_faults self.old) (sink_faults self.new)) }
 
-        // Which calls fail, and that the others take the whole piece.
-        ensures number { sink_calls self.new ≡ one_more (sink_calls self.old) }
-        ensures unlisted { OnOk result
-            (is_listed (sink_fails self.old) (sink_calls self.new) ≡ false) }
+        // A call takes the whole piece, but where it is to fail or wants memory.
         ensures amount { IfOk result (λ n. n ≡ length piece.now) }
-
-        // The count is of the calls that failed.
-        ensures ok_count { OnOk result (sink_faults self.new ≡ sink_faults self.old) }
-        ensures err_count { OnErr result (sink_faults self.new ≡ one_more (sink_faults self.old)) }
-
-        // The count of those that wanted memory is of those whose numbers are not listed.
-        ensures ok_starved { OnOk result (sink_starved self.new ≡ sink_starved self.old) }
-        ensures err_starved { OnErr result (sink_starved self.new
-            ≡ (if is_listed (sink_fails self.old) (sink_calls self.new)
-            then sink_starved self.old
-            else one_more (sink_starved self.old))) }
-
-        // What does not change.
-        ensures same_fails { sink_fails self.new ≡ sink_fails self.old }
+        ensures counts { MatchResult result
+            (λ _. Answers (sink_calls self.old) (sink_calls self.new))
+            (λ _. Fails (sink_calls self.old) (sink_calls self.new)
+            ⊎ Starves (sink_calls self.old) (sink_calls self.new)) }
     {
-        self.calls.begin()?;
+        if self.calls.begin() {
+            self.calls.fail();
+            return Err(Failed);
+        }
         if self.bytes.extend_from_slice(piece).is_err() {
-            self.starved = self.starved.saturating_add(1);
-            return Err(self.calls.fail());
+            self.calls.starve();
+            return Err(Failed);
         }
         Ok(piece.len())
     }

@@ -1,7 +1,7 @@
-ghost use Rattle.std.specs.Prelude.{◌≡◌, ◌<◌, ◌≤◌, ◌↔◌, length, take, min, vec_len};
-ghost use Rattle.std.specs.Prelude.{IsTrue, IsErr, IfOk, OnOk, OnErr};
-ghost use Rattle.rx_outside.specs.Calls.{is_listed};
-ghost use Rattle.rx_outside.specs.Failed.{Rises, one_more};
+ghost use Rattle.std.specs.Prelude.{◌≡◌, ◌<◌, ◌≤◌, length, take, min, vec_len};
+ghost use Rattle.std.specs.Prelude.{IfOk, OnErr, MatchResult};
+ghost use Rattle.rx_outside.specs.Calls.{Answers, Fails};
+ghost use Rattle.rx_outside.specs.Failed.{Rises};
 ghost use Rattle.rx_outside.specs.Source.{Gives};
 
 use crate::calls::Calls;
@@ -20,8 +20,7 @@ pub struct MemorySource {
 }
 
 impl MemorySource {
-    ghost use Rattle.rx_outside.specs.MemorySource.{source_left, source_piece};
-    ghost use Rattle.rx_outside.specs.MemorySource.{source_calls, source_fails, source_faults};
+    ghost use Rattle.rx_outside.specs.MemorySource.{source_left, source_piece, source_calls};
 
     /// Gives these bytes, at most `piece` of them a call. The calls whose numbers, counted from 1,
     /// stand in `fails` fail.
@@ -29,9 +28,8 @@ impl MemorySource {
         requires { 0 < piece }
         ensures left { source_left result ≡ bytes.items }
         ensures piece { source_piece result ≡ piece }
-        ensures fails { source_fails result ≡ fails.items }
-        ensures calls { source_calls result ≡ 0 }
-        ensures faults { source_faults result ≡ 0 }
+        ensures calls { source_calls result
+            ≡ record { fails = fails; made = 0; failed = 0; starved = 0 } }
     {
         MemorySource {
             bytes,
@@ -57,8 +55,7 @@ impl MemorySource {
 }
 
 impl Source for MemorySource {
-    ghost use Rattle.rx_outside.specs.MemorySource.{source_left, source_piece};
-    ghost use Rattle.rx_outside.specs.MemorySource.{source_calls, source_fails, source_faults};
+    ghost use Rattle.rx_outside.specs.MemorySource.{source_left, source_piece, source_calls, source_faults};
 
     ghost tells = { Unit };
 
@@ -74,22 +71,18 @@ impl Source for MemorySource {
         ensures count { source_faults self.old ≤ source_faults self.new }
         ensures failed { OnErr result (Rises (source_faults self.old) (source_faults self.new)) }
 
-        // Which calls fail, and how many bytes the others give.
-        ensures number { source_calls self.new ≡ one_more (source_calls self.old) }
-        ensures listed { IsErr result
-            ↔ IsTrue (is_listed (source_fails self.old) (source_calls self.new)) }
+        // How many bytes a call gives, and that one fails where it is to fail alone.
         ensures amount { IfOk result (λ n. n ≡ min (source_piece self.old)
             (min (length into.new) (length (source_left self.old)))) }
-
-        // The count is of the calls that failed.
-        ensures ok_count { OnOk result (source_faults self.new ≡ source_faults self.old) }
-        ensures err_count { OnErr result (source_faults self.new ≡ one_more (source_faults self.old)) }
-
-        // What does not change.
+        ensures counts { MatchResult result
+            (λ _. Answers (source_calls self.old) (source_calls self.new))
+            (λ _. Fails (source_calls self.old) (source_calls self.new)) }
         ensures same_piece { source_piece self.new ≡ source_piece self.old }
-        ensures same_fails { source_fails self.new ≡ source_fails self.old }
     {
-        self.calls.begin()?;
+        if self.calls.begin() {
+            self.calls.fail();
+            return Err(Failed);
+        }
         let count = copy_front(self.bytes(), into, self.piece);
         self.at += count;
         Ok(count)
