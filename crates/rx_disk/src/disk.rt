@@ -1,6 +1,7 @@
 // A file as a journal sees it: what a read gives, and what a crash may leave.
 ghost use Rattle.std.specs.Prelude.{◌≡◌, ◌≤◌, List, ℕ, length, IfOk, OnOk};
-ghost use Rattle.rx_disk.specs.Disk.{Only, Follows, Torn, Holds, Gives, Elapses, HasCause};
+ghost use Rattle.rx_disk.specs.Bytes.{overwritten};
+ghost use Rattle.rx_disk.specs.Disk.{Only, Follows, Torn, Gives, Elapses, HasCause};
 
 use thiserror::Error;
 
@@ -49,7 +50,7 @@ pub trait Disk {
     fn write_at(&mut self, at: u64, bytes: &[u8]) -> Result<(), Failed>
         requires { tells → at ≤ length (content self.old) }
         ensures written { tells → OnOk result
-            (Holds (content self.old) at bytes.now (content self.new)) }
+            (content self.new ≡ overwritten (content self.old) at bytes.now) }
         ensures crash { tells → Follows (Torn at (length bytes.now))
             (image self.old) (image self.new) }
         ensures time { tells → Elapses (moment self.old) (moment self.new)

@@ -1,6 +1,6 @@
 // A disk that is a file of the system. It tells nothing of its content.
 ghost use Rattle.std.specs.Prelude.{◌≡◌, ◌≤◌, [], List, length, IfOk};
-ghost use Rattle.rx_disk.specs.Disk.{Rose};
+ghost use Rattle.rx_outside.specs.Failed.{Rises};
 
 use crate::{Disk, Failed};
 use rx_value::RxText;
@@ -33,7 +33,7 @@ impl<R: Files<File = File> + Drop> FileDisk<R> {
     }
 
     fn fail(&mut self) -> Failed
-        ensures rose { Rose self.old.failed self.new.failed }
+        ensures rises { Rises self.old.failed self.new.failed }
         ensures later { self.old.failed ≤ self.new.failed }
     {
         self.failed = self.failed.saturating_add(1);

@@ -8,7 +8,6 @@
 #![tactic(auto)]
 
 mod bytes;
-mod calls;
 mod disk;
 mod entry;
 mod file_disk;

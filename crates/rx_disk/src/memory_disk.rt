@@ -1,15 +1,16 @@
 // A disk in memory. It keeps what it held at first and each write and sync since, so that it can
 // tell what a stop within any of its calls leaves.
 ghost use Rattle.std.specs.Prelude.{◌≡◌, ◌≤◌, ◌⊎◌, [], List, ℕ, length, IfOk, OnOk, OnErr, MatchResult};
-ghost use Rattle.rx_disk.specs.Calls.{Answers, Fails, Starves};
-ghost use Rattle.rx_disk.specs.Disk.{Only, Follows, Torn, Holds, Gives, Elapses, HasCause};
+ghost use Rattle.rx_disk.specs.Bytes.{overwritten};
+ghost use Rattle.rx_disk.specs.Disk.{Only, Follows, Torn, Gives, Elapses, HasCause};
 ghost use Rattle.rx_disk.specs.History.{log_of, found_within, LogsWrite, LogsTear, LogsSync, reads_as_of, counts_now_of, only_now_of};
 ghost use Rattle.rx_disk.specs.Stop.{stop_bytes};
 ghost use Rattle.rx_disk.specs.MemoryDisk.{history_of, calls_of, content_of, IsLeft, IsLeftSince, time_of};
+ghost use Rattle.rx_outside.specs.Calls.{Answers, Fails, Starves, WantsMemory};
 
-use crate::calls::Calls;
 use crate::history::History;
 use crate::{Disk, Failed};
+use rx_outside::Calls;
 use std::alloc::{AllocError, Global};
 
 /// A disk in memory, whose calls are numbered from 1 and fail where their number is listed.
@@ -96,7 +97,8 @@ impl Disk for MemoryDisk {
         ensures history { history_of self.new ≡ history_of self.old }
     {
         if self.calls.begin() {
-            return Err(self.calls.fail());
+            self.calls.fail();
+            return Err(Failed);
         }
         let bytes = self.history.bytes();
         if bytes.len() as u64 <= at {
@@ -116,33 +118,39 @@ impl Disk for MemoryDisk {
     fn write_at(&mut self, at: u64, bytes: &[u8]) -> Result<(), Failed>
         requires { Unit → at ≤ length (content_of self.old) }
         ensures written { Unit → OnOk result
-            (Holds (content_of self.old) at bytes.now (content_of self.new)) }
+            (content_of self.new ≡ overwritten (content_of self.old) at bytes.now) }
         ensures crash { Unit → Follows (Torn at (length bytes.now))
             (IsLeft self.old) (IsLeft self.new) }
         ensures time { Unit → Elapses (time_of self.old) (time_of self.new)
             (IsLeftSince self.old) (IsLeftSince self.new) (IsLeft self.new) }
         ensures cause { HasCause (calls_of self.old).failed (calls_of self.new).failed result }
 
-        // A write that fails writes nothing, but a crash may then leave anything in its range.
-        ensures counts { MatchResult result
-            (λ _. Answers (calls_of self.old) (calls_of self.new))
-            (λ _. Fails (calls_of self.old) (calls_of self.new)
-            ⊎ Starves (calls_of self.old) (calls_of self.new)) }
-        ensures kept { OnErr result (content_of self.new ≡ content_of self.old) }
+        // A write that fails writes nothing. One that is to fail tears its range: a crash may leave
+        // anything there. One that wants memory, if only to note that, leaves all as it was.
         ensures log { MatchResult result
-            (λ _. LogsWrite (history_of self.old) (history_of self.new)
+            (λ _. Answers (calls_of self.old) (calls_of self.new)
+            × LogsWrite (history_of self.old) (history_of self.new)
             (calls_of self.new).made at bytes.now)
-            (λ _. (log_of (history_of self.new) ≡ log_of (history_of self.old))
-            ⊎ LogsTear (history_of self.old) (history_of self.new)
-            (calls_of self.new).made at (length bytes.now)) }
+            (λ _. (Fails (calls_of self.old) (calls_of self.new)
+            × LogsTear (history_of self.old) (history_of self.new)
+            (calls_of self.new).made at (length bytes.now))
+            ⊎ (WantsMemory (calls_of self.old) (calls_of self.new)
+            × (log_of (history_of self.new) ≡ log_of (history_of self.old)))) }
+        ensures kept { OnErr result (content_of self.new ≡ content_of self.old) }
     {
         if self.calls.begin() {
-            let _ = self.history.tear(self.calls.made, at as usize, bytes.len());
-            return Err(self.calls.fail());
+            match self.history.tear(self.calls.made, at as usize, bytes.len()) {
+                Ok(()) => self.calls.fail(),
+                Err(_) => self.calls.starve(),
+            }
+            return Err(Failed);
         }
         match self.history.write(self.calls.made, at as usize, bytes) {
             Ok(()) => Ok(()),
-            Err(_) => Err(self.calls.starve()),
+            Err(_) => {
+                self.calls.starve();
+                Err(Failed)
+            }
         }
     }
 
@@ -164,11 +172,15 @@ impl Disk for MemoryDisk {
             (λ _. log_of (history_of self.new) ≡ log_of (history_of self.old)) }
     {
         if self.calls.begin() {
-            return Err(self.calls.fail());
+            self.calls.fail();
+            return Err(Failed);
         }
         match self.history.sync(self.calls.made) {
             Ok(()) => Ok(()),
-            Err(_) => Err(self.calls.starve()),
+            Err(_) => {
+                self.calls.starve();
+                Err(Failed)
+            }
         }
     }
 }
