@@ -1,7 +1,8 @@
 -- The exits of an append: before a write, within the first, within the second, and at its end.
-use Rattle.std.proofs.Common.{◌≡◌, inr, ℕ, ◌+◌, ◌-◌, ◌<◌, ◌≤◌, ◌^◌, List, [], ◌∷◌, ◌++◌, length, get_or, drop, subst, arith}
+use Rattle.std.proofs.Common.{◌≡◌, inr, ℕ, ◌+◌, ◌-◌, ◌<◌, ◌≤◌, ◌^◌, List, [], ◌∷◌, ◌++◌, length, get_or, drop, ◌∙◌, ap, subst, arith}
 use Rattle.rx_disk.specs.declared.disk.Disk.{Ghosts}
-use Rattle.rx_disk.specs.Disk.{Holds, Torn, Only}
+use Rattle.rx_disk.specs.Bytes.{overwritten}
+use Rattle.rx_disk.specs.Disk.{Torn, Only}
 use Rattle.rx_disk.specs.Moments.{LeavesOnly}
 use Rattle.rx_disk.proofs.Moments.{weaker, joined}
 use Rattle.rx_frame.specs.File.{front, end_of}
@@ -55,7 +56,7 @@ module _
         module _
             (is : bytes ≡ record_bytes body)
             (within : grown_end journal body ≤ journal.limit)
-            (written : Holds (d.content d0) journal.end bytes (d.content d1))
+            (written : d.content d1 ≡ overwritten (d.content d0) journal.end bytes)
             (d2 : D)
             (second : LeavesOnly d d1 d2 (Torn (journal.end - 1) 1 (d.content d1)))
           where
@@ -74,10 +75,9 @@ module _
                 let w = ready.whole in
                 let before = d.content d0 in
                 let after = d.content d1 in
-                let of_record : Holds before journal.end (record_bytes body) after =
-                subst (λ (l : List ℕ). Holds before journal.end l after) is written in
-                let here : Holds before (length head + 1) (record_bytes body) after =
-                subst (λ (k : ℕ). Holds before k (record_bytes body) after) ready.ends of_record in
+                let here : after ≡ overwritten before (length head + 1) (record_bytes body) =
+                written ∙ ap (λ (l : List ℕ). overwritten before journal.end l) is
+                ∙ ap (λ (k : ℕ). overwritten before k (record_bytes body)) ready.ends in
                 written_behind head w.gate w.rest before w.split (record_bytes body) after here
 
             place : journal.end - 1 ≡ length head
@@ -96,11 +96,11 @@ module _
             within_second = joined d d0 d1 d2 _ _ _ first second behind opened
 
             pub added : (next : Journal) → next.end ≡ grown_end journal body
-                → Holds (d.content d1) (journal.end - 1) (1 ∷ []) (d.content d2)
+                → d.content d2 ≡ overwritten (d.content d1) (journal.end - 1) (1 ∷ [])
                 → Only (d.content d2) (d.image d2) → IsReady d d2 next (bodies ++ body ∷ [])
             added next ends gate durable =
-                let here : Holds (d.content d1) (length head) (1 ∷ []) (d.content d2) =
-                subst (λ (k : ℕ). Holds (d.content d1) k (1 ∷ []) (d.content d2)) place gate in
+                let here : d.content d2 ≡ overwritten (d.content d1) (length head) (1 ∷ []) =
+                gate ∙ ap (λ (k : ℕ). overwritten (d.content d1) k (1 ∷ [])) place in
                 let w = ready.whole in
                 let is_open = written_gate head w.gate (record_bytes body ++ tail) (d.content d1)
                 staged (d.content d2) here in

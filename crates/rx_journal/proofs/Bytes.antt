@@ -2,7 +2,8 @@
 use Rattle.std.proofs.Common.{◌≡◌, inl, inr, ℕ, ◌+◌, ◌<◌, ◌^◌, List, [], ◌∷◌, ◌++◌, length, get_or, take, drop, refl, sym, ◌∙◌, ap, arith, append_assoc, length-append, take-append-drop}
 use Rattle.std.proofs.lemmas.List.{take_at, drop_at, drop_more}
 use Rattle.std.proofs.lemmas.Bool.{cases_eq}
-use Rattle.rx_disk.specs.Disk.{Holds, Torn}
+use Rattle.rx_disk.specs.Bytes.{overwritten}
+use Rattle.rx_disk.specs.Disk.{Torn}
 use Rattle.rx_frame.specs.File.{header, size_bytes, records, AllFit, front, end_of, IsWhole}
 use Rattle.rx_frame.proofs.Records.{records-push, all_fit-push}
 use Rattle.rx_journal.specs.Growing.{StandsForFront}
@@ -45,7 +46,7 @@ module _ (head : List ℕ) (gate : ℕ) (rest file : List ℕ) (split : file ≡
       ∙ ap (λ (l : List ℕ). l ++ drop (length head + 1) c) (torn.before ∙ front_shut)
       ∙ append_assoc head (gate ∷ []) (drop (length head + 1) c)
 
-  pub written_behind : (bytes c : List ℕ) → Holds file (length head + 1) bytes c
+  pub written_behind : (bytes c : List ℕ) → c ≡ overwritten file (length head + 1) bytes
       → c ≡ head ++ gate ∷ (bytes ++ drop (length head + 1 + length bytes) file)
   written_behind bytes c holds =
       let tail = drop (length head + 1 + length bytes) file in
@@ -64,7 +65,7 @@ module _ (head : List ℕ) (gate : ℕ) (rest file : List ℕ) (split : file ≡
       ∙ ap (λ (l : List ℕ). l ++ drop (length head) c) (torn.before ∙ head_is)
       ∙ ap (λ (l : List ℕ). head ++ l) behind
 
-  pub written_gate : (c : List ℕ) → Holds file (length head) (1 ∷ []) c → c ≡ head ++ 1 ∷ rest
+  pub written_gate : (c : List ℕ) → c ≡ overwritten file (length head) (1 ∷ []) → c ≡ head ++ 1 ∷ rest
   written_gate c holds =
       holds ∙ ap (λ (l : List ℕ). l ++ (1 ∷ []) ++ drop (length head + 1) file) head_is
       ∙ ap (λ (l : List ℕ). head ++ (1 ∷ []) ++ l) back_shut

@@ -1,11 +1,13 @@
 -- What an opening finds and makes.
-use Rattle.std.proofs.Common.{◌≡◌, inl, inr, ℕ, ◌<◌, ◌≤◌, ◌^◌, List, [], ◌++◌, length, refl, sym, ◌∙◌, ap, subst, arith, append-nil, length-take}
+use Rattle.std.proofs.Common.{◌≡◌, inl, inr, ℕ, ◌<◌, ◌≤◌, ◌^◌, List, [], ◌∷◌, ◌++◌, length, refl, sym, ◌∙◌, ap, subst, arith, append-nil, length-append, length-take}
 use Rattle.std.proofs.lemmas.List.{drop_all}
 use Rattle.rx_disk.specs.declared.disk.Disk.{Ghosts}
-use Rattle.rx_disk.specs.Disk.{Holds, Only}
-use Rattle.rx_frame.specs.File.{end_of, IsWhole, no_records}
+use Rattle.rx_disk.specs.Bytes.{overwritten}
+use Rattle.rx_disk.specs.Disk.{Only}
+use Rattle.rx_frame.specs.File.{header, front, end_of, IsWhole, no_records}
+use Rattle.rx_frame.proofs.Records.{short_none}
 use Rattle.rx_journal.specs.Image.{image_bytes}
-use Rattle.rx_journal.specs.Opening.{IsJournal, Shows, Opens}
+use Rattle.rx_journal.specs.Opening.{IsBare, IsJournal, Shows, Opens}
 use Rattle.rx_journal.specs.Reading.{IsRead}
 use Rattle.rx_journal.specs.declared.image.Image.{Image}
 use Rattle.rx_journal.specs.declared.journal.Journal.{Journal}
@@ -16,6 +18,35 @@ no_records_whole : (file : List ℕ) → file ≡ no_records → IsWhole file []
 no_records_whole file is =
     record { gate = 0; rest = []; closed = λ e. absurd (omega arith); fit = tt; split = is }
 
+-- a header and a closed gate are no more than that
+no_records_bare : (bytes : List ℕ) → bytes ≡ no_records → IsBare bytes
+no_records_bare bytes is = (0, λ e. absurd (omega arith), is)
+
+-- a whole file of at most 9 bytes is no more than that
+short_bare : (bytes : List ℕ) (bodies : List (List ℕ)) → length bytes ≤ 9 → IsWhole bytes bodies
+    → IsBare bytes
+short_bare bytes bodies short whole =
+    let none : bodies ≡ [] = short_none bytes bodies short whole in
+    let split : bytes ≡ header ++ whole.gate ∷ whole.rest =
+    whole.split ∙ ap (λ (bs : List (List ℕ)). front bs ++ whole.gate ∷ whole.rest) none in
+    let size : length whole.rest ≡ 0 =
+    omega (arith, short, ap length split, length-append header (whole.gate ∷ whole.rest)) in
+    (
+      whole.gate,
+      whole.closed,
+      split ∙ ap (λ (l : List ℕ). header ++ whole.gate ∷ l) (length-zero whole.rest size),
+    )
+  where
+    length-zero : (l : List ℕ) → length l ≡ 0 → l ≡ []
+    length-zero [] is = refl
+    length-zero (b ∷ l) is = absurd (omega arith)
+
+-- what was read of a file is no longer than it
+read_short : (content bytes : List ℕ) → IsRead content bytes → length content ≤ 9
+    → length bytes ≤ 9
+read_short content bytes read brief =
+    omega (arith, brief, ap length read.front, length-take (length bytes) content)
+
 -- bytes read that have an end show the file's bodies
 pub shows_found : (content : List ℕ) (image : Image) (bodies : List (List ℕ))
     → IsRead content (image_bytes image) → IsWhole (image_bytes image) bodies
@@ -25,6 +56,7 @@ shows_found content image bodies read whole short = record {
   stood = inr (wider content (image_bytes image) bodies read.front whole);
   short = short;
   whole = whole;
+  bare = λ brief. short_bare (image_bytes image) bodies (read_short content _ read brief) whole;
 }
 
 -- a file of at most 9 bytes shows none
@@ -35,6 +67,7 @@ shows_none content image short is = record {
   stood = inl (short, refl);
   short = omega arith;
   whole = no_records_whole (image_bytes image) is;
+  bare = λ _. no_records_bare (image_bytes image) is;
 }
 
 -- a longer file in whose bytes no end was found is no journal
@@ -59,6 +92,8 @@ module _ {D : Type 0} (d : Ghosts D) (old new : D) (journal : Journal) (image : 
           stood = inr stands;
           short = omega (arith, ends, journal.short);
           whole = whole;
+          bare = λ brief. short_bare (image_bytes image) bodies
+              (read_short (d.content old) _ read brief) whole;
         };
         ready = record {
           whole = subst (λ (l : List ℕ). IsWhole l bodies) (sym same) stands;
@@ -79,6 +114,7 @@ module _ {D : Type 0} (d : Ghosts D) (old new : D) (journal : Journal) (image : 
       stood = inl (short, refl);
       short = omega arith;
       whole = no_records_whole (image_bytes image) is;
+      bare = λ _. no_records_bare (image_bytes image) is;
     };
     ready = record {
       whole = no_records_whole (d.content new) made;
@@ -98,7 +134,7 @@ no_header content bytes read short none whole =
     omega (arith, beyond)
 
 -- a write of a header and a closed gate over a short file
-pub header_written : (old new : List ℕ) → length old ≤ 9 → Holds old 0 no_records new
+pub header_written : (old new : List ℕ) → length old ≤ 9 → new ≡ overwritten old 0 no_records
     → new ≡ no_records
 header_written old new short holds =
     holds ∙ ap (λ (l : List ℕ). no_records ++ l) (drop_all 9 old short) ∙ append-nil no_records

@@ -1,8 +1,9 @@
 // A closed gate stands behind the last record. The next one is written behind it and synced, and
 // then its gate is opened by a write of its own.
 ghost use Rattle.std.specs.Prelude.{◌≡◌, ◌<◌, ◌≤◌, ◌^◌, ℕ, List, [], ◌∷◌, ◌++◌, length, IfOk, IsErrOf};
-ghost use Rattle.rx_disk.specs.Disk.{HasCause, Rose};
+ghost use Rattle.rx_disk.specs.Disk.{HasCause};
 ghost use Rattle.rx_journal.specs.declared.journal.AppendFault.TheVariants.{Full, Memory};
+ghost use Rattle.rx_outside.specs.Failed.{Rises};
 
 use crate::durable::write_durably;
 use rx_disk::{Disk, Failed};
@@ -98,7 +99,7 @@ impl Journal {
         ensures memory_untouched { IsErrOf result AppendFault.Memory → disk.new ≡ disk.old }
 
         ensures disk_only { IsErrOf result AppendFault.Disk
-            → Rose (D.faults disk.old) (D.faults disk.new) }
+            → Rises (D.faults disk.old) (D.faults disk.new) }
         ensures faults { D.faults disk.old ≤ D.faults disk.new }
     {
         let would = self.end + 5 + body.len() as u64;

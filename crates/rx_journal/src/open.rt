@@ -1,8 +1,9 @@
 // Opening reads the whole file, and makes one that isn't begun.
-ghost use Rattle.std.specs.Prelude.{◌≡◌, ◌≤◌, ◌<◌, ◌^◌, ℕ, List, IfOk, IsErrOf};
-ghost use Rattle.rx_disk.specs.Disk.{Rose};
+ghost use Rattle.std.specs.Prelude.{◌≡◌, ◌≤◌, ◌<◌, ◌^◌, ℕ, List, length, IfOk, IsErrOf};
 ghost use Rattle.rx_disk.specs.Moments.{LeavesOnly};
+ghost use Rattle.rx_frame.specs.File.{shortest};
 ghost use Rattle.rx_journal.specs.declared.open.OpenFault.TheVariants.{Memory};
+ghost use Rattle.rx_outside.specs.Failed.{Rises};
 
 use crate::durable::write_durably;
 use crate::reading::{end_in, read_all};
@@ -71,14 +72,16 @@ impl Journal {
         // At each moment of the call no image is worse than those from before.
         ensures moments { D.tells → LeavesOnly D.Disk disk.old disk.new (IsNoWorse D.Disk disk.old) }
 
-        // `NotJournal` and `Memory` leave the file as it was.
+        // A refusal leaves the disk as it was, but for `Disk` over a file of at most 9 bytes.
         ensures not_journal_kept { D.tells → IsErrOf result OpenFault.NotJournal
-            → D.content disk.new ≡ D.content disk.old }
+            → IsUntouched D.Disk disk.old disk.new }
         ensures memory_kept { D.tells → IsErrOf result OpenFault.Memory
-            → D.content disk.new ≡ D.content disk.old }
+            → IsUntouched D.Disk disk.old disk.new }
+        ensures disk_kept { D.tells → IsErrOf result OpenFault.Disk
+            → shortest < length (D.content disk.old) → IsUntouched D.Disk disk.old disk.new }
 
         ensures disk_only { IsErrOf result OpenFault.Disk
-            → Rose (D.faults disk.old) (D.faults disk.new) }
+            → Rises (D.faults disk.old) (D.faults disk.new) }
         ensures faults { D.faults disk.old ≤ D.faults disk.new }
     {
         disk.sync()?;
@@ -102,7 +105,7 @@ impl Journal {
             → IsJournal (D.content disk.old) → ⊥ }
         ensures untouched { D.tells → IsUntouched D.Disk disk.old disk.new }
         ensures disk_only { IsErrOf result OpenFault.Disk
-            → Rose (D.faults disk.old) (D.faults disk.new) }
+            → Rises (D.faults disk.old) (D.faults disk.new) }
         ensures faults { D.faults disk.old ≤ D.faults disk.new }
     {
         let bytes = read_all(alloc, disk)?;

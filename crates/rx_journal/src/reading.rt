@@ -1,8 +1,8 @@
 // Reads a file from its start, and finds where its records end.
 ghost use Rattle.std.specs.Prelude.{◌≡◌, ◌<◌, ◌≤◌, ◌+◌, ◌^◌, ℕ, List, length, vec_len, IfOk, IfSome, IfNone, IsErrOf};
-ghost use Rattle.rx_disk.specs.Disk.{Rose};
 ghost use Rattle.rx_frame.specs.File.{IsWhole, end_of};
 ghost use Rattle.rx_journal.specs.Reading.{IsRead, IsReading, IsUntouched};
+ghost use Rattle.rx_outside.specs.Failed.{Rises};
 
 use crate::journal::LONGEST;
 use crate::open::OpenFault;
@@ -31,7 +31,7 @@ fn read_window<D: Disk>(
     ensures end { D.tells → IfOk result (λ count. count ≡ 0 → 0 < length window.old
         → length (D.content disk.old) ≤ vec_len bytes.old) }
     ensures disk_only { IsErrOf result OpenFault.Disk
-        → Rose (D.faults disk.old) (D.faults disk.new) }
+        → Rises (D.faults disk.old) (D.faults disk.new) }
     ensures not_journal { IsErrOf result OpenFault.NotJournal → ⊥ }
     ensures faults { D.faults disk.old ≤ D.faults disk.new }
 {
@@ -45,7 +45,7 @@ pub fn read_all<D: Disk>(alloc: Global, disk: &mut D) -> Result<Vec<u8>, OpenFau
     ensures bytes { D.tells → IfOk result (λ bytes. IsRead (D.content disk.old) bytes.items) }
     ensures untouched { D.tells → IsUntouched D.Disk disk.old disk.new }
     ensures disk_only { IsErrOf result OpenFault.Disk
-        → Rose (D.faults disk.old) (D.faults disk.new) }
+        → Rises (D.faults disk.old) (D.faults disk.new) }
     ensures not_journal { IsErrOf result OpenFault.NotJournal → ⊥ }
     ensures faults { D.faults disk.old ≤ D.faults disk.new }
 {

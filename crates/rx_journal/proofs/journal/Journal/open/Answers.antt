@@ -1,5 +1,5 @@
 use Rattle.std.proofs.Common.{◌≡◌, ℕ, ◌<◌, ◌≤◌, List, length, refl, sym, ◌∙◌, ap, subst, arith}
-use Rattle.rx_disk.specs.Disk.{Holds}
+use Rattle.rx_disk.specs.Bytes.{overwritten}
 use Rattle.rx_frame.specs.File.{IsWhole, no_records}
 use Rattle.rx_journal.specs.Reading.{IsRead}
 use Rattle.rx_journal.proofs.Opened.{not_journal, opens_found, opens_made, no_header, header_written}
@@ -46,7 +46,7 @@ returns-clause-opened g c = λ told.
     (λ bs whole. c.in_default.ensures.none bs
     (subst (λ (l : List ℕ). IsWhole l bs) (sym c.deref.ensures.value) whole)) in
     let untouched = c.read_all.ensures.untouched told in
-    let holds = subst (λ (l : List ℕ). Holds l 0 no_records (d.content c.write_durably.new.disk))
+    let holds = subst (λ (l : List ℕ). d.content c.write_durably.new.disk ≡ overwritten l 0 no_records)
     (untouched.same ∙ synced) (c.in_ok-write_durably.ensures.written told) in
     opens_made d c.args.disk.now c.write_durably.new.disk _ _ short_content none
     c.in_ok-made.ensures.items refl (header_written content _ short_content holds)
