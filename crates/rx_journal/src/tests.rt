@@ -35,6 +35,7 @@ fn an_append_makes_four_calls_and_these_bytes(rt: HostRuntime) -> Result<(), Fai
     let mut disk = appended(alloc, Vec::from_slice(alloc, &[next])?)?;
     assert_eq!(rt; disk.bytes(), FILE.as_slice());
     assert!(rt; disk.sync().is_err());
+    assert_eq!(rt; disk.starved(), 0);
     let left = disk.stopped(next, &[255; 40])?;
     assert_eq!(rt; left.as_slice(), FILE.as_slice());
     Ok(())

@@ -14,5 +14,6 @@ fn carries_bytes_over(rt: HostRuntime) -> Result<(), Fail> {
         write_all(&mut sink, &piece[..read.unwrap_or(0)])?;
         assert!(rt; sink.bytes() == &[1, 2, 3][..held]);
     }
+    assert_eq!(rt; (source.starved(), sink.starved()), (0, 0));
     Ok(())
 }
