@@ -8,7 +8,7 @@ use Rattle.std.specs.List.Sorted.{IsStrictlySortedBy}
 use Rattle.std.specs.Ordering.{ordering_reverse}
 use Rattle.serde_json.specs.Data.{Data, Members, no_members}
 use Rattle.rx_table.specs.declared.action.Action.{Action}
-use Rattle.rx_observe.specs.declared.counts.Counts.{Counts}
+use Rattle.rx_table.specs.declared.counts.Counts.{Counts}
 use Rattle.rx_reply.specs.Explain.{named_actions, named, count_of, count_data, counted_members}
 use Rattle.rx_reply.specs.Writing.{optional_member, with_data}
 

@@ -10,8 +10,8 @@ use Rattle.rx_schema.specs.declared.fault.SchemaFault.TheVariants as schema
 use Rattle.rx_selector.specs.declared.fault.SelectorFault.TheVariants as selector
 use Rattle.rx_query.specs.declared.fault.QueryFault.TheVariants as query
 use Rattle.rx_script.specs.declared.fault.LineFault.TheVariants as line
-use Rattle.rx_table.specs.declared.action.Action.TheVariants.{InsertFirst, InsertAtSortPosition, RunFullQueryAgain}
-use Rattle.rx_observe.specs.Counts.{no_counts, counted}
+use Rattle.rx_table.specs.declared.action.Action.TheVariants.{InsertFirst, InsertAtSortPositionRemoveLast, RunFullQueryAgain}
+use Rattle.rx_table.specs.Counts.{no_counts, counted}
 use Rattle.rx_reply.specs.Answer.{collection, insert, bulk, get, find, count, unobserve, explain, tick, restart, refused}
 use Rattle.rx_reply.specs.Emission.{emission_line}
 use Rattle.rx_reply.specs.Explain.{named_actions}
@@ -72,21 +72,21 @@ no_more_observed : answer_line 8 unobserve ≡ ended (codes "{\"line\":8,\"ok\":
 unfolding serde_json_on_literals digits
 no_more_observed = refl
 
-inserted_first : answer_line 5 (explain (counted InsertFirst no_counts))
-    ≡ ended (codes "{\"actions\":{\"insertFirst\":1},\"changes\":1,\"full\":0,\"line\":5,\"ok\":\"explain\"}")
+inserted_first : answer_line 5 (explain (counted InsertFirst 6 no_counts))
+    ≡ ended (codes "{\"actions\":{\"insertFirst\":1},\"asked\":6,\"changes\":1,\"full\":0,\"line\":5,\"ok\":\"explain\"}")
 unfolding serde_json_on_literals digits named_actions
 inserted_first = refl
 
 counted_by_name : answer_line 11
-    (explain (counted InsertFirst (counted RunFullQueryAgain (counted InsertAtSortPosition
-    (counted InsertFirst no_counts)))))
-    ≡ ended (codes "{\"actions\":{\"insertAtSortPosition\":1,\"insertFirst\":2,\"runFullQueryAgain\":1},"
-    ++ codes "\"changes\":4,\"full\":1,\"line\":11,\"ok\":\"explain\"}")
+    (explain (counted InsertFirst 5 (counted RunFullQueryAgain 4 (counted InsertAtSortPositionRemoveLast 13
+    (counted InsertFirst 6 no_counts)))))
+    ≡ ended (codes "{\"actions\":{\"insertAtSortPositionRemoveLast\":1,\"insertFirst\":2,\"runFullQueryAgain\":1},"
+    ++ codes "\"asked\":28,\"changes\":4,\"full\":1,\"line\":11,\"ok\":\"explain\"}")
 unfolding serde_json_on_literals digits named_actions
 counted_by_name = refl
 
 nothing_counted : answer_line 9 (explain no_counts)
-    ≡ ended (codes "{\"actions\":{},\"changes\":0,\"full\":0,\"line\":9,\"ok\":\"explain\"}")
+    ≡ ended (codes "{\"actions\":{},\"asked\":0,\"changes\":0,\"full\":0,\"line\":9,\"ok\":\"explain\"}")
 unfolding serde_json_on_literals digits named_actions
 nothing_counted = refl
 

@@ -7,7 +7,7 @@ use Rattle.rx_table.specs.declared.action.Action.{Action}
 use Rattle.rx_value.specs.Fields.{Pairs}
 use Rattle.rx_value.specs.Writing.{fields_data}
 use Rattle.rx_value.proofs.Written.{no_float}
-use Rattle.rx_observe.specs.declared.counts.Counts.{Counts}
+use Rattle.rx_table.specs.declared.counts.Counts.{Counts}
 use Rattle.rx_reply.specs.Answer.{Answer, collection, insert, upsert, patch, remove, bulk, get, find, count, observe, unobserve, explain, tick, restart, refused}
 use Rattle.rx_reply.specs.Emission.{emission_data}
 use Rattle.rx_reply.specs.Explain.{named_actions, count_of, counted_members}

@@ -3,7 +3,7 @@ use Rattle.std.specs.Prelude.{ℕ, List, map, Bool}
 use Rattle.std.specs.Borrow.{Bor}
 use Rattle.rx_value.specs.Fields.{Pairs}
 use Rattle.rx_document.specs.declared.stored.Stored.{Stored}
-use Rattle.rx_observe.specs.declared.counts.Counts.{Counts}
+use Rattle.rx_table.specs.declared.counts.Counts.{Counts}
 use Rattle.rx_reply.specs.declared.refusal.Refusal.{Refusal}
 use Rattle.rx_reply.specs.declared.reply.Reply.{Reply}
 use Rattle.rx_reply.specs.declared.reply.Reply.TheVariants.{Collection, Insert, Upsert, Patch, Remove, Bulk, Get, Find, Count, Observe, Unobserve, Explain, Tick, Restart, Refused}
@@ -33,19 +33,19 @@ abbrev pub rows_of : List (Bor Stored) → List Pairs
 rows_of = map (λ d. d.now.state.fields)
 
 -- the answer of a reply, which lends documents and counts
-abbrev pub said : Reply → Answer
-said (Collection new) = collection new
-said (Insert rev) = insert rev
-said (Upsert rev) = upsert rev
-said (Patch rev) = patch rev
-said (Remove rev) = remove rev
-said (Bulk revs) = bulk revs.items
-said (Get doc) = get doc.now
-said (Find rows) = find (rows_of rows.items)
-said (Count n) = count n
-said Observe = observe
-said Unobserve = unobserve
-said (Explain counts) = explain counts.now
-said Tick = tick
-said (Restart epoch) = restart epoch
-said (Refused refusal) = refused refusal
+abbrev pub answer_of : Reply → Answer
+answer_of (Collection new) = collection new
+answer_of (Insert rev) = insert rev
+answer_of (Upsert rev) = upsert rev
+answer_of (Patch rev) = patch rev
+answer_of (Remove rev) = remove rev
+answer_of (Bulk revs) = bulk revs.items
+answer_of (Get doc) = get doc.now
+answer_of (Find rows) = find (rows_of rows.items)
+answer_of (Count n) = count n
+answer_of Observe = observe
+answer_of Unobserve = unobserve
+answer_of (Explain counts) = explain counts.now
+answer_of Tick = tick
+answer_of (Restart epoch) = restart epoch
+answer_of (Refused refusal) = refused refusal

@@ -18,9 +18,10 @@ use Rattle.rx_table.specs.declared.action.Action.TheVariants.{
   InsertAtSortPosition,
   RemoveExistingAndInsertAtSortPosition,
   RunFullQueryAgain,
+  InsertAtSortPositionRemoveLast,
 }
-use Rattle.rx_observe.specs.declared.counts.Counts.{Counts}
-use Rattle.rx_observe.specs.Counts.{place_of}
+use Rattle.rx_table.specs.declared.counts.Counts.{Counts}
+use Rattle.rx_table.specs.Counts.{place_of}
 use Rattle.rx_reply.specs.Writing.{number_data, optional_member}
 
 -- what each action is called, in the order of the names
@@ -28,6 +29,7 @@ unfoldable pub named_actions : List (List ℕ × Action)
 named_actions =
     (codes "doNothing", DoNothing)
     ∷ (codes "insertAtSortPosition", InsertAtSortPosition)
+    ∷ (codes "insertAtSortPositionRemoveLast", InsertAtSortPositionRemoveLast)
     ∷ (codes "insertFirst", InsertFirst)
     ∷ (codes "insertLast", InsertLast)
     ∷ (codes "removeExisting", RemoveExisting)
@@ -68,7 +70,8 @@ actions_data counts = object (counted_members counts named_actions)
 abbrev pub explain_data : ℕ → Counts → Data
 explain_data line counts = object
     (member (codes "actions") (actions_data counts)
+    (member (codes "asked") (number_data counts.asked)
     (member (codes "changes") (number_data counts.changes)
     (member (codes "full") (number_data counts.full)
     (member (codes "line") (number_data line)
-    (member (codes "ok") (string (codes "explain")) no_members)))))
+    (member (codes "ok") (string (codes "explain")) no_members))))))

@@ -7,15 +7,18 @@ ghost use Rattle.rx_reply.specs.Explain.{named, count_of, count_data, counted_me
 ghost use Rattle.rx_reply.specs.Writing.{with_data};
 
 use crate::writing::put;
-use rx_observe::Counts;
-use rx_table::Action;
+use rx_table::{Action, Counts};
 use serde_json::{Map, Value as Json, json};
 use std::alloc::{AllocError, Global};
 
 // What each action is called, in the order of the names.
-const NAMES: [(&str, Action); 14] = [
+const NAMES: [(&str, Action); 15] = [
     ("doNothing", Action::DoNothing),
     ("insertAtSortPosition", Action::InsertAtSortPosition),
+    (
+        "insertAtSortPositionRemoveLast",
+        Action::InsertAtSortPositionRemoveLast,
+    ),
     ("insertFirst", Action::InsertFirst),
     ("insertLast", Action::InsertLast),
     ("removeExisting", Action::RemoveExisting),
@@ -39,6 +42,7 @@ pub(crate) fn explain_json(alloc: Global, number: u64, counts: &Counts) -> Resul
     let actions = actions_json(alloc, counts)?;
     json!(in alloc; {
         "actions": actions,
+        "asked": counts.asked,
         "changes": counts.changes,
         "full": counts.full,
         "line": number,

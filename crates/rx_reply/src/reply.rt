@@ -2,14 +2,14 @@ ghost use Rattle.std.specs.Prelude.{◌≡◌, IfOk, string_bytes};
 ghost use Rattle.serde_json.specs.Data.{no_members};
 ghost use Rattle.serde_json.specs.View.{view};
 ghost use Rattle.rx_reply.specs.Answer as answer;
-ghost use Rattle.rx_reply.specs.Answer.{said, rows_of};
+ghost use Rattle.rx_reply.specs.Answer.{answer_of, rows_of};
 ghost use Rattle.rx_reply.specs.Reply.{line_object, ok_members, written_data, answer_data, answer_line, is_refusal};
 
 use crate::explain::explain_json;
 use crate::refusal::Refusal;
 use crate::writing::{output_line, rows_json, texts_json};
 use rx_document::Stored;
-use rx_observe::Counts;
+use rx_table::Counts;
 use rx_value::{RxText, fields_json};
 use serde_json::{Value as Json, json};
 use std::alloc::{AllocError, Global};
@@ -41,21 +41,21 @@ pub enum Reply<'a> {
 
 impl Reply<'_> {
     pub fn is_refusal(&self) -> bool
-        ensures { result ≡ is_refusal (said self.now) }
+        ensures { result ≡ is_refusal (answer_of self.now) }
     {
         matches!(self, Reply::Refused(_))
     }
 
     /// The line of output that answers the line of that number.
     pub fn line(&self, alloc: Global, number: u64) -> Result<String, AllocError>
-        ensures { IfOk result (λ t. string_bytes t ≡ answer_line number (said self.now)) }
+        ensures { IfOk result (λ t. string_bytes t ≡ answer_line number (answer_of self.now)) }
     {
         let json = self.json(alloc, number)?;
         output_line(alloc, &json)
     }
 
     fn json(&self, alloc: Global, number: u64) -> Result<Json, AllocError>
-        ensures { IfOk result (λ j. view j ≡ answer_data number (said self.now)) }
+        ensures { IfOk result (λ j. view j ≡ answer_data number (answer_of self.now)) }
     {
         match self {
             Reply::Collection { new } => collection_json(alloc, number, *new),
