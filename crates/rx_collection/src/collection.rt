@@ -19,6 +19,7 @@ pub const MOST_LWT: u64 = 9_007_199_254_740_991;
 /// A finite map from keys to documents, tombstones too.
 #[derive(Drop)]
 pub struct Collection {
+    alloc: Global,
     name: RxText,
     schema: Schema,
     pub(crate) stored: BTreeMap<String, Stored>,
@@ -44,6 +45,7 @@ impl Collection {
         ensures { result ≡ held_with name schema [] }
     {
         Collection {
+            alloc,
             name,
             schema,
             stored: BTreeMap::new(alloc),
@@ -103,15 +105,15 @@ impl Collection {
     }
 
     /// Writes a row in the place of its key's document.
-    pub fn put(&mut self, alloc: Global, row: Stored) -> Result<(), AllocError>
+    pub fn put(&mut self, row: Stored) -> Result<(), AllocError>
         requires { IsNext self.old row }
         ensures ok { OnOk result (self.new ≡ with_row self.old row) }
         ensures err { OnErr result (self.new ≡ self.old) }
     {
-        let key = String::from_str(alloc, row.state.key.as_str())?;
+        let key = String::from_str(self.alloc, row.state.key.as_str())?;
         let place = Place {
             lwt: row.lwt,
-            id: row.state.key.copy(alloc)?,
+            id: row.state.key.copy(self.alloc)?,
         };
         self.places.insert(place, ())?;
         match self.stored.insert(key, row) {

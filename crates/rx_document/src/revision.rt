@@ -17,6 +17,6 @@ impl Revision {
         ensures { IfOk result (λ t. t ≡ revision_text self.now) }
     {
         let text = format!(in alloc; "{}-{}", self.height, self.token.as_str())?;
-        RxText::from_string(alloc, text)
+        Ok(RxText::from_string(alloc, text)?)
     }
 }

@@ -23,7 +23,7 @@ pub(crate) fn canonical_text(alloc: Global, shape: &Shape) -> Result<RxText, All
     ensures reads_back { IfOk result (λ t. read t ≡ Some (schema_data shape.now)) }
 {
     let json = schema_json(alloc, shape)?;
-    RxText::from_string(alloc, json.to_string(alloc)?)
+    Ok(RxText::from_string(alloc, json.to_string(alloc)?)?)
 }
 
 // The SHA-256 of a text in lower-case hex.
@@ -31,7 +31,7 @@ pub(crate) fn hash_text(alloc: Global, text: &str) -> Result<RxText, AllocError>
     ensures { IfOk result (λ t. t ≡ encode_lower (sha256 text.now)) }
 {
     let digest: [u8; 32] = Sha256::digest(text.as_bytes());
-    RxText::from_string(alloc, hex::encode(alloc, digest)?)
+    Ok(RxText::from_string(alloc, hex::encode(alloc, digest)?)?)
 }
 
 // The kind of each property.
