@@ -95,7 +95,8 @@ impl Collection {
     /// The next write time: `now`, but above all before it. There is none after `MOST_LWT`, and a
     /// greater `now` counts as `MOST_LWT`.
     pub fn stamp(&self, now: u64) -> Option<u64>
-        ensures { result ≡ stamp self.now.documents now }
+        ensures value { result ≡ stamp self.now.documents now }
+        ensures lawful { IsLawful self.now }
     {
         let last = self.last_lwt();
         if last == MOST_LWT {

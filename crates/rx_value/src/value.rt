@@ -3,7 +3,7 @@ ghost use Rattle.std.specs.Cmp.{partial_equiv_from_equiv};
 ghost use Rattle.rx_value.specs.Equal.{value_eq};
 ghost use Rattle.rx_value.specs.Equality.{equivalence, value_eq-Decides};
 ghost use Rattle.rx_value.specs.Order.{order_of, value_cmp, OrderIsTotal, TiesAreEqual};
-ghost use Rattle.rx_value.specs.Value.{is_number};
+ghost use Rattle.rx_value.specs.Value.{is_number, is_text, text_of};
 
 use crate::rx_text::RxText;
 use std::alloc::{AllocError, Global};
@@ -59,6 +59,26 @@ pub fn is_number(n: i128) -> bool
     ensures { result ≡ is_number n }
 {
     -(LARGEST as i128) <= n && n <= LARGEST as i128
+}
+
+/// Whether there is that text.
+pub fn is_text(value: Option<&Value>, text: &str) -> bool
+    ensures { result ≡ is_text text.now (option_map (λ v. v.now) value.entry) }
+{
+    match value {
+        Some(Value::Text(held)) => held.as_str() == text,
+        _ => false,
+    }
+}
+
+/// The text that there is.
+pub fn text_of<'a>(value: Option<&'a Value>) -> Option<&'a RxText>
+    ensures { option_map (λ t. t.now) result ≡ text_of (option_map (λ v. v.now) value.entry) }
+{
+    match value {
+        Some(Value::Text(held)) => Some(held),
+        _ => None,
+    }
 }
 
 /// The order of values: missing, then flags with false before true, then numbers, then texts by
