@@ -1,0 +1,4 @@
+pub mod Asked
+pub mod Building
+pub mod Laws
+pub mod Nodes
