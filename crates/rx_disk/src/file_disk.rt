@@ -9,13 +9,22 @@ use std::io;
 use std::os::unix::fs::FileExt;
 use std::path::Path;
 
-/// Opens its file at the first use. A file that doesn't exist reads as empty, and is made at the
-/// first write.
+/// Opens its file at the first use. A file that isn't there then reads as empty, and is made at the
+/// first write; where another process has made it by then, the disk failed. From its first sync or
+/// write on it has the file's lock, and where another process has that, the disk failed. A disk
+/// that is only read takes no lock.
 #[derive(Drop)]
 pub struct FileDisk<R: Files<File = File> + Drop> {
     rt: R,
     path: RxText,
     file: Option<File>,
+    /// Whether the file was looked for and wasn't there.
+    missing: bool,
+    /// Whether the file is for this disk alone, from when it is there on.
+    locks: bool,
+    locked: bool,
+    /// Whether the file's name was made safe.
+    named: bool,
     failed: u64,
 }
 
@@ -28,6 +37,10 @@ impl<R: Files<File = File> + Drop> FileDisk<R> {
             rt,
             path,
             file: None,
+            missing: false,
+            locks: false,
+            locked: false,
+            named: false,
             failed: 0,
         }
     }
@@ -40,32 +53,43 @@ impl<R: Files<File = File> + Drop> FileDisk<R> {
         Failed
     }
 
-    // Opens the file, and makes one that is to be written.
-    fn open(&mut self, writes: bool) -> io::Result<()>
+    // Opens the file, if there is one.
+    fn open(&mut self) -> io::Result<()>
         ensures { self.new.failed ≡ self.old.failed }
     {
-        if self.file.is_some() {
-            return Ok(());
+        if self.file.is_none() && !self.missing {
+            self.file = open_if_there(&self.rt, self.path.as_str())?;
+            self.missing = self.file.is_none();
         }
-        let path = self.path.as_str();
-        let opened = OpenOptions::new()
-            .read(true)
-            .write(true)
-            .open(&self.rt, path);
-        match opened {
-            Ok(file) => self.file = Some(file),
-            Err(e) if e.kind() != io::ErrorKind::NotFound => return Err(e),
-            Err(_) if writes => self.file = Some(make(&self.rt, path)?),
-            Err(_) => {}
+        self.lock()
+    }
+
+    // Waits for nobody: another process that has the lock may write at any time.
+    fn lock(&mut self) -> io::Result<()>
+        ensures { self.new.failed ≡ self.old.failed }
+    {
+        match &self.file {
+            Some(file) if self.locks && !self.locked => file.try_lock()?,
+            _ => return Ok(()),
         }
+        self.locked = true;
         Ok(())
+    }
+
+    fn make(&mut self) -> io::Result<()>
+        ensures { self.new.failed ≡ self.old.failed }
+    {
+        if self.file.is_none() {
+            self.file = Some(File::create_new(&self.rt, self.path.as_str())?);
+        }
+        self.lock()
     }
 
     fn try_read(&mut self, at: u64, into: &mut [u8]) -> io::Result<usize>
         ensures same { self.new.failed ≡ self.old.failed }
         ensures within { IfOk result (λ n. n ≤ length into.old) }
     {
-        self.open(false)?;
+        self.open()?;
         match &self.file {
             None => Ok(0),
             Some(file) => read_at(file, at, into),
@@ -75,33 +99,49 @@ impl<R: Files<File = File> + Drop> FileDisk<R> {
     fn try_write(&mut self, at: u64, bytes: &[u8]) -> io::Result<()>
         ensures { self.new.failed ≡ self.old.failed }
     {
-        self.open(true)?;
+        self.locks = true;
+        self.open()?;
+        self.make()?;
         match &self.file {
             None => Err(io::ErrorKind::NotFound.into()),
             Some(file) => file.write_all_at(bytes, at),
         }
     }
 
+    // The folder is synced once, since a sync of the file doesn't keep its name. Another run that
+    // made the file may have been stopped before it came to this.
     fn try_sync(&mut self) -> io::Result<()>
         ensures { self.new.failed ≡ self.old.failed }
     {
-        self.open(false)?;
-        match &self.file {
-            None => Ok(()),
-            Some(file) => file.sync_data(),
+        self.locks = true;
+        self.open()?;
+        let Some(file) = &self.file else {
+            return Ok(());
+        };
+        file.sync_data()?;
+        if !self.named {
+            sync_folder(&self.rt, self.path.as_str())?;
+            self.named = true;
         }
+        Ok(())
     }
 }
 
-// Makes a file, and syncs the folder, since a sync of the file alone doesn't keep its name.
-fn make<R: Files<File = File>>(rt: &R, path: &str) -> io::Result<File> {
-    let file = File::create_new(rt, path)?;
+fn open_if_there<R: Files<File = File>>(rt: &R, path: &str) -> io::Result<Option<File>> {
+    match OpenOptions::new().read(true).write(true).open(rt, path) {
+        Ok(file) => Ok(Some(file)),
+        Err(e) if e.kind() == io::ErrorKind::NotFound => Ok(None),
+        Err(e) => Err(e),
+    }
+}
+
+// Syncs the folder in which a file stands.
+fn sync_folder<R: Files<File = File>>(rt: &R, path: &str) -> io::Result<()> {
     let folder = match Path::new(path).parent() {
         Some(folder) if folder.as_str() != "" => folder,
         _ => Path::new("."),
     };
-    File::open(rt, folder)?.sync_all()?;
-    Ok(file)
+    File::open(rt, folder)?.sync_all()
 }
 
 // Reads until the piece is full or the file ends.
