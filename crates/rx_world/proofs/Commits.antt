@@ -1,6 +1,5 @@
 -- The record of a commit is legal, and its rows are in order.
-use Rattle.std.proofs.Common.{◌≡◌, ℕ, suc, ◌<◌, true, false, List, [], ◌∷◌, map, length, Some, None, is_none, Less, Equal, Greater, option_map, Result, Ok, Err, IfOk, refl, sym, ap, ◌∙◌, subst, arith, lt-ltb, le-leb, eq-eqb}
-use Rattle.std.proofs.lemmas.Slice.Eq.{bytes_eq-Decides}
+use Rattle.std.proofs.Common.{◌≡◌, ℕ, suc, ◌<◌, true, false, List, [], ◌∷◌, map, length, Some, None, Less, Equal, Greater, option_map, Result, Ok, Err, IfOk, refl, sym, ap, ◌∙◌, subst, arith, lt-ltb, le-leb, eq-eqb}
 use Rattle.std.specs.Cmp.Derive.{both_true}
 use Rattle.std.specs.List.{AllByRecursion, list_all}
 use Rattle.std.specs.List.Sorted.{IsStrictlySortedBy}
@@ -24,8 +23,8 @@ use Rattle.rx_record.specs.Shown.{content}
 use Rattle.rx_record.specs.Writable.{IsOrdered}
 use Rattle.rx_record.specs.declared.record.Record.{Record}
 use Rattle.rx_record.specs.declared.record.RowOut.{RowOut}
-use Rattle.rx_world.specs.Commit.{IsValidState, out_of, commit_to}
-use Rattle.rx_world.specs.Step.{is_text, is_valid_state, is_due, takes, legal, stored_rows}
+use Rattle.rx_world.specs.Commit.{out_of, commit_to}
+use Rattle.rx_world.specs.Step.{IsValidState, is_due, takes, legal}
 use Rattle.rx_world.specs.World.{World}
 use Rattle.rx_world.specs.declared.fault.StepFault.{StepFault}
 
@@ -70,18 +69,12 @@ module _ (c : Held) (lwt : ℕ) where
   keys-outs [] all = refl
   keys-outs (e ∷ es) all = rw all.0.0 (ap (λ ks. e.0 ∷ ks) (keys-outs es all.1))
 
-  -- a valid state is so by the test
-  tested : (s : Shape) (state : State) → IsValidState s state → is_valid_state s state ≡ true
-  tested s state is =
-      both_true (ap is_none is.valid)
-      (ap (is_text state.key) is.carried ∙ (bytes_eq-Decides state.key state.key).1 refl)
-
   due-outs : (es : List (List ℕ × State)) → AllStand c.schema es
       → list_all (is_due c) (outs es) ≡ true
   due-outs [] all = refl
   due-outs (e ∷ es) all =
       let next = next_height (named c.documents e.1.key) in
-      both_true (both_true (tested c.schema e.1 all.0.1) (eq-eqb next next refl))
+      both_true (both_true all.0.1 (eq-eqb next next refl))
       (due-outs es all.1)
 
 -- a collection takes the rows of valid states at a later time
@@ -106,63 +99,17 @@ rows_rise c states lwt valid =
 
 -- ---- the record
 
--- legal on the world, and in order
-pub record IsFit (w : World) (entry : Content) : Type 0 where
-  pub legal : legal entry w ≡ true
+-- legal on each world that holds the collection, and in order
+pub record IsFit (c : Held) (entry : Content) : Type 0 where
+  pub legal : (w : World) → named w.collections c.name ≡ Some c → legal entry w ≡ true
   pub ordered : IsOrdered entry
 
-fit_at : (w : World) (name : List ℕ) (c : Held) (states : List State) (lwt : ℕ)
-    → named w.collections name ≡ Some c → IsLater (last_lwt c.documents) lwt → 0 < length states
-    → AllByRecursion (IsValidState c.schema) states
-    → IsFit w (rows name lwt (map out_of (rows_of c states lwt)))
-fit_at w name c states lwt held later some valid = record {
-  legal =
+pub fit_at : (c : Held) (states : List State) (lwt : ℕ) → IsLater (last_lwt c.documents) lwt
+    → 0 < length states → AllByRecursion (IsValidState c.schema) states
+    → IsFit c (rows c.name lwt (map out_of (rows_of c states lwt)))
+fit_at c states lwt later some valid = record {
+  legal = λ w held.
       ap (λ o. option_map_or (takes lwt (map out_of (rows_of c states lwt))) o false) held
       ∙ takes_rows c states lwt later some valid;
   ordered = rows_rise c states lwt valid;
 }
-
--- the record of a commit fits
-pub commit_fits : (w : World) (name : List ℕ) (c : Held) (states : List State) (now : ℕ) (entry : Content)
-    → named w.collections name ≡ Some c → IsLawful c → 0 < length states
-    → AllByRecursion (IsValidState c.schema) states
-    → commit_to name states now c ≡ Some entry → IsFit w entry
-commit_fits w name c states now entry held lawful some valid at =
-    let made : ℕ → Content = λ lwt. rows name lwt (map out_of (rows_of c states lwt)) in
-    elim (stamp c.documents now) as (λ o. stamp c.documents now ≡ o
-    → option_map made o ≡ Some entry → IsFit w entry) [
-      | None ↦ (λ is at. absurd (cc))
-      | Some lwt ↦ (λ is at.
-          let same : made lwt ≡ entry = cc in
-          subst (IsFit w) same
-          (fit_at w name c states lwt held (stamped c now lwt lawful is) some valid))
-    ] refl at
-
--- the same of what `commit` answers
-pub all_fit : (w : World) (name : List ℕ) (c : Held) (states : List State) (now : ℕ)
-    (r : Result Record StepFault) → named w.collections name ≡ Some c → IsLawful c
-    → 0 < length states → AllByRecursion (IsValidState c.schema) states
-    → IfOk r (λ entry. commit_to name states now c ≡ Some (content entry))
-    → IfOk r (λ entry. IsFit w (content entry))
-all_fit w name c states now (Ok entry) held lawful some valid at =
-    commit_fits w name c states now (content entry) held lawful some valid at
-all_fit w name c states now (Err e) held lawful some valid at = tt
-
-pub all_legal : (w : World) (r : Result Record StepFault) → IfOk r (λ entry. IsFit w (content entry))
-    → IfOk r (λ entry. legal (content entry) w ≡ true)
-all_legal w (Ok entry) fit = fit.legal
-all_legal w (Err e) fit = tt
-
-pub all_ordered : (w : World) (r : Result Record StepFault)
-    → IfOk r (λ entry. IsFit w (content entry)) → IfOk r (λ entry. IsOrdered (content entry))
-all_ordered w (Ok entry) fit = fit.ordered
-all_ordered w (Err e) fit = tt
-
--- the rows of the record are those of the commit
-pub stored_back : (c : Held) (states : List State) (lwt : ℕ)
-    → stored_rows c.name lwt (map out_of (rows_of c states lwt)) ≡ rows_of c states lwt
-stored_back c states lwt = back (values_of (by_key states)) where
-  back : (ss : List State)
-      → stored_rows c.name lwt (map out_of (map (row_of c lwt) ss)) ≡ map (row_of c lwt) ss
-  back [] = refl
-  back (s ∷ ss) = ap (λ rows. row_of c lwt s ∷ rows) (back ss)

@@ -1,8 +1,10 @@
 pub mod Entries
 pub mod Looked
+pub mod States
 pub mod Turns
 pub mod Commits
 pub mod Steps
 pub mod Valid
 pub mod Replays
 pub mod Alike
+pub mod Holding

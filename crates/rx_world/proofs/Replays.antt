@@ -5,7 +5,6 @@ use Rattle.rx_record.specs.declared.at.At.{At}
 use Rattle.rx_world.specs.Replay.{played, replay_from, replay}
 use Rattle.rx_world.specs.Step.{step, stepped, legal}
 use Rattle.rx_world.specs.World.{World, empty}
-use Rattle.rx_world.proofs.Steps.{epoch_step}
 
 -- from no world there is none
 pub replay_from-none : (bodies : List (List ℕ)) → replay_from None bodies ≡ None
@@ -69,57 +68,3 @@ replay-front xs ys w at =
       | None ↦ (λ is from. let none = replay_from-none ys in absurd (cc))
       | Some v ↦ (λ is from. (v, is))
     ] refl (sym (replay-append xs ys) ∙ at)
-
--- the world after a body that was played: the body is a legal record
-pub record IsPlayed (r : Result Content At) (w v : World) : Type 0 where
-  pub entry : Content
-  pub read : r ≡ Ok entry
-  pub legal : legal entry w ≡ true
-  pub step : v ≡ step entry w
-
-pub was_played : (r : Result Content At) (w v : World) → played r w ≡ Some v → IsPlayed r w v
-was_played (Err place) w v at = absurd (cc)
-was_played (Ok c) w v at =
-    elim (legal c w) as (λ b. legal c w ≡ b → cond b (Some (step c w)) None ≡ Some v
-    → IsPlayed (Ok c) w v) [
-      | true ↦ (λ is at.
-          let same : step c w ≡ v = cc in
-          record { entry = c; read = refl; legal = is; step = sym same })
-      | false ↦ (λ is at. absurd (cc))
-    ] refl at
-
--- what a played body keeps, bodies keep
-pub replay_from-keeps : (P : World → Type 0)
-    → ((w v : World) (body : List ℕ) → P w → played (record_of body) w ≡ Some v → P v)
-    → (bodies : List (List ℕ)) (w v : World) → P w → replay_from (Some w) bodies ≡ Some v → P v
-unfolding replay_from
-replay_from-keeps P keeps [] w v here at =
-    let same : w ≡ v = cc in subst P same here
-replay_from-keeps P keeps (body ∷ bodies) w v here at =
-    elim (played (record_of body) w) as (λ o. played (record_of body) w ≡ o
-    → replay_from o bodies ≡ Some v → P v) [
-      | None ↦ (λ is at. absurd (cc))
-      | Some u ↦ (λ is at. replay_from-keeps P keeps bodies u v (keeps w u body here is) at)
-    ] refl at
-
--- each body raises the epoch by one at most
-replay_from-epoch : (bodies : List (List ℕ)) (w v : World)
-    → replay_from (Some w) bodies ≡ Some v → v.epoch ≤ w.epoch + length bodies
-unfolding replay_from
-replay_from-epoch [] w v at =
-    let same : w ≡ v = cc in subst (λ u. u.epoch ≤ w.epoch + 0) same (omega arith)
-replay_from-epoch (body ∷ bodies) w v at =
-    elim (played (record_of body) w) as (λ o. played (record_of body) w ≡ o
-    → replay_from o bodies ≡ Some v → v.epoch ≤ w.epoch + length (body ∷ bodies)) [
-      | None ↦ (λ is at. absurd (cc))
-      | Some u ↦ (λ is at.
-          let p = was_played (record_of body) w u is in
-          let first : u.epoch ≤ w.epoch + 1 =
-          subst (λ x. x.epoch ≤ w.epoch + 1) (sym p.step) (epoch_step p.entry w p.legal) in
-          let rest = replay_from-epoch bodies u v at in omega arith)
-    ] refl at
-
--- so the epoch is no greater than the number of bodies
-pub replay-epoch : (bodies : List (List ℕ)) (w : World) → replay bodies ≡ Some w
-    → w.epoch ≤ length bodies
-replay-epoch bodies w at = let bound = replay_from-epoch bodies empty w at in omega arith

@@ -1,20 +1,15 @@
 -- Rows that are legal may be written, one after another.
 use Rattle.std.proofs.Common.{◌≡◌, ℕ, ◌<◌, ◌≤◌, ◌&&◌, Bool, true, false, cond, List, [], ◌∷◌, map, length, Option, Some, None, is_none, ◌==◌, nat_lt, nat_le, Less, Equal, refl, sym, ap, ◌∙◌, subst, arith, true≢false, ltb-true, leb-true, eqb-true}
 use Rattle.std.proofs.lemmas.Bool.{and_parts}
-use Rattle.std.proofs.lemmas.Slice.Eq.{bytes_eq-Decides}
 use Rattle.std.specs.Cmp.{nat_cmp_is}
 use Rattle.std.specs.List.{AllByRecursion, list_all}
 use Rattle.std.specs.List.Sorted.{IsStrictlySortedBy}
 use Rattle.std.specs.Ordering.{ordering_then}
 use Rattle.rx_value.specs.Named.{named}
 use Rattle.rx_value.specs.Order.{text_cmp}
-use Rattle.rx_value.specs.declared.state.State.{State}
-use Rattle.rx_value.specs.declared.value.Value.{Value}
-use Rattle.rx_value.specs.declared.value.Value.TheVariants.{Flag, Int, Text}
 use Rattle.rx_value.proofs.Named.{named-put_in_order}
 use Rattle.rx_document.specs.Place.{place_cmp}
 use Rattle.rx_document.specs.declared.stored.Stored.{Stored}
-use Rattle.rx_schema.specs.Validity.{first_fault}
 use Rattle.rx_schema.specs.declared.shape.Shape.{Shape}
 use Rattle.rx_collection.specs.Commit.{AreNext, AllBelow, Carries, next_height, with_row, with_rows}
 use Rattle.rx_collection.specs.Held.{Held, held_with}
@@ -24,28 +19,11 @@ use Rattle.rx_collection.specs.Time.{last_lwt, most_lwt}
 use Rattle.rx_collection.proofs.Commits.{all_below}
 use Rattle.rx_collection.proofs.Lawful.{lawful_put, rising_none}
 use Rattle.rx_collection.proofs.Named.{above_other, all_put}
-use Rattle.rx_record.specs.Content.{rows}
 use Rattle.rx_record.specs.Rows.{key_of}
 use Rattle.rx_record.specs.declared.record.RowOut.{RowOut}
 use Rattle.rx_world.specs.Holders.{IsWhole}
-use Rattle.rx_world.specs.Step.{is_text, is_valid_state, is_due, takes, stored_of, stored_rows, written_to, AreNextIn}
-use Rattle.rx_world.specs.World.{World}
-
--- ---- a state
-
--- a text that is there
-pub text_there : (key : List ℕ) (o : Option Value) → is_text key o ≡ true → o ≡ Some (Text key)
-text_there key (Some (Text t)) is = ap (λ s. Some (Text s)) ((bytes_eq-Decides t key).0 is)
-text_there key (Some (Flag b)) is = absurd (true≢false (sym is))
-text_there key (Some (Int n)) is = absurd (true≢false (sym is))
-text_there key None is = absurd (true≢false (sym is))
-
--- a valid state carries its key
-pub carries : (s : Shape) (state : State) → is_valid_state s state ≡ true → Carries s.primary state
-carries s state is =
-    text_there state.key (named state.fields s.primary)
-    (and_parts (is_none (first_fault s state.fields))
-    (is_text state.key (named state.fields s.primary)) is).1
+use Rattle.rx_world.specs.Step.{is_valid_state, is_due, takes, stored_of, stored_rows, written_to}
+use Rattle.rx_world.proofs.States.{state_carries}
 
 -- ---- rows
 
@@ -142,7 +120,7 @@ all_ready c lwt (r ∷ rs) lawful later due =
       record {
         below = all_below c lwt r.state.key lawful later;
         height = eqb-true r.height next here.1;
-        carried = carries c.schema r.state here.0;
+        carried = state_carries c.schema r.state here.0;
       },
       all_ready c lwt rs lawful later both.1,
     )
@@ -157,25 +135,12 @@ taken_are_next c lwt written lawful is up =
     turns c.name c lwt written (omega arith) t.in_range up
     (all_ready c lwt written lawful later t.due)
 
--- so they are next in a world that holds the collection
-pub next_in : (w : World) (c : Held) (name : List ℕ) (lwt : ℕ) (written : List RowOut)
-    → named w.collections name ≡ Some c → IsLawful c → takes lwt written c ≡ true
-    → IsStrictlySortedBy text_cmp (map key_of written) → AreNextIn (rows name lwt written) w
-next_in w c name lwt written held lawful is up = λ d at.
-    let same : c ≡ d = cc in
-    subst (λ x. AreNext x (stored_rows x.name lwt written)) same
-    (taken_are_next c lwt written lawful is up)
-
 -- ---- what rows leave
 
--- rows leave the name and the schema
+-- rows leave the name
 pub with_rows-name : (c : Held) (more : List Stored) → (with_rows c more).name ≡ c.name
 with_rows-name c [] = refl
 with_rows-name c (row ∷ more) = with_rows-name (with_row c row) more
-
-pub with_rows-schema : (c : Held) (more : List Stored) → (with_rows c more).schema ≡ c.schema
-with_rows-schema c [] = refl
-with_rows-schema c (row ∷ more) = with_rows-schema (with_row c row) more
 
 -- a new collection is lawful
 pub lawful_new : (name : List ℕ) (s : Shape) → IsLawful (held_with name s [])

@@ -13,11 +13,13 @@ use Rattle.rx_collection.proofs.Named.{at_name, all_put}
 use Rattle.rx_record.specs.Content.{Content, collection, rows, epoch}
 use Rattle.rx_record.specs.declared.record.RowOut.{RowOut}
 use Rattle.rx_world.specs.Schema.{schema_in}
-use Rattle.rx_world.specs.Step.{is_text, is_valid_state, is_due, takes, legal, step, with_new, stored_of, stored_rows, written_to}
+use Rattle.rx_world.specs.Step.{is_valid_state, is_due, takes, legal, step, collections_after, stored_of, stored_rows, written_to}
+use Rattle.rx_world.specs.Touch.{new_where}
 use Rattle.rx_world.specs.Valid.{AreValid, AllValid, AreDistinct}
 use Rattle.rx_world.specs.World.{World, empty}
 use Rattle.rx_world.proofs.Looked.{all_put_named, all_change_named, distinct_put_named}
-use Rattle.rx_world.proofs.Steps.{nothing, rows_go, rows_names}
+use Rattle.rx_world.proofs.States.{state_valid}
+use Rattle.rx_world.proofs.Steps.{rows_go, rows_names}
 use Rattle.rx_world.proofs.Turns.{takes_parts}
 
 -- ---- a collection
@@ -31,12 +33,10 @@ due_valid : (c : Held) (written : List RowOut) → list_all (is_due c) written �
     → RowsAreValid c.schema written
 due_valid c [] due = tt
 due_valid c (r ∷ rs) due =
-    let fault = first_fault c.schema r.state.fields in
-    let text = is_text r.state.key (named r.state.fields c.schema.primary) in
     let next = next_height (named c.documents r.state.key) in
     let both = and_parts (is_due c r) (list_all (is_due c) rs) due in
     let here = and_parts (is_valid_state c.schema r.state) (r.height == next) both.0 in
-    (nothing fault (and_parts (is_none fault) text here.0).0, due_valid c rs both.1)
+    (state_valid c.schema r.state here.0, due_valid c rs both.1)
 
 -- valid rows leave valid documents
 valid_rows : (c : Held) (name : List ℕ) (lwt : ℕ) (written : List RowOut) → AreValid c
@@ -56,10 +56,6 @@ valid_taken lwt written c is valid =
 
 -- ---- a world
 
--- there is nothing in the empty world
-pub valid_empty : AllValid empty
-valid_empty = tt
-
 -- a collection of a valid world is valid
 pub valid_at : (w : World) (name : List ℕ) (c : Held) → AllValid w
     → named w.collections name ≡ Some c → AreValid c
@@ -76,7 +72,7 @@ pub valid_step : (entry : Content) (w : World) → legal entry w ≡ true → Al
     → AllValid (step entry w)
 valid_step (collection name schema) w is valid =
     elim (schema_in schema) as (λ o. AllByRecursion (λ e. AreValid e.1)
-    (with_new name o w.collections)) [
+    (collections_after (new_where name o) w.collections)) [
       | None ↦ valid
       | Some s ↦ all_put_named (λ k x. AreValid x) w.collections name (held_with name s []) tt valid
     ]
@@ -98,7 +94,7 @@ distinct_empty = tt
 -- a record leaves names that come once
 pub distinct_step : (entry : Content) (w : World) → AreDistinct w → AreDistinct (step entry w)
 distinct_step (collection name schema) w distinct =
-    elim (schema_in schema) as (λ o. IsDistinct bytes_eq (keys_of (with_new name o w.collections))) [
+    elim (schema_in schema) as (λ o. IsDistinct bytes_eq (keys_of (collections_after (new_where name o) w.collections))) [
       | None ↦ distinct
       | Some s ↦ distinct_put_named w.collections name (held_with name s []) distinct
     ]

@@ -1,21 +1,14 @@
 -- The record of a commit.
-use Rattle.std.specs.Prelude.{◌≡◌, ℕ, List, map, Option, None, option_map, option_and_then}
+use Rattle.std.specs.Prelude.{ℕ, List, map, Option, option_map, option_and_then}
 use Rattle.rx_value.specs.Named.{named}
 use Rattle.rx_value.specs.declared.state.State.{State}
-use Rattle.rx_schema.specs.Validity.{first_fault}
-use Rattle.rx_schema.specs.declared.shape.Shape.{Shape}
 use Rattle.rx_document.specs.declared.stored.Stored.{Stored}
-use Rattle.rx_collection.specs.Commit.{Carries, rows_of}
+use Rattle.rx_collection.specs.Commit.{rows_of}
 use Rattle.rx_collection.specs.Held.{Held}
 use Rattle.rx_collection.specs.Time.{stamp}
 use Rattle.rx_record.specs.Content.{Content, rows}
 use Rattle.rx_record.specs.declared.record.RowOut.{RowOut}
 use Rattle.rx_world.specs.World.{World}
-
--- the state's fields are valid, and hold its key as their primary key
-pub record IsValidState (s : Shape) (state : State) : Type 0 where
-  pub valid : first_fault s state.fields ≡ None
-  pub carried : Carries s.primary state
 
 -- a document as a row of a record
 abbrev pub out_of : Stored → RowOut

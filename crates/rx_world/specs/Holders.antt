@@ -1,13 +1,13 @@
 -- A world with the holders of its collections.
-use Rattle.std.specs.Prelude.{◌≡◌, ℕ, List, Bool, false, String, string_bytes}
+use Rattle.std.specs.Prelude.{◌≡◌, ℕ, List, [], Bool, false, String, string_bytes}
 use Rattle.std.specs.declared.alloc.Global.{Global}
 use Rattle.std.specs.List.{AllByRecursion}
 use Rattle.rx_value.specs.Named.{by_name, by_bytes, put_named, change_named}
 use Rattle.rx_document.specs.declared.stored.Stored.{Stored}
-use Rattle.rx_collection.specs.Held.{Held}
+use Rattle.rx_collection.specs.Held.{Held, held_with}
 use Rattle.rx_collection.specs.Lawful.{IsLawful}
-use Rattle.rx_record.specs.Content.{Content, collection, rows, epoch}
 use Rattle.rx_world.specs.Step.{stored_rows}
+use Rattle.rx_world.specs.Touch.{Touch, no_collection, new_collection, new_rows}
 use Rattle.rx_world.specs.Valid.{AllValid, AreDistinct}
 use Rattle.rx_world.specs.World.{World, world_with}
 use Rattle.rx_world.specs.declared.parts.Parts.{Parts}
@@ -46,13 +46,12 @@ pub record AreSound {H : Type 0} (held : H → Held) (broken : H → Bool) (h : 
 abbrev pub holders_in : {H : Type 0} → Holders H → List (List ℕ × H)
 holders_in h = by_bytes h.entries
 
--- What a record makes of holders: a new one comes, the one of the name is what it is after the rows,
--- or all stay.
-abbrev pub After : {H : Type 0} → (H → Held) → (H → List Stored → H) → (H → Type 0) → Content
-    → Holders H → Holders H → Type 0
-After {H} held written IsNew (collection name schema) old new =
-    (h : H) × IsNew h × (holders_in new ≡ put_named (holders_in old) name h)
-After held written IsNew (rows name lwt written_rows) old new =
-    holders_in new ≡ change_named (holders_in old) name
-    (λ h. written h (stored_rows (held h).name lwt written_rows))
-After held written IsNew (epoch number) old new = holders_in new ≡ holders_in old
+-- What the touch of a record makes of holders by name: all stay, a new one comes that was made for
+-- the new collection, or the one of the name is what it is after the rows.
+abbrev pub After : {H : Type 0} → (H → Held) → (H → List Stored → H) → (Held → H → Type 0) → Touch
+    → List (List ℕ × H) → List (List ℕ × H) → Type 0
+After {H} held written IsMadeFor no_collection old new = new ≡ old
+After {H} held written IsMadeFor (new_collection name schema) old new =
+    (h : H) × IsMadeFor (held_with name schema []) h × (new ≡ put_named old name h)
+After {H} held written IsMadeFor (new_rows name lwt rows) old new =
+    new ≡ change_named old name (λ h. written h (stored_rows (held h).name lwt rows))

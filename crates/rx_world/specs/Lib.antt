@@ -1,5 +1,6 @@
 pub mod World
 pub mod Schema
+pub mod Touch
 pub mod Step
 pub mod Replay
 pub mod Commit

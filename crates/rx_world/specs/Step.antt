@@ -1,7 +1,7 @@
 -- What a record does to a world, and where it is legal.
-use Rattle.std.specs.Prelude.{ℕ, ◌+◌, List, [], map, length, Bool, false, ◌&&◌, ◌==◌, nat_lt, nat_le, if◌then◌else◌, Option, Some, None, is_some, is_none}
+use Rattle.std.specs.Prelude.{◌≡◌, ℕ, ◌+◌, List, [], map, length, Bool, true, false, ◌&&◌, ◌==◌, nat_lt, nat_le, if◌then◌else◌, Option, Some, None, is_some, is_none}
 use Rattle.std.specs.List.{list_all}
-use Rattle.std.specs.Option.{option_map_or, ForSome}
+use Rattle.std.specs.Option.{option_map_or}
 use Rattle.std.specs.Str.{bytes_eq}
 use Rattle.rx_value.specs.Name.{is_name}
 use Rattle.rx_value.specs.Named.{named, put_named, change_named}
@@ -11,13 +11,14 @@ use Rattle.rx_value.specs.declared.value.Value.TheVariants.{Text}
 use Rattle.rx_schema.specs.Validity.{first_fault}
 use Rattle.rx_schema.specs.declared.shape.Shape.{Shape}
 use Rattle.rx_document.specs.declared.stored.Stored.{Stored}
-use Rattle.rx_collection.specs.Commit.{AreNext, next_height, with_rows}
+use Rattle.rx_collection.specs.Commit.{next_height, with_rows}
 use Rattle.rx_collection.specs.Held.{Held, held_with}
 use Rattle.rx_collection.specs.Time.{last_lwt, most_lwt}
 use Rattle.rx_record.specs.Content.{Content, collection, rows, epoch}
 use Rattle.rx_record.specs.declared.record.RowOut.{RowOut}
 use Rattle.rx_world.specs.Schema.{schema_in}
-use Rattle.rx_world.specs.World.{World, world_with, max_collections}
+use Rattle.rx_world.specs.Touch.{Touch, no_collection, new_collection, new_rows, touch}
+use Rattle.rx_world.specs.World.{World, max_collections}
 
 -- ---- what a record does
 
@@ -33,18 +34,24 @@ stored_rows name lwt written = map (stored_of name lwt) written
 abbrev pub written_to : ℕ → List RowOut → Held → Held
 written_to lwt written c = with_rows c (stored_rows c.name lwt written)
 
--- collections with a new one, where there is a schema
-abbrev pub with_new : List ℕ → Option Shape → List (List ℕ × Held) → List (List ℕ × Held)
-with_new name None cs = cs
-with_new name (Some s) cs = put_named cs name (held_with name s [])
+-- collections with what a record touches
+abbrev pub collections_after : Touch → List (List ℕ × Held) → List (List ℕ × Held)
+collections_after no_collection cs = cs
+collections_after (new_collection name schema) cs = put_named cs name (held_with name schema [])
+collections_after (new_rows name lwt written) cs = change_named cs name (written_to lwt written)
 
--- the world after a record
+-- the last epoch, which a record of an epoch alone changes
+abbrev pub epoch_after : Content → ℕ → ℕ
+epoch_after (collection name schema) last = last
+epoch_after (rows name lwt written) last = last
+epoch_after (epoch number) last = number
+
+-- the world after a record, field by field
 abbrev pub step : Content → World → World
-step (collection name schema) w =
-    world_with (with_new name (schema_in schema) w.collections) w.epoch
-step (rows name lwt written) w =
-    world_with (change_named w.collections name (written_to lwt written)) w.epoch
-step (epoch number) w = world_with w.collections number
+step c w = record {
+  collections = collections_after (touch c) w.collections;
+  epoch = epoch_after c w.epoch;
+}
 
 -- ---- where a record is legal
 
@@ -57,6 +64,10 @@ is_text key _ = false
 abbrev pub is_valid_state : Shape → State → Bool
 is_valid_state s state =
     is_none (first_fault s state.fields) && is_text state.key (named state.fields s.primary)
+
+-- the same as a fact
+abbrev pub IsValidState : Shape → State → Type 0
+IsValidState s state = is_valid_state s state ≡ true
 
 -- the row's state is valid, and its height is the next one
 abbrev pub is_due : Held → RowOut → Bool
@@ -83,10 +94,3 @@ legal (epoch number) w = number == w.epoch + 1
 -- the world after a record, where it is legal
 abbrev pub stepped : Content → World → Option World
 stepped c w = if legal c w then Some (step c w) else None
-
--- rows may be written to the collection that they name, one after another
-abbrev pub AreNextIn : Content → World → Type 0
-AreNextIn (collection name schema) w = Unit {0}
-AreNextIn (rows name lwt written) w =
-    ForSome (named w.collections name) (λ c. AreNext c (stored_rows c.name lwt written))
-AreNextIn (epoch number) w = Unit {0}

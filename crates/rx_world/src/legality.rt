@@ -1,10 +1,9 @@
-ghost use Rattle.std.specs.Prelude.{◌≡◌, ◌+◌, ◌==◌, true, false, IfOk, option_map};
+ghost use Rattle.std.specs.Prelude.{◌≡◌, ◌+◌, ◌==◌, IfOk, option_map};
 ghost use Rattle.std.specs.List.{list_all};
 ghost use Rattle.rx_value.specs.Named.{named};
 ghost use Rattle.rx_record.specs.Shown.{content};
-ghost use Rattle.rx_record.specs.Writable.{IsOrdered};
 ghost use Rattle.rx_world.specs.Holders.{AreWhole, holders_of, world_in};
-ghost use Rattle.rx_world.specs.Step.{is_text, is_valid_state, is_due, takes, legal, AreNextIn};
+ghost use Rattle.rx_world.specs.Step.{is_text, is_valid_state, is_due, takes, legal};
 
 use crate::names::find;
 use crate::parts::{MAX_COLLECTIONS, Parts};
@@ -21,10 +20,8 @@ pub(crate) fn is_legal<H: Holder>(
     entry: &Record,
 ) -> Result<bool, AllocError>
     requires { AreWhole H.held H.is_broken parts.now.holders.entries }
-    ensures value { IfOk result
+    ensures { IfOk result
         (λ b. b ≡ legal (content entry.now) (world_in H.held (holders_of parts.now))) }
-    ensures next { IfOk result (λ b. b ≡ true → IsOrdered (content entry.now)
-        → AreNextIn (content entry.now) (world_in H.held (holders_of parts.now))) }
 {
     match entry {
         Record::Collection { name, schema } => {

@@ -14,4 +14,5 @@ mod world;
 
 pub use fault::{ApplyFault, StepFault};
 pub use parts::MAX_COLLECTIONS;
+pub use rows::commit;
 pub use world::World;

@@ -1,10 +1,13 @@
 // The rows of records and the documents of collections.
-ghost use Rattle.std.specs.Prelude.{◌≡◌, ◌<◌, map, length, Some, None, IfOk, IsErrOf};
+ghost use Rattle.std.specs.Prelude.{◌≡◌, ◌<◌, true, map, length, Some, None, IfOk, IsErrOf};
 ghost use Rattle.std.specs.List.{AllByRecursion, IsDistinct};
 ghost use Rattle.std.specs.Str.{bytes_eq};
+ghost use Rattle.rx_value.specs.Named.{named};
 ghost use Rattle.rx_record.specs.Shown.{content};
+ghost use Rattle.rx_record.specs.Writable.{IsOrdered};
 ghost use Rattle.rx_world.specs.Commit.{out_of, commit_to};
-ghost use Rattle.rx_world.specs.Step.{stored_of, stored_rows};
+ghost use Rattle.rx_world.specs.Step.{IsValidState, legal, stored_of, stored_rows};
+ghost use Rattle.rx_world.specs.World.{World};
 
 use crate::fault::StepFault;
 use rx_collection::Collection;
@@ -62,26 +65,32 @@ fn row_out(document: Stored) -> RowOut
     }
 }
 
-// The record that writes states to the collection of that name.
-pub(crate) fn commit_to(
-    collection: &Collection,
+/// The record that writes states to a collection, above all that it holds. Nothing is changed: the
+/// record is to be kept, and then applied to a world that holds the collection.
+pub fn commit(
     alloc: Global,
-    name: &str,
+    collection: &Collection,
     states: Vec<State>,
     now: u64,
 ) -> Result<Record, StepFault>
-    requires { IsDistinct bytes_eq (map (λ s. s.key) states.items) }
+    requires some { 0 < length states.items }
+    requires distinct { IsDistinct bytes_eq (map (λ s. s.key) states.items) }
+    requires valid { AllByRecursion (IsValidState collection.now.schema) states.items }
     ensures ok { IfOk result
-        (λ entry. commit_to name.now states.items now collection.now ≡ Some (content entry)) }
+        (λ entry. commit_to collection.now.name states.items now collection.now
+        ≡ Some (content entry)) }
+    ensures legal { (w : World) → named w.collections collection.now.name ≡ Some collection.now
+        → IfOk result (λ entry. legal (content entry) w ≡ true) }
+    ensures ordered { IfOk result (λ entry. IsOrdered (content entry)) }
     ensures clock_end { IsErrOf result StepFault.ClockEnd
-        → commit_to name.now states.items now collection.now ≡ None }
+        → commit_to collection.now.name states.items now collection.now ≡ None }
 {
     let Some(lwt) = collection.stamp(now) else {
         return Err(StepFault::ClockEnd);
     };
     let documents = collection.rows(alloc, states, lwt)?;
     Ok(Record::Rows {
-        name: RxText::new(alloc, name)?,
+        name: collection.name().copy(alloc)?,
         lwt,
         rows: rows_out(alloc, documents)?,
     })

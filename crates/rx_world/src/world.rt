@@ -5,15 +5,15 @@ ghost use Rattle.std.specs.List.{AllByRecursion, IsDistinct};
 ghost use Rattle.std.specs.Option.{ForSome};
 ghost use Rattle.std.specs.Str.{bytes_eq};
 ghost use Rattle.rx_value.specs.Named.{named};
-ghost use Rattle.rx_collection.specs.Held.{Held};
 ghost use Rattle.rx_collection.specs.Lawful.{IsLawful};
 ghost use Rattle.rx_record.specs.Shown.{content};
 ghost use Rattle.rx_record.specs.Writable.{IsOrdered};
-ghost use Rattle.rx_world.specs.Commit.{IsValidState, commit};
+ghost use Rattle.rx_world.specs.Commit.{commit};
 ghost use Rattle.rx_world.specs.Edit.{Edited, Leaves, LeavesWhole};
 ghost use Rattle.rx_world.specs.Holders.{After, IsWhole, holders_in, world_in};
 ghost use Rattle.rx_world.specs.Lawful.{IsLawfulWorld};
-ghost use Rattle.rx_world.specs.Step.{step, legal};
+ghost use Rattle.rx_world.specs.Step.{IsValidState, step, legal};
+ghost use Rattle.rx_world.specs.Touch.{touch};
 ghost use Rattle.rx_world.specs.Valid.{AreValid, AreDistinct};
 ghost use Rattle.rx_world.specs.World.{empty};
 
@@ -22,7 +22,7 @@ use crate::fault::{ApplyFault, StepFault};
 use crate::legality::is_legal;
 use crate::names::{edit, find};
 use crate::parts::Parts;
-use crate::rows::commit_to;
+use crate::rows::commit;
 use crate::same::hold_same;
 use indexmap::IndexMap;
 use rx_collection::{Collection, Holder};
@@ -129,9 +129,36 @@ impl<H: Holder + Drop> World<H> {
             ≡ step (content entry) (world_in H.held self))
             × (legal (content entry) (world_in H.held self) ≡ true)) }
         ensures holders { IfOk result (λ world. After H.held H.written
-            (λ h. (c : Held) × F.post make.now c (Ok h)) (content entry) self world) }
+            (λ c h. F.post make.now c (Ok h)) (touch (content entry)) (holders_in self)
+            (holders_in world)) }
         ensures illegal { IsErrOf result ApplyFault.Illegal
             → legal (content entry) (world_in H.held self) ≡ false }
+    {
+        if !self.legal(alloc, &entry)? {
+            return Err(ApplyFault::Illegal);
+        }
+        Ok(self.apply_legal(alloc, entry, make)?)
+    }
+
+    /// The world after a record that may come next. It is not asked again whether it may, so what
+    /// `commit` gave is applied without a further look at its documents.
+    pub fn apply_legal<F: Fn(Collection) -> Result<H, AllocError>>(
+        self,
+        alloc: Global,
+        entry: Record,
+        make: &F,
+    ) -> Result<World<H>, AllocError>
+        requires callable { F.IsAlwaysCallable make.now }
+        requires makes { (c : _) (r : _) → F.post make.now c r
+            → IfOk r (λ h. (H.held h ≡ c) × (H.is_broken h ≡ false)) }
+        requires ordered { IsOrdered (content entry) }
+        requires legal { legal (content entry) (world_in H.held self) ≡ true }
+        ensures world { IfOk result (λ world. world_in H.held world
+            ≡ step (content entry) (world_in H.held self)) }
+        ensures holders { IfOk result (λ world. After H.held H.written
+            (λ c h. F.post make.now c (Ok h)) (touch (content entry)) (holders_in self)
+            (holders_in world)) }
+        ensures distinct { AreDistinct (world_in H.held self) }
     {
         let mut parts = self.parts;
         change(&mut parts, alloc, entry, make)?;
@@ -178,6 +205,6 @@ impl<H: Holder + Drop> World<H> {
             → commit (world_in H.held self.now) name.now states.items now ≡ None }
     {
         let holder = self.holder(name).unwrap();
-        commit_to(holder.collection(), alloc, name, states, now)
+        commit(alloc, holder.collection(), states, now)
     }
 }
