@@ -1,0 +1,10 @@
+//! Indexes: the compound keys of documents in order, and the documents between two bounds.
+#![tactic(auto)]
+
+mod bound;
+mod index;
+mod range;
+
+pub use bound::{Bound, bound_laws};
+pub use index::Index;
+pub use range::Range;
