@@ -29,7 +29,7 @@ module _ {A B : Type 0} (f : A → B) where
   there_mapped (Some x) = refl
 
   -- it passes as before
-  passes_mapped : (p : B → Bool) (o : Option A)
+  pub passes_mapped : (p : B → Bool) (o : Option A)
       → some_passes (λ x. p (f x)) o ≡ some_passes p (option_map f o)
   passes_mapped p None = refl
   passes_mapped p (Some x) = refl

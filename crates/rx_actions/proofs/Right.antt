@@ -18,7 +18,7 @@ use Rattle.rx_table.specs.declared.action.Action.TheVariants.{DoNothing, InsertF
 use Rattle.rx_actions.proofs.Windows.{put, window, length-put, length-window}
 use Rattle.rx_actions.proofs.Ranks.{rank, rank-alike, placed_is, Stands}
 use Rattle.rx_actions.proofs.Readings.{Others}
-use Rattle.rx_actions.proofs.Edits.{first-some, last-some, first-any, last-any}
+use Rattle.rx_actions.proofs.Edits.{none-window, any-none, first-some, last-some, first-any, last-any}
 use Rattle.rx_actions.proofs.TableRows.{Leaves, Enters, Stays, EachRow, table_rows}
 use Rattle.rx_actions.proofs.Leaves as Leave
 use Rattle.rx_actions.proofs.Enters as Enter
@@ -348,3 +348,26 @@ table_is_right {X} {K} keys q law k was now docs docs' c c' same e f =
     (table_rows _ _ (patched keys q law k T (others_rest keys q law k docs c) lim.0 lim.1 was now
     (λ x is. held_is_mine keys q law k docs x (sym e ∙ is))
     (λ x is. held_is_mine keys q law k docs' x (sym f ∙ is)))))
+
+-- the document of the key is one of the rows only where it matches
+pub inside_matches : {X K : Type 0} (keys : Keys X K) (q : Query X) → IsLawful keys q
+    → (k : K) (was : Option X) (docs : List X) → IsCollection keys docs
+    → was ≡ held (has_key keys k) docs → list_any (has_key keys k) (result q docs) ≡ true
+    → some_passes q.matches was ≡ true
+inside_matches {X} {K} keys q law k was docs c e inside = go (some_passes q.matches was) refl
+  where
+    go : (b : Bool) → some_passes q.matches was ≡ b → b ≡ true
+    go true is = refl
+    go false is =
+        let T = rest_of keys q law k docs in
+        let mine = has_key keys k in
+        let lim = limits_of X q.limit q.skip (length T) law.limited in
+        let rows_are : result q docs ≡ window q.skip (suc lim.0) T =
+        ap (λ xs. cut q.limit (drop q.skip xs))
+        (sorted_is keys q law k docs c ∙ ap (λ o. with_held keys q law k o T) (sym e)
+        ∙ with_held_isnt keys q law k was T is)
+        ∙ lim.1.cut_is T (omega arith) in
+        let none : list_any mine (window q.skip (suc lim.0) T) ≡ false =
+        any-none mine (window q.skip (suc lim.0) T)
+        (none-window mine q.skip (suc lim.0) T (others_rest keys q law k docs c).none) in
+        no (sym none ∙ ap (list_any mine) (sym rows_are) ∙ inside)

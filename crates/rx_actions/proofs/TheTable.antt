@@ -2,7 +2,7 @@
 use Rattle.std.proofs.Common.{◌≡◌, ℕ, Bool, true, false, cond, Option, Some, None, option_map, List, [], ◌∷◌, filter, take, drop, zero, suc, refl, sym, ap, ◌∙◌, subst}
 use Rattle.std.proofs.lemmas.Bool.{cond_both}
 use Rattle.std.proofs.lemmas.Option.{same_Some}
-use Rattle.std.specs.List.{AllByRecursion}
+use Rattle.std.specs.List.{list_any, AllByRecursion}
 use Rattle.std.specs.Str.{bytes_eq}
 use Rattle.rx_value.specs.Fields.{Pairs}
 use Rattle.rx_value.specs.Named.{named}
@@ -16,13 +16,13 @@ use Rattle.rx_query.specs.Lists.{sorted}
 use Rattle.rx_query.specs.Result.{cut, row_of, IsCollection}
 use Rattle.rx_query.specs.States.{live_before, is_unknown, is_changed, state_of, bits_of}
 use Rattle.rx_query.specs.declared.results.Row.{Row}
-use Rattle.rx_actions.specs.Right.{TableIsRight}
-use Rattle.rx_actions.proofs.Agreement.{there_mapped, states_agree, after_agrees}
+use Rattle.rx_actions.specs.Right.{TableIsRight, OnlyMatchingAreRows}
+use Rattle.rx_actions.proofs.Agreement.{there_mapped, passes_mapped, states_agree, after_agrees}
 use Rattle.rx_actions.proofs.Changes.{held, result, states_at, IsPatch}
 use Rattle.rx_actions.proofs.Collections.{all-filter, all-sorted}
 use Rattle.rx_actions.proofs.FromScratch.{fresh_is}
 use Rattle.rx_actions.proofs.Live.{same_but, live_rows, others_live, distinct_live, row_with, held_live}
-use Rattle.rx_actions.proofs.Right.{table_is_right}
+use Rattle.rx_actions.proofs.Right.{table_is_right, inside_matches}
 use Rattle.rx_actions.proofs.RowOrder.{row_keys, rows_query, lawful, Carries}
 
 -- ---- rows carry their ids
@@ -141,3 +141,17 @@ table_right q id old new rows some col col' differ scratch known =
       from_scratch =
           after_agrees q c at_after action rows all ∙ p'.gives known ∙ sym (fresh_is q new col');
     }
+
+-- the changed document is one of the rows only where it was live and matched
+pub rows_match : OnlyMatchingAreRows
+rows_match q id old new rows some col scratch inside =
+    let rq = rows_query q in
+    let was = live (named old id) in
+    let c = change_of id old new in
+    let is : rows ≡ result rq (live_rows old) = scratch ∙ fresh_is q old col in
+    passes_mapped (row_with id) rq.matches (live_before c.before)
+    ∙ inside_matches row_keys rq (lawful q some) id
+    (option_map (row_with id) (live_before c.before)) (live_rows old)
+    (distinct_live old col.rising col.keyed)
+    (ap (option_map (row_with id)) (was_live was) ∙ sym (held_live id old col.rising col.keyed))
+    (ap (list_any (is_changed c)) (sym is) ∙ inside)

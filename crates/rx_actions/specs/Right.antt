@@ -9,7 +9,7 @@ use Rattle.rx_table.specs.declared.action.Action.TheVariants.{RunFullQueryAgain}
 use Rattle.rx_query.specs.After.{after, AreThere}
 use Rattle.rx_query.specs.Asked.{Asked}
 use Rattle.rx_query.specs.Result.{fresh_rows, IsCollection}
-use Rattle.rx_query.specs.States.{bits_of}
+use Rattle.rx_query.specs.States.{bits_of, OnlyMatchingInside}
 use Rattle.rx_query.specs.declared.results.Row.{Row}
 
 -- the action can be done, and gives the rows that the query gives from scratch
@@ -26,3 +26,10 @@ TableIsRight = (q : Asked) (id : List ℕ) (old new : Documents) (rows : List Ro
     → DifferAt id old new → rows ≡ fresh_rows q old
     → table_of (bits_of q (change_of id old new) rows) ≢ RunFullQueryAgain
     → IsRight (table_of (bits_of q (change_of id old new) rows)) q (change_of id old new) new rows
+
+-- Wherever the rows are those from scratch over the old collection, one of them is the changed
+-- document's only where that was live and matched.
+abbrev pub OnlyMatchingAreRows : Type 0
+OnlyMatchingAreRows = (q : Asked) (id : List ℕ) (old new : Documents) (rows : List Row)
+    → q.limit ≢ Some 0 → IsCollection q.primary old → rows ≡ fresh_rows q old
+    → OnlyMatchingInside q (change_of id old new) rows

@@ -1,5 +1,5 @@
 -- The nineteen states of a query, a change of one document, and the rows before it.
-use Rattle.std.specs.Prelude.{ℕ, Bool, true, false, not, ◌&&◌, ◌||◌, ◌==◌, nat_lt, nat_le, ◌+◌, ◌*◌, List, [], ◌∷◌, length, map, Option, Some, None, is_some, if◌then◌else◌}
+use Rattle.std.specs.Prelude.{◌≡◌, ℕ, Bool, true, false, not, ◌&&◌, ◌||◌, ◌==◌, nat_lt, nat_le, ◌+◌, ◌*◌, List, [], ◌∷◌, length, map, Option, Some, None, is_some, if◌then◌else◌}
 use Rattle.std.specs.List.{list_any}
 use Rattle.std.specs.Ordering.{is_eq, is_lt}
 use Rattle.std.specs.Str.{bytes_eq}
@@ -107,3 +107,8 @@ number_of is = number (map is all_states)
 -- the number whose bits are the states
 abbrev pub bits_of : Asked → Change → List Row → ℕ
 bits_of q c rows = number_of (state_of q c rows)
+
+-- a row of the document is there only where the document was live and matched
+abbrev pub OnlyMatchingInside : Asked → Change → List Row → Type 0
+OnlyMatchingInside q c rows =
+    state_of q c rows WasInResult ≡ true → state_of q c rows WasMatching ≡ true
