@@ -8,12 +8,22 @@ use rx_top::{Words, command_of, rx};
 use rx_value::RxText;
 use std::alloc::AllocError;
 use std::env::Env;
+use std::fs::{File, Files};
+use std::os::fd::{AsRawFd, IntoRawFd};
 use std::process::ExitCode;
 use std::{env, io};
 
+// Standard input, output and error have the descriptors below this.
+const STREAMS: i32 = 3;
+
 fn main(rt: HostRuntime) -> ExitCode {
+    let filled = fill_streams(&rt);
     let mut source = StdSource::new(&rt);
     let mut out = StdSink::new(&rt);
+    if filled.is_err() {
+        let _ = write_all(&mut out, b"{\"stop\":\"disk\"}\n");
+        return ExitCode::from(3);
+    }
     match command(&rt) {
         Ok((words, path)) => {
             let mut disk = FileDisk::new(&rt, path);
@@ -24,6 +34,20 @@ fn main(rt: HostRuntime) -> ExitCode {
             ExitCode::from(6)
         }
     }
+}
+
+// Opens the root folder in the place of each standard stream that is closed, so that the journal
+// doesn't come to stand there. A folder gives no bytes and takes none: both are errors.
+fn fill_streams<R: Files<File = File>>(rt: &R) -> io::Result<()> {
+    for _ in 0..STREAMS {
+        let folder = File::open(rt, "/")?;
+        if STREAMS <= folder.as_raw_fd() {
+            return Ok(());
+        }
+        // It stays open to the end.
+        let _ = folder.into_raw_fd();
+    }
+    Ok(())
 }
 
 // The words after the program's name, and the path that they name, or none.
