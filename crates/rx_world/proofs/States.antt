@@ -4,13 +4,14 @@ use Rattle.std.proofs.lemmas.Bool.{and_parts}
 use Rattle.std.proofs.lemmas.Slice.Eq.{bytes_eq-Decides}
 use Rattle.std.specs.Cmp.Derive.{both_true}
 use Rattle.rx_value.specs.Named.{named}
+use Rattle.rx_value.specs.Value.{is_text}
 use Rattle.rx_value.specs.declared.state.State.{State}
 use Rattle.rx_value.specs.declared.value.Value.{Value}
 use Rattle.rx_value.specs.declared.value.Value.TheVariants.{Flag, Int, Text}
 use Rattle.rx_schema.specs.Validity.{first_fault}
 use Rattle.rx_schema.specs.declared.shape.Shape.{Shape}
 use Rattle.rx_collection.specs.Commit.{Carries}
-use Rattle.rx_world.specs.Step.{is_text, IsValidState}
+use Rattle.rx_world.specs.Step.{IsValidState}
 
 -- there is none
 pub nothing : {X : Type 0} (o : Option X) → is_none o ≡ true → o ≡ None

@@ -2,12 +2,10 @@
 use Rattle.std.specs.Prelude.{◌≡◌, ℕ, ◌+◌, List, [], map, length, Bool, true, false, ◌&&◌, ◌==◌, nat_lt, nat_le, if◌then◌else◌, Option, Some, None, is_some, is_none}
 use Rattle.std.specs.List.{list_all}
 use Rattle.std.specs.Option.{option_map_or}
-use Rattle.std.specs.Str.{bytes_eq}
 use Rattle.rx_value.specs.Name.{is_name}
 use Rattle.rx_value.specs.Named.{named, put_named, change_named}
 use Rattle.rx_value.specs.declared.state.State.{State}
-use Rattle.rx_value.specs.declared.value.Value.{Value}
-use Rattle.rx_value.specs.declared.value.Value.TheVariants.{Text}
+use Rattle.rx_value.specs.Value.{is_text}
 use Rattle.rx_schema.specs.Validity.{first_fault}
 use Rattle.rx_schema.specs.declared.shape.Shape.{Shape}
 use Rattle.rx_document.specs.declared.stored.Stored.{Stored}
@@ -54,11 +52,6 @@ step c w = record {
 }
 
 -- ---- where a record is legal
-
--- there is that text
-abbrev pub is_text : List ℕ → Option Value → Bool
-is_text key (Some (Text t)) = bytes_eq t key
-is_text key _ = false
 
 -- the state's fields are valid, and hold its key as their primary key
 abbrev pub is_valid_state : Shape → State → Bool

@@ -1,9 +1,9 @@
-ghost use Rattle.std.specs.Prelude.{◌≡◌, ◌+◌, ◌==◌, IfOk, option_map};
+ghost use Rattle.std.specs.Prelude.{◌≡◌, ◌+◌, ◌==◌, IfOk};
 ghost use Rattle.std.specs.List.{list_all};
 ghost use Rattle.rx_value.specs.Named.{named};
 ghost use Rattle.rx_record.specs.Shown.{content};
 ghost use Rattle.rx_world.specs.Holders.{AreWhole, holders_of, world_in};
-ghost use Rattle.rx_world.specs.Step.{is_text, is_valid_state, is_due, takes, legal};
+ghost use Rattle.rx_world.specs.Step.{is_valid_state, is_due, takes, legal};
 
 use crate::names::find;
 use crate::parts::{MAX_COLLECTIONS, Parts};
@@ -11,7 +11,7 @@ use crate::schema_text::schema_in;
 use rx_collection::{Collection, Holder, MOST_LWT};
 use rx_record::{Record, RowOut};
 use rx_schema::Schema;
-use rx_value::{State, Value, is_name};
+use rx_value::{State, is_name, is_text};
 use std::alloc::{AllocError, Global};
 
 pub(crate) fn is_legal<H: Holder>(
@@ -72,16 +72,6 @@ fn is_valid(schema: &Schema, state: &State) -> bool
 {
     schema.valid(&state.fields).is_ok()
         && is_text(state.fields.get(schema.primary()), state.key.as_str())
-}
-
-// Whether there is that text.
-fn is_text(value: Option<&Value>, text: &str) -> bool
-    ensures { result ≡ is_text text.now (option_map (λ v. v.now) value.entry) }
-{
-    match value {
-        Some(Value::Text(held)) => held.as_str() == text,
-        _ => false,
-    }
 }
 
 fn is_next(number: u64, last: u64) -> bool

@@ -80,7 +80,7 @@ fn write_to<H: Holder>(
     ensures whole { OnOk result (H.is_broken holder.new ≡ false) }
 {
     let rows = stored_rows(alloc, holder.collection().name(), lwt, rows)?;
-    holder.put_rows(alloc, rows)
+    holder.put_rows(rows)
 }
 
 // Calls a function on the holder of a name, which leaves its collection.
