@@ -1,0 +1,121 @@
+// The worker that the program runs in, with its journal in the origin's private file system.
+// The page first sends { journal, words }, then lines as text, and null at their end.
+// The worker sends { ready }, then what the program writes as text, and { ended, said } at the end.
+
+const encoder = new TextEncoder();
+const decoder = new TextDecoder(); // of output, whose pieces may end within a character
+const piece = 16384; // so much is written at most before the page hears of it
+
+const incoming = []; // bytes that the program hasn't read
+let wake = null; // set while the program waits for input
+let open = true;
+let said = '';
+
+function speak() {
+  if (said) postMessage(said);
+  said = '';
+}
+
+function take(into) {
+  const first = incoming[0];
+  const count = Math.min(first.length, into.length);
+  into.set(first.subarray(0, count));
+  if (count === first.length) incoming.shift();
+  else incoming[0] = first.subarray(count);
+  return BigInt(count);
+}
+
+function hear({ data }) {
+  if (data === null) open = false;
+  else if (data) incoming.push(encoder.encode(data));
+  wake?.();
+}
+
+// An interrupted page leaves its file locked for a moment.
+async function locked(name) {
+  const folder = await navigator.storage.getDirectory();
+  const file = await folder.getFileHandle(name, { create: true });
+  for (let left = 40; ; left--) {
+    try {
+      return await file.createSyncAccessHandle();
+    } catch (fault) {
+      if (fault.name !== 'NoModificationAllowedError' || left === 0) throw fault;
+      await new Promise((go) => setTimeout(go, 50));
+    }
+  }
+}
+
+// The calls of system.c. A call that fails answers less than 0: here always an error of input and output.
+function calls(program, journal, name, words) {
+  const files = new Map();
+  let next = 3;
+  const part = (at, count) => new Uint8Array(program().memory.buffer, Number(at), Number(count));
+  const attempt = (call) => {
+    try {
+      return BigInt(call());
+    } catch (fault) {
+      console.error(fault);
+      return -5n;
+    }
+  };
+  return {
+    // All that was read is answered, so where nothing is left the page is told, and the program waits.
+    read(_file, at, count) {
+      if (incoming.length) return take(part(at, count));
+      speak();
+      if (!open) return 0n;
+      return new Promise((go) => { wake = go; }).then(() => {
+        wake = null;
+        return incoming.length ? take(part(at, count)) : 0n;
+      });
+    },
+    write(_file, at, count) {
+      said += decoder.decode(part(at, count), { stream: true });
+      if (said.length > piece) speak();
+      return count;
+    },
+    // What isn't the journal is a folder or a device, with nothing behind it.
+    open(at, count) {
+      files.set(next, new TextDecoder().decode(part(at, count)) === name ? journal : null);
+      return BigInt(next++);
+    },
+    close: (file) => (files.delete(file) ? 0n : -9n),
+    pread: (file, at, count, from) => attempt(() => files.get(file).read(part(at, count), { at: Number(from) })),
+    pwrite: (file, at, count, to) => attempt(() => files.get(file).write(part(at, count), { at: Number(to) })),
+    sync: (file) => attempt(() => (files.get(file)?.flush(), 0)),
+    arg(i, at, count) {
+      const word = words[Number(i)];
+      if (!word) return -1n;
+      if (word.length > Number(count)) return -2n;
+      part(at, count).set(word);
+      return BigInt(word.length);
+    },
+  };
+}
+
+async function run({ journal, words }) {
+  if (!WebAssembly.Suspending) throw new Error('this browser cannot suspend WebAssembly (JSPI)');
+  const [module, file] = await Promise.all([
+    WebAssembly.compileStreaming(fetch(new URL('rx.wasm', import.meta.url))),
+    locked(journal),
+  ]);
+  const all = ['rx', 'run', journal, ...words].map((word) => encoder.encode(word));
+  let program;
+  const host = calls(() => program, file, journal, all);
+  host.read = new WebAssembly.Suspending(host.read);
+  program = (await WebAssembly.instantiate(module, { host })).exports;
+  self.onmessage = hear;
+  postMessage({ ready: true });
+  try {
+    return await WebAssembly.promising(program.main)(0, 0n);
+  } finally {
+    file.close();
+  }
+}
+
+self.onmessage = ({ data }) => {
+  run(data).then(
+    (status) => { speak(); postMessage({ ended: status }); },
+    (fault) => { speak(); postMessage({ ended: null, said: String(fault) }); },
+  );
+};
