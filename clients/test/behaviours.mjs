@@ -1,0 +1,175 @@
+// How the client behaves, whatever its transport. Each takes what it needs and throws where it is not so; they run in Node and in a page.
+
+const schema = {
+  version: 0,
+  primaryKey: 'id',
+  type: 'object',
+  properties: { id: { type: 'string', maxLength: 20 }, n: { type: 'integer' } },
+  required: ['id'],
+};
+
+function same(found, wanted, what) {
+  if (JSON.stringify(found) !== JSON.stringify(wanted)) {
+    throw new Error(`${what}: ${JSON.stringify(found)} and not ${JSON.stringify(wanted)}`);
+  }
+}
+
+async function fault(call) {
+  try {
+    await call();
+  } catch (it) {
+    return it;
+  }
+  throw new Error('it was not refused');
+}
+
+export const behaviours = {
+  async 'refusals by code, word, cause, subject, revision and row'({ open, transport }) {
+    const db = await open(transport());
+    const c = await db.collection('c', schema);
+    same(c.isNew, true, 'new');
+    same((await db.collection('c', schema)).isNew, false, 'not new');
+    await c.insert({ id: 'a', n: 1 });
+    const told = ({ name, code, word, cause, subject, rev, row }) => [name, code, word, cause ?? null, subject ?? null, rev ?? null, row ?? null];
+    const refused = async (call) => told(await fault(call));
+    same(await refused(() => c.insert({ id: 'a' })), ['Refused', 14, 'conflict', null, null, '1-c', null], 'conflict');
+    same(await refused(() => c.bulk([{ id: 'b' }, { id: 'a' }])), ['Refused', 14, 'conflict', null, null, '1-c', 1], 'row');
+    same(await refused(() => c.insert({ id: 'b', n: 'x' })), ['Refused', 13, 'invalid', 'kind', 'n', null, null], 'invalid');
+    same(await refused(() => c.find({ selector: { m: 1 } })), ['Refused', 16, 'query', 'field', 'm', null, null], 'query');
+    same(await refused(() => c.get('z')), ['Refused', 15, 'no_document', null, null, null, null], 'no document');
+    same(await refused(async () => (await db.collection('d')).count()), ['Refused', 10, 'no_collection', null, 'd', null, null], 'no collection');
+    same(await refused(() => db.explain('q')), ['Refused', 17, 'no_query', null, null, null, null], 'no query');
+    same(await refused(() => db.call({ do: 'fly' })), ['Refused', 4, 'unknown_do', null, 'fly', null, null], 'unknown');
+    same(await refused(() => db.line('{')), ['Refused', 2, 'not_json', null, null, null, null], 'no JSON');
+    same(await refused(() => db.collection('C', schema)), ['Refused', 8, 'name', null, 'name', null, null], 'name');
+    const heard = await new Promise((go) => c.observe({ limit: -1 }).subscribe({ error: go }));
+    same(told(heard), ['Refused', 16, 'query', 'limit', null, null, null], 'an observed query');
+    same(await c.count(), 1, 'nothing changed');
+    await db.close();
+  },
+
+  async 'calls are queued, and each gets the answer to its own line'({ open, transport }) {
+    const db = await open(transport());
+    const c = await db.collection('c', schema);
+    const calls = [];
+    for (let i = 0; i < 300; i++) calls.push(i % 3 ? c.insert({ id: `k${i}`, n: i }) : c.get(`k${i - 1}`).catch((it) => it.code));
+    calls.push(db.line(' '), db.line(''), c.count());
+    const answers = await Promise.all(calls);
+    same(answers.slice(0, 5), [15, '1-c', '1-c', { doc: { id: 'k2', n: 2 }, lwt: 2, rev: '1-c' }, '1-c'], 'answers');
+    same(answers.slice(-3), [null, null, 200], 'blank lines and the last');
+    await db.close();
+  },
+
+  async 'two observers, one unsubscribed within its own next'({ open, transport }) {
+    const db = await open(transport());
+    const c = await db.collection('c', schema);
+    const query = c.observe({ selector: { n: { $gte: 2 } } });
+    const first = [], second = [], third = [];
+    const subscription = query.subscribe((rows) => {
+      first.push(rows.length);
+      if (rows.length === 1) subscription.unsubscribe();
+    });
+    let settled;
+    const settles = new Promise((go) => { settled = go; });
+    query.subscribe({ next: (rows) => { second.push(rows.length); if (rows.length === 3) settled(); } });
+    for (let n = 1; n < 5; n++) await c.insert({ id: `k${n}`, n });
+    await settles;
+    same([subscription.closed, first, second], [true, [0, 1], [0, 1, 2, 3]], 'emissions');
+    // Whoever comes later gets the last result first, after subscribe has returned.
+    const late = query.subscribe((rows) => { third.push(rows.length); late.unsubscribe(); });
+    same(third, [], 'before subscribe returns');
+    await c.upsert({ id: 'k9', n: 9 });
+    await c.count();
+    same(third, [3], 'a late observer');
+    await db.close();
+  },
+
+  async 'an observer that is left by all is not observed, and may be observed again'({ open, transport }) {
+    const db = await open(transport());
+    const c = await db.collection('c', schema);
+    const query = c.observe({}, 'all');
+    let count = 0;
+    await new Promise((go) => {
+      const only = query.subscribe(() => { count += 1; only.unsubscribe(); go(); });
+    });
+    same((await fault(() => query.explain())).code, 17, 'not observed');
+    await c.insert({ id: 'a' });
+    same(count, 1, 'no more emissions');
+    same(await new Promise((go) => { const again = query.subscribe((rows) => { again.unsubscribe(); go(rows); }); }), [{ id: 'a' }], 'again');
+    const other = c.observe({}, 'same'), twice = c.observe({}, 'same');
+    other.subscribe(() => {});
+    same((await new Promise((go) => twice.subscribe({ error: go }))).word, 'exists', 'a name that is taken');
+    await db.close();
+  },
+
+  async 'as an async iterator, with each emission, until it is left or the database is closed'({ open, transport }) {
+    const db = await open(transport());
+    const c = await db.collection('c', schema);
+    const heard = [];
+    const query = c.observe({ limit: 2 });
+    for await (const rows of query) {
+      heard.push(rows.length);
+      if (rows.length === 2) break;
+      if (rows.length === 0) for (let n = 1; n < 4; n++) await c.insert({ id: `k${n}`, n });
+    }
+    same(heard, [0, 1, 2], 'emissions');
+    same((await fault(() => query.explain())).code, 17, 'left');
+    const iterator = query[Symbol.asyncIterator]();
+    same((await iterator.next()).value.length, 2, 'again');
+    const pending = iterator.next();
+    await iterator.return();
+    same(await pending, { done: true }, 'a question that was open');
+    const last = (async () => { let n = 0; for await (const _ of query) n += 1; return n; })();
+    await c.count();
+    await db.close();
+    same(await last, 1, 'closed');
+  },
+
+  async 'as an observable of other libraries, under either of their names'({ open, transport }) {
+    const db = await open(transport());
+    const c = await db.collection('c', schema);
+    const query = c.observe();
+    const key = Symbol.observable ?? '@@observable';
+    same([typeof query[key], typeof query['@@observable'], query[key]() === query], ['function', 'function', true], 'itself');
+    const events = [];
+    await new Promise((go) => query[key]().subscribe({ next: (rows) => { events.push(rows.length); go(); }, complete: () => events.push('complete') }));
+    await db.close();
+    same(events, [0, 'complete'], 'events');
+  },
+
+  async 'a restart keeps what is observed'({ open, transport }) {
+    const db = await open(transport());
+    const c = await db.collection('c', schema);
+    const query = c.observe({ selector: { n: 1 } });
+    const heard = [];
+    query.subscribe((rows) => heard.push(rows.length));
+    await c.insert({ id: 'a', n: 1 });
+    same(await db.restart(), 2, 'epoch');
+    await c.insert({ id: 'b', n: 1 });
+    same((await query.explain()).changes, 2, 'changes');
+    same(heard, [0, 1, 2], 'emissions');
+    await db.close();
+  },
+
+  async 'after close nothing is taken, and what was asked before is answered'({ open, transport }) {
+    const db = await open(transport());
+    const c = await db.collection('c', schema);
+    const asked = c.insert({ id: 'a' });
+    await Promise.all([db.close(), db.close()]);
+    same(await asked, '1-c', 'answered');
+    const stopped = await fault(() => c.count());
+    same([stopped.name, stopped.stop], ['Stopped', 'closed'], 'closed');
+    same((await new Promise((go) => c.observe().subscribe({ error: go }))).stop, 'closed', 'an observer');
+  },
+
+  async 'a full journal ends the program, by its name and both numbers, and loses no answer'({ open, transport }) {
+    const db = await open(transport('--max-journal', '600'));
+    const c = await db.collection('c', schema);
+    const ended = new Promise((go) => c.observe({ limit: 1 }).subscribe({ error: go }));
+    const calls = await Promise.allSettled(Array.from({ length: 20 }, (_, i) => c.insert({ id: `k${i}` })));
+    const kept = calls.filter((it) => it.status === 'fulfilled').length;
+    same(calls.map((it) => it.status === 'fulfilled'), Array.from({ length: 20 }, (_, i) => i < kept), 'a front is answered');
+    same([kept > 0 && kept < 20, calls[kept].reason.stop, calls[kept].reason.status, calls[kept].reason.limit], [true, 'full', 8, 600], 'full');
+    same([calls[19].reason.would > 600, (await ended).stop], [true, 'full'], 'all that is open');
+  },
+};

@@ -1,0 +1,224 @@
+// node clients/test/browser.mjs PROGRAM [PICTURES]: the client over WebAssembly in Chromium, and the page of todos.
+// It wants wasm/out, as wasm/build.sh makes it. Pictures of the page go to the folder PICTURES, if it is given.
+import { spawnSync } from 'node:child_process';
+import { cpSync, mkdirSync, mkdtempSync, readFileSync, rmSync, writeFileSync } from 'node:fs';
+import { tmpdir } from 'node:os';
+import { join, resolve } from 'node:path';
+import { behaviours } from './behaviours.mjs';
+import { launch, serve } from './chromium.mjs';
+import { emissionsOf } from './play.mjs';
+import { examples, quickstart, root, runAll, same } from './shared.mjs';
+
+const program = resolve(process.argv[2]);
+const pictures = process.argv[3];
+const folder = mkdtempSync(join(tmpdir(), 'rx-browser-'));
+const served = await serve(root);
+let chromium = await launch(join(folder, 'profile'));
+const tests = {};
+let journals = 0;
+const journal = () => `journal-${++journals}`;
+const empty = () => chromium.page(`${served.origin}/empty`);
+
+// These run in the page.
+const playInPage = async (name, script) => {
+  const { open, wasm } = await import('/clients/js/rx.mjs');
+  const { playScript } = await import('/clients/test/play.mjs');
+  return playScript(open, wasm('/wasm/out', name), script);
+};
+const readInPage = async (name) => {
+  const folder = await navigator.storage.getDirectory();
+  const file = await (await folder.getFileHandle(name)).getFile();
+  return [...new Uint8Array(await file.arrayBuffer())];
+};
+const behaveInPage = async (name) => {
+  const { open, wasm } = await import('/clients/js/rx.mjs');
+  const { behaviours } = await import('/clients/test/behaviours.mjs');
+  let count = 0;
+  await behaviours[name]({ open, transport: (...options) => wasm('/wasm/out', `${name.slice(0, 20)}${++count}`, ...options) });
+};
+
+for (const { name, after, script, out } of examples()) {
+  tests[`examples/${name}, by the calls, and its journal`] = async () => {
+    const page = await empty(), file = journal(), native = join(folder, file), copied = join(folder, `${file}-copy`);
+    if (after) {
+      const first = examples().find((it) => it.name === after).script;
+      spawnSync(program, ['run', native], { input: first });
+      await page.run(playInPage, file, first);
+    }
+    const played = await page.run(playInPage, file, script);
+    same(played.written, script, 'the lines that were written');
+    same(played.output, out, 'the output');
+    same(JSON.stringify(played.heard), JSON.stringify(emissionsOf(out)), 'what observers heard');
+    spawnSync(program, ['run', native], { input: script });
+    const bytes = Buffer.from(await page.run(readInPage, file));
+    same(bytes.toString('latin1'), readFileSync(native, 'latin1'), 'the journal');
+    writeFileSync(copied, bytes);
+    const { in: into, name: named } = JSON.parse(script.split('\n')[0]);
+    const count = `{"do":"count","in":"${into ?? named}","query":{}}\n`;
+    const [here, there] = [copied, native].map((it) => spawnSync(program, ['run', it], { input: count, encoding: 'utf8' }).stdout);
+    same(here, there, 'the native program on it');
+    same(/^\{"count":[1-9]/.test(here), true, here);
+    await page.close();
+  };
+}
+
+for (const name of Object.keys(behaviours)) {
+  tests[name] = async () => {
+    const page = await empty();
+    await page.run(behaveInPage, name);
+    await page.close();
+  };
+}
+
+const schema = { version: 0, primaryKey: 'id', type: 'object', properties: { id: { type: 'string', maxLength: 20 }, n: { type: 'integer' } }, required: ['id'] };
+const writeInPage = async (name, schema) => {
+  const { open, wasm } = await import('/clients/js/rx.mjs');
+  const db = await open(wasm('/wasm/out', name));
+  const c = await db.collection('c', schema);
+  globalThis.answered = 0;
+  (async () => { for (let n = 0; ; n++) { await c.insert({ id: `k${n}`, n }); globalThis.answered = n + 1; } })();
+};
+const keysInPage = async (name) => {
+  const { open, wasm } = await import('/clients/js/rx.mjs');
+  const db = await open(wasm('/wasm/out', name));
+  const rows = await (await db.collection('c')).find({ sort: [{ n: 'asc' }] });
+  await db.close();
+  return rows.map((it) => it.id);
+};
+const fronts = (keys, answered) => same(keys.length >= answered && keys.every((key, n) => key === `k${n}`), true, `${answered} answered, ${keys.length} kept`);
+
+tests['a page that is closed in the middle, and opened again'] = async () => {
+  const file = journal(), first = await empty();
+  await first.run(writeInPage, file, schema);
+  await first.until('answered > 50');
+  const answered = await first.evaluate('answered');
+  await first.close();
+  const second = await empty();
+  fronts(await second.run(keysInPage, file), answered);
+  await second.close();
+};
+
+tests['Chromium killed in the middle, and started again'] = async () => {
+  const file = journal(), first = await empty();
+  await first.run(writeInPage, file, schema);
+  await first.until('answered > 50');
+  const answered = await first.evaluate('answered');
+  await chromium.kill();
+  chromium = await launch(join(folder, 'profile'));
+  const second = await empty();
+  fronts(await second.run(keysInPage, file), answered);
+  await second.close();
+};
+
+tests['a journal that another page has, and a folder without the program'] = async () => {
+  const file = journal(), first = await empty(), second = await empty();
+  await first.run(writeInPage, file, schema);
+  const stopped = await second.run(async (name) => {
+    const { open, wasm } = await import('/clients/js/rx.mjs');
+    const told = (it) => [it.name, it.stop, it.message.includes('NoModificationAllowedError')].join(' ');
+    return [await open(wasm('/wasm/out', name)).catch(told), await open(wasm('/clients', name)).catch(told)];
+  }, file);
+  same(stopped.join(), 'Stopped start true,Stopped start false', 'the second page');
+  await first.close();
+  await second.close();
+};
+
+tests['20,000 documents: output and journal are the native ones'] = async () => {
+  const lines = [{ do: 'collection', name: 'c', schema }];
+  for (let n = 0; n < 20000; n += 1000) {
+    lines.push({ do: 'bulk', in: 'c', docs: Array.from({ length: 1000 }, (_, i) => ({ id: `k${(n + i) * 7919 % 20000}`, n: i })) });
+  }
+  lines.push({ do: 'find', in: 'c', query: { selector: { n: { $mod: [97, 5] } }, sort: [{ n: 'desc' }], skip: 10, limit: 100 } });
+  const script = lines.map((it) => `${JSON.stringify(it)}\n`).join('');
+  const page = await empty(), file = journal(), native = join(folder, file);
+  const { output } = await page.run(playInPage, file, script);
+  same(output, spawnSync(program, ['run', native], { input: script, encoding: 'utf8', maxBuffer: 1 << 26 }).stdout, 'output');
+  same(Buffer.from(await page.run(readInPage, file)).equals(readFileSync(native)), true, 'the journal');
+  await page.close();
+};
+
+async function take(page, name) {
+  if (!pictures) return;
+  mkdirSync(pictures, { recursive: true });
+  writeFileSync(join(pictures, `${name}.png`), await page.picture());
+}
+
+tests['the page of todos, by keyboard, kept over a reload'] = async () => {
+  const page = await chromium.page(`${served.origin}/clients/web/`);
+  await page.until(`document.querySelectorAll('#phone li').length === 3 && document.querySelectorAll('#laptop li').length === 2`);
+  const titles = () => page.evaluate(`[...document.querySelectorAll('#phone li')].map((it) => it.querySelector('.title').value + (it.querySelector('[type=checkbox]').checked ? ', done' : '')).join('; ')`);
+  const focus = () => page.evaluate(`document.activeElement.getAttribute('aria-label') ?? document.activeElement.textContent.trim()`);
+  const tab = async (times) => { for (let i = 0; i < times; i++) await page.key('Tab'); };
+  await take(page, 'wide');
+  // From the top: the phone's switch, its new todo, Add, and then each todo's box, title and removal.
+  await tab(1);
+  await page.key(' ');
+  await page.until(`document.querySelector('#phone').classList.contains('offline')`);
+  await tab(1);
+  same(await focus(), 'New todo on the phone', 'focus');
+  await page.type('Learn to juggle');
+  await page.key('Enter');
+  await page.until(`document.querySelector('#phone li .title').value === 'Learn to juggle'`);
+  await tab(3);
+  same(await focus(), 'Title', 'focus');
+  await page.type(' – three balls');
+  await page.key('Enter');
+  await page.until(`document.querySelector('#phone li .title').value.includes('three balls')`);
+  await page.run(() => { document.querySelector('#phone li [type=checkbox]').focus(); });
+  await page.key(' ');
+  await page.until(`document.querySelector('#phone li:last-child [type=checkbox]').checked`);
+  same(await page.evaluate(`document.activeElement === document.querySelector('#phone li:last-child [type=checkbox]')`), true, 'the box keeps the focus');
+  const removed = await page.evaluate(`document.querySelector('#phone li .title').value`);
+  await page.run(() => { document.querySelector('#phone li .remove').focus(); });
+  await page.key('Enter');
+  await page.until(`document.querySelectorAll('#phone li').length === 3`);
+  same(await focus(), 'Remove', 'the next removal has the focus');
+  const before = await titles();
+  same([before.includes(removed), before.includes('three balls, done')].join(), 'false,true', before);
+  await page.run(() => { document.getElementById('sync').click(); });
+  await page.until(`/sync/i.test(document.getElementById('status').textContent)`);
+  await take(page, 'wide-after-sync');
+  await page.close();
+
+  const again = await chromium.page(`${served.origin}/clients/web/`, { width: 390, height: 844 });
+  await again.until(`document.querySelectorAll('#phone li').length === 3`);
+  same(await again.evaluate(`[...document.querySelectorAll('#phone li')].map((it) => it.querySelector('.title').value + (it.querySelector('[type=checkbox]').checked ? ', done' : '')).join('; ')`), before, 'after a reload');
+  same(await again.evaluate('document.documentElement.scrollWidth <= innerWidth'), true, 'nothing is cut off on a phone');
+  await take(again, 'narrow');
+  for (let n = 0; n < 8; n++) await again.run((n) => {
+    const form = document.querySelector('#phone form');
+    form.title.value = `Read chapter ${n}, with a title that is long enough to be cut off on a narrow screen`;
+    form.requestSubmit();
+  }, n);
+  await again.until(`document.querySelector('#phone .more span').textContent === '6 of 11 shown'`);
+  await again.run(() => { document.querySelector('#phone .more button').click(); });
+  await again.until(`document.querySelectorAll('#phone li').length === 11`);
+  await take(again, 'narrow-long');
+  await again.close();
+};
+
+tests['the quickstart page of clients/README.md'] = async () => {
+  const own = mkdtempSync(join(folder, 'quick-'));
+  cpSync(join(root, 'clients/js/rx.mjs'), join(own, 'rx.mjs'));
+  cpSync(join(root, 'wasm/out'), join(own, 'out'), { recursive: true });
+  writeFileSync(join(own, 'index.html'), quickstart('index.html'));
+  const site = await serve(own);
+  const page = await chromium.page(`${site.origin}/`);
+  for (const title of ['Buy milk', 'Bake bread']) {
+    await page.until(`document.activeElement.name === 'title' && document.activeElement.value === '' && document.querySelector('form').onsubmit`);
+    await page.type(title);
+    await page.key('Enter');
+    await page.until(`document.querySelector('ul').textContent.includes('${title}')`);
+  }
+  await page.close();
+  const again = await chromium.page(`${site.origin}/`);
+  await again.until(`document.querySelector('ul').textContent === 'Bake breadBuy milk'`);
+  await again.close();
+  site.close();
+};
+
+const passed = await runAll('chromium', tests);
+await chromium.close();
+served.close();
+rmSync(folder, { recursive: true, force: true, maxRetries: 5 });
+process.exit(passed ? 0 : 1);

@@ -1,0 +1,141 @@
+// node clients/test/node.mjs PROGRAM: the client over a child process.
+import { spawnSync } from 'node:child_process';
+import { cpSync, mkdtempSync, readFileSync, rmSync, writeFileSync } from 'node:fs';
+import { tmpdir } from 'node:os';
+import { join, resolve } from 'node:path';
+import { child, open } from '../js/rx.mjs';
+import { behaviours } from './behaviours.mjs';
+import { emissionsOf, playScript } from './play.mjs';
+import { examples, quickstart, root, runAll, same } from './shared.mjs';
+
+const program = resolve(process.argv[2]);
+const folder = mkdtempSync(join(tmpdir(), 'rx-node-'));
+const schema = { version: 0, primaryKey: 'id', type: 'object', properties: { id: { type: 'string', maxLength: 20 }, n: { type: 'integer' } }, required: ['id'] };
+let journals = 0;
+const journal = () => join(folder, `journal-${++journals}`);
+const tests = {};
+
+for (const { name, after, script, out } of examples()) {
+  tests[`examples/${name}, by the calls`] = async () => {
+    const path = journal(), native = journal();
+    if (after) {
+      const first = examples().find((it) => it.name === after).script;
+      for (const it of [path, native]) spawnSync(program, ['run', it], { input: first });
+    }
+    const played = await playScript(open, child(program, path), script);
+    same(played.written, script, 'the lines that were written');
+    same(played.output, out, 'the output');
+    same(JSON.stringify(played.heard), JSON.stringify(emissionsOf(out)), 'what observers heard');
+    spawnSync(program, ['run', native], { input: script });
+    same(readFileSync(path, 'latin1'), readFileSync(native, 'latin1'), 'the journal');
+  };
+}
+
+for (const [name, test] of Object.entries(behaviours)) {
+  tests[name] = () => test({ open, transport: (...options) => child(program, journal(), ...options) });
+}
+
+tests['a child that is killed in mid-call'] = async () => {
+  const path = journal();
+  let running;
+  const db = await open(async (hooks) => (running = await child(program, path)(hooks)));
+  const c = await db.collection('c', schema);
+  const stopped = new Promise((go) => c.observe({ limit: 1 }).subscribe({ error: go }));
+  const answered = [];
+  const calls = Array.from({ length: 3000 }, (_, i) => c.insert({ id: `k${i}`, n: i }).then(() => {
+    answered.push(`k${i}`);
+    if (answered.length === 20) running.kill();
+  }));
+  const faults = (await Promise.allSettled(calls)).filter((it) => it.status === 'rejected').map((it) => it.reason);
+  same(faults.length > 0 && faults.every((it) => it.name === 'Stopped' && it.stop === 'killed'), true, 'each open call fails');
+  same((await stopped).stop, 'killed', 'the observer');
+  same((await c.count().catch((it) => it.stop)), 'killed', 'a later call');
+  await db.close();
+  const again = await open(child(program, path));
+  const rows = await (await again.collection('c')).find();
+  same(answered.length >= 20 && answered.every((id) => rows.some((it) => it.id === id)), true, 'what was answered is there');
+  await again.close();
+};
+
+tests['a program that does not start, and a file that is no journal'] = async () => {
+  const missing = await open(child(join(folder, 'none'), journal())).catch((it) => it);
+  same(`${missing.name} ${missing.stop}`, 'Stopped start', 'no program');
+  const path = journal();
+  writeFileSync(path, 'something else than a journal');
+  const db = await open(child(program, path));
+  const fault = await db.collection('c', schema).catch((it) => it);
+  same(`${fault.stop} ${fault.status}`, 'not_journal 7', 'no journal');
+};
+
+// Lines as a program would write them, to be delivered in whatever pieces.
+const scripted = (answers, pieces) => async (hooks) => ({
+  send(text) {
+    for (const line of text.split('\n').slice(0, -1)) {
+      const answer = answers[line];
+      if (answer === undefined) throw new Error(`not asked for: ${line}`);
+      setTimeout(() => { for (const piece of answer.match(pieces)) hooks.output(piece); });
+    }
+  },
+  end: () => setTimeout(() => hooks.ended({ status: 0 })),
+  kill() {},
+});
+
+tests['replicate and turn, with the exchanges, over a scripted program'] = async () => {
+  const answers = {
+    '{"do":"replicate","name":"r","fork":"f","master":"m","handler":"greater","field":"n"}': '{"line":1,"ok":"replicate"}\n',
+    '{"do":"turn","name":"r","batch":2}':
+      '{"conflicts":["ä"],"exchange":1,"rows":["ä","b"],"sent":"push"}\n{"exchange":2,"place":{"id":"b","lwt":3},"rows":["b"],"sent":"pull"}\n{"end":"quiet","exchanges":2,"line":2,"ok":"turn"}\n',
+    '{"do":"turn","name":"r"}': '{"end":"quiet","exchanges":0,"line":3,"ok":"turn"}\n',
+    '{"do":"turn","name":"s"}': '{"code":18,"line":4,"refused":"no_replication"}\n',
+  };
+  for (const pieces of [/[^]/g, /[^]{1,7}/g, /[^]+/g]) {
+    const db = await open(scripted(answers, pieces));
+    await db.replicate({ name: 'r', fork: 'f', master: 'm', handler: 'greater', field: 'n' });
+    const turn = await db.turn('r', { batch: 2 });
+    same(JSON.stringify(turn), '{"end":"quiet","exchanges":2,"each":[{"conflicts":["ä"],"exchange":1,"rows":["ä","b"],"sent":"push"},{"exchange":2,"place":{"id":"b","lwt":3},"rows":["b"],"sent":"pull"}]}', 'a turn');
+    same(JSON.stringify(await db.turn('r')), '{"end":"quiet","exchanges":0,"each":[]}', 'the next');
+    same((await db.turn('s').catch((it) => it)).code, 18, 'none');
+    await db.close();
+  }
+};
+
+tests['output that is no answer ends the database'] = async () => {
+  const db = await open(scripted({ '{"do":"restart"}': 'Segmentation fault\n' }, /[^]+/g));
+  same((await db.restart().catch((it) => it)).stop, 'output', 'output');
+};
+
+tests['an observer that throws disturbs no other'] = () => new Promise((done, fail) => {
+  const code = `
+    import { open, child } from ${JSON.stringify(join(root, 'clients/js/rx.mjs'))};
+    const faults = [];
+    process.on('uncaughtException', (it) => faults.push(it.message));
+    const db = await open(child(${JSON.stringify(program)}, ${JSON.stringify(journal())}));
+    const c = await db.collection('c', ${JSON.stringify(schema)});
+    const query = c.observe();
+    let heard = 0;
+    query.subscribe(() => { throw new Error('its own'); });
+    query.subscribe(() => { heard += 1; });
+    await c.insert({ id: 'a' });
+    await c.count();
+    await db.close();
+    await new Promise((go) => setTimeout(go, 20));
+    console.log(heard, faults.join());`;
+  const { stdout, stderr } = spawnSync(process.execPath, ['--input-type=module', '-e', code], { encoding: 'utf8' });
+  if (stdout === '2 its own,its own\n') done();
+  else fail(new Error(stdout + stderr));
+});
+
+tests['the quickstart of clients/README.md'] = async () => {
+  const own = mkdtempSync(join(folder, 'quick-'));
+  cpSync(join(root, 'clients/js/rx.mjs'), join(own, 'rx.mjs'));
+  writeFileSync(join(own, 'quickstart.mjs'), quickstart('quickstart.mjs'));
+  for (const run of ['first', 'second']) {
+    const { stdout, stderr, status } = spawnSync(process.execPath, ['quickstart.mjs'], { cwd: own, encoding: 'utf8', env: { ...process.env, RX: program } });
+    if (status !== 0) throw new Error(stdout + stderr);
+    if (run === 'second') same(stdout.includes('Bake bread'), true, 'the journal kept it');
+  }
+};
+
+const passed = await runAll('node', tests);
+rmSync(folder, { recursive: true });
+process.exit(passed ? 0 : 1);

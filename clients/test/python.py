@@ -1,0 +1,366 @@
+"""python3 clients/test/python.py PROGRAM: the client over a child process, plain and with asyncio."""
+import asyncio
+import json
+import os
+import re
+import signal
+import subprocess
+import sys
+import tempfile
+import threading
+import traceback
+
+HERE = os.path.dirname(os.path.abspath(__file__))
+ROOT = os.path.join(HERE, "..", "..")
+sys.path.insert(0, os.path.join(HERE, "..", "python"))
+import rx  # noqa: E402
+
+PROGRAM = os.path.abspath(sys.argv[1])
+SCHEMA = {
+    "version": 0,
+    "primaryKey": "id",
+    "type": "object",
+    "properties": {"id": {"type": "string", "maxLength": 20}, "n": {"type": "integer"}},
+    "required": ["id"],
+}
+FOLDER = tempfile.TemporaryDirectory(prefix="rx-python-")
+tests = []
+
+
+def test(call):
+    tests.append(call)
+    return call
+
+
+def journal():
+    journal.count += 1
+    return os.path.join(FOLDER.name, f"journal-{journal.count}")
+
+
+journal.count = 0
+
+
+def same(found, wanted, what=""):
+    if found != wanted:
+        raise AssertionError(f"{what}: {found!r}\nand not\n{wanted!r}")
+
+
+def fault(call, *args):
+    try:
+        call(*args)
+    except (rx.Refused, rx.Stopped) as it:
+        return it
+    raise AssertionError("it was not refused")
+
+
+async def async_fault(call):
+    try:
+        await call
+    except (rx.Refused, rx.Stopped) as it:
+        return it
+    raise AssertionError("it was not refused")
+
+
+def examples():
+    folder = os.path.join(ROOT, "examples")
+    for file in sorted(os.listdir(folder)):
+        if file.endswith(".jsonl"):
+            name = file[:-6]
+            with open(os.path.join(folder, file), encoding="utf-8") as script, open(os.path.join(folder, f"{name}.out"), "rb") as out:
+                yield name, script.read(), out.read()
+
+
+class Recorder:
+    """Keeps what goes both ways of a database."""
+
+    def __init__(self, lines):
+        self.written, self.output = b"", b""
+        self._write, self._take = lines.write, lines.take
+        lines.write, lines.take = self.write, self.take
+
+    def write(self, line, answer):
+        data = self._write(line, answer)
+        self.written += data
+        return data
+
+    def take(self, data):
+        self.output += data
+        self._take(data)
+
+
+def play(db, text, observed):
+    """One line of a script by the call for it; with asyncio it answers a coroutine."""
+    if not text.strip():
+        return db.line(text)
+    line = json.loads(text)
+    do, into = line.pop("do"), line.pop("in", None)
+    if into is None:
+        if do == "unobserve":
+            return observed.pop(line["name"]).close()
+        if do in ("collection", "explain", "tick", "restart", "replicate", "turn"):
+            return getattr(db, do)(**line)
+        return db.call({"do": do, **line})
+    collection = (rx.AsyncCollection if isinstance(db, rx.AsyncDatabase) else rx.Collection)(db, into, None)
+    if do == "observe":
+        observed[line["name"]] = query = collection.observe(line["query"], line["name"])
+        return query.__aenter__() if isinstance(db, rx.AsyncDatabase) else None
+    return getattr(collection, do)(**line)
+
+
+def prepared(name):
+    """A new journal, or for the second run of a pair the first one's."""
+    path = journal()
+    if name == "again":
+        first = next(script for it, script, _ in examples() if it == "documents")
+        subprocess.run([PROGRAM, "run", path], input=first.encode(), stdout=subprocess.DEVNULL)
+    return path
+
+
+@test
+def every_example_by_the_calls():
+    for name, script, out in examples():
+        with rx.open(PROGRAM, prepared(name)) as db:
+            recorder, observed = Recorder(db._lines), {}
+            for text in script.split("\n")[:-1]:
+                try:
+                    play(db, text, observed)
+                except rx.Refused:
+                    pass
+        same(recorder.written, script.encode(), f"{name}, written")
+        same(recorder.output, out, f"{name}, output")
+
+
+@test
+def every_example_with_asyncio():
+    async def run(name, script, out):
+        async with rx.open_async(PROGRAM, prepared(name)) as db:
+            recorder, observed = Recorder(db._lines), {}
+            for text in script.split("\n")[:-1]:
+                try:
+                    await play(db, text, observed)
+                except rx.Refused:
+                    pass
+        same(recorder.written, script.encode(), f"{name}, written")
+        same(recorder.output, out, f"{name}, output")
+
+    for it in examples():
+        asyncio.run(run(*it))
+
+
+def told(it):
+    return it.code, it.word, it.cause, it.subject, it.rev, it.row
+
+
+@test
+def refusals_by_code():
+    with rx.open(PROGRAM, journal()) as db:
+        c = db.collection("c", SCHEMA)
+        same((c.new, db.collection("c", SCHEMA).new), (True, False))
+        c.insert({"id": "a", "n": 1})
+        same(told(fault(c.insert, {"id": "a"})), (14, "conflict", None, None, "1-c", None))
+        same(told(fault(c.bulk, [{"id": "b"}, {"id": "a"}])), (14, "conflict", None, None, "1-c", 1))
+        same(told(fault(c.insert, {"id": "b", "n": "x"})), (13, "invalid", "kind", "n", None, None))
+        same(told(fault(c.find, {"selector": {"m": 1}})), (16, "query", "field", "m", None, None))
+        same(told(fault(c.get, "z")), (15, "no_document", None, None, None, None))
+        same(told(fault(db.collection("d").count)), (10, "no_collection", None, "d", None, None))
+        same(told(fault(c.observe, {"limit": -1})), (16, "query", "limit", None, None, None))
+        same(told(fault(db.explain, "q")), (17, "no_query", None, None, None, None))
+        same(told(fault(db.line, "{")), (2, "not_json", None, None, None, None))
+        # What can't be written is refused before it counts as a line.
+        try:
+            c.insert({"id": "b", "n": float("nan")})
+            raise AssertionError("not a number was written")
+        except ValueError:
+            pass
+        same((db.line(""), c.count(), c.get("a")), ({}, 1, ({"id": "a", "n": 1}, 1, "1-c")))
+
+
+@test
+def emissions_of_what_is_answered_and_then_no_more():
+    with rx.open(PROGRAM, journal()) as db:
+        c = db.collection("c", SCHEMA)
+        with c.observe({"selector": {"n": {"$gte": 2}}}) as query:
+            for n in range(1, 4):
+                c.insert({"id": f"k{n}", "n": n})
+            same([len(rows) for rows in query.pending()], [0, 1, 2])
+            same((list(query.pending()), query.explain()["changes"]), ([], 3))
+            try:
+                query.next(timeout=0.01)
+                raise AssertionError("an emission from nowhere")
+            except TimeoutError:
+                pass
+            same(fault(c.observe, {}, query.name).word, "exists")
+        same((list(query), fault(query.explain).code), ([], 17))
+        last = c.observe()
+    same([len(rows) for rows in last], [3], "closed")
+
+
+@test
+def threads_share_a_database():
+    with rx.open(PROGRAM, journal()) as db:
+        c = db.collection("c", SCHEMA)
+        query, heard = c.observe(), []
+        listener = threading.Thread(target=lambda: heard.extend(len(rows) for rows in query))
+        listener.start()
+
+        def write(who):
+            for n in range(100):
+                same(c.insert({"id": f"{who}-{n}", "n": n}), "1-c")
+
+        writers = [threading.Thread(target=write, args=(who,)) for who in range(4)]
+        for it in writers:
+            it.start()
+        for it in writers:
+            it.join()
+        same(c.count(), 400)
+    listener.join()
+    same(heard, list(range(401)), "each emission in turn")
+
+
+@test
+def a_result_of_megabytes_while_a_long_line_is_written():
+    schema = {**SCHEMA, "properties": {**SCHEMA["properties"], "t": {"type": "string", "maxLength": 100000}}}
+    with rx.open(PROGRAM, journal()) as db:
+        c = db.collection("c", schema)
+        query = c.observe()
+        for n in range(5):
+            c.bulk([{"id": f"{n}-{i}", "n": i, "t": "é" * 20000} for i in range(20)])
+        same([len(rows) for rows in query.pending()], [0, 20, 40, 60, 80, 100])
+
+
+@test
+def a_child_that_is_killed_in_mid_call():
+    path = journal()
+    db = rx.open(PROGRAM, path)
+    c = db.collection("c", SCHEMA)
+    query, answered, stopped = c.observe({"limit": 1}), [], []
+
+    def write(who):
+        try:
+            for n in range(100000):
+                c.insert({"id": f"{who}-{n}", "n": n})
+                answered.append(f"{who}-{n}")
+                if len(answered) == 50:
+                    os.kill(db._child.pid, signal.SIGKILL)
+        except rx.Stopped as it:
+            stopped.append(it.stop)
+
+    writers = [threading.Thread(target=write, args=(who,)) for who in range(4)]
+    for it in writers:
+        it.start()
+    for it in writers:
+        it.join()
+    same(stopped, ["killed"] * 4)
+    try:
+        for _ in query:
+            pass
+        raise AssertionError("the observer was not told")
+    except rx.Stopped as it:
+        same(it.stop, "killed")
+    same(fault(c.count).stop, "killed")
+    db.close()
+    with rx.open(PROGRAM, path) as again:
+        there = {row["id"] for row in again.collection("c").find()}
+    same((len(answered) >= 50, set(answered) - there), (True, set()))
+
+
+@test
+def a_full_journal_by_its_name_and_both_numbers():
+    with rx.open(PROGRAM, journal(), "--max-journal", "600") as db:
+        c = db.collection("c", SCHEMA)
+        while True:
+            try:
+                c.insert({"id": f"k{c.count()}"})
+            except rx.Stopped as it:
+                same((it.stop, it.status, it.limit, it.would > 600), ("full", 8, 600, True))
+                break
+
+
+@test
+def a_program_that_does_not_start_and_a_file_that_is_no_journal():
+    same(fault(rx.open, os.path.join(FOLDER.name, "none"), journal()).stop, "start")
+    path = journal()
+    with open(path, "w") as file:
+        file.write("something else than a journal")
+    with rx.open(PROGRAM, path) as db:
+        stopped = fault(db.collection, "c", SCHEMA)
+    same((stopped.stop, stopped.status), ("not_journal", 7))
+
+
+@test
+def asyncio_calls_at_once_iterators_and_a_killed_child():
+    async def run():
+        path = journal()
+        async with rx.open_async(PROGRAM, path) as db:
+            c = await db.collection("c", SCHEMA)
+            revs = await asyncio.gather(*(c.insert({"id": f"k{n}", "n": n}) for n in range(200)))
+            same((revs, await c.count()), (["1-c"] * 200, 200))
+            heard = []
+            async with c.observe({"selector": {"n": {"$gte": 200}}}) as query:
+                await c.insert({"id": "k200", "n": 200})
+                async for rows in query:
+                    heard.append(len(rows))
+                    if len(rows) == 1:
+                        break
+            same((heard, (await async_fault(db.explain(query.name))).code), ([0, 1], 17))
+            same((await async_fault(c.insert({"id": "k1"}))).rev, "1-c")
+            same((await async_fault(anext_of(c.observe({"skip": "x"})))).cause, "skip")
+            calls = [asyncio.ensure_future(c.insert({"id": f"x{n}"})) for n in range(1000)]
+            await calls[10]
+            db._child.kill()
+            results = await asyncio.gather(*calls, return_exceptions=True)
+            kept = [it for it in results if it == "1-c"]
+            same((len(kept) > 10, {it.stop for it in results[len(kept):]} <= {"killed"}), (True, True))
+        async with rx.open_async(PROGRAM, path) as db:
+            there = await (await db.collection("c")).count()
+            same(there >= 201 + len(kept), True, "what was answered is there")
+
+    async def anext_of(query):
+        return await query.__anext__()
+
+    asyncio.run(run())
+
+
+@test
+def replicate_and_turn_over_scripted_lines():
+    lines = rx._Lines()
+    written, replies = b"", []
+    answer = lambda reply, fault: replies.append(reply or fault)  # noqa: E731
+    written += lines.write(rx._line("replicate", name="r", fork="f", master="m", handler="greater", field="n"), answer)
+    written += lines.write(rx._line("turn", name="r", batch=2), answer)
+    same(written, b'{"do":"replicate","name":"r","fork":"f","master":"m","handler":"greater","field":"n"}\n{"do":"turn","name":"r","batch":2}\n')
+    push = {"conflicts": ["ä"], "exchange": 1, "rows": ["ä", "b"], "sent": "push"}
+    output = ['{"line":1,"ok":"replicate"}', json.dumps(push, ensure_ascii=False), '{"end":"quiet","exchanges":1,"line":2,"ok":"turn"}', ""]
+    for byte in "\n".join(output).encode():
+        lines.take(bytes([byte]))
+    same((replies[1]["end"], replies[1]["exchanges"], replies[1]["each"]), ("quiet", 1, [push]))
+
+
+@test
+def the_quickstart_of_the_readme():
+    with open(os.path.join(ROOT, "clients", "README.md"), encoding="utf-8") as file:
+        code = re.search(r"`quickstart\.py`.*?\n```\w*\n(.*?)\n```", file.read(), re.S).group(1)
+    own = tempfile.mkdtemp(dir=FOLDER.name)
+    with open(os.path.join(own, "quickstart.py"), "w") as file:
+        file.write(code)
+    where = {**os.environ, "RX": PROGRAM, "PYTHONPATH": os.path.join(HERE, "..", "python")}
+    for _ in range(2):
+        ran = subprocess.run([sys.executable, "quickstart.py"], cwd=own, env=where, capture_output=True, text=True)
+        same(ran.returncode, 0, ran.stderr)
+    same("Bake bread" in ran.stdout, True, ran.stdout)
+
+
+def main():
+    failed = 0
+    for call in tests:
+        name = call.__name__.replace("_", " ")
+        try:
+            call()
+            print(f"ok    python: {name}", flush=True)
+        except Exception:
+            failed += 1
+            print(f"FAILED python: {name}\n{traceback.format_exc()}", flush=True)
+    sys.exit(1 if failed else 0)
+
+
+main()
