@@ -5,3 +5,4 @@ pub mod Members
 pub mod Beside
 pub mod Setting
 pub mod Written
+pub mod Tokens

@@ -1,8 +1,9 @@
-ghost use Rattle.std.specs.Prelude.{◌≡◌, ◌≤◌, IfOk, Some, None, Ok, false};
+ghost use Rattle.std.specs.Prelude.{◌≡◌, ◌≤◌, ◌++◌, ℕ, List, IfOk, OnOk, Some, None, Ok, false, string_bytes};
+ghost use Rattle.json.specs.Tree.{json_tokens};
 ghost use Rattle.serde_json.specs.Data.{Data, depth};
 ghost use Rattle.serde_json.specs.Read.{read, max_depth};
 ghost use Rattle.serde_json.specs.View.{view, members_view};
-ghost use Rattle.serde_json.specs.Written.{compact_text, has_float};
+ghost use Rattle.serde_json.specs.Written.{compact_text, has_float, outline};
 ghost use Rattle.rx_value.specs.Fields.{AreFields};
 ghost use Rattle.rx_value.specs.Named.{named};
 ghost use Rattle.rx_value.specs.Reading.{fields_of};
@@ -13,8 +14,49 @@ use crate::fields::Fields;
 use crate::rx_text::RxText;
 use crate::state::{MARK, State};
 use crate::value::Value;
+use json::Writer;
 use serde_json::{Map, Value as Json};
 use std::alloc::{AllocError, Global};
+use std::mem;
+
+/// Appends the compact JSON object of the fields.
+pub fn write_fields(text: &mut String, fields: &Fields) -> Result<(), AllocError>
+    ensures ok { OnOk result (string_bytes text.new
+        ≡ string_bytes text.old ++ compact_text (fields_data fields.now)) }
+    ensures front { (more : List ℕ) × (string_bytes text.new ≡ string_bytes text.old ++ more) }
+{
+    let empty = String::new(*text.allocator());
+    let mut writer = Writer::new(mem::replace(text, empty).into_bytes());
+    let written = put_fields(&mut writer, fields);
+    // A writer gives UTF-8 after what it was given.
+    *text = unsafe { String::from_utf8_unchecked(writer.into_inner()) };
+    written
+}
+
+fn put_fields(writer: &mut Writer, fields: &Fields) -> Result<(), AllocError>
+    ensures tokens { OnOk result (writer.new.tokens
+        ≡ writer.old.tokens ++ json_tokens (outline (fields_data fields.now))) }
+    ensures before { writer.new.before ≡ writer.old.before }
+{
+    writer.begin_object()?;
+    for (name, value) in &fields.pairs {
+        writer.key(name.as_str())?;
+        put_value(writer, value)?;
+    }
+    writer.end_object()
+}
+
+fn put_value(writer: &mut Writer, value: &Value) -> Result<(), AllocError>
+    ensures tokens { OnOk result (writer.new.tokens
+        ≡ writer.old.tokens ++ json_tokens (outline (value_data value.now))) }
+    ensures before { writer.new.before ≡ writer.old.before }
+{
+    match value {
+        Value::Flag(b) => writer.boolean(*b),
+        Value::Int(n) => writer.i64(*n),
+        Value::Text(text) => writer.string(text.as_str()),
+    }
+}
 
 /// The compact JSON object of the fields, which `read_fields` reads back.
 pub fn fields_text(alloc: Global, fields: &Fields) -> Result<RxText, AllocError>
