@@ -206,6 +206,7 @@ def order_of_calls(folder):
         descriptor = calls[folders[0]][2]
         insist(("fsync", str(descriptor), 0) in calls[folders[0]:], "the folder was not synced")
         names = [name for name, _, _ in calls]
+        insist("flock" in names, "the file was not locked")
         reply = names.index("write")
         insist(folders[0] < reply, "a reply was written before the folder was synced")
         locked = names.index("flock")
