@@ -131,6 +131,7 @@ impl<H: Holder + Drop> World<H> {
         ensures holders { IfOk result (λ world. After H.held H.written
             (λ c h. F.post make.now c (Ok h)) (touch (content entry)) (holders_in self)
             (holders_in world)) }
+        ensures distinct { IfOk result (λ world. AreDistinct (world_in H.held world)) }
         ensures illegal { IsErrOf result ApplyFault.Illegal
             → legal (content entry) (world_in H.held self) ≡ false }
     {
@@ -158,7 +159,7 @@ impl<H: Holder + Drop> World<H> {
         ensures holders { IfOk result (λ world. After H.held H.written
             (λ c h. F.post make.now c (Ok h)) (touch (content entry)) (holders_in self)
             (holders_in world)) }
-        ensures distinct { AreDistinct (world_in H.held self) }
+        ensures distinct { IfOk result (λ world. AreDistinct (world_in H.held world)) }
     {
         let mut parts = self.parts;
         change(&mut parts, alloc, entry, make)?;

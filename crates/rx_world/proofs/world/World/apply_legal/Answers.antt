@@ -20,3 +20,9 @@ invariant_of-result g c =
       distinct = subst AreDistinct (sym made.world)
           (distinct_step (content c.args.entry) old c.self.invariant.distinct);
     }
+
+pub returns-clause-distinct : goal.returns-clause-distinct
+returns-clause-distinct g c =
+    subst AreDistinct (sym c.in_ok-change.ensures.world)
+    (distinct_step (content c.args.entry) (world_in g.H.Holder.held (holders_of c.self.inside.parts))
+    c.self.invariant.distinct)
