@@ -1,18 +1,19 @@
 #!/bin/bash
 # wasm/build.sh [OUT]: the proved program for a browser, as rx.wasm and host.mjs in the folder OUT (wasm/out).
 #
-# `rt` proves and builds the program as ever, for a plain x86-64. It sees a view of the kit, by links in a
-# temporary folder, in which `clang` is a script that keeps the LLVM module it is handed. That module is
-# compiled once more, for wasm64, and linked with the three C files beside this one. The kit isn't touched.
+# `rt` proves and builds the program as ever. Then it builds it again for a plain x86-64, and sees a view of
+# the kit, by links in a temporary folder, in which `clang` is a script that keeps the LLVM module it is
+# handed. That module is compiled once more, for wasm64, and linked with the three C files beside this one.
 set -euo pipefail
 here=$(cd "$(dirname "$0")" && pwd)
 out=$(realpath -m "${1:-$here/out}")
 kit=$(dirname "$(dirname "$(realpath "$(command -v rt)")")")
 tools=$kit/toolchain/bin
 work=$(mktemp -d)
+trap 'rm -rf "$work"' EXIT
 mkdir -p "$work/kit/bin" "$work/kit/toolchain/bin" "$out"
 
-# rt looks for the kit around its own file, so rt and its library are copied and all else is linked.
+# rt looks for the kit around its own file, so rt and its library are copied, and all but what is there already is linked.
 ln -s "$kit"/* "$work/kit/" 2>/dev/null || true
 ln -s "$kit"/bin/* "$work/kit/bin/"
 rm "$work/kit/bin/rt" "$work/kit/bin/rtlib.py"
@@ -27,14 +28,13 @@ exec "$tools/clang" "\$@"
 END
 chmod +x "$work/kit/toolchain/bin/clang"
 
-# What an earlier run built is put back at the end.
 cd "$here/../crates/rx"
-mkdir -p out "$work/before"
-for file in out/rx out/rx.o out/rx.stamp; do
-    [ ! -f $file ] || mv $file "$work/before/"
-done
-trap 'cp -p "$work"/before/* out/ 2>/dev/null || true; rm -rf "$work"' EXIT
-"$work/kit/bin/rt" run --cpu x86-64 < /dev/null > "$work/said" 2>&1 || true
+rt run < /dev/null > "$work/said" 2>&1 || true
+# The program that was just built is put back at the end.
+mkdir "$work/before"
+[ ! -f out/rx.stamp ] || mv out/rx out/rx.o out/rx.stamp "$work/before/"
+trap 'mv "$work"/before/* out/ 2>/dev/null || true; rm -rf "$work"' EXIT
+"$work/kit/bin/rt" run --cpu x86-64 --jobs 1 < /dev/null > "$work/said" 2>&1 || true
 if ! grep '^logic=proved' "$work/said" || [ ! -f "$work/module.bc" ]; then
     cat "$work/said"
     echo "wasm/build.sh: the program was not built" >&2

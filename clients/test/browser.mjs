@@ -161,7 +161,7 @@ tests['the page of todos, by keyboard, kept over a reload'] = async () => {
   await page.until(`document.querySelector('#phone li .title').value === 'Learn to juggle'`);
   await tab(3);
   same(await focus(), 'Title', 'focus');
-  await page.type(' – three balls');
+  await page.type('Learn to juggle three balls'); // what is there is marked, and replaced
   await page.key('Enter');
   await page.until(`document.querySelector('#phone li .title').value.includes('three balls')`);
   await page.run(() => { document.querySelector('#phone li [type=checkbox]').focus(); });

@@ -60,6 +60,7 @@ async function show(db, name) {
   }
 
   function render(rows) {
+    performance.mark('emission');
     const focused = document.activeElement;
     const shown = rows.map((row) => {
       const li = items.get(row.id) ?? item(row);
@@ -131,7 +132,6 @@ try {
   element('sync').onclick = () => sync(db);
   element('sync').disabled = false;
   say('Ready. Everything you do is kept in this browser.');
-  performance.mark('ready');
   navigator.storage.persist?.(); // so that the browser doesn't drop the journal when it is short of room
 } catch (fault) {
   const inUse = fault.message.includes('NoModificationAllowedError');
