@@ -1,3 +1,2 @@
-mod Counted
+pub mod Tokens
 mod Examples
-pub mod Floats

@@ -1,37 +1,44 @@
-ghost use Rattle.std.specs.Prelude.{◌≡◌, IfOk, map, string_bytes};
-ghost use Rattle.serde_json.specs.View.{view};
+ghost use Rattle.std.specs.Prelude.{◌≡◌, ◌++◌, IfOk, OnOk, string_bytes};
 ghost use Rattle.rx_value.specs.Writing.{fields_data};
-ghost use Rattle.rx_reply.specs.Emission.{emission_data, emission_line};
-ghost use Rattle.rx_reply.specs.Writing.{list_data};
+ghost use Rattle.rx_reply.specs.Emission.{emission_data, emission_line, rows_fields};
+ghost use Rattle.rx_reply.specs.Writing.{list_data, tokens_of};
 
-use crate::writing::output_line;
+use crate::writing::{into_line, new_writer, put_text};
+use json::Writer;
 use rx_query::Results;
-use rx_value::fields_json;
-use serde_json::{Value as Json, json};
+use rx_value::put_fields;
 use std::alloc::{AllocError, Global};
 
 /// The line of output that gives the present rows of an observed query.
 pub fn emission_line(alloc: Global, name: &str, rows: &Results) -> Result<String, AllocError>
-    ensures { IfOk result (λ t. string_bytes t ≡ emission_line name.now (map (λ r. r.fields) rows.now)) }
+    ensures { IfOk result (λ t. string_bytes t ≡ emission_line name.now (rows_fields rows.now)) }
 {
-    let json = emission_json(alloc, name, rows)?;
-    output_line(alloc, &json)
+    let mut writer = new_writer(alloc);
+    write_emission(&mut writer, name, rows)?;
+    into_line(writer)
 }
 
-fn emission_json(alloc: Global, name: &str, rows: &Results) -> Result<Json, AllocError>
-    ensures { IfOk result (λ j. view j ≡ emission_data name.now (map (λ r. r.fields) rows.now)) }
+fn write_emission(writer: &mut Writer, name: &str, rows: &Results) -> Result<(), AllocError>
+    ensures tokens { OnOk result (writer.new.tokens
+        ≡ writer.old.tokens ++ tokens_of (emission_data name.now (rows_fields rows.now))) }
+    ensures before { writer.new.before ≡ writer.old.before }
 {
-    let rows = results_json(alloc, rows)?;
-    json!(in alloc; {"emit": name, "rows": rows})
+    writer.begin_object()?;
+    put_text(writer, "emit", name)?;
+    writer.key("rows")?;
+    write_results(writer, rows)?;
+    writer.end_object()
 }
 
 // The list of the objects of the fields.
-fn results_json(alloc: Global, rows: &Results) -> Result<Json, AllocError>
-    ensures { IfOk result (λ j. view j ≡ list_data fields_data (map (λ r. r.fields) rows.now)) }
+fn write_results(writer: &mut Writer, rows: &Results) -> Result<(), AllocError>
+    ensures tokens { OnOk result (writer.new.tokens
+        ≡ writer.old.tokens ++ tokens_of (list_data fields_data (rows_fields rows.now))) }
+    ensures before { writer.new.before ≡ writer.old.before }
 {
-    let mut items = Vec::with_capacity(alloc, rows.len())?;
+    writer.begin_array()?;
     for i in 0..rows.len() {
-        items.push(fields_json(alloc, &rows.row(i).fields)?)?;
+        put_fields(writer, &rows.row(i).fields)?;
     }
-    Ok(Json::Array(items))
+    writer.end_array()
 }

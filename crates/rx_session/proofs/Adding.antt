@@ -15,13 +15,13 @@ use Rattle.rx_value.specs.Named.{named, change_named}
 use Rattle.rx_query.specs.Asked.{Asked}
 use Rattle.rx_collection.specs.Held.{Held}
 use Rattle.rx_collection.proofs.Named.{at_name}
-use Rattle.rx_observe.specs.Counts.{no_counts}
-use Rattle.rx_observe.specs.Observing.{Observing, just_observed}
+use Rattle.rx_table.specs.Counts.{no_counts}
+use Rattle.rx_observe.specs.Observing.{Observing, new_watch}
 use Rattle.rx_observe.specs.Rows.{emissions_due}
 use Rattle.rx_observe.specs.Watched.{Watched}
 use Rattle.rx_world.specs.World.{World}
 use Rattle.rx_world.proofs.Looked.{equal_names, other_names, named-change_same, named-change_other, keys-change_named, all_change_named}
-use Rattle.rx_session.specs.Doing.{has_key, newly_observed}
+use Rattle.rx_session.specs.Doing.{has_key, new_query}
 use Rattle.rx_session.specs.Emissions.{rows_on}
 use Rattle.rx_session.specs.Lives.{IsFree, with_query}
 use Rattle.rx_session.specs.Placed.{Lives, watched_at, with_found, queries_of, names_in, IsListed, IsQuiet, ArePlaced, AreQuietBut}
@@ -283,24 +283,24 @@ module _ (ls : Lives) (ps : List Place) (name coll : List ℕ) (placed : ArePlac
         all_map (λ (p : Place). bytes_eq name p.name ≡ false)
         (λ p. watched_at (change_named ls coll (with_query name q)) p ≡ watched_at ls p)
         (λ p apart. watched_at-change ls coll (with_query name q) p
-        (λ l. named-more_other l.queries name p.name (just_observed l.collection q)
+        (λ l. named-more_other l.queries name p.name (new_watch q l.collection.documents)
         (names_flip name p.name apart))) ps no_place
 
     -- the one that was put is
     added_at : (l : Observing) → named ls coll ≡ Some l
         → watched_at (change_named ls coll (with_query name q)) (place_in coll name)
-        ≡ Some (just_observed l.collection q)
+        ≡ Some (new_watch q l.collection.documents)
     added_at l at =
         ap (option_and_then (λ l. named l.queries name))
         (named-change_same (with_query name q) ls coll ∙ ap (option_map (with_query name q)) at)
-        ∙ named-more_same l.queries name (just_observed l.collection q) (free_in (Some l) at)
+        ∙ named-more_same l.queries name (new_watch q l.collection.documents) (free_in (Some l) at)
 
     module _ (w : World) (held : w.collections ≡ colls ls)
         (keyed : has_key q.primary (named w.collections coll) ≡ true) where
       -- the query is the last one
       pub added_queries : queries_of (change_named ls coll (with_query name q))
           (ps ++ place_in coll name ∷ [])
-          ≡ queries_of ls ps ++ newly_observed w name coll q ∷ []
+          ≡ queries_of ls ps ++ new_query w name coll q ∷ []
       added_queries =
           let new = change_named ls coll (with_query name q) in
           let place : Place = place_in coll name in
@@ -309,7 +309,7 @@ module _ (ls : Lives) (ps : List Place) (name coll : List ℕ) (placed : ArePlac
           ap (λ cs. named cs coll) held ∙ named-map (λ (l : Observing). l.collection) ls coll
           ∙ ap (option_map (λ l. l.collection)) live.1 in
           let observed : Option Held → Observed = observed_on name coll q in
-          let last : queries_of new (place ∷ []) ≡ newly_observed w name coll q ∷ [] =
+          let last : queries_of new (place ∷ []) ≡ new_query w name coll q ∷ [] =
           ap (λ o. with_found place o []) (added_at live.0 live.1)
           ∙ sym (ap (λ o. observed o ∷ []) there) in
           queries_of-append new ps (place ∷ [])
@@ -335,6 +335,6 @@ module _ (ls : Lives) (ps : List Place) (name coll : List ℕ) (placed : ArePlac
             listed = all_changed (λ n l. keys_of l.queries ≡ names_in n ps)
                 (λ n l. keys_of l.queries ≡ names_in n (ps ++ place ∷ [])) ls coll (with_query name q)
                 (λ n l other is. is ∙ sym (names_elsewhere name coll n ps other))
-                (λ l is. map-append (λ q. q.0) l.queries ((name, just_observed l.collection q) ∷ [])
+                (λ l is. map-append (λ q. q.0) l.queries ((name, new_watch q l.collection.documents) ∷ [])
                 ∙ ap (λ ks. ks ++ name ∷ []) is ∙ sym (names_here name coll ps)) apart placed.listed;
           }

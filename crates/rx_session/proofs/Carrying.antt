@@ -10,15 +10,15 @@ use Rattle.rx_observe.specs.Rows.{emissions_due}
 use Rattle.rx_world.specs.Holders.{Holders, IsWhole, holders_in}
 use Rattle.rx_world.specs.Valid.{AreDistinct}
 use Rattle.rx_world.specs.World.{World, world_with}
-use Rattle.rx_session.specs.Doing.{after, restart, with_watched}
-use Rattle.rx_session.specs.Emissions.{emission_due, emissions, settled, settled_query}
+use Rattle.rx_session.specs.Doing.{after, restart}
+use Rattle.rx_session.specs.Emissions.{emission_due, emissions, settled_session, settled_query}
 use Rattle.rx_session.specs.Lives.{bare, with_cooled, each_live}
 use Rattle.rx_session.specs.Placed.{ArePlaced, AreUnwatched, IsQuiet, Lives, queries_of, world_of}
-use Rattle.rx_session.specs.Session.{Session}
+use Rattle.rx_session.specs.Session.{Session, with_watched}
 use Rattle.rx_session.specs.declared.place.Place.{Place}
 use Rattle.rx_session.proofs.Moving.{AreUnbroken, bare_are, next_is_bare, next_is_moved, moved_colls, moved_placed, moved_queries, moved_quiet}
 use Rattle.rx_session.proofs.Places.{colls, distinct_in, world_colls}
-use Rattle.rx_session.proofs.Showing.{quiet_lines, quiet_queries}
+use Rattle.rx_session.proofs.Showing.{quiet_due, quiet_queries}
 
 -- each collection is whole and has its name
 abbrev pub AreWholeLives : Lives → Type 0
@@ -52,16 +52,15 @@ unbroken (l ∷ ls) all = (all.0.unbroken, unbroken ls all.1)
 -- no collection has its queries yet
 pub carrying_none : (old new : Holders Observing) (left : List Observing)
     → (world_of new).collections ≡ (world_of old).collections → AreUnwatched (holders_in new)
-    → AreWholeLives (holders_in new) → AreWholeLives (holders_in old)
+    → AreWholeLives (holders_in old)
     → left ≡ map (λ e. e.1) (holders_in old)
     → IsCarrying (holders_in old) (holders_in new) left
-carrying_none old new left same none whole whole_old is = record {
+carrying_none old new left same none whole is = record {
   done = [];
   rest = holders_in old;
   all = refl;
   lives = bare_are (holders_in old) (holders_in new)
-      (sym (world_colls new) ∙ same ∙ world_colls old) none (unbroken (holders_in new) whole)
-      (unbroken (holders_in old) whole_old);
+      (sym (world_colls new) ∙ same ∙ world_colls old) none (unbroken (holders_in old) whole);
   are_left = is;
 }
 
@@ -187,14 +186,14 @@ module _ (old : Holders Observing) (moment number : ℕ) (ps : List Place)
   pub carried_emissions : emissions (after (restart number) before) ≡ []
   carried_emissions =
       ap (flat_map (emission_due again)) (sym (moved_queries (holders_in old) ps))
-      ∙ quiet_lines again (each_live with_cooled (holders_in old)) same_again ps
+      ∙ quiet_due again (each_live with_cooled (holders_in old)) same_again ps
       (moved_quiet (holders_in old) quiet)
 
   -- the session that goes on is the one before, in that epoch, with its queries made cold
   pub carried_session : (new : Holders Observing)
       → holders_in new ≡ each_live with_cooled (holders_in old) → new.epoch ≡ number
       → record { world = world_of new; moment = moment; queries = queries_of (holders_in new) ps }
-      ≡ settled (after (restart number) before)
+      ≡ settled_session (after (restart number) before)
   carried_session new lives epoch =
       let moved = each_live with_cooled (holders_in old) in
       let collections = carried_collections old new lives in

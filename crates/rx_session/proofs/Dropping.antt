@@ -11,7 +11,7 @@ use Rattle.std.specs.Str.{bytes_eq}
 use Rattle.rx_value.specs.Named.{named, change_named}
 use Rattle.rx_query.specs.declared.results.Row.{Row}
 use Rattle.rx_collection.specs.Held.{Held}
-use Rattle.rx_observe.specs.Fresh.{fresh}
+use Rattle.rx_query.specs.Result.{fresh_rows}
 use Rattle.rx_observe.specs.Observing.{Queries, without}
 use Rattle.rx_observe.specs.Rows.{unseen, with_emission, emissions_due}
 use Rattle.rx_observe.specs.Watched.{Watched}
@@ -292,7 +292,7 @@ pub still_quiet : (c : Held) (name : List ℕ) (qs : Queries) → emissions_due 
     → emissions_due c (without name qs) ≡ []
 still_quiet c name [] quiet = refl
 still_quiet c name (q ∷ qs) quiet =
-    let rows = unseen (Some (fresh q.1.query c.documents)) q.1.emitted in
+    let rows = unseen (Some (fresh_rows q.1.query c.documents)) q.1.emitted in
     let none = nothing_due q.0 rows (emissions_due c qs) quiet in
     let rest = still_quiet c name qs none.1 in
     let left = without name qs in

@@ -7,7 +7,7 @@ use Rattle.std.specs.Option.{IsSome}
 use Rattle.std.specs.Str.{bytes_eq}
 use Rattle.rx_value.specs.Named.{named, change_named}
 use Rattle.rx_collection.specs.Held.{Held}
-use Rattle.rx_observe.specs.Fresh.{fresh}
+use Rattle.rx_query.specs.Result.{fresh_rows}
 use Rattle.rx_observe.specs.Observing.{Observing, Queries, each, cooled, with_queries}
 use Rattle.rx_observe.specs.Rows.{unseen, with_emission, emissions_due}
 use Rattle.rx_observe.specs.Watched.{Watched}
@@ -82,7 +82,7 @@ moved_placed old ps placed =
 pub due_cold : (c : Held) (qs : Queries) → emissions_due c (each cooled qs) ≡ emissions_due c qs
 due_cold c [] = refl
 due_cold c (q ∷ qs) =
-    ap (with_emission q.0 (unseen (Some (fresh q.1.query c.documents)) q.1.emitted)) (due_cold c qs)
+    ap (with_emission q.0 (unseen (Some (fresh_rows q.1.query c.documents)) q.1.emitted)) (due_cold c qs)
 
 -- so all stay quiet
 pub moved_quiet : (old : Lives) → AllByRecursion IsQuiet old
@@ -107,18 +107,19 @@ heads x y xs ys same = (cc, cc)
 
 -- collections that were read, with no query, are those that were, without their queries
 pub bare_are : (old fresh : Lives) → colls fresh ≡ colls old → AreUnwatched fresh
-    → AreUnbroken fresh → AreUnbroken old → fresh ≡ each_live bare old
-bare_are [] [] same none unbroken whole = refl
-bare_are [] (f ∷ fs) same none unbroken whole = absurd (cc)
-bare_are (l ∷ ls) [] same none unbroken whole = absurd (cc)
-bare_are (l ∷ ls) (f ∷ fs) same none unbroken whole =
+    → AreUnbroken old → fresh ≡ each_live bare old
+bare_are [] [] same none whole = refl
+bare_are [] (f ∷ fs) same none whole = absurd (cc)
+bare_are (l ∷ ls) [] same none whole = absurd (cc)
+bare_are (l ∷ ls) (f ∷ fs) same none whole =
     let parts = heads {X = List ℕ × Held} (f.0, f.1.collection) (l.0, l.1.collection) (colls fs) (colls ls)
     same in
     let name : f.0 ≡ l.0 = ap (λ (e : List ℕ × Held). e.0) parts.0 in
     let collection : f.1.collection ≡ l.1.collection = ap (λ (e : List ℕ × Held). e.1) parts.0 in
-    let broken : f.1.broken ≡ l.1.broken = unbroken.0 ∙ sym whole.0 in
-    let all = bare_are ls fs parts.1 none.1 unbroken.1 whole.1 in
-    λ i. (name i, record { collection = collection i; queries = none.0 i; broken = broken i }) ∷ all i
+    let queries : f.1.queries ≡ [] = none.0.none in
+    let broken : f.1.broken ≡ l.1.broken = none.0.unbroken ∙ sym whole.0 in
+    let all = bare_are ls fs parts.1 none.1 whole.1 in
+    λ i. (name i, record { collection = collection i; queries = queries i; broken = broken i }) ∷ all i
 
 -- one that is done has another name than the one whose turn it is
 not_done : (k : List ℕ) (ds : Lives) (n : List ℕ) (l : Observing) (rest : Lives)

@@ -434,7 +434,7 @@ placed_changed f same ls coll ps placed = record {
 
 no_place : (ls : Lives) → AreUnwatched ls → AllByRecursion (IsListed []) ls
 no_place [] all = tt
-no_place (l ∷ ls) all = (ap keys_of all.0, no_place ls all.1)
+no_place (l ∷ ls) all = (ap keys_of all.0.none, no_place ls all.1)
 
 pub bare_placed : (ls : Lives) → AreUnwatched ls → ArePlaced ls []
 unfolding IsDistinct
@@ -442,7 +442,7 @@ bare_placed ls all = record { distinct = tt; held = tt; listed = no_place ls all
 
 pub bare_quiet : (ls : Lives) → AreUnwatched ls → AllByRecursion IsQuiet ls
 bare_quiet [] all = tt
-bare_quiet (l ∷ ls) all = (ap (emissions_due l.1.collection) all.0, bare_quiet ls all.1)
+bare_quiet (l ∷ ls) all = (ap (emissions_due l.1.collection) all.0.none, bare_quiet ls all.1)
 
 -- some place has a name where the first one is there
 pub any_place : (name : List ℕ) (ps : List Place)

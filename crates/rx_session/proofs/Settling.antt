@@ -5,48 +5,52 @@ use Rattle.std.specs.Map.{keys_of}
 use Rattle.std.specs.Str.{bytes_eq}
 use Rattle.rx_value.specs.Named.{named}
 use Rattle.rx_query.specs.Asked.{Asked}
-use Rattle.rx_record.specs.Content.{Content, collection, rows, epoch}
-use Rattle.rx_observe.specs.Observing.{Observing, hear}
+use Rattle.rx_record.specs.Content.{Content}
+use Rattle.rx_observe.specs.Observing.{Observing, each, put_all, watch_after}
 use Rattle.rx_world.specs.Holders.{Holders, holders_in}
-use Rattle.rx_world.specs.Step.{step, legal, stored_rows}
+use Rattle.rx_world.specs.Step.{step, legal}
+use Rattle.rx_world.specs.Touch.{Touch, touch}
 use Rattle.rx_world.specs.Valid.{AreDistinct}
 use Rattle.rx_world.specs.World.{world_with}
-use Rattle.rx_world.proofs.Looked.{all_change_named, all_put_named, keys-change_named}
+use Rattle.rx_world.proofs.Holding.{after_all}
+use Rattle.rx_world.proofs.Looked.{keys-change_named}
 use Rattle.rx_world.proofs.Valid.{distinct_step}
-use Rattle.rx_session.specs.Applied.{IsAfter, coll_written, with_written, settled_in, lines_in, unobserved, watched_in}
-use Rattle.rx_session.specs.Doing.{after, heard, newly_observed, has_key, set_clock, write, watch, unwatch}
-use Rattle.rx_session.specs.Emissions.{emissions, emission_due, settled, settled_query}
+use Rattle.rx_session.specs.Applied.{IsAfter, IsMadeFor, coll_written, settled_in, due_in, unobserved, watched_in}
+use Rattle.rx_session.specs.Doing.{after, query_after, new_query, has_key, set_clock, write, watch, unwatch}
+use Rattle.rx_session.specs.Emissions.{emissions, emission_due, settled_session, settled_query, IsSettled}
 use Rattle.rx_session.specs.Lives.{with_query}
-use Rattle.rx_session.specs.Placed.{ArePlaced, AreQuietBut, AreUnwatched, IsQuiet, Lives, place_named, queries_of, world_of}
+use Rattle.rx_session.specs.Placed.{ArePlaced, AreQuietBut, AreUnwatched, IsUnwatched, IsQuiet, Lives, place_named, queries_of, world_of}
 use Rattle.rx_session.specs.Session.{Session, is_observed}
 use Rattle.rx_session.specs.declared.place.Place.{Place}
 use Rattle.rx_session.proofs.Places.{any-queries_of, colls, distinct_in, world_colls}
-use Rattle.rx_session.proofs.Writing.{heard_queries, placed_after, quiet_after, quiet_but}
-use Rattle.rx_session.proofs.Showing.{lines_of_one, quiet_lines, quiet_queries, settled_all_quiet, settled_colls, settled_placed, settled_queries}
+use Rattle.rx_session.proofs.Writing.{queries_after, legal_unheld, placed_after, quiet_after, quiet_but}
+use Rattle.rx_session.proofs.Showing.{due_of_one, quiet_due, quiet_queries, settled_all_quiet, settled_colls, settled_placed, settled_queries}
 use Rattle.rx_session.proofs.Adding.{added_colls, added_placed, added_queries, added_quiet, place_in}
 use Rattle.rx_session.proofs.Dropping.{all_in_first, dropped_colls, dropped_placed, dropped_queries, dropped_quiet, none_found, rest_of, undropped_placed, undropped_queries}
 
 -- ---- where no query is observed
 
 -- none is after a record
-pub unwatched_after : (content : Content) (ls new : Lives) → IsAfter content ls new
-    → AreUnwatched ls → AreUnwatched new
-unwatched_after (collection name schema) ls new after none =
-    subst AreUnwatched (sym after.2)
-    (all_put_named (λ n (l : Observing). l.queries ≡ []) ls name after.0 after.1 none)
-unwatched_after (rows name lwt written) ls new after none =
-    subst AreUnwatched (sym after)
-    (all_change_named (λ n (l : Observing). l.queries ≡ []) ls name (with_written lwt written)
-    (λ l at here. ap (map (λ q.
-    (q.0, hear l.collection (stored_rows l.collection.name lwt written) q.1))) here) none)
-unwatched_after (epoch number) ls new after none = subst AreUnwatched (sym after) none
+pub unwatched_after : (t : Touch) (ls new : Lives) → IsAfter t ls new → AreUnwatched ls
+    → AreUnwatched new
+unwatched_after t ls new after none =
+    after_all IsUnwatched (λ (l : Observing). l.collection) put_all IsMadeFor
+    (λ c l is. record {
+      none = ap (λ (x : Observing). x.queries) is;
+      unbroken = ap (λ (x : Observing). x.broken) is;
+    })
+    (λ l rows so. record {
+      none = ap (each (watch_after l.collection rows)) so.none;
+      unbroken = so.unbroken;
+    })
+    t ls new after none
 
 -- the same of what may have failed
-pub unwatched_in : {W E : Type 0} (lives : W → Lives) (content : Content) (ls : Lives) (made : Result W E)
-    → IfOk made (λ w. IsAfter content ls (lives w)) → AreUnwatched ls
+pub unwatched_in : {W E : Type 0} (lives : W → Lives) (t : Touch) (ls : Lives) (made : Result W E)
+    → IfOk made (λ w. IsAfter t ls (lives w)) → AreUnwatched ls
     → IfOk made (λ w. AreUnwatched (lives w))
-unwatched_in lives content ls (Ok w) after none = unwatched_after content ls (lives w) after none
-unwatched_in lives content ls (Err e) after none = tt
+unwatched_in lives t ls (Ok w) after none = unwatched_after t ls (lives w) after none
+unwatched_in lives t ls (Err e) after none = tt
 
 -- ---- sessions
 
@@ -71,11 +75,18 @@ module _ (h : Holders Observing) (ps : List Place) (quiet : AllByRecursion IsQui
 
     -- and nothing is to be emitted
     pub none_due : flat_map (emission_due (world_of h)) (queries_of (holders_in h) ps) ≡ []
-    none_due = quiet_lines (world_of h) (holders_in h) (world_colls h) ps quiet
+    none_due = quiet_due (world_of h) (holders_in h) (world_colls h) ps quiet
+
+    -- so the session is settled
+    pub is_settled : (moment : ℕ) → IsSettled (session_of h moment ps)
+    is_settled moment = record {
+      same = ap (λ qs. record { world = world_of h; moment = moment; queries = qs }) all_settled;
+      quiet = none_due;
+    }
 
     -- so it is at another moment
     pub at_session : (moment at : ℕ)
-        → session_of h at ps ≡ settled (after (set_clock at) (session_of h moment ps))
+        → session_of h at ps ≡ settled_session (after (set_clock at) (session_of h moment ps))
     at_session moment at =
         ap (λ qs. record { world = world_of h; moment = at; queries = qs }) (sym all_settled)
 
@@ -89,8 +100,8 @@ pub record IsWritten (content : Content) (old new last : Holders Observing) (ps 
   pub quiet : AllByRecursion IsQuiet (holders_in old)
   pub allowed : legal content (world_of old) ≡ true
   pub stepped : world_of new ≡ step content (world_of old)
-  pub applied : IsAfter content (holders_in old) (holders_in new)
-  pub emitted : holders_in last ≡ settled_in (coll_written content) (holders_in new)
+  pub applied : IsAfter (touch content) (holders_in old) (holders_in new)
+  pub emitted : holders_in last ≡ settled_in (coll_written (touch content)) (holders_in new)
   pub epochs : last.epoch ≡ new.epoch
 
 module _ (content : Content) (old new last : Holders Observing) (moment : ℕ) (ps : List Place)
@@ -98,48 +109,48 @@ module _ (content : Content) (old new last : Holders Observing) (moment : ℕ) (
   -- all are in their places
   placed_then : ArePlaced (holders_in new) ps
   placed_then =
-      placed_after content (world_of old) (holders_in old) (holders_in new) ps (world_colls old) so.placed
-      so.allowed so.applied
+      placed_after (touch content) (world_of old) (holders_in old) (holders_in new) ps (world_colls old)
+      so.placed (legal_unheld content (world_of old) so.allowed) so.applied
 
-  -- the queries have heard of the record
-  heard_then : queries_of (holders_in new) ps
-      ≡ map (heard (world_of old) content) (queries_of (holders_in old) ps)
-  heard_then =
-      heard_queries content (world_of old) (holders_in old) (holders_in new) ps (world_colls old) so.placed
-      so.allowed so.applied
+  -- the queries have followed the record
+  followed_then : queries_of (holders_in new) ps
+      ≡ map (query_after (world_of old) (touch content)) (queries_of (holders_in old) ps)
+  followed_then =
+      queries_after (touch content) (world_of old) (holders_in old) (holders_in new) ps (world_colls old)
+      so.placed (legal_unheld content (world_of old) so.allowed) so.applied
 
   -- no name of a collection comes twice
   distinct_then : AreDistinct (world_of new)
   distinct_then = subst AreDistinct (sym so.stepped) (distinct_step content (world_of old) so.distinct)
 
   -- all is quiet where no documents are written
-  quiet_then : coll_written content ≡ None → AllByRecursion IsQuiet (holders_in new)
-  quiet_then is = quiet_after content (holders_in old) (holders_in new) is so.applied so.quiet
+  quiet_then : coll_written (touch content) ≡ None → AllByRecursion IsQuiet (holders_in new)
+  quiet_then is = quiet_after (touch content) (holders_in old) (holders_in new) is so.applied so.quiet
 
   -- and all others are where some are
-  quiet_others : (coll : List ℕ) → coll_written content ≡ Some coll
+  quiet_others : (coll : List ℕ) → coll_written (touch content) ≡ Some coll
       → AreQuietBut coll (holders_in new)
-  quiet_others coll is = quiet_but content coll (holders_in old) (holders_in new) is so.applied so.quiet
+  quiet_others coll is = quiet_but (touch content) coll (holders_in old) (holders_in new) is so.applied so.quiet
 
-  -- the lines are those of the collection whose documents were written
-  lines_by : (o : Option (List ℕ)) → coll_written content ≡ o
-      → lines_in o (holders_in new)
+  -- the emissions are those of the collection whose documents were written
+  due_by : (o : Option (List ℕ)) → coll_written (touch content) ≡ o
+      → due_in o (holders_in new)
       ≡ flat_map (emission_due (world_of new)) (queries_of (holders_in new) ps)
-  lines_by None is = sym (none_due new ps (quiet_then is))
-  lines_by (Some coll) is =
-      sym (lines_of_one (world_of new) (holders_in new) (world_colls new) coll (quiet_others coll is) ps
+  due_by None is = sym (none_due new ps (quiet_then is))
+  due_by (Some coll) is =
+      sym (due_of_one (world_of new) (holders_in new) (world_colls new) coll (quiet_others coll is) ps
       placed_then)
 
-  pub written_lines : lines_in (coll_written content) (holders_in new)
+  pub written_due : due_in (coll_written (touch content)) (holders_in new)
       ≡ emissions (after (write content) (session_of old moment ps))
-  written_lines =
-      lines_by (coll_written content) refl
-      ∙ ap (λ qs. flat_map (emission_due (world_of new)) qs) heard_then
+  written_due =
+      due_by (coll_written (touch content)) refl
+      ∙ ap (λ qs. flat_map (emission_due (world_of new)) qs) followed_then
       ∙ ap (λ w. flat_map (emission_due w)
-      (map (heard (world_of old) content) (queries_of (holders_in old) ps))) so.stepped
+      (map (query_after (world_of old) (touch content)) (queries_of (holders_in old) ps))) so.stepped
 
   -- once they are emitted
-  queries_by : (o : Option (List ℕ)) → coll_written content ≡ o
+  queries_by : (o : Option (List ℕ)) → coll_written (touch content) ≡ o
       → queries_of (settled_in o (holders_in new)) ps
       ≡ map (settled_query (world_of new)) (queries_of (holders_in new) ps)
   queries_by None is = sym (all_settled new ps (quiet_then is))
@@ -154,7 +165,7 @@ module _ (content : Content) (old new last : Holders Observing) (moment : ℕ) (
   placed_by None = placed_then
   placed_by (Some coll) = settled_placed (holders_in new) coll ps placed_then
 
-  quiet_by : (o : Option (List ℕ)) → coll_written content ≡ o
+  quiet_by : (o : Option (List ℕ)) → coll_written (touch content) ≡ o
       → AllByRecursion IsQuiet (settled_in o (holders_in new))
   quiet_by None is = quiet_then is
   quiet_by (Some coll) is =
@@ -163,25 +174,25 @@ module _ (content : Content) (old new last : Holders Observing) (moment : ℕ) (
   -- the world is that after the record
   written_world : world_of last ≡ step content (world_of old)
   written_world =
-      same_world last new (ap colls so.emitted ∙ colls_by (coll_written content)) so.epochs ∙ so.stepped
+      same_world last new (ap colls so.emitted ∙ colls_by (coll_written (touch content))) so.epochs ∙ so.stepped
 
-  -- the queries have heard of it, and are settled
+  -- the queries have followed it, and are settled
   written_queries : queries_of (holders_in last) ps
       ≡ map (settled_query (step content (world_of old)))
-      (map (heard (world_of old) content) (queries_of (holders_in old) ps))
+      (map (query_after (world_of old) (touch content)) (queries_of (holders_in old) ps))
   written_queries =
-      ap (λ ls. queries_of ls ps) so.emitted ∙ queries_by (coll_written content) refl
-      ∙ ap (map (settled_query (world_of new))) heard_then
+      ap (λ ls. queries_of ls ps) so.emitted ∙ queries_by (coll_written (touch content)) refl
+      ∙ ap (map (settled_query (world_of new))) followed_then
       ∙ ap (λ w. map (settled_query w)
-      (map (heard (world_of old) content) (queries_of (holders_in old) ps))) so.stepped
+      (map (query_after (world_of old) (touch content)) (queries_of (holders_in old) ps))) so.stepped
 
   pub written_session : session_of last moment ps
-      ≡ settled (after (write content) (session_of old moment ps))
+      ≡ settled_session (after (write content) (session_of old moment ps))
   written_session =
       λ i. record { world = written_world i; moment = moment; queries = written_queries i }
 
   pub written_placed : ArePlaced (holders_in last) ps
-  written_placed = subst (λ ls. ArePlaced ls ps) (sym so.emitted) (placed_by (coll_written content))
+  written_placed = subst (λ ls. ArePlaced ls ps) (sym so.emitted) (placed_by (coll_written (touch content)))
 
   pub written_distinct : AreDistinct (world_of last)
   written_distinct =
@@ -189,7 +200,7 @@ module _ (content : Content) (old new last : Holders Observing) (moment : ℕ) (
 
   pub written_quiet : AllByRecursion IsQuiet (holders_in last)
   written_quiet =
-      subst (AllByRecursion IsQuiet) (sym so.emitted) (quiet_by (coll_written content) refl)
+      subst (AllByRecursion IsQuiet) (sym so.emitted) (quiet_by (coll_written (touch content)) refl)
 
 -- ---- once a query is observed
 
@@ -228,7 +239,7 @@ module _ (name coll : List ℕ) (q : Asked) (old last : Holders Observing) (mome
 
   -- and a query more
   query_then : queries_of more (ps ++ place_in coll name ∷ [])
-      ≡ queries_of (holders_in old) ps ++ newly_observed (world_of old) name coll q ∷ []
+      ≡ queries_of (holders_in old) ps ++ new_query (world_of old) name coll q ∷ []
   query_then =
       added_queries (holders_in old) ps name coll so.placed so.free q (world_of old) (world_colls old)
       so.keyed
@@ -243,10 +254,10 @@ module _ (name coll : List ℕ) (q : Asked) (old last : Holders Observing) (mome
       subst (IsDistinct bytes_eq) (sym (keys-change_named (with_query name q) (holders_in old) coll))
       (distinct_in old so.distinct)
 
-  pub watched_lines : lines_in (Some coll) more
+  pub watched_due : due_in (Some coll) more
       ≡ emissions (after (watch name coll q) (session_of old moment ps))
-  watched_lines =
-      sym (lines_of_one (world_of old) more same_then coll quiet_rest (ps ++ place_in coll name ∷ [])
+  watched_due =
+      sym (due_of_one (world_of old) more same_then coll quiet_rest (ps ++ place_in coll name ∷ [])
       added_then)
       ∙ ap (λ qs. flat_map (emission_due (world_of old)) qs) query_then
 
@@ -260,14 +271,14 @@ module _ (name coll : List ℕ) (q : Asked) (old last : Holders Observing) (mome
   -- all queries are settled
   watched_queries : queries_of (holders_in last) (ps ++ place_in coll name ∷ [])
       ≡ map (settled_query (world_of old))
-      (queries_of (holders_in old) ps ++ newly_observed (world_of old) name coll q ∷ [])
+      (queries_of (holders_in old) ps ++ new_query (world_of old) name coll q ∷ [])
   watched_queries =
       ap (λ ls. queries_of ls (ps ++ place_in coll name ∷ [])) so.emitted
       ∙ settled_queries (world_of old) more same_then coll quiet_rest (ps ++ place_in coll name ∷ [])
       ∙ ap (map (settled_query (world_of old))) query_then
 
   pub watched_session : session_of last moment (ps ++ place_in coll name ∷ [])
-      ≡ settled (after (watch name coll q) (session_of old moment ps))
+      ≡ settled_session (after (watch name coll q) (session_of old moment ps))
   watched_session =
       λ i. record { world = watched_world i; moment = moment; queries = watched_queries i }
 
@@ -338,8 +349,8 @@ module _ (name : List ℕ) (old new : Holders Observing) (moment : ℕ) (ps : Li
   pub without_quiet : AllByRecursion IsQuiet (holders_in new)
   without_quiet = subst (AllByRecursion IsQuiet) (sym so.dropped) (left_quiet (place_named name ps))
 
-  pub without_lines : emissions (after (unwatch name) (session_of old moment ps)) ≡ []
-  without_lines =
+  pub without_due : emissions (after (unwatch name) (session_of old moment ps)) ≡ []
+  without_due =
       sym (ap (λ qs. flat_map (emission_due (world_of old)) qs) without_queries)
       ∙ sym (ap (λ w. flat_map (emission_due w) (queries_of (holders_in new) (rest_of name ps)))
       without_world)
@@ -356,6 +367,6 @@ module _ (name : List ℕ) (old new : Holders Observing) (moment : ℕ) (ps : Li
       (filter (λ x. not (bytes_eq name x.name)) (queries_of (holders_in old) ps))) without_world
 
   pub without_session : session_of new moment (rest_of name ps)
-      ≡ settled (after (unwatch name) (session_of old moment ps))
+      ≡ settled_session (after (unwatch name) (session_of old moment ps))
   without_session =
       λ i. record { world = without_world i; moment = moment; queries = without_settled i }

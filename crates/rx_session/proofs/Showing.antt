@@ -10,7 +10,7 @@ use Rattle.std.specs.Str.{bytes_eq}
 use Rattle.rx_value.specs.Named.{named, change_named}
 use Rattle.rx_query.specs.declared.results.Row.{Row}
 use Rattle.rx_collection.specs.Held.{Held}
-use Rattle.rx_observe.specs.Fresh.{fresh}
+use Rattle.rx_query.specs.Result.{fresh_rows}
 use Rattle.rx_observe.specs.Observing.{Observing, Queries, each, settled}
 use Rattle.rx_observe.specs.Rows.{emissions_due, unseen, with_emission}
 use Rattle.rx_observe.specs.Watched.{Watched}
@@ -18,8 +18,9 @@ use Rattle.rx_observe.specs.declared.emission.Emission.{Emission}
 use Rattle.rx_observe.proofs.Unseen.{seen_last, settled_none}
 use Rattle.rx_world.specs.World.{World}
 use Rattle.rx_world.proofs.Looked.{equal_names, named-change_other, named-change_same, other_names}
-use Rattle.rx_session.specs.Emissions.{emission_due, line_showing, result, rows_on, settled_query, with_emitted}
-use Rattle.rx_session.specs.Lives.{lines_due, lines_of, with_settled}
+use Rattle.rx_observe.specs.Watched.{with_emitted}
+use Rattle.rx_session.specs.Emissions.{emission_due, result, rows_on, settled_query}
+use Rattle.rx_session.specs.Lives.{due_of, with_settled}
 use Rattle.rx_session.specs.Placed.{Lives, ArePlaced, AreQuietBut, IsQuiet, names_in, queries_of, watched_at, with_found}
 use Rattle.rx_session.specs.Session.{Observed}
 use Rattle.rx_session.specs.declared.place.Place.{Place}
@@ -92,10 +93,10 @@ none_first name (Some r) es is = cc
 
 -- where nothing is due of queries, nothing is of each
 each_quiet : (c : Held) (qs : Queries) → emissions_due c qs ≡ []
-    → AllByRecursion (λ q. unseen (Some (fresh q.1.query c.documents)) q.1.emitted ≡ None) qs
+    → AllByRecursion (λ q. unseen (Some (fresh_rows q.1.query c.documents)) q.1.emitted ≡ None) qs
 each_quiet c [] is = tt
 each_quiet c (q ∷ qs) is =
-    let h = none_first q.0 (unseen (Some (fresh q.1.query c.documents)) q.1.emitted)
+    let h = none_first q.0 (unseen (Some (fresh_rows q.1.query c.documents)) q.1.emitted)
     (emissions_due c qs) is in
     (h.0, each_quiet c qs h.1)
 
@@ -104,14 +105,14 @@ settled_quiet : (c : Held) (qs : Queries) → emissions_due c (each (settled c) 
 settled_quiet c [] = refl
 settled_quiet c (q ∷ qs) =
     ap (λ o. with_emission q.0 o (emissions_due c (each (settled c) qs)))
-    (settled_none (fresh q.1.query c.documents))
+    (settled_none (fresh_rows q.1.query c.documents))
     ∙ settled_quiet c qs
 
--- the lines with an emission in front
-lines_with : (name : List ℕ) (o : Option (List Row)) (es : List Emission)
-    → lines_of (with_emission name o es) ≡ line_showing name o ++ lines_of es
-lines_with name None es = refl
-lines_with name (Some r) es = refl
+-- an emission in front of others
+emission_first : (name : List ℕ) (o : Option (List Row)) (es : List Emission)
+    → with_emission name o [] ++ es ≡ with_emission name o es
+emission_first name None es = refl
+emission_first name (Some r) es = refl
 
 -- an observed query of which nothing is due
 abbrev IsShown : World → Observed → Type 0
@@ -151,13 +152,13 @@ settled_then c p None = refl
 settled_then c p (Some v) = refl
 
 module _ (w : World) (p : Place) where
-  -- and brings no line
-  no_line : (o : Option Watched) (os : List Observed)
+  -- and none is due
+  none_is_due : (o : Option Watched) (os : List Observed)
       → ((v : Watched) → o ≡ Some v → IsShown w (observed_at p v))
       → flat_map (emission_due w) (with_found p o os) ≡ flat_map (emission_due w) os
-  no_line None os shown = refl
-  no_line (Some v) os shown =
-      ap (λ (r : Option (List Row)). line_showing p.name r ++ flat_map (emission_due w) os)
+  none_is_due None os shown = refl
+  none_is_due (Some v) os shown =
+      ap (λ (r : Option (List Row)). with_emission p.name r [] ++ flat_map (emission_due w) os)
       (shown v refl)
 
   -- so it is settled
@@ -183,18 +184,18 @@ module _ (w : World) (ls : Lives) (same : w.collections ≡ colls ls) where
   shown_at p quiet v at =
       option_and_then_some (λ (l : Observing). named l.queries p.name) (named ls p.coll) v at
       (λ l held here.
-      let none : unseen (Some (fresh v.query l.collection.documents)) v.emitted ≡ None =
+      let none : unseen (Some (fresh_rows v.query l.collection.documents)) v.emitted ≡ None =
       all_named (λ n (q : Watched).
-      unseen (Some (fresh q.query l.collection.documents)) q.emitted ≡ None)
+      unseen (Some (fresh_rows q.query l.collection.documents)) q.emitted ≡ None)
       l.queries p.name v here (each_quiet l.collection l.queries (quiet l held)) in
       ap (λ c. unseen (Some (rows_on v.query c)) v.emitted) (held_at p.coll l held) ∙ none)
 
-  -- where nothing is due of the queries of all places, there are no lines
-  no_lines : (ps : List Place) → AllByRecursion (IsShownAt w ls) ps
+  -- where nothing is due of the queries of all places, no emission is due
+  none_are_due : (ps : List Place) → AllByRecursion (IsShownAt w ls) ps
       → flat_map (emission_due w) (queries_of ls ps) ≡ []
-  no_lines [] all = refl
-  no_lines (p ∷ ps) all =
-      no_line w p (watched_at ls p) (queries_of ls ps) all.0 ∙ no_lines ps all.1
+  none_are_due [] all = refl
+  none_are_due (p ∷ ps) all =
+      none_is_due w p (watched_at ls p) (queries_of ls ps) all.0 ∙ none_are_due ps all.1
 
   -- ---- a place of the collection that is settled
 
@@ -242,9 +243,9 @@ module _ (w : World) (ls : Lives) (same : w.collections ≡ colls ls) where
         all_named (λ n (x : Observing). emissions_due x.collection x.queries ≡ [])
         ls p.coll l at quiet)) ps
 
-    -- where all is quiet there are no lines
-    pub quiet_lines : flat_map (emission_due w) (queries_of ls ps) ≡ []
-    quiet_lines = no_lines ps all_shown
+    -- where all is quiet no emission is due
+    pub quiet_due : flat_map (emission_due w) (queries_of ls ps) ≡ []
+    quiet_due = none_are_due ps all_shown
 
     -- and all is settled
     pub quiet_queries : map (settled_query w) (queries_of ls ps) ≡ queries_of ls ps
@@ -273,22 +274,22 @@ module _ (w : World) (ls : Lives) (same : w.collections ≡ colls ls) where
         ls p.coll l at quiet (other_names coll p.coll (λ is. none-some l (sym none ∙ ap (named ls) is ∙ at))))
 
     module _ (l : Observing) (at : named ls coll ≡ Some l) where
-      -- the line of a place's query is that of the collection's query
-      line_here : (p : Place) (o : Option Watched) (os : List Observed) (q : List ℕ × Watched)
+      -- the emission of a place's query is that of the collection's query
+      is_due_here : (p : Place) (o : Option Watched) (os : List Observed) (q : List ℕ × Watched)
           (qs : Queries) → named w.collections p.coll ≡ Some l.collection → o ≡ Some q.1
-          → q.0 ≡ p.name → flat_map (emission_due w) os ≡ lines_of (emissions_due l.collection qs)
+          → q.0 ≡ p.name → flat_map (emission_due w) os ≡ emissions_due l.collection qs
           → flat_map (emission_due w) (with_found p o os)
-          ≡ lines_of (emissions_due l.collection (q ∷ qs))
-      line_here p o os q qs held found called rest =
+          ≡ emissions_due l.collection (q ∷ qs)
+      is_due_here p o os q qs held found called rest =
           ap (λ x. flat_map (emission_due w) (with_found p x os)) found
-          ∙ ap (λ c. line_showing p.name (unseen (Some (rows_on q.1.query c)) q.1.emitted)
+          ∙ ap (λ c. with_emission p.name (unseen (Some (rows_on q.1.query c)) q.1.emitted) []
           ++ flat_map (emission_due w) os) held
-          ∙ ap (λ n. line_showing n (unseen (Some (fresh q.1.query l.collection.documents)) q.1.emitted)
+          ∙ ap (λ n. with_emission n (unseen (Some (fresh_rows q.1.query l.collection.documents)) q.1.emitted) []
           ++ flat_map (emission_due w) os) (sym called)
-          ∙ ap (λ more. line_showing q.0
-          (unseen (Some (fresh q.1.query l.collection.documents)) q.1.emitted) ++ more) rest
-          ∙ sym (lines_with q.0 (unseen (Some (fresh q.1.query l.collection.documents)) q.1.emitted)
-          (emissions_due l.collection qs))
+          ∙ ap (λ more. with_emission q.0
+          (unseen (Some (fresh_rows q.1.query l.collection.documents)) q.1.emitted) [] ++ more) rest
+          ∙ emission_first q.0 (unseen (Some (fresh_rows q.1.query l.collection.documents)) q.1.emitted)
+          (emissions_due l.collection qs)
 
       -- a place of the collection, and then the others
       place_here : (p : Place) (ps : List Place) (qs : Queries) → bytes_eq coll p.coll ≡ true
@@ -296,9 +297,9 @@ module _ (w : World) (ls : Lives) (same : w.collections ≡ colls ls) where
           → AllByRecursion (λ q. named l.queries q.0 ≡ Some q.1) qs
           → ((rest : Queries) → keys_of rest ≡ names_in coll ps
           → AllByRecursion (λ q. named l.queries q.0 ≡ Some q.1) rest
-          → flat_map (emission_due w) (queries_of ls ps) ≡ lines_of (emissions_due l.collection rest))
+          → flat_map (emission_due w) (queries_of ls ps) ≡ emissions_due l.collection rest)
           → flat_map (emission_due w) (queries_of ls (p ∷ ps))
-          ≡ lines_of (emissions_due l.collection qs)
+          ≡ emissions_due l.collection qs
       place_here p ps [] is keys own rest = cc
       place_here p ps (q ∷ qs) is keys own rest =
           let same_coll : coll ≡ p.coll = (bytes_eq-Decides coll p.coll).0 is in
@@ -308,44 +309,44 @@ module _ (w : World) (ls : Lives) (same : w.collections ≡ colls ls) where
           let found : watched_at ls p ≡ Some q.1 =
           ap (option_and_then (λ (x : Observing). named x.queries p.name)) at_p
           ∙ sym (ap (named l.queries) called) ∙ own.0 in
-          line_here p (watched_at ls p) (queries_of ls ps) q qs (held_at p.coll l at_p) found called
+          is_due_here p (watched_at ls p) (queries_of ls ps) q qs (held_at p.coll l at_p) found called
           (rest qs others own.1)
 
-      -- the places of the collection bring the lines of its queries
-      lines_here : (ps : List Place) (qs : Queries) → keys_of qs ≡ names_in coll ps
+      -- the places of the collection bring the emissions of its queries
+      due_here : (ps : List Place) (qs : Queries) → keys_of qs ≡ names_in coll ps
           → AllByRecursion (λ q. named l.queries q.0 ≡ Some q.1) qs
-          → flat_map (emission_due w) (queries_of ls ps) ≡ lines_of (emissions_due l.collection qs)
-      lines_here [] [] keys own = refl
-      lines_here [] (q ∷ qs) keys own = cc
-      lines_here (p ∷ ps) qs keys own =
+          → flat_map (emission_due w) (queries_of ls ps) ≡ emissions_due l.collection qs
+      due_here [] [] keys own = refl
+      due_here [] (q ∷ qs) keys own = cc
+      due_here (p ∷ ps) qs keys own =
           elim (bytes_eq coll p.coll) as (λ b. bytes_eq coll p.coll ≡ b
           → keys_of qs ≡ map (λ (x : Place). x.name)
           (cond b (p ∷ filter (λ x. bytes_eq coll x.coll) ps) (filter (λ x. bytes_eq coll x.coll) ps))
           → flat_map (emission_due w) (queries_of ls (p ∷ ps))
-          ≡ lines_of (emissions_due l.collection qs)) [
-            | true ↦ (λ is keys. place_here p ps qs is keys own (lines_here ps))
+          ≡ emissions_due l.collection qs) [
+            | true ↦ (λ is keys. place_here p ps qs is keys own (due_here ps))
             | false ↦ (λ is keys.
-                no_line w p (watched_at ls p) (queries_of ls ps) (other_shown p is)
-                ∙ lines_here ps qs keys own)
+                none_is_due w p (watched_at ls p) (queries_of ls ps) (other_shown p is)
+                ∙ due_here ps qs keys own)
           ] refl keys
 
-    -- the lines, by what the name of the collection names
-    lines_by : (ps : List Place) → ArePlaced ls ps → (o : Option Observing) → named ls coll ≡ o
-        → flat_map (emission_due w) (queries_of ls ps) ≡ lines_due o
-    lines_by ps placed None none = no_lines ps (all_of (IsShownAt w ls) (none_shown none) ps)
-    lines_by ps placed (Some l) at =
+    -- the emissions due, by what the name of the collection names
+    due_by : (ps : List Place) → ArePlaced ls ps → (o : Option Observing) → named ls coll ≡ o
+        → flat_map (emission_due w) (queries_of ls ps) ≡ due_of o
+    due_by ps placed None none = none_are_due ps (all_of (IsShownAt w ls) (none_shown none) ps)
+    due_by ps placed (Some l) at =
         let keys : keys_of l.queries ≡ names_in coll ps =
         all_named (λ n (x : Observing). keys_of x.queries ≡ names_in n ps) ls coll l at
         placed.listed in
         let distinct : IsDistinct bytes_eq (keys_of l.queries) =
         subst (IsDistinct bytes_eq) (sym keys)
         (some_distinct (λ p. bytes_eq coll p.coll) ps placed.distinct) in
-        lines_here l at ps l.queries keys (own_named l.queries distinct)
+        due_here l at ps l.queries keys (own_named l.queries distinct)
 
-    -- where all but one collection is quiet, the lines are those of its queries
-    pub lines_of_one : (ps : List Place) → ArePlaced ls ps
-        → flat_map (emission_due w) (queries_of ls ps) ≡ lines_due (named ls coll)
-    lines_of_one ps placed = lines_by ps placed (named ls coll) refl
+    -- where all but one collection is quiet, the emissions are those of its queries
+    pub due_of_one : (ps : List Place) → ArePlaced ls ps
+        → flat_map (emission_due w) (queries_of ls ps) ≡ due_of (named ls coll)
+    due_of_one ps placed = due_by ps placed (named ls coll) refl
 
     -- ---- and then that one is settled
 

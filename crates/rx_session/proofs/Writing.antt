@@ -10,16 +10,18 @@ use Rattle.rx_value.specs.Named.{named, change_named, put_named}
 use Rattle.rx_collection.specs.Held.{Held}
 use Rattle.rx_record.specs.Content.{Content, collection, rows, epoch}
 use Rattle.rx_record.specs.declared.record.RowOut.{RowOut}
-use Rattle.rx_observe.specs.Observing.{Observing, hear}
+use Rattle.rx_observe.specs.Observing.{Observing, watch_after}
 use Rattle.rx_observe.specs.Rows.{emissions_due}
 use Rattle.rx_observe.specs.Watched.{Watched}
+use Rattle.rx_world.specs.Schema.{schema_in}
 use Rattle.rx_world.specs.Step.{legal, stored_rows}
+use Rattle.rx_world.specs.Touch.{Touch, no_collection, new_collection, new_rows, new_where, touch}
 use Rattle.rx_world.specs.World.{World}
 use Rattle.rx_world.proofs.Looked.{all_change_named, all_put_named, equal_names, named-change_other, named-change_same, named-put_other, other_names}
 use Rattle.rx_session.specs.Applied.{IsAfter, coll_written, with_written}
-use Rattle.rx_session.specs.Doing.{heard, rows_heard, with_watched}
+use Rattle.rx_session.specs.Doing.{query_after, watch_in}
 use Rattle.rx_session.specs.Placed.{Lives, ArePlaced, AreQuietBut, IsQuiet, names_in, queries_of, watched_at}
-use Rattle.rx_session.specs.Session.{Observed}
+use Rattle.rx_session.specs.Session.{Observed, with_watched}
 use Rattle.rx_session.specs.declared.place.Place.{Place}
 use Rattle.rx_session.proofs.Places.{all_map, all_of, colls, keys-map, map_same, named-colls, named-map, observed_at, placed_changed, queries_become, queries_stay, query_at}
 
@@ -35,14 +37,29 @@ nothing_mapped : {X Y : Type 0} (f : X → Y) (o : Option X) → option_map f o 
 nothing_mapped f None is = refl
 nothing_mapped f (Some x) is = cc
 
--- the name of a legal new collection isn't held
-pub free_name : (name schema : List ℕ) (w : World) (ls : Lives) → w.collections ≡ colls ls
-    → legal (collection name schema) w ≡ true → named ls name ≡ None
-free_name name schema w ls same allowed =
+-- the name of what a record makes isn't held
+abbrev pub IsUnheld : World → Touch → Type 0
+IsUnheld w no_collection = Unit {0}
+IsUnheld w (new_collection name schema) = named w.collections name ≡ None
+IsUnheld w (new_rows name lwt written) = Unit {0}
+
+-- a legal one's isn't
+pub legal_unheld : (content : Content) (w : World) → legal content w ≡ true → IsUnheld w (touch content)
+legal_unheld (collection name schema) w allowed =
     let is = (and_parts _ _ (and_parts _ _ (and_parts _ _ allowed).0).0).1 in
-    let none : named (colls ls) name ≡ None =
-    ap (λ cs. named cs name) (sym same) ∙ none_is (named w.collections name) is in
-    nothing_mapped (λ (l : Observing). l.collection) (named ls name) (sym (named-colls ls name) ∙ none)
+    elim (schema_in schema) as (λ o. IsUnheld w (new_where name o)) [
+      | None ↦ tt
+      | Some s ↦ none_is (named w.collections name) is
+    ]
+legal_unheld (rows name lwt written) w allowed = tt
+legal_unheld (epoch number) w allowed = tt
+
+-- so no collection with queries has it
+free_name : (name : List ℕ) (w : World) (ls : Lives) → w.collections ≡ colls ls
+    → named w.collections name ≡ None → named ls name ≡ None
+free_name name w ls same none =
+    nothing_mapped (λ (l : Observing). l.collection) (named ls name)
+    (sym (named-colls ls name) ∙ ap (λ cs. named cs name) (sym same) ∙ none)
 
 -- a name that is held is another than one that isn't
 other_held : (ls : Lives) (name coll : List ℕ) → named ls name ≡ None → IsSome (named ls coll)
@@ -110,14 +127,14 @@ module _ (w : World) (ls : Lives) (same : w.collections ≡ colls ls) (lwt : ℕ
         → option_map (observed_at p)
         (option_and_then (λ (l : Observing). named l.queries p.name)
         (option_map (with_written lwt written) o))
-        ≡ option_map (λ (x : Observed). with_watched (rows_heard c lwt written x.watched) x)
+        ≡ option_map (λ (x : Observed). with_watched (watch_in c lwt written x.watched) x)
         (option_map (observed_at p) (option_and_then (λ (l : Observing). named l.queries p.name) o))
     told p None c is = refl
     told p (Some l) c is =
-        let h = hear l.collection (stored_rows l.collection.name lwt written) in
+        let h = watch_after l.collection (stored_rows l.collection.name lwt written) in
         subst (λ (x : Option Held). option_map (observed_at p)
         (named (map (λ (e : List ℕ × Watched). (e.0, h e.1)) l.queries) p.name)
-        ≡ option_map (λ (y : Observed). with_watched (rows_heard x lwt written y.watched) y)
+        ≡ option_map (λ (y : Observed). with_watched (watch_in x lwt written y.watched) y)
         (option_map (observed_at p) (named l.queries p.name))) (sym is)
         (ap (option_map (observed_at p)) (named-map h l.queries p.name)
         ∙ observed_then h p (named l.queries p.name))
@@ -125,20 +142,20 @@ module _ (w : World) (ls : Lives) (same : w.collections ≡ colls ls) (lwt : ℕ
     -- the choice by the name
     told_here : (p : Place) (o : Option Watched)
         → option_map (λ (x : Observed).
-        with_watched (rows_heard (named w.collections p.coll) lwt written x.watched) x)
+        with_watched (watch_in (named w.collections p.coll) lwt written x.watched) x)
         (option_map (observed_at p) o)
-        ≡ option_map (heard w (rows p.coll lwt written)) (option_map (observed_at p) o)
+        ≡ option_map (query_after w (new_rows p.coll lwt written)) (option_map (observed_at p) o)
     told_here p None = refl
     told_here p (Some v) =
         ap (λ (c : Bool). Some (cond c
-        (with_watched (rows_heard (named w.collections p.coll) lwt written v) (observed_at p v))
+        (with_watched (watch_in (named w.collections p.coll) lwt written v) (observed_at p v))
         (observed_at p v))) (sym (equal_names p.coll))
 
     -- a place in the collection of the rows
-    heard_same : (p : Place)
+    after_same : (p : Place)
         → query_at (change_named ls p.coll (with_written lwt written)) p
-        ≡ option_map (heard w (rows p.coll lwt written)) (query_at ls p)
-    heard_same p =
+        ≡ option_map (query_after w (new_rows p.coll lwt written)) (query_at ls p)
+    after_same p =
         ap (λ o. option_map (observed_at p)
         (option_and_then (λ (l : Observing). named l.queries p.name) o))
         (named-change_same (with_written lwt written) ls p.coll)
@@ -149,18 +166,18 @@ module _ (w : World) (ls : Lives) (same : w.collections ≡ colls ls) (lwt : ℕ
     -- a query of another collection
     not_told : (name : List ℕ) (p : Place) (o : Option Watched) → bytes_eq name p.coll ≡ false
         → option_map (observed_at p) o
-        ≡ option_map (heard w (rows name lwt written)) (option_map (observed_at p) o)
+        ≡ option_map (query_after w (new_rows name lwt written)) (option_map (observed_at p) o)
     not_told name p None other = refl
     not_told name p (Some v) other =
         ap (λ (c : Bool). Some (cond c
-        (with_watched (rows_heard (named w.collections name) lwt written v) (observed_at p v))
+        (with_watched (watch_in (named w.collections name) lwt written v) (observed_at p v))
         (observed_at p v))) (sym other)
 
     -- a place in another collection
-    heard_other : (name : List ℕ) (p : Place) → bytes_eq name p.coll ≡ false
+    after_other : (name : List ℕ) (p : Place) → bytes_eq name p.coll ≡ false
         → query_at (change_named ls name (with_written lwt written)) p
-        ≡ option_map (heard w (rows name lwt written)) (query_at ls p)
-    heard_other name p other =
+        ≡ option_map (query_after w (new_rows name lwt written)) (query_at ls p)
+    after_other name p other =
         let apart : p.coll ≢ name =
         λ is. true≢false (sym ((bytes_eq-Decides name p.coll).1 (sym is)) ∙ other) in
         ap (λ o. option_map (observed_at p)
@@ -169,59 +186,61 @@ module _ (w : World) (ls : Lives) (same : w.collections ≡ colls ls) (lwt : ℕ
         ∙ not_told name p (watched_at ls p) other
 
     -- each place
-    heard_at : (name : List ℕ) (p : Place)
+    after_at : (name : List ℕ) (p : Place)
         → query_at (change_named ls name (with_written lwt written)) p
-        ≡ option_map (heard w (rows name lwt written)) (query_at ls p)
-    heard_at name p =
+        ≡ option_map (query_after w (new_rows name lwt written)) (query_at ls p)
+    after_at name p =
         elim (bytes_eq name p.coll) as (λ b. bytes_eq name p.coll ≡ b
         → query_at (change_named ls name (with_written lwt written)) p
-        ≡ option_map (heard w (rows name lwt written)) (query_at ls p)) [
+        ≡ option_map (query_after w (new_rows name lwt written)) (query_at ls p)) [
           | true ↦ (λ is.
               subst (λ n. query_at (change_named ls n (with_written lwt written)) p
-              ≡ option_map (heard w (rows n lwt written)) (query_at ls p))
-              (sym ((bytes_eq-Decides name p.coll).0 is)) (heard_same p))
-          | false ↦ (λ is. heard_other name p is)
+              ≡ option_map (query_after w (new_rows n lwt written)) (query_at ls p))
+              (sym ((bytes_eq-Decides name p.coll).0 is)) (after_same p))
+          | false ↦ (λ is. after_other name p is)
         ] refl
 
--- ---- a record
+-- ---- what a record touches
 
--- each query hears a record
-pub heard_queries : (content : Content) (w : World) (ls new : Lives) (ps : List Place)
-    → w.collections ≡ colls ls → ArePlaced ls ps → legal content w ≡ true → IsAfter content ls new
-    → queries_of new ps ≡ map (heard w content) (queries_of ls ps)
-heard_queries (collection name schema) w ls new ps same placed allowed after =
+-- each query follows it
+pub queries_after : (t : Touch) (w : World) (ls new : Lives) (ps : List Place)
+    → w.collections ≡ colls ls → ArePlaced ls ps → IsUnheld w t → IsAfter t ls new
+    → queries_of new ps ≡ map (query_after w t) (queries_of ls ps)
+queries_after no_collection w ls new ps same placed unheld after =
+    ap (λ ls. queries_of ls ps) after
+    ∙ sym (map_same (query_after w no_collection) (λ o. refl) (queries_of ls ps))
+queries_after (new_collection name schema) w ls new ps same placed unheld after =
     ap (λ ls. queries_of ls ps) after.2
-    ∙ new_queries ls ps name after.0 (free_name name schema w ls same allowed) placed
-    ∙ sym (map_same (heard w (collection name schema)) (λ o. refl) (queries_of ls ps))
-heard_queries (rows name lwt written) w ls new ps same placed allowed after =
+    ∙ new_queries ls ps name after.0 (free_name name w ls same unheld) placed
+    ∙ sym (map_same (query_after w (new_collection name schema)) (λ o. refl) (queries_of ls ps))
+queries_after (new_rows name lwt written) w ls new ps same placed unheld after =
     ap (λ ls. queries_of ls ps) after
-    ∙ queries_become (heard w (rows name lwt written)) ls
+    ∙ queries_become (query_after w (new_rows name lwt written)) ls
     (change_named ls name (with_written lwt written)) ps
-    (all_of _ (heard_at w ls same lwt written name) ps)
-heard_queries (epoch number) w ls new ps same placed allowed after =
-    ap (λ ls. queries_of ls ps) after
-    ∙ sym (map_same (heard w (epoch number)) (λ o. refl) (queries_of ls ps))
+    (all_of _ (after_at w ls same lwt written name) ps)
 
 -- all stays in its places
-pub placed_after : (content : Content) (w : World) (ls new : Lives) (ps : List Place)
-    → w.collections ≡ colls ls → ArePlaced ls ps → legal content w ≡ true → IsAfter content ls new
+pub placed_after : (t : Touch) (w : World) (ls new : Lives) (ps : List Place)
+    → w.collections ≡ colls ls → ArePlaced ls ps → IsUnheld w t → IsAfter t ls new
     → ArePlaced new ps
-placed_after (collection name schema) w ls new ps same placed allowed after =
+placed_after no_collection w ls new ps same placed unheld after =
+    subst (λ ls. ArePlaced ls ps) (sym after) placed
+placed_after (new_collection name schema) w ls new ps same placed unheld after =
     subst (λ ls. ArePlaced ls ps) (sym after.2)
-    (new_placed ls ps name after.0 (free_name name schema w ls same allowed) placed after.1)
-placed_after (rows name lwt written) w ls new ps same placed allowed after =
+    (new_placed ls ps name after.0 (free_name name w ls same unheld) placed
+    (ap (λ (l : Observing). l.queries) after.1))
+placed_after (new_rows name lwt written) w ls new ps same placed unheld after =
     subst (λ ls. ArePlaced ls ps) (sym after)
     (placed_changed (with_written lwt written)
-    (λ l. keys-map (hear l.collection (stored_rows l.collection.name lwt written)) l.queries)
+    (λ l. keys-map (watch_after l.collection (stored_rows l.collection.name lwt written)) l.queries)
     ls name ps placed)
-placed_after (epoch number) w ls new ps same placed allowed after =
-    subst (λ ls. ArePlaced ls ps) (sym after) placed
 
--- rows are heard in their collection alone, so there's nothing to be emitted of the others
-pub quiet_but : (content : Content) (coll : List ℕ) (ls new : Lives) → coll_written content ≡ Some coll
-    → IsAfter content ls new → AllByRecursion IsQuiet ls → AreQuietBut coll new
-quiet_but (collection name schema) coll ls new is after quiet = cc
-quiet_but (rows name lwt written) coll ls new is after quiet =
+-- rows reach the queries of their collection alone, so there's nothing to be emitted of the others
+pub quiet_but : (t : Touch) (coll : List ℕ) (ls new : Lives) → coll_written t ≡ Some coll
+    → IsAfter t ls new → AllByRecursion IsQuiet ls → AreQuietBut coll new
+quiet_but no_collection coll ls new is after quiet = cc
+quiet_but (new_collection name schema) coll ls new is after quiet = cc
+quiet_but (new_rows name lwt written) coll ls new is after quiet =
     let same : name ≡ coll = cc in
     let P = λ (n : List ℕ) (l : Observing).
     (bytes_eq name n ≡ false → emissions_due l.collection l.queries ≡ []) in
@@ -231,14 +250,14 @@ quiet_but (rows name lwt written) coll ls new is after quiet =
     (subst (AreQuietBut name) (sym after)
     (all_change_named P ls name (with_written lwt written)
     (λ l at was other. absurd (true≢false (sym (equal_names name) ∙ other))) each))
-quiet_but (epoch number) coll ls new is after quiet = cc
 
 -- after another record there's nothing to be emitted of any
-pub quiet_after : (content : Content) (ls new : Lives) → coll_written content ≡ None
-    → IsAfter content ls new → AllByRecursion IsQuiet ls → AllByRecursion IsQuiet new
-quiet_after (collection name schema) ls new is after quiet =
+pub quiet_after : (t : Touch) (ls new : Lives) → coll_written t ≡ None
+    → IsAfter t ls new → AllByRecursion IsQuiet ls → AllByRecursion IsQuiet new
+quiet_after no_collection ls new is after quiet =
+    subst (AllByRecursion IsQuiet) (sym after) quiet
+quiet_after (new_collection name schema) ls new is after quiet =
     subst (AllByRecursion IsQuiet) (sym after.2)
     (all_put_named (λ n (l : Observing). emissions_due l.collection l.queries ≡ []) ls name after.0
-    (ap (emissions_due after.0.collection) after.1) quiet)
-quiet_after (rows name lwt written) ls new is after quiet = cc
-quiet_after (epoch number) ls new is after quiet = subst (AllByRecursion IsQuiet) (sym after) quiet
+    (ap (λ (l : Observing). emissions_due l.collection l.queries) after.1) quiet)
+quiet_after (new_rows name lwt written) ls new is after quiet = cc

@@ -4,16 +4,16 @@ use Rattle.std.specs.Str.{bytes_eq}
 use Rattle.rx_value.specs.Named.{named}
 use Rattle.rx_query.specs.Asked.{Asked}
 use Rattle.rx_collection.specs.Held.{Held}
-use Rattle.rx_record.specs.Content.{Content, rows, epoch}
+use Rattle.rx_record.specs.Content.{Content, epoch}
 use Rattle.rx_record.specs.Writable.{IsOrdered}
 use Rattle.rx_record.specs.declared.record.RowOut.{RowOut}
-use Rattle.rx_observe.specs.Counts.{no_counts}
-use Rattle.rx_observe.specs.Observing.{hear, cooled}
+use Rattle.rx_observe.specs.Observing.{watch_after, new_watch, cooled}
 use Rattle.rx_observe.specs.Watched.{Watched}
 use Rattle.rx_world.specs.Step.{step, legal, stored_rows}
+use Rattle.rx_world.specs.Touch.{Touch, no_collection, new_collection, new_rows, touch}
 use Rattle.rx_world.specs.World.{World}
-use Rattle.rx_session.specs.Emissions.{rows_on}
-use Rattle.rx_session.specs.Session.{Observed, Session, is_observed}
+use Rattle.rx_session.specs.Emissions.{documents_at}
+use Rattle.rx_session.specs.Session.{Observed, Session, is_observed, with_watched}
 
 -- nothing is changed, the clock is set, a record is written, a query is observed under a name in a
 -- collection, a query is observed no more, or the journal is opened again in that epoch
@@ -25,33 +25,25 @@ pub data Doing : Type 0 where
   unwatch : List ℕ → Doing
   restart : ℕ → Doing
 
--- an observed query with another state
-abbrev pub with_watched : Watched → Observed → Observed
-with_watched w o = record { name = o.name; coll = o.coll; watched = w }
+-- the state of a query after rows that its collection takes one by one, where there is one
+abbrev pub watch_in : Option Held → ℕ → List RowOut → Watched → Watched
+watch_in None lwt written w = w
+watch_in (Some c) lwt written w = watch_after c (stored_rows c.name lwt written) w
 
--- an observed query after rows that its collection takes one by one
-abbrev pub rows_heard : Option Held → ℕ → List RowOut → Watched → Watched
-rows_heard None lwt written w = w
-rows_heard (Some c) lwt written w = hear c (stored_rows c.name lwt written) w
-
--- an observed query after a record; the rows of its collection alone tell it anything
-abbrev pub heard : World → Content → Observed → Observed
-heard w (rows name lwt written) o =
+-- an observed query after what a record touches; the rows of its collection alone tell it anything
+abbrev pub query_after : World → Touch → Observed → Observed
+query_after w no_collection o = o
+query_after w (new_collection name schema) o = o
+query_after w (new_rows name lwt written) o =
     if bytes_eq name o.coll
-    then with_watched (rows_heard (named w.collections name) lwt written o.watched) o else o
-heard w _ o = o
+    then with_watched (watch_in (named w.collections name) lwt written o.watched) o else o
 
 -- a query that was run once, and of which nothing was emitted
-abbrev pub newly_observed : World → List ℕ → List ℕ → Asked → Observed
-newly_observed w name coll q = record {
+abbrev pub new_query : World → List ℕ → List ℕ → Asked → Observed
+new_query w name coll q = record {
   name = name;
   coll = coll;
-  watched = record {
-    query = q;
-    rows = Some (rows_on q (named w.collections coll));
-    emitted = None;
-    counts = no_counts;
-  };
+  watched = new_watch q (documents_at (named w.collections coll));
 }
 
 -- the session after what a line does
@@ -59,9 +51,9 @@ abbrev pub after : Doing → Session → Session
 after nothing s = s
 after (set_clock at) s = record s { moment = at }
 after (write content) s =
-    record s { world = step content s.world; queries = map (heard s.world content) s.queries }
+    record s { world = step content s.world; queries = map (query_after s.world (touch content)) s.queries }
 after (watch name coll q) s =
-    record s { queries = s.queries ++ newly_observed s.world name coll q ∷ [] }
+    record s { queries = s.queries ++ new_query s.world name coll q ∷ [] }
 after (unwatch name) s = record s { queries = filter (λ o. not (bytes_eq name o.name)) s.queries }
 after (restart number) s = record s {
   world = step (epoch number) s.world;

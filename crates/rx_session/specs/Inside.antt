@@ -16,7 +16,7 @@ seen s = record {
 
 -- the places are those of the collections' queries, no name of a collection comes twice, and nothing
 -- is to be emitted
-pub record IsSettled (s : Inside) : Type 0 where
+pub record IsInOrder (s : Inside) : Type 0 where
   pub placed : ArePlaced (holders_in s.world) s.places.items
   pub distinct : AreDistinct (world_of s.world)
   pub quiet : AllByRecursion IsQuiet (holders_in s.world)

@@ -1,22 +1,15 @@
 -- What is done to the observed queries of one collection.
 use Rattle.std.specs.Prelude.{⊤, ◌≡◌, ℕ, List, [], map, Option, Some, None}
-use Rattle.std.specs.List.{flat_map}
 use Rattle.rx_value.specs.Named.{named}
 use Rattle.rx_query.specs.Asked.{Asked}
-use Rattle.rx_reply.specs.Emission.{emission_line}
-use Rattle.rx_observe.specs.Observing.{Observing, each, settled, with_queries, just_observed, and_query, without, cooled}
+use Rattle.rx_observe.specs.Observing.{Observing, each, settled, with_queries, new_watch, and_query, without, cooled}
 use Rattle.rx_observe.specs.Rows.{emissions_due}
 use Rattle.rx_observe.specs.declared.emission.Emission.{Emission}
-use Rattle.rx_session.specs.Emissions.{fields_of}
 
--- the lines of emissions
-abbrev pub lines_of : List Emission → List ℕ
-lines_of es = flat_map (λ e. emission_line e.name (fields_of e.rows)) es
-
--- those due of a collection's queries
-abbrev pub lines_due : Option Observing → List ℕ
-lines_due None = []
-lines_due (Some l) = lines_of (emissions_due l.collection l.queries)
+-- the emissions due of a collection's queries
+abbrev pub due_of : Option Observing → List Emission
+due_of None = []
+due_of (Some l) = emissions_due l.collection l.queries
 
 -- with all rows emitted
 abbrev pub with_settled : Observing → Observing
@@ -24,7 +17,7 @@ with_settled l = with_queries l (each (settled l.collection) l.queries)
 
 -- with a query more
 abbrev pub with_query : List ℕ → Asked → Observing → Observing
-with_query name q l = with_queries l (and_query l.queries name (just_observed l.collection q))
+with_query name q l = with_queries l (and_query l.queries name (new_watch q l.collection.documents))
 
 -- without the query of a name
 abbrev pub without_query : List ℕ → Observing → Observing

@@ -61,6 +61,11 @@ pub record ArePlaced (ls : Lives) (ps : List Place) : Type 0 where
 abbrev pub AreQuietBut : List ℕ → Lives → Type 0
 AreQuietBut coll ls = AllByRecursion (λ l. bytes_eq coll l.0 ≡ false → IsQuiet l) ls
 
--- no query is observed
+-- no query is observed in a collection, and it isn't broken
+pub record IsUnwatched (l : Observing) : Type 0 where
+  pub none : l.queries ≡ []
+  pub unbroken : l.broken ≡ false
+
+-- in no collection
 abbrev pub AreUnwatched : Lives → Type 0
-AreUnwatched ls = AllByRecursion (λ l. l.1.queries ≡ []) ls
+AreUnwatched ls = AllByRecursion (λ l. IsUnwatched l.1) ls

@@ -3,8 +3,8 @@ use Rattle.std.specs.Prelude.{ℕ, List, map, Bool, Option, option_map}
 use Rattle.std.specs.List.{list_any}
 use Rattle.std.specs.Str.{bytes_eq}
 use Rattle.rx_value.specs.Named.{named}
+use Rattle.rx_table.specs.declared.counts.Counts.{Counts}
 use Rattle.rx_observe.specs.Watched.{Watched}
-use Rattle.rx_observe.specs.declared.counts.Counts.{Counts}
 use Rattle.rx_world.specs.World.{World}
 
 -- an observed query, its name, and the collection that it is observed in
@@ -12,6 +12,10 @@ pub record Observed : Type 0 where
   pub name : List ℕ
   pub coll : List ℕ
   pub watched : Watched
+
+-- with another state
+abbrev pub with_watched : Watched → Observed → Observed
+with_watched w o = record { name = o.name; coll = o.coll; watched = w }
 
 -- the world, the present moment, and the observed queries in the order of observing
 pub record Session : Type 0 where

@@ -1,13 +1,13 @@
--- What a change is to do.
+-- What is to be done.
 use Rattle.rx_query.specs.Asked.{asked}
 use Rattle.rx_record.specs.Shown.{content}
 use Rattle.rx_session.specs.Doing.{Doing, nothing, set_clock, write, watch, unwatch}
-use Rattle.rx_session.specs.declared.change.Change.{Change}
-use Rattle.rx_session.specs.declared.change.Change.TheVariants as change
+use Rattle.rx_session.specs.declared.doing.Doing.{Doing as Done}
+use Rattle.rx_session.specs.declared.doing.Doing.TheVariants as done
 
-abbrev pub done_by : Change → Doing
-done_by change.Nothing = nothing
-done_by (change.Tick at) = set_clock at
-done_by (change.Write entry) = write (content entry)
-done_by (change.Watch w) = watch w.name w.coll (asked w.query)
-done_by (change.Unwatch name) = unwatch name
+abbrev pub done_by : Done → Doing
+done_by done.Nothing = nothing
+done_by (done.SetClock at) = set_clock at
+done_by (done.Write entry) = write (content entry)
+done_by (done.Watch w) = watch w.name w.coll (asked w.query)
+done_by (done.Unwatch name) = unwatch name

@@ -4,26 +4,38 @@ ghost use Rattle.rx_record.specs.Shown.{content};
 ghost use Rattle.rx_record.specs.Writable.{IsOrdered};
 ghost use Rattle.rx_world.specs.Holders.{holders_in};
 ghost use Rattle.rx_world.specs.Step.{step, legal};
+ghost use Rattle.rx_world.specs.Touch.{touch};
+ghost use Rattle.rx_world.specs.Valid.{AreDistinct};
 ghost use Rattle.rx_session.specs.Applied.{IsAfter, coll_written};
 ghost use Rattle.rx_session.specs.Placed.{AreUnwatched, world_of};
 
+use rx_diagram::Diagram;
 use rx_observe::Live;
 use rx_record::Record;
 use rx_value::RxText;
 use rx_world::{ApplyFault, World};
 use std::alloc::{AllocError, Global};
+use std::rc::Rc;
 
-/// Applies a record where no query is observed.
-pub fn apply(world: World<Live>, alloc: Global, entry: Record) -> Result<World<Live>, ApplyFault>
+/// Applies a record where no query is observed. A new collection gets a share of the diagram.
+pub fn apply(
+    world: World<Live>,
+    alloc: Global,
+    entry: Record,
+    diagram: &Rc<Diagram>,
+) -> Result<World<Live>, ApplyFault>
     requires ordered { IsOrdered (content entry) }
     requires unwatched { AreUnwatched (holders_in world) }
     ensures ok { IfOk result (λ w. (world_of w ≡ step (content entry) (world_of world))
         × (legal (content entry) (world_of world) ≡ true)) }
     ensures unwatched { IfOk result (λ w. AreUnwatched (holders_in w)) }
+    ensures distinct { IfOk result (λ w. AreDistinct (world_of w)) }
     ensures illegal { IsErrOf result ApplyFault.Illegal
         → legal (content entry) (world_of world) ≡ false }
 {
-    change(world, alloc, entry)
+    world.apply(alloc, entry, &|collection| {
+        Ok(Live::new(alloc, collection, diagram.clone()?))
+    })
 }
 
 // Applies a legal record, and brings the queries of its collection up to date.
@@ -31,31 +43,22 @@ pub(crate) fn apply_legal(
     world: World<Live>,
     alloc: Global,
     entry: Record,
+    diagram: &Rc<Diagram>,
 ) -> Result<World<Live>, AllocError>
     requires ordered { IsOrdered (content entry) }
+    requires legal { legal (content entry) (world_of world) ≡ true }
     ensures world { IfOk result (λ w. world_of w ≡ step (content entry) (world_of world)) }
-    ensures lives { IfOk result (λ w. IsAfter (content entry) (holders_in world) (holders_in w)) }
+    ensures lives { IfOk result
+        (λ w. IsAfter (touch (content entry)) (holders_in world) (holders_in w)) }
 {
-    match change(world, alloc, entry) {
-        Ok(world) => Ok(world),
-        Err(_) => Err(AllocError),
-    }
-}
-
-fn change(world: World<Live>, alloc: Global, entry: Record) -> Result<World<Live>, ApplyFault>
-    requires ordered { IsOrdered (content entry) }
-    ensures ok { IfOk result (λ w. (world_of w ≡ step (content entry) (world_of world))
-        × (legal (content entry) (world_of world) ≡ true)) }
-    ensures lives { IfOk result (λ w. IsAfter (content entry) (holders_in world) (holders_in w)) }
-    ensures illegal { IsErrOf result ApplyFault.Illegal
-        → legal (content entry) (world_of world) ≡ false }
-{
-    world.apply(alloc, entry, &|collection| Ok(Live::new(alloc, collection)))
+    world.apply_legal(alloc, entry, &|collection| {
+        Ok(Live::new(alloc, collection, diagram.clone()?))
+    })
 }
 
 // The collection whose documents a record writes.
 pub(crate) fn coll_written(alloc: Global, entry: &Record) -> Result<Option<RxText>, AllocError>
-    ensures { IfOk result (λ coll. coll ≡ coll_written (content entry.now)) }
+    ensures { IfOk result (λ coll. coll ≡ coll_written (touch (content entry.now))) }
 {
     match entry {
         Record::Rows { name, .. } => Ok(Some(name.copy(alloc)?)),

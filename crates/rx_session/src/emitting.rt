@@ -1,59 +1,44 @@
 // What is done to the observed queries of one collection.
-ghost use Rattle.std.specs.Prelude.{◌≡◌, ◌++◌, None, true, false, OnOk, string_bytes};
+ghost use Rattle.std.specs.Prelude.{◌≡◌, None, true, false, IfOk, OnOk};
 ghost use Rattle.rx_query.specs.Asked.{asked};
 ghost use Rattle.rx_value.specs.Named.{named, change_named};
 ghost use Rattle.rx_world.specs.Holders.{holders_in};
 ghost use Rattle.rx_session.specs.Doing.{has_key};
-ghost use Rattle.rx_session.specs.Lives.{IsFree, lines_due, lines_of};
-ghost use Rattle.rx_session.specs.Lives.{with_settled, with_query, without_query};
+ghost use Rattle.rx_session.specs.Lives.{IsFree, due_of, with_settled, with_query, without_query};
 ghost use Rattle.rx_session.specs.Placed.{world_of};
 
 use rx_observe::{Emission, Live};
 use rx_query::Query;
-use rx_reply::emission_line;
 use rx_value::RxText;
 use rx_world::World;
 use std::alloc::{AllocError, Global};
 
-// Adds the emissions of a collection's queries to the text.
-pub(crate) fn emit(
+// The emissions due of a collection's queries, which are emitted then.
+pub(crate) fn take_due(
     alloc: Global,
     world: &mut World<Live>,
     coll: &RxText,
-    text: &mut String,
-) -> Result<(), AllocError>
+) -> Result<Vec<Emission>, AllocError>
     ensures lives { OnOk result (holders_in world.new
         ≡ change_named (holders_in world.old) coll.now with_settled) }
     ensures epoch { world.new.epoch ≡ world.old.epoch }
-    ensures text { OnOk result (string_bytes text.new
-        ≡ string_bytes text.old ++ lines_due (named (holders_in world.old) coll.now)) }
+    ensures due { IfOk result
+        (λ due. due.items ≡ due_of (named (holders_in world.old) coll.now)) }
 {
-    let emissions = world.edit(
+    let due = world.edit(
         coll.as_str(),
         |live|
             requires { live.old.broken ≡ false }
-        { live.emissions(alloc) },
+        { live.emissions() },
     );
-    match emissions {
-        Some(emissions) => add_lines(alloc, emissions?.as_slice(), text),
-        None => Ok(()),
+    match due {
+        Some(due) => due,
+        None => Ok(Vec::new(alloc)),
     }
-}
-
-// Adds the line of each emission.
-fn add_lines(alloc: Global, emissions: &[Emission], text: &mut String) -> Result<(), AllocError>
-    ensures { OnOk result (string_bytes text.new ≡ string_bytes text.old ++ lines_of emissions.now) }
-{
-    for emission in emissions {
-        let line = emission_line(alloc, emission.name.as_str(), &emission.rows)?;
-        text.push_str(line.as_str())?;
-    }
-    Ok(())
 }
 
 // Observes a query in a collection.
 pub(crate) fn observe(
-    alloc: Global,
     world: &mut World<Live>,
     coll: &RxText,
     name: RxText,
@@ -71,7 +56,7 @@ pub(crate) fn observe(
             requires whole { live.old.broken ≡ false }
             requires new { named live.old.queries name ≡ None }
             requires keyed { (asked query).primary ≡ live.old.collection.schema.primary }
-        { live.observe(alloc, name, query) },
+        { live.observe(name, query) },
     );
     match observed {
         Some(observed) => observed,

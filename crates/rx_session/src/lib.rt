@@ -3,7 +3,7 @@
 #![tactic(auto)]
 
 mod applying;
-mod change;
+mod doing;
 mod emitting;
 mod next;
 mod place;
@@ -11,5 +11,5 @@ mod reopening;
 mod session;
 
 pub use applying::apply;
-pub use change::{Change, Watch};
+pub use doing::{Doing, Watch};
 pub use session::Session;

@@ -1,24 +1,24 @@
 // What a line does to a session.
-ghost use Rattle.std.specs.Prelude.{◌≡◌, ◌++◌, [], ◌∷◌, Some, true, filter, not, option_map, IfOk, OnOk, string_bytes};
+ghost use Rattle.std.specs.Prelude.{◌≡◌, ◌++◌, [], ◌∷◌, Some, true, filter, not, option_map, IfOk, OnOk};
 ghost use Rattle.std.specs.Str.{bytes_eq};
 ghost use Rattle.rx_value.specs.Named.{named};
 ghost use Rattle.rx_query.specs.Asked.{asked};
 ghost use Rattle.rx_record.specs.Shown.{content};
 ghost use Rattle.rx_world.specs.Holders.{holders_in};
-ghost use Rattle.rx_session.specs.Applied.{lines_in, settled_in, unobserved, watched_in};
+ghost use Rattle.rx_session.specs.Applied.{due_in, settled_in, unobserved, watched_in};
 ghost use Rattle.rx_session.specs.Doing as doing;
 ghost use Rattle.rx_session.specs.Doing.{after, has_key, MayDo};
-ghost use Rattle.rx_session.specs.Emissions.{emissions, settled};
+ghost use Rattle.rx_session.specs.Emissions.{emissions, settled_session, IsSettled};
 ghost use Rattle.rx_session.specs.Lives.{IsFree};
 ghost use Rattle.rx_session.specs.Placed.{world_of};
 ghost use Rattle.rx_session.specs.Shown.{done_by};
 
 use crate::applying::{apply_legal, coll_written};
-use crate::change::{Change, Watch};
-use crate::emitting::{emit, observe, unobserve};
+use crate::doing::{Doing, Watch};
+use crate::emitting::{observe, take_due, unobserve};
 use crate::place::Place;
 use crate::session::{Session, find_place};
-use rx_observe::Live;
+use rx_observe::{Emission, Live};
 use rx_query::Query;
 use rx_record::Record;
 use rx_value::RxText;
@@ -26,90 +26,112 @@ use rx_world::World;
 use std::alloc::{AllocError, Global};
 
 impl Session {
-    /// The session after a change. The emissions that are due then are added to the text.
+    /// The session after what a line does, and the emissions that are due then, which are emitted.
     pub fn next(
         self,
         alloc: Global,
-        change: Change,
-        text: &mut String,
-    ) -> Result<Session, AllocError>
-        requires { MayDo (done_by change) self }
-        ensures session { IfOk result (λ s. s ≡ settled (after (done_by change) self)) }
-        ensures emissions { OnOk result (string_bytes text.new
-            ≡ string_bytes text.old ++ emissions (after (done_by change) self)) }
+        doing: Doing,
+    ) -> Result<(Session, Vec<Emission>), AllocError>
+        requires { MayDo (done_by doing) self }
+        ensures session { IfOk result (λ p. p.0 ≡ settled_session (after (done_by doing) self)) }
+        ensures emissions { IfOk result (λ p. p.1.items ≡ emissions (after (done_by doing) self)) }
+
+        // Nothing of any session is to be emitted, so one to which nothing is done stays.
+        ensures before { IsSettled self }
     {
-        match change {
-            Change::Nothing => Ok(self.same()),
-            Change::Tick(at) => Ok(self.at(at)),
-            Change::Write(entry) => self.written(alloc, entry, text),
-            Change::Watch(watch) => self.watching(alloc, watch, text),
-            Change::Unwatch(name) => Ok(self.without(&name)),
+        match doing {
+            Doing::Nothing => Ok((self.keep(), Vec::new(alloc))),
+            Doing::SetClock(at) => Ok((self.set_clock(at), Vec::new(alloc))),
+            Doing::Write(entry) => self.write(alloc, entry),
+            Doing::Watch(watch) => self.watch(alloc, watch),
+            Doing::Unwatch(name) => Ok((self.unwatch(&name), Vec::new(alloc))),
         }
     }
 }
 
 impl Session {
     // The same session: nothing of it is to be emitted.
-    fn same(self) -> Session
-        ensures session { result ≡ settled (after doing.nothing self) }
+    fn keep(self) -> Session
+        ensures session { result ≡ settled_session (after doing.nothing self) }
         ensures emissions { emissions (after doing.nothing self) ≡ [] }
+        ensures before { IsSettled self }
     {
         let moment = self.moment;
-        self.at(moment)
+        self.set_clock(moment)
     }
 
-    fn at(self, moment: u64) -> Session
-        ensures session { result ≡ settled (after (doing.set_clock moment) self) }
+    fn set_clock(self, moment: u64) -> Session
+        ensures session { result ≡ settled_session (after (doing.set_clock moment) self) }
         ensures emissions { emissions (after (doing.set_clock moment) self) ≡ [] }
+        ensures before { IsSettled self }
     {
         Session {
             world: self.world,
             moment,
             places: self.places,
+            diagram: self.diagram,
         }
     }
 
     // The session after a record. Queries of other collections keep their results.
-    fn written(self, alloc: Global, entry: Record, text: &mut String) -> Result<Session, AllocError>
+    fn write(self, alloc: Global, entry: Record) -> Result<(Session, Vec<Emission>), AllocError>
         requires { MayDo (doing.write (content entry)) self }
-        ensures session { IfOk result (λ s. s ≡ settled (after (doing.write (content entry)) self)) }
-        ensures emissions { OnOk result (string_bytes text.new ≡ string_bytes text.old
-            ++ emissions (after (doing.write (content entry)) self)) }
+        ensures session { IfOk result
+            (λ p. p.0 ≡ settled_session (after (doing.write (content entry)) self)) }
+        ensures emissions { IfOk result
+            (λ p. p.1.items ≡ emissions (after (doing.write (content entry)) self)) }
+        ensures before { IsSettled self }
     {
-        let coll = coll_written(alloc, &entry)?;
-        let mut world = apply_legal(self.world, alloc, entry)?;
-        emit_in(alloc, &mut world, coll, text)?;
-        Ok(Session {
+        let Session {
             world,
-            moment: self.moment,
-            places: self.places,
-        })
+            moment,
+            places,
+            diagram,
+        } = self;
+        let coll = coll_written(alloc, &entry)?;
+        let mut world = apply_legal(world, alloc, entry, &diagram)?;
+        let due = take_due_in(alloc, &mut world, coll)?;
+        let session = Session {
+            world,
+            moment,
+            places,
+            diagram,
+        };
+        Ok((session, due))
     }
 
     // The session with one observed query more.
-    fn watching(self, alloc: Global, watch: Watch, text: &mut String) -> Result<Session, AllocError>
+    fn watch(self, alloc: Global, watch: Watch) -> Result<(Session, Vec<Emission>), AllocError>
         requires { MayDo (doing.watch watch.name watch.coll (asked watch.query)) self }
-        ensures session { IfOk result (λ s. s
-            ≡ settled (after (doing.watch watch.name watch.coll (asked watch.query)) self)) }
-        ensures emissions { OnOk result (string_bytes text.new ≡ string_bytes text.old
-            ++ emissions (after (doing.watch watch.name watch.coll (asked watch.query)) self)) }
+        ensures session { IfOk result (λ p. p.0
+            ≡ settled_session (after (doing.watch watch.name watch.coll (asked watch.query)) self)) }
+        ensures emissions { IfOk result (λ p. p.1.items
+            ≡ emissions (after (doing.watch watch.name watch.coll (asked watch.query)) self)) }
+        ensures before { IsSettled self }
     {
+        let Session {
+            mut world,
+            moment,
+            mut places,
+            diagram,
+        } = self;
         let Watch { name, coll, query } = watch;
-        let mut world = self.world;
-        let mut places = self.places;
-        observe_in(alloc, &mut world, &name, &coll, query, text)?;
+        let due = observe_in(alloc, &mut world, &name, &coll, query)?;
         add_place(&mut places, name, coll)?;
-        Ok(Session {
+        let session = Session {
             world,
-            moment: self.moment,
+            moment,
             places,
-        })
+            diagram,
+        };
+        Ok((session, due))
     }
 
     // The session without the query of that name.
-    fn without(self, name: &RxText) -> Session
-        ensures session { result ≡ settled (after (doing.unwatch name.now) self) }
+    fn unwatch(self, name: &RxText) -> Session
+        ensures session { result ≡ settled_session (after (doing.unwatch name.now) self) }
         ensures emissions { emissions (after (doing.unwatch name.now) self) ≡ [] }
+        ensures before { IsSettled self }
     {
         let mut world = self.world;
         let mut places = self.places;
@@ -119,48 +141,46 @@ impl Session {
             world,
             moment: self.moment,
             places,
+            diagram: self.diagram,
         }
     }
 }
 
-// Adds the emissions of the collection whose documents were written, if there is one, to the text.
-fn emit_in(
+// The emissions of the collection whose documents were written, if there is one.
+fn take_due_in(
     alloc: Global,
     world: &mut World<Live>,
     coll: Option<RxText>,
-    text: &mut String,
-) -> Result<(), AllocError>
+) -> Result<Vec<Emission>, AllocError>
     ensures lives { OnOk result (holders_in world.new ≡ settled_in coll (holders_in world.old)) }
     ensures epoch { world.new.epoch ≡ world.old.epoch }
-    ensures text { OnOk result (string_bytes text.new
-        ≡ string_bytes text.old ++ lines_in coll (holders_in world.old)) }
+    ensures due { IfOk result (λ due. due.items ≡ due_in coll (holders_in world.old)) }
 {
     match coll {
-        Some(coll) => emit(alloc, world, &coll, text),
-        None => Ok(()),
+        Some(coll) => take_due(alloc, world, &coll),
+        None => Ok(Vec::new(alloc)),
     }
 }
 
-// Observes a query in a collection, and adds the emissions that are due there to the text.
+// Observes a query in a collection. Hands out the emissions that are due there.
 fn observe_in(
     alloc: Global,
     world: &mut World<Live>,
     name: &RxText,
     coll: &RxText,
     query: Query,
-    text: &mut String,
-) -> Result<(), AllocError>
+) -> Result<Vec<Emission>, AllocError>
     requires free { IsFree name.now (named (holders_in world.old) coll.now) }
     requires keyed { has_key (asked query).primary (named (world_of world.old).collections coll.now) ≡ true }
     ensures lives { OnOk result (holders_in world.new ≡ settled_in (Some coll.now)
         (watched_in name.now coll.now (asked query) (holders_in world.old))) }
     ensures epoch { world.new.epoch ≡ world.old.epoch }
-    ensures text { OnOk result (string_bytes text.new ≡ string_bytes text.old ++ lines_in (Some coll.now)
+    ensures due { IfOk result (λ due. due.items ≡ due_in (Some coll.now)
         (watched_in name.now coll.now (asked query) (holders_in world.old))) }
 {
     let name = name.copy(alloc)?;
-    observe(alloc, world, coll, name, query)?;
-    emit(alloc, world, coll, text)
+    observe(world, coll, name, query)?;
+    take_due(alloc, world, coll)
 }
 
 fn add_place(places: &mut Vec<Place>, name: RxText, coll: RxText) -> Result<(), AllocError>

@@ -2,12 +2,12 @@
 ghost use Rattle.std.specs.Prelude.{◌≡◌, [], false, Some, IfOk, OnOk};
 ghost use Rattle.std.specs.List.{AllByRecursion};
 ghost use Rattle.rx_value.specs.Named.{named, change_named};
-ghost use Rattle.rx_observe.specs.Observing.{AllRight, cooled, each, with_queries};
+ghost use Rattle.rx_observe.specs.Observing.{AllCold, AllRight, HaveDistinctNames, cooled, each, with_queries};
 ghost use Rattle.rx_observe.specs.Rows.{emissions_due};
 ghost use Rattle.rx_world.specs.Holders.{holders_in};
 ghost use Rattle.rx_session.specs.Doing as doing;
 ghost use Rattle.rx_session.specs.Doing.{after};
-ghost use Rattle.rx_session.specs.Emissions.{emissions, settled};
+ghost use Rattle.rx_session.specs.Emissions.{emissions, settled_session, IsSettled};
 ghost use Rattle.rx_session.specs.Lives.{bare, with_cooled, each_live};
 ghost use Rattle.rx_session.specs.Placed.{AreUnwatched, IsQuiet, world_of};
 
@@ -19,12 +19,13 @@ use std::alloc::{AllocError, Global};
 
 impl Session {
     /// The session on the same collections as a journal gave them. Its queries are cold, and go on.
-    pub fn reopened(self, alloc: Global, world: World<Live>) -> Result<Session, AllocError>
+    pub fn reopen(self, alloc: Global, world: World<Live>) -> Result<Session, AllocError>
         requires same { (world_of world).collections ≡ self.world.collections }
         requires unwatched { AreUnwatched (holders_in world) }
         ensures session { IfOk result
-            (λ s. s ≡ settled (after (doing.restart (world_of world).epoch) self)) }
+            (λ s. s ≡ settled_session (after (doing.restart (world_of world).epoch) self)) }
         ensures emissions { emissions (after (doing.restart (world_of world).epoch) self) ≡ [] }
+        ensures before { IsSettled self }
     {
         let mut world = world;
         carry_all(alloc, self.world, &mut world)?;
@@ -32,6 +33,7 @@ impl Session {
             world,
             moment: self.moment,
             places: self.places,
+            diagram: self.diagram,
         })
     }
 }
@@ -44,8 +46,6 @@ fn carry_all(alloc: Global, old: World<Live>, world: &mut World<Live>) -> Result
     ensures lives { OnOk result (holders_in world.new ≡ each_live with_cooled (holders_in old)) }
     ensures epoch { world.new.epoch ≡ world.old.epoch }
 {
-    // This tells that no collection is broken.
-    let _ = world.len();
     let lives = old.release(alloc)?;
     for live in lives {
         carry(alloc, live, world)?;
@@ -70,6 +70,8 @@ fn carry(alloc: Global, live: Live, world: &mut World<Live>) -> Result<(), Alloc
         |live|
             requires whole { live.old.broken ≡ false }
             requires none { live.old.queries ≡ [] }
+            requires names { HaveDistinctNames queries.items }
+            requires cold { AllCold queries.items }
             requires right { AllRight live.old.collection queries.items }
         { live.adopt(queries) },
     );

@@ -1,27 +1,30 @@
-ghost use Rattle.std.specs.Prelude.{◌≡◌, ◌<◌, [], true, false, Some, None, length, map, option_map, IfSome, IfOk, IsErrOf, IsSome};
+ghost use Rattle.std.specs.Prelude.{◌≡◌, ◌<◌, [], true, false, Some, None, length, map, option_map, IfSome, IfOk, IsErrOf};
 ghost use Rattle.std.specs.Bool.{Decides};
 ghost use Rattle.std.specs.List.{AllByRecursion, IsDistinct};
-ghost use Rattle.std.specs.Option.{ForSome};
 ghost use Rattle.std.specs.Str.{bytes_eq};
 ghost use Rattle.rx_value.specs.Named.{named};
 ghost use Rattle.rx_collection.specs.Lawful.{IsLawful};
 ghost use Rattle.rx_record.specs.Shown.{content};
 ghost use Rattle.rx_record.specs.Writable.{IsOrdered};
-ghost use Rattle.rx_world.specs.Commit.{IsValidState, commit};
+ghost use Rattle.rx_world.specs.Commit.{commit_to};
 ghost use Rattle.rx_world.specs.Holders.{holders_in};
 ghost use Rattle.rx_world.specs.Lawful.{IsLawfulWorld};
-ghost use Rattle.rx_world.specs.Step.{legal};
-ghost use Rattle.rx_world.specs.Valid.{AreValid};
+ghost use Rattle.rx_world.specs.Step.{IsValidState, legal};
+ghost use Rattle.rx_world.specs.Valid.{AreDistinct, AreValid};
 ghost use Rattle.rx_session.specs.Placed.{AreUnwatched, place_named, world_of};
 ghost use Rattle.rx_session.specs.Session.{is_observed, counts_of};
 
 use crate::place::Place;
-use rx_observe::{Counts, Live};
+use rx_collection::Collection;
+use rx_diagram::Diagram;
+use rx_observe::Live;
 use rx_record::Record;
+use rx_table::Counts;
 use rx_value::{RxText, State};
-use rx_world::{StepFault, World};
-use std::alloc::{AllocError, Global};
+use rx_world::{StepFault, World, commit};
+use std::alloc::Global;
 use std::marker::Model;
+use std::rc::Rc;
 
 /// Collections with their observed queries, and the present moment. Between two lines nothing is
 /// to be emitted.
@@ -31,6 +34,8 @@ pub struct Session {
     pub(crate) moment: u64,
     /// The observed queries in the order of observing.
     pub(crate) places: Vec<Place>,
+    /// A share for each collection that is made later.
+    pub(crate) diagram: Rc<Diagram>,
 }
 
 impl Model for Session {
@@ -41,25 +46,25 @@ impl Model for Session {
 
     ghost coded = { session_code };
 
-    ghost use Rattle.rx_session.specs.Inside.{seen, IsSettled};
+    ghost use Rattle.rx_session.specs.Inside.{seen, IsInOrder};
 
     ghost view = { seen };
 
-    ghost invariant = { IsSettled };
+    ghost invariant = { IsInOrder };
 }
 
 impl Session {
     /// The session at the start of a run, at the moment 0.
-    pub fn new(alloc: Global, world: World<Live>) -> Session
+    pub fn new(alloc: Global, world: World<Live>, diagram: Rc<Diagram>) -> Session
         requires unwatched { AreUnwatched (holders_in world) }
+        requires distinct { AreDistinct (world_of world) }
         ensures { result ≡ record { world = world_of world; moment = 0; queries = [] } }
     {
-        // This tells that no name comes twice.
-        let _ = world.len();
         Session {
             world,
             moment: 0,
             places: Vec::new(alloc),
+            diagram,
         }
     }
 
@@ -97,21 +102,28 @@ impl Session {
         self.world.epoch()
     }
 
-    /// The record that writes states to a collection at the present moment. Nothing is changed.
-    pub fn commit(&self, alloc: Global, name: &str, states: Vec<State>) -> Result<Record, StepFault>
-        requires held { IsSome (named self.now.world.collections name.now) }
+    /// The record that writes states to a collection of the session at the present moment. Nothing
+    /// is changed.
+    pub fn commit(
+        &self,
+        alloc: Global,
+        collection: &Collection,
+        states: Vec<State>,
+    ) -> Result<Record, StepFault>
+        requires held { named self.now.world.collections collection.now.name
+            ≡ Some collection.now }
         requires some { 0 < length states.items }
         requires distinct { IsDistinct bytes_eq (map (λ s. s.key) states.items) }
-        requires valid { ForSome (named self.now.world.collections name.now)
-            (λ c. AllByRecursion (IsValidState c.schema) states.items) }
-        ensures ok { IfOk result (λ entry. commit self.now.world name.now states.items self.now.moment
+        requires valid { AllByRecursion (IsValidState collection.now.schema) states.items }
+        ensures ok { IfOk result (λ entry.
+            commit_to collection.now.name states.items self.now.moment collection.now
             ≡ Some (content entry)) }
         ensures legal { IfOk result (λ entry. legal (content entry) self.now.world ≡ true) }
         ensures ordered { IfOk result (λ entry. IsOrdered (content entry)) }
         ensures clock_end { IsErrOf result StepFault.ClockEnd
-            → commit self.now.world name.now states.items self.now.moment ≡ None }
+            → commit_to collection.now.name states.items self.now.moment collection.now ≡ None }
     {
-        self.world.commit(alloc, name, states, self.moment)
+        commit(alloc, collection, states, self.moment)
     }
 
     /// Whether the collections are those of the world.

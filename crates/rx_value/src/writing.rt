@@ -33,7 +33,8 @@ pub fn write_fields(text: &mut String, fields: &Fields) -> Result<(), AllocError
     written
 }
 
-fn put_fields(writer: &mut Writer, fields: &Fields) -> Result<(), AllocError>
+/// Writes the JSON object of the fields.
+pub fn put_fields(writer: &mut Writer, fields: &Fields) -> Result<(), AllocError>
     ensures tokens { OnOk result (writer.new.tokens
         ≡ writer.old.tokens ++ json_tokens (outline (fields_data fields.now))) }
     ensures before { writer.new.before ≡ writer.old.before }

@@ -9,7 +9,7 @@ loop-live-init c =
     let left = into_iter_items c.into_iter-live-iterator.result in
     let all : left ≡ map (λ e. e.1) (holders_in c.args.old) = search rules in (
       carrying_none c.args.old c.args.world.now left c.requires.same c.requires.unwatched
-          c.len.ensures.whole c.release.ensures.whole all,
+          c.release.ensures.whole all,
       search rules,
     )
 

@@ -9,6 +9,6 @@ invariant_of-result c =
     let ls = holders_in c.args.world in
     record {
       placed = subst (ArePlaced ls) (sym c.new.ensures.items) (bare_placed ls c.requires.unwatched);
-      distinct = c.len.ensures.distinct;
+      distinct = c.requires.distinct;
       quiet = bare_quiet ls c.requires.unwatched;
     }

@@ -2,11 +2,11 @@ use rx_query::Query;
 use rx_record::Record;
 use rx_value::RxText;
 
-/// What a line changes in a session.
+/// What a line does to a session.
 #[derive(Drop)]
-pub enum Change {
+pub enum Doing {
     Nothing,
-    Tick(u64),
+    SetClock(u64),
     Write(Record),
     Watch(Watch),
     Unwatch(RxText),

@@ -2,12 +2,12 @@ use Rattle.std.proofs.Common.{◌≡◌, [], sym, ap, ◌∙◌, subst}
 use Rattle.rx_world.specs.Holders.{holders_in}
 use Rattle.rx_session.specs.Applied.{unobserved}
 use Rattle.rx_session.specs.Doing.{after, unwatch}
-use Rattle.rx_session.specs.Emissions.{emissions, settled}
+use Rattle.rx_session.specs.Emissions.{emissions, settled_session, IsSettled}
 use Rattle.rx_session.specs.Placed.{ArePlaced, place_named}
 use Rattle.rx_session.specs.Session.{Session}
 use Rattle.rx_session.proofs.Dropping.{rest_of}
-use Rattle.rx_session.proofs.Settling.{IsLeft, session_of, without_lines, without_session, without_placed, without_distinct, without_quiet}
-use Rattle.rx_session.proofs.session.Session.without.Goals as goal
+use Rattle.rx_session.proofs.Settling.{IsLeft, is_settled, session_of, without_due, without_session, without_placed, without_distinct, without_quiet}
+use Rattle.rx_session.proofs.session.Session.unwatch.Goals as goal
 
 -- what was done to the collections
 done : (c : goal.After-drop_place)
@@ -49,7 +49,7 @@ returns-clause-session c =
     let name = c.args.name.now in
     let new = c.unobserve_at.new.world in
     subst (λ (s : Session). session_of new i.moment c.drop_place.new.places.items
-    ≡ settled (after (unwatch name) s)) c.self.view_is
+    ≡ settled_session (after (unwatch name) s)) c.self.view_is
     (ap (session_of new i.moment) (left c)
     ∙ without_session name i.world new i.moment i.places.items (done c))
 
@@ -58,4 +58,10 @@ returns-clause-emissions c =
     let i = c.self.inside in
     let name = c.args.name.now in
     subst (λ (s : Session). emissions (after (unwatch name) s) ≡ []) c.self.view_is
-    (without_lines name i.world c.unobserve_at.new.world i.moment i.places.items (done c))
+    (without_due name i.world c.unobserve_at.new.world i.moment i.places.items (done c))
+
+pub returns-clause-before : goal.returns-clause-before
+returns-clause-before c =
+    let i = c.self.inside in
+    subst IsSettled c.self.view_is
+    (is_settled i.world i.places.items c.self.invariant.quiet i.moment)

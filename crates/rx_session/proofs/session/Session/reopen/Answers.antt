@@ -1,10 +1,11 @@
 use Rattle.std.proofs.Common.{◌≡◌, [], subst}
 use Rattle.rx_session.specs.Doing.{after, restart}
-use Rattle.rx_session.specs.Emissions.{emissions, settled}
+use Rattle.rx_session.specs.Emissions.{emissions, settled_session, IsSettled}
 use Rattle.rx_session.specs.Inside.{seen}
 use Rattle.rx_session.specs.Session.{Session}
 use Rattle.rx_session.proofs.Carrying.{carried_distinct, carried_emissions, carried_placed, carried_quiet, carried_session}
-use Rattle.rx_session.proofs.session.Session.reopened.Goals as goal
+use Rattle.rx_session.proofs.Settling.{is_settled}
+use Rattle.rx_session.proofs.session.Session.reopen.Goals as goal
 
 pub returns-in_err-carry_all-clause-emissions : goal.returns-in_err-carry_all-clause-emissions
 returns-in_err-carry_all-clause-emissions c =
@@ -29,8 +30,8 @@ returns-clause-session c =
     let i = c.self.inside in
     let new = c.carry_all.new.world in
     let number = c.args.world.epoch in
-    subst (λ (s : Session). seen (record { world = new; moment = i.moment; places = i.places })
-    ≡ settled (after (restart number) s)) c.self.view_is
+    subst (λ (s : Session). seen (record { world = new; moment = i.moment; places = i.places; diagram = i.diagram })
+    ≡ settled_session (after (restart number) s)) c.self.view_is
     (carried_session i.world i.moment number i.places.items c.self.invariant.quiet new
     c.in_ok-carry_all.ensures.lives c.in_ok-carry_all.ensures.epoch)
 
@@ -40,3 +41,15 @@ returns-clause-emissions c =
     let number = c.args.world.epoch in
     subst (λ (s : Session). emissions (after (restart number) s) ≡ []) c.self.view_is
     (carried_emissions i.world i.moment number i.places.items c.self.invariant.quiet)
+
+pub returns-clause-before : goal.returns-clause-before
+returns-clause-before c =
+    let i = c.self.inside in
+    subst IsSettled c.self.view_is
+    (is_settled i.world i.places.items c.self.invariant.quiet i.moment)
+
+pub returns-in_err-carry_all-clause-before : goal.returns-in_err-carry_all-clause-before
+returns-in_err-carry_all-clause-before c =
+    let i = c.self.inside in
+    subst IsSettled c.self.view_is
+    (is_settled i.world i.places.items c.self.invariant.quiet i.moment)

@@ -1,14 +1,14 @@
-use Rattle.std.proofs.Common.{◌≡◌, true, false, ◌∷◌, [], ◌++◌, string_bytes, sym, ap, ◌∙◌, subst}
+use Rattle.std.proofs.Common.{◌≡◌, true, false, ◌∷◌, [], ◌++◌, sym, ap, ◌∙◌, subst}
 use Rattle.rx_value.specs.Named.{named}
 use Rattle.rx_query.specs.Asked.{asked}
 use Rattle.rx_world.specs.Holders.{holders_in}
 use Rattle.rx_session.specs.Doing.{after, has_key, watch}
-use Rattle.rx_session.specs.Emissions.{emissions, settled}
+use Rattle.rx_session.specs.Emissions.{emissions, settled_session, IsSettled}
 use Rattle.rx_session.specs.Placed.{ArePlaced}
 use Rattle.rx_session.specs.Session.{Session, is_observed}
 use Rattle.rx_session.proofs.Adding.{name_free, place_in}
-use Rattle.rx_session.proofs.Settling.{IsWatched, free_place, session_of, watched_lines, watched_session, watched_placed, watched_distinct, watched_quiet}
-use Rattle.rx_session.proofs.session.Session.watching.Goals as goal
+use Rattle.rx_session.proofs.Settling.{IsWatched, free_place, is_settled, session_of, watched_due, watched_session, watched_placed, watched_distinct, watched_quiet}
+use Rattle.rx_session.proofs.session.Session.watch.Goals as goal
 
 pub observe_in-requires-clause-free : goal.observe_in-requires-clause-free
 observe_in-requires-clause-free c =
@@ -70,7 +70,7 @@ returns-clause-session c =
     let w = c.args.watch in
     let last = c.observe_in.new.world in
     subst (λ (s : Session). session_of last i.moment c.add_place.new.places.items
-    ≡ settled (after (watch w.name w.coll (asked w.query)) s)) c.self.view_is
+    ≡ settled_session (after (watch w.name w.coll (asked w.query)) s)) c.self.view_is
     (ap (session_of last i.moment) (added c)
     ∙ watched_session w.name w.coll (asked w.query) i.world last i.moment i.places.items (done c))
 
@@ -78,10 +78,25 @@ pub returns-clause-emissions : goal.returns-clause-emissions
 returns-clause-emissions c =
     let i = c.self.inside in
     let w = c.args.watch in
-    let old = string_bytes c.args.text.now in
-    c.in_ok-observe_in.ensures.text
-    ∙ ap (λ bs. old ++ bs)
-    (watched_lines w.name w.coll (asked w.query) i.world c.observe_in.new.world i.moment i.places.items
-    (done c))
-    ∙ ap (λ (s : Session). old ++ emissions (after (watch w.name w.coll (asked w.query)) s))
-    c.self.view_is
+    c.in_ok-observe_in.ensures.due
+    ∙ watched_due w.name w.coll (asked w.query) i.world c.observe_in.new.world i.moment i.places.items
+    (done c)
+    ∙ ap (λ (s : Session). emissions (after (watch w.name w.coll (asked w.query)) s)) c.self.view_is
+
+pub returns-clause-before : goal.returns-clause-before
+returns-clause-before c =
+    let i = c.self.inside in
+    subst IsSettled c.self.view_is
+    (is_settled i.world i.places.items c.self.invariant.quiet i.moment)
+
+pub returns-in_err-observe_in-clause-before : goal.returns-in_err-observe_in-clause-before
+returns-in_err-observe_in-clause-before c =
+    let i = c.self.inside in
+    subst IsSettled c.self.view_is
+    (is_settled i.world i.places.items c.self.invariant.quiet i.moment)
+
+pub returns-in_err-add_place-clause-before : goal.returns-in_err-add_place-clause-before
+returns-in_err-add_place-clause-before c =
+    let i = c.self.inside in
+    subst IsSettled c.self.view_is
+    (is_settled i.world i.places.items c.self.invariant.quiet i.moment)

@@ -1,15 +1,15 @@
 use Rattle.std.proofs.Common.{◌≡◌, [], subst}
 use Rattle.rx_session.specs.Doing.{after, set_clock}
-use Rattle.rx_session.specs.Emissions.{emissions, settled}
+use Rattle.rx_session.specs.Emissions.{emissions, settled_session, IsSettled}
 use Rattle.rx_session.specs.Session.{Session}
-use Rattle.rx_session.proofs.Settling.{at_session, none_due, session_of}
-use Rattle.rx_session.proofs.session.Session.at.Goals as goal
+use Rattle.rx_session.proofs.Settling.{at_session, is_settled, none_due, session_of}
+use Rattle.rx_session.proofs.session.Session.set_clock.Goals as goal
 
 pub returns-clause-session : goal.returns-clause-session
 returns-clause-session c =
     let i = c.self.inside in
     let at = c.args.moment in
-    subst (λ (s : Session). session_of i.world at i.places.items ≡ settled (after (set_clock at) s))
+    subst (λ (s : Session). session_of i.world at i.places.items ≡ settled_session (after (set_clock at) s))
     c.self.view_is (at_session i.world i.places.items c.self.invariant.quiet i.moment at)
 
 pub returns-clause-emissions : goal.returns-clause-emissions
@@ -17,3 +17,9 @@ returns-clause-emissions c =
     let i = c.self.inside in
     subst (λ (s : Session). emissions (after (set_clock c.args.moment) s) ≡ []) c.self.view_is
     (none_due i.world i.places.items c.self.invariant.quiet)
+
+pub returns-clause-before : goal.returns-clause-before
+returns-clause-before c =
+    let i = c.self.inside in
+    subst IsSettled c.self.view_is
+    (is_settled i.world i.places.items c.self.invariant.quiet i.moment)
