@@ -62,38 +62,3 @@ listed documents place (e ∷ es) all =
       ))
       | false ↦ (λ h. rest)
     ] refl
-
--- the first of a list
-all_taken : {X : Type 0} (P : X → Type 0) (n : ℕ) (xs : List X) → AllByRecursion P xs
-    → AllByRecursion P (take n xs)
-all_taken P zero xs all = tt
-all_taken P (suc n) [] all = tt
-all_taken P (suc n) (x ∷ xs) all = (all.0, all_taken P n xs all.1)
-
--- each document of a page is held, and above the place
-pub page_listed : (c : Held) (place : Option Place) (n : ℕ) → IsLawful c
-    → AllByRecursion (IsListed c.documents place) (since c.documents place n)
-page_listed c place n lawful =
-    all_taken (IsListed c.documents place) n
-    (values_of (filter (λ e. is_above place e.0) (by_place c.documents)))
-    (listed c.documents place (by_place c.documents)
-    (all_by_place (λ p d. (p ≡ place_of d) × (named c.documents d.state.key ≡ Some d)) c.documents
-    (all_named (λ k d. (place_of d ≡ place_of d) × (named c.documents d.state.key ≡ Some d))
-    c.documents lawful.rising
-    (λ k d at. (
-      refl,
-      ap (named c.documents) (at_name (IsHeldAt c.schema.primary) c.documents k d lawful.each at).keyed ∙ at,
-    )))))
-
--- less than n of the first n are all
-all_of_short : {X : Type 0} (n : ℕ) (xs : List X) → length (take n xs) < n → take n xs ≡ xs
-all_of_short zero xs short = absurd (omega arith)
-all_of_short (suc n) [] short = refl
-all_of_short (suc n) (x ∷ xs) short = ap (λ ys. x ∷ ys) (all_of_short n xs (omega arith))
-
--- a short page has all that is above the place
-pub page_short : (documents : Documents) (place : Option Place) (n : ℕ)
-    → length (since documents place n) < n
-    → since documents place n ≡ values_of (filter (λ e. is_above place e.0) (by_place documents))
-page_short documents place n short =
-    all_of_short n (values_of (filter (λ e. is_above place e.0) (by_place documents))) short

@@ -127,13 +127,6 @@ by_key-all P [] all = tt
 by_key-all P (s ∷ ss) all =
     all_put (λ k t. (t.key ≡ k) × P t) (by_key ss) s.key s (refl, all.0) (by_key-all P ss all.1)
 
--- their keys are those that they stand under
-keys_of-values : (P : State → Type 0) (es : List (List ℕ × State))
-    → AllByRecursion (λ e. (e.1.key ≡ e.0) × P e.1) es
-    → map (λ s. s.key) (values_of es) ≡ keys_of es
-keys_of-values P [] all = refl
-keys_of-values P (e ∷ es) all = rw all.0.0 (ap (λ ks. e.0 ∷ ks) (keys_of-values P es all.1))
-
 all_ready : (c : Held) (lwt : ℕ) (es : List (List ℕ × State)) → IsLawful c
     → last_lwt c.documents < lwt
     → AllByRecursion (λ e. (e.1.key ≡ e.0) × Carries c.schema.primary e.1) es
@@ -143,15 +136,3 @@ all_ready c lwt (e ∷ es) lawful later all = (
   record { below = all_below c lwt e.1.key lawful later; as_first = refl; carried = all.0.1 },
   all_ready c lwt es lawful later all.1,
 )
-
--- the rows of states that carry their keys, at a later write time
-pub rows_are_next : (c : Held) (states : List State) (lwt : ℕ) → IsLawful c
-    → IsLater (last_lwt c.documents) lwt → AllByRecursion (Carries c.schema.primary) states
-    → AreNext c (rows_of c states lwt)
-rows_are_next c states lwt lawful later carried =
-    let above = later.above in
-    let all = by_key-all (Carries c.schema.primary) states carried in
-    turns c c lwt (values_of (by_key states)) (omega arith) later.in_range
-    (subst (IsStrictlySortedBy text_cmp)
-    (sym (keys_of-values (Carries c.schema.primary) (by_key states) all)) (by_key-rising states))
-    (all_ready c lwt (by_key states) lawful above all)

@@ -1,11 +1,10 @@
 -- What holds of every collection holds after a row is put.
 use Rattle.std.proofs.Common.{◌≡◌, ℕ, ◌<◌, ◌≤◌, false, List, [], Option, Some, None, Less, String, Global, string_bytes, refl, sym, ap, ◌∙◌, subst, arith}
-use Rattle.std.specs.BTreeMap.{BTreeMap, Updates, get, insert_entry}
+use Rattle.std.specs.BTreeMap.{BTreeMap, Updates}
 use Rattle.std.specs.List.Sorted.{IsStrictlySortedBy}
-use Rattle.std.specs.String.{string_cmp}
 use Rattle.std.proofs.lemmas.Bool.Decides.{nat_tests}
 use Rattle.rx_value.specs.Named.{named, by_bytes, put_in_order, AreRising}
-use Rattle.rx_value.proofs.Named.{tree_lookup-by_bytes, by_bytes-tree_insert, put_in_order-rising}
+use Rattle.rx_value.proofs.Named.{put_in_order-rising}
 use Rattle.rx_document.specs.Documents.{Documents}
 use Rattle.rx_document.specs.Place.{place_cmp}
 use Rattle.rx_document.specs.declared.place.Place.{Place}
@@ -86,66 +85,45 @@ IsWhole name schema stored places =
     IsLawful (seen name schema stored) × ArePlacesOf (by_bytes stored.entries) places
 
 module _ (name : List ℕ) (schema : Shape) (stored : BTreeMap (String Global) Stored)
-    (row : Stored) (key : String Global) (spelt : string_bytes key ≡ row.state.key) where
+    (row : Stored) (places added : BTreeMap Place (Unit {0}))
+    (whole : IsWhole name schema stored places) (next : IsNext (seen name schema stored) row)
+    (adds : Updates place_cmp places added (place_of row) (Some tt))
+    (new : BTreeMap (String Global) Stored) where
   abbrev documents : Documents
   documents = by_bytes stored.entries
 
-  -- the document that was held
-  stored_old : (o : Option Stored) → o ≡ get string_cmp stored key
-      → named documents row.state.key ≡ o
-  stored_old o is =
-      ap (named documents) (sym spelt) ∙ sym (tree_lookup-by_bytes stored.entries (string_bytes key))
-      ∙ sym is
-
-  -- the documents with the row
-  pub stored_put : (new : BTreeMap (String Global) Stored)
-      → new.entries ≡ insert_entry string_cmp stored.entries key row
-      → seen name schema new ≡ with_row (seen name schema stored) row
-  stored_put new is =
-      ap (λ ds. held_with name schema ds)
-      (ap by_bytes is ∙ by_bytes-tree_insert stored.entries key row
-      ∙ ap (λ k. put_in_order documents k row) spelt)
-
-  module _ (places added : BTreeMap Place (Unit {0})) (whole : IsWhole name schema stored places)
-      (next : IsNext (seen name schema stored) row)
-      (adds : Updates place_cmp places added (place_of row) (Some tt)) where
+  module _ (is : by_bytes new.entries ≡ put_in_order documents row.state.key row) where
     -- whole with the row, whatever its places are
-    with_places : (new : BTreeMap (String Global) Stored) (last : BTreeMap Place (Unit {0}))
-        → seen name schema new ≡ with_row (seen name schema stored) row
+    with_places : (last : BTreeMap Place (Unit {0}))
         → ArePlacesOf (put_in_order documents row.state.key row) last
         → IsWhole name schema new last
-    with_places new last is agree = (
-      subst IsLawful (sym is) (lawful_put (seen name schema stored) row whole.0 next),
-      subst (λ (h : Held). ArePlacesOf h.documents last) (sym is) agree,
+    with_places last agree = (
+      subst (λ ds. IsLawful (held_with name schema ds)) (sym is)
+          (lawful_put (seen name schema stored) row whole.0 next),
+      subst (λ ds. ArePlacesOf ds last) (sym is) agree,
     )
 
     -- a key that was never held
-    pub whole_fresh : (new : BTreeMap (String Global) Stored)
-        → new.entries ≡ insert_entry string_cmp stored.entries key row
-        → None ≡ get string_cmp stored key → IsWhole name schema new added
-    whole_fresh new is none =
-        with_places new added (stored_put new is)
-        (placed_fresh documents row places added whole.1 adds (stored_old None none))
+    pub whole_fresh : None ≡ named documents row.state.key → IsWhole name schema new added
+    whole_fresh none =
+        with_places added (placed_fresh documents row places added whole.1 adds (sym none))
 
     -- a key that was held
-    pub whole_moved : (new : BTreeMap (String Global) Stored) (old : Stored)
-        (last : BTreeMap Place (Unit {0}))
-        → new.entries ≡ insert_entry string_cmp stored.entries key row
-        → Some old ≡ get string_cmp stored key
+    pub whole_moved : (old : Stored) (last : BTreeMap Place (Unit {0}))
+        → Some old ≡ named documents row.state.key
         → Updates place_cmp added last (place_of old) None → IsWhole name schema new last
-    whole_moved new old last is at gone =
-        let l = later (seen name schema stored) row whole.0 next old (stored_old (Some old) at) in
-        with_places new last (stored_put new is)
-        (placed_moved documents row places added whole.1 adds last old (stored_old (Some old) at)
-        l.0 l.3 gone)
+    whole_moved old last at gone =
+        let l = later (seen name schema stored) row whole.0 next old (sym at) in
+        with_places last
+        (placed_moved documents row places added whole.1 adds last old (sym at) l.0 l.3 gone)
 
-    -- a row that found no room
-    pub whole_undone : (new : BTreeMap (String Global) Stored) (last : BTreeMap Place (Unit {0}))
-        → new.entries ≡ stored.entries → Updates place_cmp added last (place_of row) None
-        → IsWhole name schema new last
-    whole_undone new last is gone =
-        let none = unwritten (seen name schema stored) row whole.0 next
-        (named documents row.state.key) refl in
-        let agree = placed_undone documents row places added whole.1 adds last none gone in
-        subst (λ es. IsLawful (held_with name schema (by_bytes es)) × ArePlacesOf (by_bytes es) last)
-        (sym is) (whole.0, agree)
+  -- a row that found no room
+  pub whole_undone : (last : BTreeMap Place (Unit {0}))
+      → new.entries ≡ stored.entries → Updates place_cmp added last (place_of row) None
+      → IsWhole name schema new last
+  whole_undone last is gone =
+      let none = unwritten (seen name schema stored) row whole.0 next
+      (named documents row.state.key) refl in
+      let agree = placed_undone documents row places added whole.1 adds last none gone in
+      subst (λ es. IsLawful (held_with name schema (by_bytes es)) × ArePlacesOf (by_bytes es) last)
+      (sym is) (whole.0, agree)

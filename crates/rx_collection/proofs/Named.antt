@@ -1,15 +1,16 @@
 -- Things by rising name, by what is held at each.
-use Rattle.std.proofs.Common.{◌≡◌, ℕ, true, false, cond, List, [], ◌∷◌, Some, None, String, Global, Less, Equal, Greater, refl, sym, ap, ◌∙◌, subst}
+use Rattle.std.proofs.Common.{◌≡◌, ℕ, Bool, true, false, cond, List, [], ◌∷◌, Some, None, String, Global, string_bytes, Less, Equal, Greater, refl, sym, ap, ◌∙◌, subst}
 use Rattle.std.proofs.lemmas.Map.Text.{is_eq-slice_cmp}
 use Rattle.std.proofs.lemmas.Slice.Eq.{bytes_eq-Decides}
 use Rattle.std.specs.List.{AllByRecursion}
 use Rattle.std.specs.List.Sorted.{IsStrictlySortedBy}
-use Rattle.std.specs.Map.{keys_of, values_of}
-use Rattle.std.specs.Ordering.{is_eq, match_ordering}
+use Rattle.std.specs.Map.{keys_of, values_of, lookup, set_value}
+use Rattle.std.specs.Ordering.{is_eq, match_ordering, ordering_reverse}
 use Rattle.std.specs.Str.{bytes_eq}
 use Rattle.rx_value.specs.Named.{by_bytes, named, put_in_order, AreRising}
 use Rattle.rx_value.specs.Order.{text_cmp}
-use Rattle.rx_value.proofs.Ordered.{text_ties}
+use Rattle.rx_value.proofs.Named.{tree_lookup-by_bytes}
+use Rattle.rx_value.proofs.Ordered.{text_total, text_ties}
 
 -- a name is itself
 pub same_name : (k : List ℕ) → bytes_eq k k ≡ true
@@ -91,6 +92,33 @@ module _ {X : Type 0} where
         | Equal ↦ (λ is. (subst (λ z. P z x) (text_ties k e.0 is) here, all.1))
         | Greater ↦ (λ is. (all.0, all_put P es k x here all.1))
       ] refl
+
+  -- a write at a name that is there, among rising names
+  pub by_bytes-tree_set : (es : List (String Global × X)) (name : List ℕ) (old x : X)
+      → AreRising (by_bytes es)
+      → lookup (λ k. is_eq (text_cmp name (string_bytes k))) es ≡ Some old
+      → by_bytes (set_value (λ k. is_eq (text_cmp name (string_bytes k))) es x)
+      ≡ put_in_order (by_bytes es) name x
+  unfolding IsStrictlySortedBy
+  by_bytes-tree_set [] name old x rising at = absurd (cc)
+  by_bytes-tree_set (e ∷ es) name old x rising at =
+      let first : List ℕ = string_bytes e.0 in
+      let here : List ℕ × X = (first, e.1) in
+      let test : String Global → Bool = λ k. is_eq (text_cmp name (string_bytes k)) in
+      elim (text_cmp name first) as (λ o. text_cmp name first ≡ o
+      → cond (is_eq o) (Some e.1) (lookup test es) ≡ Some old
+      → by_bytes (cond (is_eq o) ((e.0, x) ∷ es) (e ∷ set_value test es x))
+      ≡ match_ordering o ((name, x) ∷ here ∷ by_bytes es) ((first, x) ∷ by_bytes es)
+      (here ∷ put_in_order (by_bytes es) name x)) [
+        | Less ↦ (λ is h.
+            let below = named_above first (by_bytes es) name old rising.0
+            (sym (tree_lookup-by_bytes es name) ∙ h) in
+            let above : text_cmp name first ≡ Greater =
+            text_total.antisymm name first ∙ ap ordering_reverse below in
+            absurd (cc))
+        | Equal ↦ (λ is h. refl)
+        | Greater ↦ (λ is h. ap (λ r. here ∷ r) (by_bytes-tree_set es name old x rising.1 h))
+      ] refl at
 
 -- the things are the same by the bytes of their names
 pub values-by_bytes : {X : Type 0} (es : List (String Global × X)) → values_of es ≡ values_of (by_bytes es)

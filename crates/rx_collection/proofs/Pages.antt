@@ -245,12 +245,6 @@ module _ (primary : List ℕ) (documents : Documents) (places : BTreeMap Place (
 
 -- ---- one document after another
 
--- none of none
-pub page_end : (n : ℕ) (documents : Documents) (s : List (Place × Unit {0})) → s ≡ []
-    → take n (standing documents s) ≡ []
-page_end zero documents s none = refl
-page_end (suc n) documents s none = rw none refl
-
 -- the first, and then the others
 pub page_step : (documents : Documents) (s t : List (Place × Unit {0})) (p : Place) (u : Unit {0})
     (n m : ℕ) (r : Option (Bor Stored)) → s ≡ (p, u) ∷ t → n ≡ suc m

@@ -1,5 +1,5 @@
-ghost use Rattle.std.specs.Prelude.{◌≡◌, length, [], OnOk, OnErr, option_map};
-ghost use Rattle.rx_value.specs.Named.{named};
+ghost use Rattle.std.specs.Prelude.{◌≡◌, length, [], IfOk, IfErr, OnOk, OnErr, option_map};
+ghost use Rattle.rx_value.specs.Named.{named, by_bytes, put_in_order, AreRising};
 ghost use Rattle.rx_collection.specs.Commit.{IsNext, with_row};
 ghost use Rattle.rx_collection.specs.Held.{held_with};
 ghost use Rattle.rx_collection.specs.Lawful.{IsLawful};
@@ -12,6 +12,7 @@ use rx_value::RxText;
 use std::alloc::{AllocError, Global};
 use std::collections::BTreeMap;
 use std::marker::Model;
+use std::mem;
 
 /// The greatest write time, 2^53 - 1.
 pub const MOST_LWT: u64 = 9_007_199_254_740_991;
@@ -111,23 +112,68 @@ impl Collection {
         ensures ok { OnOk result (self.new ≡ with_row self.old row) }
         ensures err { OnErr result (self.new ≡ self.old) }
     {
-        let key = String::from_str(self.alloc, row.state.key.as_str())?;
         let place = Place {
             lwt: row.lwt,
             id: row.state.key.copy(self.alloc)?,
         };
         self.places.insert(place, ())?;
-        match self.stored.insert(key, row) {
+        match write(&mut self.stored, self.alloc, row) {
             Ok(None) => Ok(()),
             Ok(Some(old)) => {
                 self.places.remove(&into_place(old));
                 Ok(())
             }
-            Err(refused) => {
-                let (_, row) = refused.value;
+            Err(row) => {
                 self.places.remove(&into_place(row));
                 Err(AllocError)
             }
+        }
+    }
+}
+
+// Writes a row, and gives the document in whose place it comes. The row comes back where there is
+// no memory.
+fn write(
+    stored: &mut BTreeMap<String, Stored>,
+    alloc: Global,
+    row: Stored,
+) -> Result<Option<Stored>, Stored>
+    requires { AreRising (by_bytes stored.old.entries) }
+    ensures old { IfOk result (λ old. old ≡ named (by_bytes stored.old.entries) row.state.key) }
+    ensures new { OnOk result (by_bytes stored.new.entries
+        ≡ put_in_order (by_bytes stored.old.entries) row.state.key row) }
+    ensures refused { IfErr result (λ refused. refused ≡ row) }
+    ensures same { OnErr result (stored.new.entries ≡ stored.old.entries) }
+{
+    // Only the first row of a key needs a key of the map's own.
+    if row.rev.height == 1 {
+        return add(stored, alloc, row);
+    }
+    match stored.get_mut(row.state.key.as_str()) {
+        Some(held) => Ok(Some(mem::replace(held, row))),
+        None => add(stored, alloc, row),
+    }
+}
+
+fn add(
+    stored: &mut BTreeMap<String, Stored>,
+    alloc: Global,
+    row: Stored,
+) -> Result<Option<Stored>, Stored>
+    ensures old { IfOk result (λ old. old ≡ named (by_bytes stored.old.entries) row.state.key) }
+    ensures new { OnOk result (by_bytes stored.new.entries
+        ≡ put_in_order (by_bytes stored.old.entries) row.state.key row) }
+    ensures refused { IfErr result (λ refused. refused ≡ row) }
+    ensures same { OnErr result (stored.new.entries ≡ stored.old.entries) }
+{
+    let Ok(key) = String::from_str(alloc, row.state.key.as_str()) else {
+        return Err(row);
+    };
+    match stored.insert(key, row) {
+        Ok(old) => Ok(old),
+        Err(refused) => {
+            let (_, row) = refused.value;
+            Err(row)
         }
     }
 }

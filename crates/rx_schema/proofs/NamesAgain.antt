@@ -31,8 +31,9 @@ use Rattle.rx_schema.specs.declared.rule.Rule.{Rule}
 use Rattle.rx_schema.specs.declared.rule.Rule.TheVariants.{Flag, Int, Text}
 use Rattle.rx_schema.specs.declared.shape.Shape.{Shape}
 use Rattle.rx_schema.proofs.Properties.{Rules}
-use Rattle.rx_schema.proofs.Schemas.{WasRead, properties_at, found, text_kind, ok_then, some_of, some_then, only_where, same_ok, key_rule}
+use Rattle.rx_schema.proofs.Schemas.{WasRead, properties_at, found, text_kind, only_where, same_ok, key_rule}
 use Rattle.rx_schema.proofs.PropertyAgain.{same_some, lowest, made_of}
+use Rattle.rx_value.proofs.Outcomes.{ok_then, some_of, some_then}
 
 -- ---- finding properties again
 

@@ -19,7 +19,8 @@ use Rattle.rx_schema.specs.declared.rule.Rule.{Rule}
 use Rattle.rx_schema.specs.declared.rule.Rule.TheVariants.{Flag, Int, Text}
 use Rattle.rx_schema.specs.declared.shape.Shape.{Shape}
 use Rattle.rx_schema.proofs.Properties.{Rules}
-use Rattle.rx_schema.proofs.Schemas.{ok_then, some_of, some_then, only_where, held, same_ok}
+use Rattle.rx_schema.proofs.Schemas.{only_where, same_ok}
+use Rattle.rx_value.proofs.Outcomes.{ok_then, some_of, some_then, held}
 
 -- ---- numbers
 

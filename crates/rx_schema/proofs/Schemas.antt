@@ -26,14 +26,9 @@ use Rattle.rx_schema.specs.declared.rule.Rule.{Rule}
 use Rattle.rx_schema.specs.declared.rule.Rule.TheVariants.{Text}
 use Rattle.rx_schema.specs.declared.shape.Shape.{Shape}
 use Rattle.rx_schema.proofs.Properties.{Rules}
+use Rattle.rx_value.proofs.Outcomes.{ok_then, some_of, held, some_then}
 
 -- ---- readings that went well
-
--- both parts of two readings went well
-pub ok_then : {A B E : Type 0} (r : Result A E) (f : A → Result B E) (y : B) → (r >> f) ≡ Ok y
-    → (x : A) × (r ≡ Ok x) × (f x ≡ Ok y)
-ok_then (Ok x) f y h = (x, refl, h)
-ok_then (Err e) f y h = cc
 
 -- an answer that went well
 abbrev ok : {A E : Type 0} → A → Result A E
@@ -42,22 +37,6 @@ ok x = Ok x
 -- what went well is one thing
 pub same_ok : {A E : Type 0} (x y : A) → ok {A = A} {E = E} x ≡ ok {A = A} {E = E} y → x ≡ y
 same_ok x y h = cc
-
--- there was something
-pub some_of : {A E : Type 0} (e : E) (o : Option A) (x : A) → or_fault e o ≡ Ok x → o ≡ Some x
-some_of e (Some y) x h = let same : y ≡ x = cc in ap Some same
-some_of e None x h = cc
-
--- the test held
-pub held : {E : Type 0} (b : Bool) (e : E) (u : ⊤) → demand b e ≡ Ok u → b ≡ true
-held true e u h = refl
-held false e u h = cc
-
--- both parts of two lookups found something
-pub some_then : {A B : Type 0} (o : Option A) (f : A → Option B) (y : B) → (o >>= f) ≡ Some y
-    → (x : A) × (o ≡ Some x) × (f x ≡ Some y)
-some_then (Some x) f y h = (x, refl, h)
-some_then None f y h = cc
 
 -- the condition held
 pub only_where : {A : Type 0} (b : Bool) (o : Option A) (x : A) → only_if b o ≡ Some x

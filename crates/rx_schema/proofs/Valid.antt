@@ -19,16 +19,7 @@ use Rattle.rx_schema.specs.declared.rule.Rule.TheVariants.{Text}
 use Rattle.rx_schema.specs.declared.shape.Shape.{Shape}
 use Rattle.rx_schema.specs.declared.validity.Invalid.{Invalid}
 use Rattle.rx_schema.proofs.Properties.{Rules}
-
--- the first of two was none, and so the second
-none_or : {A : Type 0} (a b : Option A) → option_or a b ≡ None → (a ≡ None) × (b ≡ None)
-none_or None b h = (refl, h)
-none_or (Some x) b h = cc
-
--- nothing was made of nothing
-none_of : {A B : Type 0} (f : A → B) (a : Option A) → option_map f a ≡ None → a ≡ None
-none_of f None h = refl
-none_of f (Some x) h = cc
+use Rattle.rx_value.proofs.Outcomes.{none_or, none_of}
 
 -- ---- no mark
 

@@ -6,3 +6,5 @@ pub mod Beside
 pub mod Setting
 pub mod Written
 pub mod Tokens
+pub mod Lists
+pub mod Outcomes

@@ -58,31 +58,6 @@ module _ {X : Type 0} where
       ((string_bytes e.0, x) ∷ by_bytes es) (here ∷ rest))
       (by_bytes-tree_insert es k x)
 
-  -- one entry, and then the others
-  set_found : (b : Bool) (e : String Global × X) (es : List (String Global × X))
-      (name : List ℕ) (x : X)
-      → bytes_eq name (string_bytes e.0) ≡ b
-      → (is_some (named (by_bytes es) name) ≡ true
-      → by_bytes (set_value (λ k. bytes_eq name (string_bytes k)) es x)
-      ≡ put_named (by_bytes es) name x)
-      → is_some (cond b (Some e.1) (named (by_bytes es) name)) ≡ true
-      → by_bytes
-      (cond b ((e.0, x) ∷ es) (e ∷ set_value (λ k. bytes_eq name (string_bytes k)) es x))
-      ≡ cond b ((string_bytes e.0, x) ∷ by_bytes es)
-      ((string_bytes e.0, e.1) ∷ put_named (by_bytes es) name x)
-  set_found true e es name x is rest there = refl
-  set_found false e es name x is rest there = ap (λ r. (string_bytes e.0, e.1) ∷ r) (rest there)
-
-  -- a write through `get_mut` of an `IndexMap`, at a name that is there
-  pub by_bytes-set_value : (es : List (String Global × X)) (name : List ℕ) (x : X)
-      → is_some (named (by_bytes es) name) ≡ true
-      → by_bytes (set_value (λ k. bytes_eq name (string_bytes k)) es x)
-      ≡ put_named (by_bytes es) name x
-  by_bytes-set_value [] name x there = absurd (true≢false (sym there))
-  by_bytes-set_value (e ∷ es) name x there =
-      set_found (bytes_eq name (string_bytes e.0)) e es name x refl
-      (by_bytes-set_value es name x) there
-
 -- ---- each thing as it is shown
 
 module _ {H X : Type 0} (shown : H → X) where
@@ -177,17 +152,6 @@ pub rising_bytes : (ks : List (String Global)) → IsStrictlySortedBy string_cmp
 unfolding IsStrictlySortedBy
 rising_bytes [] h = tt
 rising_bytes (k ∷ ks) h = (below_all k ks h.0, rising_bytes ks h.1)
-
--- the names are the bytes of the keys
-keys_of-by_name : {H X : Type 0} (shown : H → X) (es : List (String Global × H))
-    → keys_of (by_name shown es) ≡ map string_bytes (keys_of es)
-keys_of-by_name shown [] = refl
-keys_of-by_name shown (e ∷ es) = ap (λ ks. string_bytes e.0 ∷ ks) (keys_of-by_name shown es)
-
--- the names of a `BTreeMap` rise
-pub by_name-rising : {H X : Type 0} (shown : H → X) (es : List (String Global × H))
-    → IsStrictlySortedBy string_cmp (keys_of es) → AreRising (by_name shown es)
-by_name-rising shown es h = rw (keys_of-by_name shown es) (rising_bytes (keys_of es) h)
 
 -- a second choice by the same test tells nothing
 chosen_once : {X : Type 0} (b : Bool) (x y : X) (o : Option X)
