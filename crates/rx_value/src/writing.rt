@@ -33,7 +33,7 @@ pub fn write_fields(text: &mut String, fields: &Fields) -> Result<(), AllocError
     written
 }
 
-/// Writes the JSON object of the fields.
+/// The tokens of the JSON object of the fields, after those that the writer has.
 pub fn put_fields(writer: &mut Writer, fields: &Fields) -> Result<(), AllocError>
     ensures tokens { OnOk result (writer.new.tokens
         ≡ writer.old.tokens ++ json_tokens (outline (fields_data fields.now))) }
