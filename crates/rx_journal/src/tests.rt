@@ -87,6 +87,10 @@ fn a_real_file_is_written_and_read_again(rt: HostRuntime) -> Result<(), Fail> {
     let journal = journal.append(alloc, &mut disk, &BODY)?;
     assert_eq!(rt; journal.end, 23);
 
+    // Another disk may read it, but not write to it.
+    let mut other = FileDisk::new(&rt, RxText::new(alloc, path)?);
+    let refused = Journal::open(alloc, &mut other, 1000);
+    assert!(rt; matches!(&refused, Err(OpenFault::Disk)));
     let mut again = FileDisk::new(&rt, RxText::new(alloc, path)?);
     let mut bytes = [7u8; 24];
     assert_eq!(rt; again.read(0, &mut bytes)?, 23);

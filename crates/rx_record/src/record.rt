@@ -2,6 +2,9 @@ use crate::writing::put_record;
 use rx_value::{RxText, State};
 use std::alloc::{AllocError, Global};
 
+// Room for the record of one usual document, which then isn't grown step by step.
+const ROOM: usize = 256;
+
 /// What a journal keeps of one change.
 #[derive(Debug, Drop)]
 pub enum Record {
@@ -36,7 +39,7 @@ impl Record {
         ensures back { IsOrdered (content self.now) → IfOk result
             (λ body. length body.items < 2 ^ 32 → record_of body.items ≡ Ok (content self.now)) }
     {
-        let mut body = Vec::new(alloc);
+        let mut body = Vec::with_capacity(alloc, ROOM)?;
         put_record(&mut body, self)?;
         Ok(body)
     }
