@@ -6,7 +6,8 @@
 The files lie in FOLDER, or in memory-backed storage where it is left out. Each load has its own
 collection of one database: inserts with an answer awaited each, bulks of 500, gets, and patches of
 which each changes an observed, sorted and limited query, whose emission is awaited. The bare program
-gets the same lines as a file, without waiting; what it takes to make the documents is taken off.
+gets the same lines as a file, without waiting, and the gets tenfold; what it takes to make the
+documents is taken off.
 Python is here; Node and Chromium are in bench/clients.mjs, where there are the tools, and Chromium's
 files lie in FOLDER too. All take turns, three runs each, and the best time counts. Of the page of
 todos it tells how long after its loading began the first emission came.
@@ -27,6 +28,7 @@ import rx  # noqa: E402
 
 RUNS = 3
 COUNT = 5_000
+GETS = 10
 FOLDER = sys.argv[2] if len(sys.argv) > 2 else "/dev/shm"
 LOADS = ["insert", "bulk", "get", "observed"]
 QUERY = {"sort": [{"n": "desc"}], "limit": 10}
@@ -50,20 +52,21 @@ def in_folder(run):
 
 
 def bare():
-    """The seconds of each load's lines, without those that go before."""
+    """The seconds of each load's lines, with and without those that go before."""
     made = [compact({"do": "collection", "name": "c", "schema": SCHEMA})]
     full = made + [compact({"do": "bulk", "in": "c", "docs": rows(0, COUNT)})]
     observed = full + [compact({"do": "observe", "name": "q", "in": "c", "query": QUERY})]
     scripts = {
         "insert": (made, [{"do": "insert", "in": "c", "doc": row} for row in rows(0, COUNT)]),
         "bulk": (made, [{"do": "bulk", "in": "c", "docs": docs} for docs in batches()]),
-        "get": (full, [{"do": "get", "in": "c", "key": key(n)} for n in range(COUNT)]),
+        "get": (full, [{"do": "get", "in": "c", "key": key(n)} for n in range(COUNT)] * GETS),
         "observed": (observed, [{"do": "patch", "in": "c", "key": key(n), "set": {"n": COUNT + n}} for n in range(COUNT)]),
     }
     seconds = {}
     for load, (before, lines) in scripts.items():
-        whole, part = (in_folder(lambda path, it=it: measure([program(), "run", path], it)[0]) for it in (before + [compact(it) for it in lines], before))
-        seconds[load] = whole - part
+        whole = before + [compact(it) for it in lines]
+        for name, script in ((load, whole), (f"before {load}", before)):
+            seconds[name] = in_folder(lambda path, it=script: measure([program(), "run", path], it)[0])
     return seconds
 
 
@@ -141,6 +144,9 @@ def main():
     for load in LOADS:
         for who in peers:
             seconds = min(run[load] for run in runs[who])
+            if who == "the bare program":
+                seconds -= min(run[f"before {load}"] for run in runs[who])
+                seconds /= GETS if load == "get" else 1
             print(f"{load}: {who} {COUNT / seconds:,.0f} documents a second")
     for load in ("first load", "next load"):
         if "Chromium" in peers:

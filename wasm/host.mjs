@@ -1,5 +1,5 @@
 // The worker that the program runs in, with its journal in the origin's private file system.
-// The page first sends { journal, words }, then lines as text, and null at their end.
+// The page first sends { program, journal, words }, the program compiled, then lines as text, and null at their end.
 // The worker sends { ready }, then what the program writes as text, and { ended, said } at the end.
 
 const encoder = new TextEncoder();
@@ -93,12 +93,9 @@ function calls(program, journal, name, words) {
   };
 }
 
-async function run({ journal, words }) {
+async function run({ program: module, journal, words }) {
   if (!WebAssembly.Suspending) throw new Error('this browser cannot suspend WebAssembly (JSPI)');
-  const [module, file] = await Promise.all([
-    WebAssembly.compileStreaming(fetch(new URL('rx.wasm', import.meta.url))),
-    locked(journal),
-  ]);
+  const file = await locked(journal);
   const all = ['rx', 'run', journal, ...words].map((word) => encoder.encode(word));
   let program;
   const host = calls(() => program, file, journal, all);

@@ -33,12 +33,14 @@ int open(const byte *path, int flags, ...) {
     return (int)told(host_open(path, n));
 }
 
-// The program reads and writes at places that it names, and neither cuts, locks nor moves within a file.
+// The host has the journal for itself as long as it runs, and a file there has no mode.
+int flock(int file, int how) { return 0; }
+int fchmod(int file, int mode) { return 0; }
+
+// The program reads and writes at places that it names, and cuts nothing off.
 #define ENOSYS 38
 long lseek(int file, long to, int whence) { return told(-ENOSYS); }
 int ftruncate(int file, long n) { return (int)told(-ENOSYS); }
-int fchmod(int file, int mode) { return (int)told(-ENOSYS); }
-int flock(int file, int how) { return (int)told(-ENOSYS); }
 
 long rattle_arg(size_t i, byte *at, size_t n) { return host_arg(i, at, n); } // -1: none, -2: no room
 long rattle_env_at(size_t i, byte *at, size_t n) { return -1; }

@@ -437,15 +437,20 @@ export function child(program, journal, ...options) {
   };
 }
 
-/** The program in a worker of a page, with its journal in the origin's private file system. `folder` holds what wasm/build.sh makes. */
+/**
+ * The program in a worker of a page, with its journal in the origin's private file system.
+ * `folder` holds what wasm/build.sh makes.
+ */
 export function wasm(folder, journal, ...options) {
   return ({ output, ended }) => new Promise((resolve, reject) => {
-    const worker = new Worker(new URL('host.mjs', new URL(`${folder}/`, location.href)), { type: 'module' });
+    const at = (name) => new URL(name, new URL(`${folder}/`, location.href));
+    const worker = new Worker(at('host.mjs'), { type: 'module' });
     const finish = (how) => {
       worker.terminate();
       reject(new Stopped({ stop: 'start', said: how.said }));
       ended(how);
     };
+    const fail = (fault) => finish({ stop: 'trap', said: fault.message ?? 'the worker does not start' });
     const kill = () => finish({ stop: 'killed' });
     const transport = { send: (text) => worker.postMessage(text), end: () => worker.postMessage(null), kill };
     worker.onmessage = ({ data }) => {
@@ -453,7 +458,9 @@ export function wasm(folder, journal, ...options) {
       else if (data.ready) resolve(transport);
       else finish(data.ended === null ? { stop: 'trap', said: data.said } : { status: data.ended });
     };
-    worker.onerror = (event) => finish({ stop: 'trap', said: event.message ?? 'the worker does not start' });
-    worker.postMessage({ journal, words: options });
+    worker.onerror = fail;
+    // The program is compiled while the worker starts.
+    const compiled = WebAssembly.compileStreaming(fetch(at('rx.wasm')));
+    compiled.then((program) => worker.postMessage({ program, journal, words: options })).catch(fail);
   });
 }

@@ -12,6 +12,7 @@ from __future__ import annotations
 
 import asyncio
 import json
+import os
 import queue
 import subprocess
 import threading
@@ -185,6 +186,8 @@ class Database:
             self._child = subprocess.Popen([program, "run", journal, *options], stdin=subprocess.PIPE, stdout=subprocess.PIPE)
         except OSError as fault:
             raise Stopped("start", None, str(fault)) from fault
+        assert self._child.stdin and self._child.stdout
+        self._stdin, self._stdout = self._child.stdin, self._child.stdout
         self._reader = threading.Thread(target=self._read, name="rx", daemon=True)
         self._reader.start()
 
@@ -236,7 +239,7 @@ class Database:
             if self._lines.end is None:
                 self._lines.end = ("closed",)
             try:
-                self._child.stdin.close()
+                self._stdin.close()
             except OSError:
                 pass
         self._reader.join()
@@ -250,8 +253,8 @@ class Database:
         with self._writing:
             data = self._lines.write(line, answer)
             try:
-                self._child.stdin.write(data)
-                self._child.stdin.flush()
+                self._stdin.write(data)
+                self._stdin.flush()
             except OSError:
                 pass  # the program has ended, and the reader tells
 
@@ -259,7 +262,7 @@ class Database:
     def _read(self) -> None:
         said = ""
         while True:
-            data = self._child.stdout.read1(1 << 16)
+            data = os.read(self._stdout.fileno(), 1 << 16)
             if not data:
                 break
             try:
@@ -268,7 +271,7 @@ class Database:
                 said = repr(data[:200])
                 self._child.kill()
                 break
-        self._child.stdout.close()
+        self._stdout.close()
         status = self._child.wait()
         self._lines.finish(None if said else status, "output" if said else "ended", said)
 
@@ -395,11 +398,13 @@ class AsyncDatabase:
         self._lines = _Lines()
 
     async def __aenter__(self) -> AsyncDatabase:
-        how = {"stdin": asyncio.subprocess.PIPE, "stdout": asyncio.subprocess.PIPE}
+        pipe = asyncio.subprocess.PIPE
         try:
-            self._child = await asyncio.create_subprocess_exec(*self._words, **how)
+            self._child = await asyncio.create_subprocess_exec(*self._words, stdin=pipe, stdout=pipe)
         except OSError as fault:
             raise Stopped("start", None, str(fault)) from fault
+        assert self._child.stdin and self._child.stdout
+        self._stdin, self._stdout = self._child.stdin, self._child.stdout
         self._reader = asyncio.ensure_future(self._read())
         return self
 
@@ -438,24 +443,24 @@ class AsyncDatabase:
         """Ends the program once all lines are answered."""
         if self._lines.end is None:
             self._lines.end = ("closed",)
-        self._child.stdin.close()
+        self._stdin.close()
         await self._reader
 
     async def _call(self, line: bytes) -> Json:
         future: asyncio.Future[Json] = asyncio.get_running_loop().create_future()
         self._write(line, _settle(future))
         try:
-            await self._child.stdin.drain()
+            await self._stdin.drain()
         except ConnectionError:
             pass  # the program has ended, and the reader tells
         return await future
 
     def _write(self, line: bytes, answer: Answer) -> None:
-        self._child.stdin.write(self._lines.write(line, answer))
+        self._stdin.write(self._lines.write(line, answer))
 
     async def _read(self) -> None:
         said = ""
-        while data := await self._child.stdout.read(1 << 16):
+        while data := await self._stdout.read(1 << 16):
             try:
                 self._lines.take(data)
             except (ValueError, KeyError, TypeError):
