@@ -147,7 +147,7 @@ def main():
             if who == "the bare program":
                 seconds -= min(run[f"before {load}"] for run in runs[who])
                 seconds /= GETS if load == "get" else 1
-            print(f"{load}: {who} {COUNT / seconds:,.0f} documents a second")
+            print(f"{load}: {who} {COUNT / seconds:,.0f} a second")
     for load in ("first load", "next load"):
         if "Chromium" in peers:
             print(f"the page of todos, {load}: first emission after {min(run[load] for run in runs['Chromium']) * 1000:,.0f} ms")

@@ -345,26 +345,31 @@ class Observed:
         return self
 
     def __next__(self) -> List[Document]:
-        return self.next()
-
-    def next(self, timeout: Optional[float] = None) -> List[Document]:
-        """The next emission. Where none comes in so many seconds, TimeoutError."""
-        if self._over:
+        rows = self.next()
+        if rows is None:
             raise StopIteration
+        return rows
+
+    def next(self, timeout: Optional[float] = None) -> Optional[List[Document]]:
+        """The next emission, or None where no more come. Where none comes in so many seconds, TimeoutError."""
+        if self._over:
+            return None
         try:
             rows, fault = self._emissions.get(timeout=timeout)
         except queue.Empty:
             raise TimeoutError("no emission") from None
-        if rows is None:
-            self._over = True
-            raise fault or StopIteration
+        self._over = rows is None
+        if fault is not None:
+            raise fault
         return rows
 
     def pending(self) -> Iterator[List[Document]]:
         """The emissions of all that is answered by now, without waiting for more."""
         self.explain()  # they come before this answer
         while not self._emissions.empty():
-            yield self.next()
+            rows = self.next()
+            if rows is not None:
+                yield rows
 
     def explain(self) -> Json:
         """What the query heard since it was observed."""
@@ -577,8 +582,12 @@ class AsyncObserved:
                 self._db._lines.watch(self.name, self._hear)
             settle(reply, fault)
 
-        self._db._write(self._request, begun)
-        await future
+        try:
+            self._db._write(self._request, begun)
+            await future
+        except BaseException:
+            self._over = True
+            raise
 
     def _hear(self, rows: Optional[List[Document]], fault: Optional[Exception]) -> None:
         self._emissions.put_nowait((rows, fault))

@@ -110,6 +110,26 @@ tests['Chromium killed in the middle, and started again'] = async () => {
   await second.close();
 };
 
+tests['no room is left: the program ends by disk, and what was answered is there'] = async () => {
+  const file = journal(), page = await empty();
+  await page.on('Storage.overrideQuotaForOrigin', { origin: served.origin, quotaSize: 3000000 });
+  const [answered, stopped] = await page.run(async (name, schema) => {
+    const { open, wasm } = await import('/clients/js/rx.mjs');
+    const db = await open(wasm('/wasm/out', name));
+    const wide = { ...schema, properties: { ...schema.properties, t: { type: 'string', maxLength: 100000 } } };
+    const c = await db.collection('c', wide);
+    for (let n = 0; ; n++) {
+      const stopped = await c.insert({ id: `k${n}`, n, t: 'x'.repeat(100000) }).then(() => null, (it) => `${it.stop} ${it.status}`);
+      if (stopped) return [n, stopped];
+    }
+  }, file, schema);
+  same(stopped, 'disk 3', 'the end');
+  await page.on('Storage.overrideQuotaForOrigin', { origin: served.origin });
+  fronts(await page.run(keysInPage, file), answered);
+  same(answered > 5 && answered < 35, true, `${answered} documents of 100,000 bytes`);
+  await page.close();
+};
+
 tests['a journal that another page has, and a folder without the program'] = async () => {
   const file = journal(), first = await empty(), second = await empty();
   await first.run(writeInPage, file, schema);

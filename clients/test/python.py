@@ -190,7 +190,7 @@ def emissions_of_what_is_answered_and_then_no_more():
             except TimeoutError:
                 pass
             same(fault(c.observe, {}, query.name).word, "exists")
-        same((list(query), fault(query.explain).code), ([], 17))
+        same((list(query), query.next(), fault(query.explain).code), ([], None, 17))
         last = c.observe()
     same([len(rows) for rows in last], [3], "closed")
 
@@ -304,7 +304,9 @@ def asyncio_calls_at_once_iterators_and_a_killed_child():
                         break
             same((heard, (await async_fault(db.explain(query.name))).code), ([0, 1], 17))
             same((await async_fault(c.insert({"id": "k1"}))).rev, "1-c")
-            same((await async_fault(anext_of(c.observe({"skip": "x"})))).cause, "skip")
+            refused = c.observe({"skip": "x"})
+            same((await async_fault(anext_of(refused))).cause, "skip")
+            same([rows async for rows in refused], [], "it is over")
             calls = [asyncio.ensure_future(c.insert({"id": f"x{n}"})) for n in range(1000)]
             await calls[10]
             db._child.kill()
