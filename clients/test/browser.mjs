@@ -12,7 +12,22 @@ import { examples, quickstart, root, runAll, same } from './shared.mjs';
 const program = resolve(process.argv[2]);
 const pictures = process.argv[3];
 const folder = mkdtempSync(join(tmpdir(), 'rx-browser-'));
-const served = await serve(root);
+// A worker that counts what is written to its file, and what the page is told before all of that is synced.
+const counting = `
+  const handle = FileSystemSyncAccessHandle.prototype, { write, flush } = handle, post = self.postMessage;
+  let early = 0, synced = true, bytes = 0;
+  handle.write = function (piece, how) { synced = false; bytes += piece.length; return write.call(this, piece, how); };
+  handle.flush = function () { flush.call(this); synced = true; };
+  self.postMessage = (it) => {
+    if (typeof it === 'string' && !synced) early += 1;
+    if ('ended' in Object(it)) post.call(self, JSON.stringify({ emit: 'counted', rows: [{ early, bytes }] }) + '\\n');
+    post.call(self, it);
+  };`;
+const served = await serve(root, {
+  '/wasm/counting.mjs': counting,
+  '/wasm/counted/rx.wasm': readFileSync(join(root, 'wasm/out/rx.wasm')),
+  '/wasm/counted/host.mjs': "import '/wasm/counting.mjs'; import '/wasm/out/host.mjs';",
+});
 let chromium = await launch(join(folder, 'profile'));
 const tests = {};
 let journals = 0;
@@ -20,10 +35,10 @@ const journal = () => `journal-${++journals}`;
 const empty = () => chromium.page(`${served.origin}/empty`);
 
 // These run in the page.
-const playInPage = async (name, script) => {
+const playInPage = async (name, script, folder = '/wasm/out') => {
   const { open, wasm } = await import('/clients/js/rx.mjs');
   const { playScript } = await import('/clients/test/play.mjs');
-  return playScript(open, wasm('/wasm/out', name), script);
+  return playScript(open, wasm(folder, name), script);
 };
 const readInPage = async (name) => {
   const folder = await navigator.storage.getDirectory();
@@ -141,6 +156,18 @@ tests['a journal that another page has, and a folder without the program'] = asy
   same(stopped.join(), 'Stopped start true,Stopped start false', 'the second page');
   await first.close();
   await second.close();
+};
+
+tests['each answer comes after its sync, and the journal is appended to'] = async () => {
+  const page = await empty(), file = journal(), count = 200;
+  const inserts = Array.from({ length: count }, (_, n) => ({ do: 'insert', in: 'c', doc: { id: `k${n}`, n } }));
+  const script = [{ do: 'collection', name: 'c', schema }, ...inserts].map((it) => `${JSON.stringify(it)}\n`).join('');
+  const { output } = await page.run(playInPage, file, script, '/wasm/counted');
+  const { early, bytes } = JSON.parse(output.trim().split('\n').at(-1)).rows[0];
+  const { length } = await page.run(readInPage, file);
+  // Of the journal's bytes only the gates, one for each of 202 records, are written a second time.
+  same(`${early} early, ${bytes} written`, `0 early, ${length + count + 2} written`, 'the writes');
+  await page.close();
 };
 
 tests['20,000 documents: output and journal are the native ones'] = async () => {

@@ -12,11 +12,12 @@ const kinds = {
   '.svg': 'image/svg+xml',
 };
 
-/** Serves a folder's files on 127.0.0.1, and an empty page under /empty. */
-export function serve(folder) {
+/** Serves a folder's files on 127.0.0.1, other content by its path, and an empty page under /empty. */
+export function serve(folder, others = {}) {
   const server = createServer((request, response) => {
     const path = normalize(decodeURIComponent(new URL(request.url, 'http://x').pathname));
     if (path === '/empty') return response.setHeader('content-type', kinds['.html']).end('<!doctype html><title>empty</title>');
+    if (others[path]) return response.setHeader('content-type', kinds[extname(path)]).end(others[path]);
     const name = path.endsWith('/') ? `${path}index.html` : path;
     const file = createReadStream(join(folder, name));
     file.on('open', () => file.pipe(response.setHeader('content-type', kinds[extname(name)] ?? 'text/plain')));
