@@ -41,7 +41,9 @@ class Refused(Exception):
 class Stopped(Exception):
     """The program has ended, so there is no answer. `stop` is its own word for why, or one of the client's."""
 
-    def __init__(self, stop: str, status: Optional[int] = None, said: str = "", limit: Optional[int] = None, would: Optional[int] = None) -> None:
+    def __init__(
+        self, stop: str, status: Optional[int] = None, said: str = "", limit: Optional[int] = None, would: Optional[int] = None
+    ) -> None:
         super().__init__(f"{stop}: {said}" if said else stop)
         self.stop = stop
         self.status = status
@@ -202,7 +204,10 @@ class Database:
         new = None if schema is None else self._call(_line("collection", name=name, schema=schema))["new"]
         return Collection(self, name, new)
 
-    def replicate(self, name: str, fork: str, master: Optional[str] = None, *, handler: str, port: Optional[int] = None, field: Optional[str] = None) -> None:
+    def replicate(
+        self, name: str, fork: str, master: Optional[str] = None, *,
+        handler: str, port: Optional[int] = None, field: Optional[str] = None,
+    ) -> None:
         """Makes a collection the fork of a master: of another collection, or of one that is served at a port."""
         self._call(_line("replicate", name=name, fork=fork, master=master, port=port, handler=handler, field=field))
 
@@ -420,7 +425,10 @@ class AsyncDatabase:
         new = None if schema is None else (await self._call(_line("collection", name=name, schema=schema)))["new"]
         return AsyncCollection(self, name, new)
 
-    async def replicate(self, name: str, fork: str, master: Optional[str] = None, *, handler: str, port: Optional[int] = None, field: Optional[str] = None) -> None:
+    async def replicate(
+        self, name: str, fork: str, master: Optional[str] = None, *,
+        handler: str, port: Optional[int] = None, field: Optional[str] = None,
+    ) -> None:
         await self._call(_line("replicate", name=name, fork=fork, master=master, port=port, handler=handler, field=field))
 
     async def turn(self, name: str, *, batch: Optional[int] = None, budget: Optional[int] = None, link: Optional[List[Any]] = None) -> Turn:

@@ -85,7 +85,13 @@ for (const name of Object.keys(behaviours)) {
   };
 }
 
-const schema = { version: 0, primaryKey: 'id', type: 'object', properties: { id: { type: 'string', maxLength: 20 }, n: { type: 'integer' } }, required: ['id'] };
+const schema = {
+  version: 0,
+  primaryKey: 'id',
+  type: 'object',
+  properties: { id: { type: 'string', maxLength: 20 }, n: { type: 'integer' } },
+  required: ['id'],
+};
 const writeInPage = async (name, schema) => {
   const { open, wasm } = await import('/clients/js/rx.mjs');
   const db = await open(wasm('/wasm/out', name));
@@ -100,7 +106,9 @@ const keysInPage = async (name) => {
   await db.close();
   return rows.map((it) => it.id);
 };
-const fronts = (keys, answered) => same(keys.length >= answered && keys.every((key, n) => key === `k${n}`), true, `${answered} answered, ${keys.length} kept`);
+const fronts = (keys, answered) => {
+  same(keys.length >= answered && keys.every((key, n) => key === `k${n}`), true, `${answered} answered, ${keys.length} kept`);
+};
 
 tests['a page that is closed in the middle, and opened again'] = async () => {
   const file = journal(), first = await empty();
@@ -193,8 +201,11 @@ async function take(page, name) {
 tests['the page of todos, by keyboard, kept over a reload'] = async () => {
   const page = await chromium.page(`${served.origin}/clients/web/`);
   await page.until(`document.querySelectorAll('#phone li').length === 3 && document.querySelectorAll('#laptop li').length === 2`);
-  const titles = () => page.evaluate(`[...document.querySelectorAll('#phone li')].map((it) => it.querySelector('.title').value + (it.querySelector('[type=checkbox]').checked ? ', done' : '')).join('; ')`);
-  const focus = () => page.evaluate(`document.activeElement.getAttribute('aria-label') ?? document.activeElement.textContent.trim()`);
+  const titles = (page) => page.run(() => Array.from(document.querySelectorAll('#phone li'), (it) => {
+    const [done, title] = it.children;
+    return title.value + (done.checked ? ', done' : '');
+  }).join('; '));
+  const focus = () => page.run(() => document.activeElement.getAttribute('aria-label') ?? document.activeElement.textContent.trim());
   const tab = async (times) => { for (let i = 0; i < times; i++) await page.key('Tab'); };
   await take(page, 'wide');
   // From the top: the phone's switch, its new todo, Add, and then each todo's box, title and removal.
@@ -220,7 +231,7 @@ tests['the page of todos, by keyboard, kept over a reload'] = async () => {
   await page.key('Enter');
   await page.until(`document.querySelectorAll('#phone li').length === 3`);
   same(await focus(), 'Remove', 'the next removal has the focus');
-  const before = await titles();
+  const before = await titles(page);
   same([before.includes(removed), before.includes('three balls, done')].join(), 'false,true', before);
   await page.run(() => { document.getElementById('sync').click(); });
   await page.until(`/sync/i.test(document.getElementById('status').textContent)`);
@@ -229,7 +240,7 @@ tests['the page of todos, by keyboard, kept over a reload'] = async () => {
 
   const again = await chromium.page(`${served.origin}/clients/web/`, { width: 390, height: 844 });
   await again.until(`document.querySelectorAll('#phone li').length === 3`);
-  same(await again.evaluate(`[...document.querySelectorAll('#phone li')].map((it) => it.querySelector('.title').value + (it.querySelector('[type=checkbox]').checked ? ', done' : '')).join('; ')`), before, 'after a reload');
+  same(await titles(again), before, 'after a reload');
   same(await again.evaluate('document.documentElement.scrollWidth <= innerWidth'), true, 'nothing is cut off on a phone');
   await take(again, 'narrow');
   for (let n = 0; n < 8; n++) await again.run((n) => {
