@@ -84,6 +84,25 @@ export const behaviours = {
     await db.close();
   },
 
+  async 'an observer that ends another one, whose turn is next'({ open, transport }) {
+    const db = await open(transport());
+    const c = await db.collection('c', schema);
+    const query = c.observe();
+    const heard = [];
+    let other;
+    query.subscribe((rows) => {
+      if (rows.length) other.unsubscribe();
+    });
+    other = query.subscribe((rows) => heard.push(rows.length));
+    await c.insert({ id: 'a' });
+    await c.insert({ id: 'b' });
+    // One that leaves before its turn hears nothing.
+    query.subscribe((rows) => heard.push(rows.length)).unsubscribe();
+    await c.count();
+    same(heard, [0], 'emissions');
+    await db.close();
+  },
+
   async 'an observer that is left by all is not observed, and may be observed again'({ open, transport }) {
     const db = await open(transport());
     const c = await db.collection('c', schema);

@@ -1,5 +1,6 @@
 """python3 clients/test/python.py PROGRAM: the client over a child process, plain and with asyncio."""
 import asyncio
+import faulthandler
 import json
 import os
 import re
@@ -356,6 +357,7 @@ def main():
     failed = 0
     for call in tests:
         name = call.__name__.replace("_", " ")
+        faulthandler.dump_traceback_later(60, exit=True)  # a test that waits for ever
         try:
             call()
             print(f"ok    python: {name}", flush=True)
