@@ -11,7 +11,11 @@ use Rattle.rx_diagram.specs.declared.node.Edge.TheVariants.{Act, To}
 
 -- all actions, by their places
 all_actions : List Action
-all_actions = DoNothing ∷ InsertFirst ∷ InsertLast ∷ RemoveFirstItem ∷ RemoveLastItem ∷ RemoveFirstInsertLast ∷ RemoveLastInsertFirst ∷ RemoveFirstInsertFirst ∷ RemoveLastInsertLast ∷ RemoveExisting ∷ ReplaceExisting ∷ InsertAtSortPosition ∷ RemoveExistingAndInsertAtSortPosition ∷ RunFullQueryAgain ∷ InsertAtSortPositionRemoveLast ∷ []
+all_actions = DoNothing ∷ InsertFirst ∷ InsertLast ∷ RemoveFirstItem ∷ RemoveLastItem
+    ∷ RemoveFirstInsertLast ∷ RemoveLastInsertFirst ∷ RemoveFirstInsertFirst ∷ RemoveLastInsertLast
+    ∷ RemoveExisting ∷ ReplaceExisting ∷ InsertAtSortPosition
+    ∷ RemoveExistingAndInsertAtSortPosition ∷ RunFullQueryAgain ∷ InsertAtSortPositionRemoveLast
+    ∷ []
 
 action_at_place : (a : Action) → get_or all_actions (place_of a) DoNothing ≡ a
 unfolding all_actions
@@ -35,7 +39,11 @@ pub nat_same : (m n : ℕ) → (m ≡ n) ⊎ (m ≢ n)
 nat_same zero zero = inl refl
 nat_same zero (suc n) = inr (λ e. cc)
 nat_same (suc m) zero = inr (λ e. cc)
-nat_same (suc m) (suc n) = elim (nat_same m n) [ inl e ↦ inl (ap (λ k. suc k) e) | inr e ↦ inr (λ h. let f : m ≡ n = omega arith in e f) ]
+nat_same (suc m) (suc n) = elim (nat_same m n) [
+  | inl e ↦ inl (ap (λ k. suc k) e)
+  | inr e ↦ inr
+      (λ h. let f : m ≡ n = omega arith in e f)
+]
 
 -- actions of one place are one
 pub same_place : (a c : Action) → place_of a ≡ place_of c → a ≡ c
@@ -49,10 +57,15 @@ action_same a c = elim (nat_same (place_of a) (place_of c)) [
 ]
 
 pub edge_same : (e f : Edge) → (e ≡ f) ⊎ (e ≢ f)
-edge_same (Act a) (Act c) = elim (action_same a c) [ inl e ↦ inl (ap Act e) | inr e ↦ inr (λ h. let g : a ≡ c = cc in e g) ]
+edge_same (Act a) (Act c) =
+    elim (action_same a c) [ inl e ↦ inl (ap Act e) | inr e ↦ inr (λ h. let g : a ≡ c = cc in e g) ]
 edge_same (Act a) (To k) = inr (λ h. cc)
 edge_same (To j) (Act c) = inr (λ h. cc)
-edge_same (To j) (To k) = elim (nat_same j k) [ inl e ↦ inl (ap To e) | inr e ↦ inr (λ h. let g : j ≡ k = cc in e g) ]
+edge_same (To j) (To k) = elim (nat_same j k) [
+  | inl e ↦ inl (ap To e)
+  | inr e ↦ inr (λ h. let g : j
+      ≡ k = cc in e g)
+]
 
 state_at_index : (s : StateName) → get_or all_states (index_of s) IsInsert ≡ s
 state_at_index IsInsert = refl
@@ -76,7 +89,8 @@ state_at_index WasMatching = refl
 state_at_index DoesMatchNow = refl
 
 pub same_state : (s t : StateName) → index_of s ≡ index_of t → s ≡ t
-same_state s t e = sym (state_at_index s) ∙ ap (λ k. get_or all_states k IsInsert) e ∙ state_at_index t
+same_state s t e = sym (state_at_index s) ∙ ap (λ k. get_or all_states k IsInsert) e
+    ∙ state_at_index t
 
 pub index_small : (s : StateName) → index_of s < 19
 index_small IsInsert = omega arith

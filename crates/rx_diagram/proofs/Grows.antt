@@ -22,27 +22,34 @@ longer_trans a b c g h = record {
   kept = λ j lt. let x = g.longer in h.kept j (omega arith) ∙ g.kept j lt;
 }
 
-pub from_longer : (old new : List Node) → IsLonger old new → (i : ℕ) (e : Edge) → From old i e → From new i e
+pub from_longer : (old new : List Node) → IsLonger old new → (i : ℕ) (e : Edge) → From old i e
+    → From new i e
 from_longer old new g i (Act a) f = tt
 from_longer old new g i (To k) f =
     let x = g.longer in
     let same : level new k ≡ level old k = ap (λ (nd : Node). index_of nd.state) (g.kept k f.0) in
     (let lt = f.0 in omega arith, let le = f.1 in omega arith)
 
-walk_longer : (old new : List Node) → IsReduced old → IsLonger old new → (t : ℕ) (b : ℕ → Bool) (e : Edge) → From old 0 e → walk t new b e ≡ walk t old b e
+walk_longer : (old new : List Node) → IsReduced old → IsLonger old new
+    → (t : ℕ) (b : ℕ → Bool) (e : Edge) → From old 0 e → walk t new b e ≡ walk t old b e
 walk_longer old new r g zero b e f = walk-zero new b e ∙ sym (walk-zero old b e)
-walk_longer old new r g (suc t) b (Act a) f = walk-act (suc t) new b a ∙ sym (walk-act (suc t) old b a)
+walk_longer old new r g (suc t) b (Act a) f = walk-act (suc t) new b a
+    ∙ sym (walk-act (suc t) old b a)
 walk_longer old new r g (suc t) b (To k) f =
     let child = edge_of (b (level old k)) (node old k) in
-    walk-to t new b k ∙ ap (λ (nd : Node). walk t new b (edge_of (b (index_of nd.state)) nd)) (g.kept k f.0)
-    ∙ walk_longer old new r g t b child (from_lower old 0 (suc (level old k)) child (omega arith) (from_next old r k f.0 (b (level old k))))
+    walk-to t new b k ∙ ap (λ (nd : Node). walk t new b (edge_of (b (index_of nd.state)) nd))
+    (g.kept k f.0)
+    ∙ walk_longer old new r g t b child (from_lower old 0 (suc (level old k)) child (omega arith)
+    (from_next old r k f.0 (b (level old k))))
     ∙ sym (walk-to t old b k)
 
-pub final_longer : (old new : List Node) → IsReduced old → IsLonger old new → (b : ℕ → Bool) (e : Edge) → From old 0 e → final new b e ≡ final old b e
+pub final_longer : (old new : List Node) → IsReduced old → IsLonger old new
+    → (b : ℕ → Bool) (e : Edge) → From old 0 e → final new b e ≡ final old b e
 unfolding final
 final_longer old new r g b e f = walk_longer old new r g 19 b e f
 
-pub any_longer : (p : Node → Bool) (old new : List Node) → IsLonger old new → list_any p old ≡ true → list_any p new ≡ true
+pub any_longer : (p : Node → Bool) (old new : List Node) → IsLonger old new → list_any p old ≡ true
+    → list_any p new ≡ true
 any_longer p old new g h =
     let at = Any-from_list_any p old h in
     let x = g.longer in
@@ -58,11 +65,13 @@ to_is j (Act a) h = let bad : false ≡ true = h in cc
 to_is j (To k) h = let same : k ≡ j = grind (arith, nat_tests) in ap To same
 
 -- a node that leads to j is among them
-pub any_leads : (ns : List Node) (k j : ℕ) (answer : Bool) → k < length ns → edge_of answer (node ns k) ≡ To j → list_any (leads_to j) ns ≡ true
+pub any_leads : (ns : List Node) (k j : ℕ) (answer : Bool) → k < length ns
+    → edge_of answer (node ns k) ≡ To j → list_any (leads_to j) ns ≡ true
 any_leads ns k j answer lt is = list_any_at (leads_to j) ns k _ lt (leads answer is)
   where
     leads : (answer : Bool) → edge_of answer (node ns k) ≡ To j → leads_to j (node ns k) ≡ true
-    leads true is = by_yes (is_to j (node ns k).no) (is_to j (node ns k).yes) (ap (is_to j) is ∙ is_to_here j)
+    leads true is = by_yes (is_to j (node ns k).no) (is_to j (node ns k).yes) (ap (is_to j) is
+        ∙ is_to_here j)
       where
         by_yes : (x y : Bool) → y ≡ true → (x || y) ≡ true
         by_yes true y h = refl
@@ -77,14 +86,17 @@ either_right true y h = refl
 either_right false y h = h
 
 -- two equal edges need no node
-pub shared_same : (ns : List Node) (nd : Node) → IsReduced ns → IsLater ns nd → nd.no ≡ nd.yes → IsShared ns ns nd nd.no
+pub shared_same : (ns : List Node) (nd : Node) → IsReduced ns → IsLater ns nd → nd.no ≡ nd.yes
+    → IsShared ns ns nd nd.no
 shared_same ns nd r l same = record {
   grown = longer_refl ns;
   few = omega arith;
   reduced = r;
-  from = from_lower ns (index_of nd.state) (suc (index_of nd.state)) nd.no (omega arith) (l.later false);
+  from = from_lower ns (index_of nd.state) (suc (index_of nd.state)) nd.no (omega arith)
+      (l.later false);
   gives = λ b. ap (final ns b) (both (b (index_of nd.state)));
-  led = λ answer j is. either_left (is_to j nd.no) (list_any (leads_to j) ns) (ap (is_to j) (both answer ∙ is) ∙ is_to_here j);
+  led = λ answer j is. either_left (is_to j nd.no) (list_any (leads_to j) ns)
+      (ap (is_to j) (both answer ∙ is) ∙ is_to_here j);
   fresh = λ j le lt. absurd (omega arith);
 }
   where
@@ -93,29 +105,46 @@ shared_same ns nd r l same = record {
     both false = refl
 
 -- a node that is there
-pub shared_found : (ns : List Node) (nd : Node) (k : ℕ) → IsReduced ns → k < length ns → node ns k ≡ nd → IsShared ns ns nd (To k)
+pub shared_found : (ns : List Node) (nd : Node) (k : ℕ) → IsReduced ns → k < length ns
+    → node ns k ≡ nd → IsShared ns ns nd (To k)
 shared_found ns nd k r lt is = record {
   grown = longer_refl ns;
   few = omega arith;
   reduced = r;
-  from = (lt, let same : index_of (node ns k).state ≡ index_of nd.state = ap (λ (x : Node). index_of x.state) is in omega arith);
-  gives = λ b. final-to ns r b k lt ∙ ap (λ (x : Node). final ns b (edge_of (b (index_of x.state)) x)) is;
-  led = λ answer j to. either_right (is_to j (To k)) (list_any (leads_to j) ns) (any_leads ns k j answer lt (ap (edge_of answer) is ∙ to));
+  from = (
+    lt,
+    let same : index_of (node ns k).state ≡ index_of nd.state =
+        ap (λ (x : Node). index_of x.state) is in omega arith,
+  );
+  gives = λ b. final-to ns r b k lt
+      ∙ ap (λ (x : Node). final ns b (edge_of (b (index_of x.state)) x)) is;
+  led = λ answer j to. either_right (is_to j (To k)) (list_any (leads_to j) ns)
+      (any_leads ns k j answer lt (ap (edge_of answer) is ∙ to));
   fresh = λ j le small. absurd (omega arith);
 }
 
 pub longer_push : (ns : List Node) (nd : Node) → IsLonger ns (ns ++ nd ∷ [])
-longer_push ns nd = record { longer = omega (arith, length-append ns (nd ∷ [])); kept = λ j lt. get_or_append_left ns (nd ∷ []) _ j lt }
+longer_push ns nd = record {
+  longer = omega (arith, length-append ns (nd ∷ []));
+  kept = λ j lt. get_or_append_left ns (nd ∷ []) _ j lt;
+}
 
 -- a node that is new
-pub shared_new : (ns : List Node) (nd : Node) → IsReduced ns → IsLater ns nd → nd.no ≢ nd.yes → ((j : ℕ) → j < length ns → node ns j ≢ nd) → IsShared ns (ns ++ nd ∷ []) nd (To (length ns))
+pub shared_new : (ns : List Node) (nd : Node) → IsReduced ns → IsLater ns nd → nd.no ≢ nd.yes
+    → ((j : ℕ) → j < length ns → node ns j ≢ nd) → IsShared ns (ns ++ nd ∷ []) nd (To (length ns))
 shared_new ns nd r l two absent = record {
   grown = g;
   few = omega (arith, size);
   reduced = r';
-  from = (omega (arith, size), let same : index_of (node ns' n).state ≡ index_of nd.state = ap (λ (x : Node). index_of x.state) last in omega arith);
-  gives = λ b. final-to ns' r' b n (omega (arith, size)) ∙ ap (λ (x : Node). final ns' b (edge_of (b (index_of x.state)) x)) last;
-  led = λ answer j to. either_right (is_to j (To n)) (list_any (leads_to j) ns') (any_leads ns' n j answer (omega (arith, size)) (ap (edge_of answer) last ∙ to));
+  from = (
+    omega (arith, size),
+    let same : index_of (node ns' n).state ≡ index_of nd.state =
+        ap (λ (x : Node). index_of x.state) last in omega arith,
+  );
+  gives = λ b. final-to ns' r' b n (omega (arith, size))
+      ∙ ap (λ (x : Node). final ns' b (edge_of (b (index_of x.state)) x)) last;
+  led = λ answer j to. either_right (is_to j (To n)) (list_any (leads_to j) ns')
+      (any_leads ns' n j answer (omega (arith, size)) (ap (edge_of answer) last ∙ to));
   fresh = λ j le lt. let same : j ≡ n = omega (arith, size) in rw same (is_to_here n);
 }
   where
@@ -137,33 +166,42 @@ shared_new ns nd r l two absent = record {
     old_or_last : (j : ℕ) → j < length ns' → (j < length ns) ⊎ (j ≡ n)
     old_or_last j lt = elim (nat_same j n) [ inl e ↦ inr e | inr ne ↦ inl (omega (arith, size)) ]
 
-    ordered : (answer : Bool) (j k : ℕ) → (j < length ns) ⊎ (j ≡ n) → edge_of answer (node ns' j) ≡ To k → (k < j) × (level ns' j < level ns' k)
+    ordered : (answer : Bool) (j k : ℕ) → (j < length ns) ⊎ (j ≡ n)
+        → edge_of answer (node ns' j) ≡ To k → (k < j) × (level ns' j < level ns' k)
     ordered answer j k (inl lt) is =
         let o = r.ordered answer j k lt (sym (ap (edge_of answer) (g.kept j lt)) ∙ is) in
         let less = o.0 in
         let here : level ns' j ≡ level ns j = ap (λ (x : Node). index_of x.state) (g.kept j lt) in
-        let there : level ns' k ≡ level ns k = ap (λ (x : Node). index_of x.state) (g.kept k (omega arith)) in
+        let there : level ns' k ≡ level ns k =
+        ap (λ (x : Node). index_of x.state) (g.kept k (omega arith)) in
         let above = o.1 in
         (less, omega arith)
     ordered answer j k (inr e) is =
         let node_is : node ns' j ≡ nd = ap (node ns') e ∙ last in
-        let f : From ns (suc (index_of nd.state)) (To k) = subst (λ (x : Edge). From ns (suc (index_of nd.state)) x) (sym (ap (edge_of answer) node_is) ∙ is) (l.later answer) in
+        let f : From ns (suc (index_of nd.state)) (To k) =
+        subst (λ (x : Edge). From ns (suc (index_of nd.state)) x)
+        (sym (ap (edge_of answer) node_is) ∙ is) (l.later answer) in
         let less = f.0 in
         let here : level ns' j ≡ index_of nd.state = ap (λ (x : Node). index_of x.state) node_is in
-        let there : level ns' k ≡ level ns k = ap (λ (x : Node). index_of x.state) (g.kept k less) in
+        let there : level ns' k ≡ level ns k =
+        ap (λ (x : Node). index_of x.state) (g.kept k less) in
         let above = f.1 in
         (omega arith, omega arith)
 
     two_edges : (j : ℕ) → (j < length ns) ⊎ (j ≡ n) → (node ns' j).no ≢ (node ns' j).yes
-    two_edges j (inl lt) h = r.two_edges j lt (sym (ap (edge_of false) (g.kept j lt)) ∙ h ∙ ap (edge_of true) (g.kept j lt))
+    two_edges j (inl lt) h = r.two_edges j lt (sym (ap (edge_of false) (g.kept j lt)) ∙ h
+        ∙ ap (edge_of true) (g.kept j lt))
     two_edges j (inr e) h =
         let node_is : node ns' j ≡ nd = ap (node ns') e ∙ last in
         two (sym (ap (edge_of false) node_is) ∙ h ∙ ap (edge_of true) node_is)
 
-    one_node : (j k : ℕ) → (j < length ns) ⊎ (j ≡ n) → (k < length ns) ⊎ (k ≡ n) → node ns' j ≡ node ns' k → j ≡ k
+    one_node : (j k : ℕ) → (j < length ns) ⊎ (j ≡ n) → (k < length ns) ⊎ (k ≡ n)
+        → node ns' j ≡ node ns' k → j ≡ k
     one_node j k (inl lt) (inl lt') h = r.one_node j k lt lt' (sym (g.kept j lt) ∙ h ∙ g.kept k lt')
-    one_node j k (inl lt) (inr e) h = absurd (absent j lt (sym (g.kept j lt) ∙ h ∙ ap (node ns') e ∙ last))
-    one_node j k (inr e) (inl lt) h = absurd (absent k lt (sym (g.kept k lt) ∙ sym h ∙ ap (node ns') e ∙ last))
+    one_node j k (inl lt) (inr e) h = absurd (absent j lt (sym (g.kept j lt) ∙ h ∙ ap (node ns') e
+        ∙ last))
+    one_node j k (inr e) (inl lt) h = absurd (absent k lt (sym (g.kept k lt) ∙ sym h
+        ∙ ap (node ns') e ∙ last))
     one_node j k (inr e) (inr e') h = e ∙ sym e'
 
     r' : IsReduced ns'

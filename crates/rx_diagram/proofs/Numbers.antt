@@ -20,10 +20,13 @@ odd false n = let r : (0 + 2 * n) % 2 ≡ 0 = omega arith in rw r refl
 pub bit-number : (t : ℕ) (b : ℕ → Bool) (j : ℕ) → j < t → is_set (number t b) j ≡ b j
 unfolding number
 bit-number zero b j lt = absurd (omega arith)
-bit-number (suc t) b zero lt = ap (λ k. eqb k 1) (bit_at_lowest (number (suc t) b)) ∙ odd (b 0) (number t (λ j. b (suc j)))
+bit-number (suc t) b zero lt = ap (λ k. eqb k 1) (bit_at_lowest (number (suc t) b))
+    ∙ odd (b 0) (number t (λ j. b (suc j)))
 bit-number (suc t) b (suc j) lt =
     let rest = number t (λ i. b (suc i)) in
-    ap (λ k. eqb k 1) (bit_at-suc (number (suc t) b) j) ∙ ap (λ (v : ℕ). is_set v j) (half (b 0) rest) ∙ bit-number t (λ i. b (suc i)) j (omega arith)
+    ap (λ k. eqb k 1) (bit_at-suc (number (suc t) b) j)
+    ∙ ap (λ (v : ℕ). is_set v j) (half (b 0) rest)
+    ∙ bit-number t (λ i. b (suc i)) j (omega arith)
 
 small_step : (b : Bool) (n p : ℕ) → n < p → cond b 1 0 + 2 * n < 2 * p
 small_step true n p lt = omega arith
@@ -35,7 +38,8 @@ pow-suc t = omega arith
 pub number-small : (t : ℕ) (b : ℕ → Bool) → number t b < 2 ^ t
 unfolding number
 number-small zero b = omega arith
-number-small (suc t) b = rw (pow-suc t) (small_step (b 0) (number t (λ j. b (suc j))) (2 ^ t) (number-small t (λ j. b (suc j))))
+number-small (suc t) b = rw (pow-suc t) (small_step (b 0) (number t (λ j. b (suc j))) (2 ^ t)
+    (number-small t (λ j. b (suc j))))
 
 -- no bit above
 pub bit-above : (n k i : ℕ) → n < 2 ^ k → k ≤ i → is_set n i ≡ false
@@ -43,16 +47,19 @@ bit-above n k i lt le = ap (λ v. eqb v 1) (bit_at_above n k i lt le)
 
 -- a bit added above the others
 pub bit-low : (n k i : ℕ) → i < k → is_set (n + 2 ^ k) i ≡ is_set n i
-bit-low n k i lt = ap (λ (v : ℕ). is_set v i) (let e : n + 2 ^ k ≡ 1 * 2 ^ k + n = omega arith in e) ∙ ap (λ v. eqb v 1) (bit_at_cat_low 1 k n i lt)
+bit-low n k i lt = ap (λ (v : ℕ). is_set v i) (let e : n + 2 ^ k ≡ 1 * 2 ^ k + n = omega arith in e)
+    ∙ ap (λ v. eqb v 1) (bit_at_cat_low 1 k n i lt)
 
 pub bit-here : (n k : ℕ) → n < 2 ^ k → is_set (n + 2 ^ k) k ≡ true
 bit-here n k lt =
     let e : n + 2 ^ k ≡ 1 * 2 ^ k + n = omega arith in
     let z : k - k ≡ 0 = omega arith in
-    ap (λ (v : ℕ). is_set v k) e ∙ ap (λ v. eqb v 1) (bit_at_cat_high 1 k n k lt (omega arith)) ∙ ap (λ j. eqb (bit_at 1 j) 1) z
+    ap (λ (v : ℕ). is_set v k) e ∙ ap (λ v. eqb v 1) (bit_at_cat_high 1 k n k lt (omega arith))
+    ∙ ap (λ j. eqb (bit_at 1 j) 1) z
 
 pub bit-other : (n k i : ℕ) → n < 2 ^ k → i ≢ k → is_set (n + 2 ^ k) i ≡ is_set n i
 bit-other n k i small ne = elim (nat_same (suc i - k) 0) [
   | inl e ↦ bit-low n k i (omega arith)
-  | inr e ↦ bit-above (n + 2 ^ k) (suc k) i (rw (pow-suc k) (omega arith)) (omega arith) ∙ sym (bit-above n k i small (omega arith))
+  | inr e ↦ bit-above (n + 2 ^ k) (suc k) i (rw (pow-suc k) (omega arith)) (omega arith)
+      ∙ sym (bit-above n k i small (omega arith))
 ]

@@ -144,11 +144,13 @@ tells_matters : (n i m : ℕ) → i < 19 → m < 2 ^ 19 → tells n i m ≡ true
 tells_matters n i m small lt h =
     let flip = bit_xor m (2 ^ i) in
     let same : m % 2 ^ i ≡ n % 2 ^ i =
-    eqb-true (m % 2 ^ i) (n % 2 ^ i) (both_left _ (not (same_action (table_of m) (table_of flip))) h) in
+    eqb-true (m % 2 ^ i) (n % 2 ^ i) (both_left _ (not (same_action (table_of m) (table_of flip)))
+    h) in
     let unlike : same_action (table_of m) (table_of flip) ≡ false =
     not-true _ (both_right (eqb (m % 2 ^ i) (n % 2 ^ i)) _ h) in
     let before : (j : ℕ) → j < i → is_set m j ≡ is_set n j =
-    λ j below. bit_of_rest m i j below ∙ ap (λ (v : ℕ). is_set v j) same ∙ sym (bit_of_rest n i j below) in
+    λ j below. bit_of_rest m i j below ∙ ap (λ (v : ℕ). is_set v j) same
+    ∙ sym (bit_of_rest n i j below) in
     record {
       one = m;
       two = flip;
@@ -181,8 +183,7 @@ unfolding asked_of is_asked
 asked_is n = record {
   in_range = number-small 19 (is_asked n);
   exact = λ i lt.
-      let bit = bit-number 19 (is_asked n) i lt in
-      (
+      let bit = bit-number 19 (is_asked n) i lt in (
         λ h. let m = any_gives (2 ^ 19) (tells n i) (sym bit ∙ h) in
             tells_matters n i m.0 lt m.1 m.2,
         λ w. bit ∙ below_any (2 ^ 19) (tells n i) w.one w.one_in (matters_tells n i lt w),

@@ -23,27 +23,33 @@ pub record Reaches (ns : List Node) (root : Edge) (n i : ℕ) (e : Edge) : Type 
   pub from : From ns i e
   pub same : (b : ℕ → Bool) → ((j : ℕ) → j < i → b j ≡ is_set n j) → final ns b root ≡ final ns b e
 
-pub reaches_root : (ns : List Node) (root : Edge) (n : ℕ) → From ns 0 root → Reaches ns root n 0 root
+pub reaches_root : (ns : List Node) (root : Edge) (n : ℕ) → From ns 0 root
+    → Reaches ns root n 0 root
 reaches_root ns root n f = record { from = f; same = λ b h. refl }
 
-pub reaches_next : (ns : List Node) (root : Edge) (n i k : ℕ) → IsReduced ns → Reaches ns root n i (To k)
+pub reaches_next : (ns : List Node) (root : Edge) (n i k : ℕ) → IsReduced ns
+    → Reaches ns root n i (To k)
     → Reaches ns root n (suc (level ns k)) (edge_of (is_set n (level ns k)) (node ns k))
 reaches_next ns root n i k r p =
     let l = level ns k in
     record {
       from = from_next ns r k p.from.0 (is_set n l);
-      same = λ b h. p.same b (λ j lt. let le = p.from.1 in h j (omega arith)) ∙ final-to ns r b k p.from.0
+      same = λ b h. p.same b (λ j lt. let le = p.from.1 in h j (omega arith))
+          ∙ final-to ns r b k p.from.0
           ∙ ap (λ v. final ns b (edge_of v (node ns k))) (h l (omega arith));
     }
 
 -- what the table of a number's answers is
-right_of : (ns : List Node) (root : Edge) → IsRight ns root → (b : ℕ → Bool) → final ns b root ≡ Act (table_of (number 19 b))
+right_of : (ns : List Node) (root : Edge) → IsRight ns root → (b : ℕ → Bool)
+    → final ns b root ≡ Act (table_of (number 19 b))
 right_of ns root w b =
-    final_same ns w.reduced 0 b (answers_of (number 19 b)) root w.from (λ j le lt. sym (bit-number 19 b j lt))
+    final_same ns w.reduced 0 b (answers_of (number 19 b)) root w.from
+    (λ j le lt. sym (bit-number 19 b j lt))
     ∙ w.right (number 19 b) (number-small 19 b)
 
 -- a node on the way is of a state that matters
-pub matters : (ns : List Node) (root : Edge) → IsRight ns root → (n i k : ℕ) → Reaches ns root n i (To k) → Matters n (level ns k)
+pub matters : (ns : List Node) (root : Edge) → IsRight ns root → (n i k : ℕ)
+    → Reaches ns root n i (To k) → Matters n (level ns k)
 matters ns root w n i k p = record {
   one = number 19 (with_answer false);
   two = number 19 (with_answer true);
@@ -51,9 +57,11 @@ matters ns root w n i k p = record {
   two_in = number-small 19 (with_answer true);
   one_before = λ j lt. bits false j (omega (arith, small)) ∙ early false j lt;
   two_before = λ j lt. bits true j (omega (arith, small)) ∙ early true j lt;
-  here = λ h. let e : false ≡ true = sym (bits false l small ∙ put_here l false a) ∙ h ∙ bits true l small ∙ put_here l true a in cc;
+  here = λ h. let e : false ≡ true = sym (bits false l small ∙ put_here l false a) ∙ h
+      ∙ bits true l small ∙ put_here l true a in cc;
   others = other;
-  apart = λ h. part.apart (sym (to_side false) ∙ right_of ns root w (with_answer false) ∙ ap Act h ∙ sym (right_of ns root w (with_answer true)) ∙ to_side true);
+  apart = λ h. part.apart (sym (to_side false) ∙ right_of ns root w (with_answer false) ∙ ap Act h
+      ∙ sym (right_of ns root w (with_answer true)) ∙ to_side true);
 }
   where
     l : ℕ
@@ -66,7 +74,9 @@ matters ns root w n i k p = record {
     nd = node ns k
 
     part : Parting ns (suc l) nd.no nd.yes (answers_of n)
-    part = differ ns w.reduced (suc l) nd.no nd.yes (answers_of n) (from_next ns w.reduced k p.from.0 false) (from_next ns w.reduced k p.from.0 true) (w.reduced.two_edges k p.from.0)
+    part = differ ns w.reduced (suc l) nd.no nd.yes (answers_of n)
+        (from_next ns w.reduced k p.from.0 false) (from_next ns w.reduced k p.from.0 true)
+        (w.reduced.two_edges k p.from.0)
 
     a : ℕ → Bool
     a = part.answers
@@ -81,22 +91,30 @@ matters ns root w n i k p = record {
     early v j lt = put_other l v a j (omega arith) ∙ part.before j (omega arith)
 
     to_side : (v : Bool) → final ns (with_answer v) root ≡ final ns a (edge_of v nd)
-    to_side v = p.same (with_answer v) (λ j lt. let le = p.from.1 in early v j (omega arith)) ∙ final-to ns w.reduced (with_answer v) k p.from.0
+    to_side v = p.same (with_answer v) (λ j lt. let le = p.from.1 in early v j (omega arith))
+        ∙ final-to ns w.reduced (with_answer v) k p.from.0
         ∙ ap (λ x. final ns (with_answer v) (edge_of x nd)) (put_here l v a)
-        ∙ final_same ns w.reduced (suc l) (with_answer v) a (edge_of v nd) (from_next ns w.reduced k p.from.0 v) (λ j le lt. put_other l v a j (omega arith))
+        ∙ final_same ns w.reduced (suc l) (with_answer v) a (edge_of v nd)
+        (from_next ns w.reduced k p.from.0 v) (λ j le lt. put_other l v a j (omega arith))
 
-    other : (j : ℕ) → j ≢ l → is_set (number 19 (with_answer false)) j ≡ is_set (number 19 (with_answer true)) j
+    other : (j : ℕ) → j ≢ l → is_set (number 19 (with_answer false)) j
+        ≡ is_set (number 19 (with_answer true)) j
     other j ne = elim (nat_same (suc j - 19) 0) [
-      | inl e ↦ bits false j (omega arith) ∙ put_other l false a j ne ∙ sym (put_other l true a j ne) ∙ sym (bits true j (omega arith))
-      | inr e ↦ bit-above (number 19 (with_answer false)) 19 j (number-small 19 (with_answer false)) (omega arith)
-          ∙ sym (bit-above (number 19 (with_answer true)) 19 j (number-small 19 (with_answer true)) (omega arith))
+      | inl e ↦ bits false j (omega arith) ∙ put_other l false a j ne
+          ∙ sym (put_other l true a j ne) ∙ sym (bits true j (omega arith))
+      | inr e ↦ bit-above (number 19 (with_answer false)) 19 j (number-small 19 (with_answer false))
+          (omega arith)
+          ∙ sym (bit-above (number 19 (with_answer true)) 19 j (number-small 19 (with_answer true))
+          (omega arith))
     ]
 
 -- a state that is passed over doesn't matter
-pub matters_not : (ns : List Node) (root : Edge) → IsRight ns root → (n i j : ℕ) (e : Edge) → Reaches ns root n i e → i ≤ j → From ns (suc j) e → Matters n j → ⊥
+pub matters_not : (ns : List Node) (root : Edge) → IsRight ns root → (n i j : ℕ) (e : Edge)
+    → Reaches ns root n i e → i ≤ j → From ns (suc j) e → Matters n j → ⊥
 matters_not ns root w n i j e p le from m = m.apart (same_action (sym (w.right m.one m.one_in)
     ∙ p.same (answers_of m.one) (λ k lt. m.one_before k (omega arith))
-    ∙ final_same ns w.reduced (suc j) (answers_of m.one) (answers_of m.two) e from (λ k ge lt. m.others k (omega arith))
+    ∙ final_same ns w.reduced (suc j) (answers_of m.one) (answers_of m.two) e from
+    (λ k ge lt. m.others k (omega arith))
     ∙ sym (p.same (answers_of m.two) (λ k lt. m.two_before k (omega arith)))
     ∙ w.right m.two m.two_in))
   where

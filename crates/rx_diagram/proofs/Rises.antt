@@ -18,35 +18,49 @@ abbrev pub Rising : ℕ → List StateName → Type 0
 Rising i [] = Unit {0}
 Rising i (s ∷ ss) = (i ≤ index_of s) × Rising (suc (index_of s)) ss
 
-none_above : (i : ℕ) (ss : List StateName) (p : StateName → Bool) → Rising i ss → ((s : StateName) → i ≤ index_of s → p s ≡ false) → filter p ss ≡ []
+none_above : (i : ℕ) (ss : List StateName) (p : StateName → Bool) → Rising i ss
+    → ((s : StateName) → i ≤ index_of s → p s ≡ false) → filter p ss ≡ []
 none_above i [] p r h = refl
-none_above i (s ∷ ss) p r h = rw (h s r.0) (none_above (suc (index_of s)) ss p r.1 (λ t le. let lt = r.0 in h t (omega arith)))
+none_above i (s ∷ ss) p r h = rw (h s r.0) (none_above (suc (index_of s)) ss p r.1 (λ t le. let lt =
+    r.0 in h t (omega arith)))
 
-one_more : (b : Bool) (x : StateName) (xs ys zs : List StateName) → ys ≡ xs ++ zs → cond b (x ∷ ys) ys ≡ cond b (x ∷ xs) xs ++ zs
+one_more : (b : Bool) (x : StateName) (xs ys zs : List StateName) → ys ≡ xs ++ zs
+    → cond b (x ∷ ys) ys ≡ cond b (x ∷ xs) xs ++ zs
 one_more true x xs ys zs e = ap (λ v. x ∷ v) e
 one_more false x xs ys zs e = e
 
 -- a state after all those that pass, added
-filter_more : (i : ℕ) (ss : List StateName) (p q : StateName → Bool) (s : StateName) → Rising i ss → list_any (λ t. eqb (index_of t) (index_of s)) ss ≡ true
-    → ((t : StateName) → index_of t ≢ index_of s → q t ≡ p t) → ((t : StateName) → index_of s ≤ index_of t → p t ≡ false) → q s ≡ true
+filter_more : (i : ℕ) (ss : List StateName) (p q : StateName → Bool) (s : StateName) → Rising i ss
+    → list_any (λ t. eqb (index_of t) (index_of s)) ss ≡ true
+    → ((t : StateName) → index_of t ≢ index_of s → q t ≡ p t)
+    → ((t : StateName) → index_of s ≤ index_of t → p t ≡ false) → q s ≡ true
     → filter q ss ≡ filter p ss ++ s ∷ []
 filter_more i [] p q s r has same none here = absurd (let bad : false ≡ true = has in cc)
-filter_more i (t ∷ ss) p q s r has same none here = by_place (nat_same (index_of t) (index_of s)) (λ again. filter_more (suc (index_of t)) ss p q s r.1 again same none here)
+filter_more i (t ∷ ss) p q s r has same none here =
+    by_place (nat_same (index_of t) (index_of s))
+    (λ again. filter_more (suc (index_of t)) ss p q s r.1 again same none here)
   where
     at_state : s ≡ t → filter q (t ∷ ss) ≡ filter p (t ∷ ss) ++ s ∷ []
     at_state e =
-        let not : p t ≡ false = none t (let same_index : index_of s ≡ index_of t = ap index_of e in omega arith) in
+        let not : p t ≡ false = none t (let same_index : index_of s ≡ index_of t = ap index_of e in
+        omega arith) in
         let yes : q t ≡ true = subst (λ (u : StateName). q u ≡ true) e here in
-        let above = λ (u : StateName) (le : suc (index_of t) ≤ index_of u). none u (let same_index : index_of s ≡ index_of t = ap index_of e in omega arith) in
+        let above = λ (u : StateName) (le : suc (index_of t) ≤ index_of u).
+        none u (let same_index : index_of s ≡ index_of t = ap index_of e in omega arith) in
         let none_p : filter p ss ≡ [] = none_above (suc (index_of t)) ss p r.1 above in
-        let none_q : filter q ss ≡ [] = none_above (suc (index_of t)) ss q r.1 (λ u le. same u (λ h. let same_index : index_of s ≡ index_of t = ap index_of e in absurd (omega arith)) ∙ above u le) in
+        let none_q : filter q ss ≡ [] = none_above (suc (index_of t)) ss q r.1
+        (λ u le. same u (λ h. let same_index : index_of s ≡ index_of t = ap index_of e in
+        absurd (omega arith)) ∙ above u le) in
         rw (not, yes, none_p, none_q) (ap (λ u. u ∷ []) (sym e))
 
     by_place : (index_of t ≡ index_of s) ⊎ (index_of t ≢ index_of s)
-        → (list_any (λ u. eqb (index_of u) (index_of s)) ss ≡ true → filter q ss ≡ filter p ss ++ s ∷ []) → filter q (t ∷ ss) ≡ filter p (t ∷ ss) ++ s ∷ []
+        → (list_any (λ u. eqb (index_of u) (index_of s)) ss ≡ true
+        → filter q ss ≡ filter p ss ++ s ∷ []) → filter q (t ∷ ss) ≡ filter p (t ∷ ss) ++ s ∷ []
     by_place (inl e) further = at_state (same_state s t (sym e))
     by_place (inr ne) further =
-        let rest : list_any (λ u. eqb (index_of u) (index_of s)) ss ≡ true = sym (ap (λ b. b || list_any (λ u. eqb (index_of u) (index_of s)) ss) (eqb_other (index_of t) (index_of s) ne)) ∙ has in
+        let rest : list_any (λ u. eqb (index_of u) (index_of s)) ss ≡ true =
+        sym (ap (λ b. b || list_any (λ u. eqb (index_of u) (index_of s)) ss)
+        (eqb_other (index_of t) (index_of s) ne)) ∙ has in
         rw (same t ne) (one_more (p t) t (filter p ss) (filter q ss) (s ∷ []) (further rest))
 
 all_rise : Rising 0 all_states
@@ -77,10 +91,12 @@ pub questions_in_none : questions_in 0 ≡ []
 unfolding questions_in
 questions_in_none = refl
 
-pub questions_in_more : (asked : ℕ) (s : StateName) → asked < 2 ^ index_of s → questions_in (asked + 2 ^ index_of s) ≡ questions_in asked ++ s ∷ []
+pub questions_in_more : (asked : ℕ) (s : StateName) → asked < 2 ^ index_of s
+    → questions_in (asked + 2 ^ index_of s) ≡ questions_in asked ++ s ∷ []
 unfolding questions_in
 questions_in_more asked s small =
-    filter_more 0 all_states (λ t. is_set asked (index_of t)) (λ t. is_set (asked + 2 ^ index_of s) (index_of t)) s all_rise (all_have s)
+    filter_more 0 all_states (λ t. is_set asked (index_of t))
+    (λ t. is_set (asked + 2 ^ index_of s) (index_of t)) s all_rise (all_have s)
     (λ t ne. bit-other asked (index_of s) (index_of t) small ne)
     (λ t le. bit-above asked (index_of s) (index_of t) small le)
     (bit-here asked (index_of s) small)
@@ -90,10 +106,13 @@ pub adds_none : (t : Option (List StateName)) → Adds t (questions_in 0) t
 adds_none None = tt
 adds_none (Some xs) = sym (ap (λ ys. xs ++ ys) questions_in_none ∙ append-nil xs)
 
-pub adds_more : (old now new : Option (List StateName)) (asked : ℕ) (s : StateName) → asked < 2 ^ index_of s
-    → Adds old (questions_in asked) now → Adds now (s ∷ []) new → Adds old (questions_in (asked + 2 ^ index_of s)) new
+pub adds_more : (old now new : Option (List StateName)) (asked : ℕ) (s : StateName)
+    → asked < 2 ^ index_of s
+    → Adds old (questions_in asked) now → Adds now (s ∷ []) new
+    → Adds old (questions_in (asked + 2 ^ index_of s)) new
 adds_more old now None asked s small a b = tt
 adds_more old None (Some zs) asked s small a b = absurd b
 adds_more None (Some ys) (Some zs) asked s small a b = a
 adds_more (Some xs) (Some ys) (Some zs) asked s small a b =
-    b ∙ ap (λ v. v ++ s ∷ []) a ∙ append_assoc xs (questions_in asked) (s ∷ []) ∙ ap (λ v. xs ++ v) (sym (questions_in_more asked s small))
+    b ∙ ap (λ v. v ++ s ∷ []) a ∙ append_assoc xs (questions_in asked) (s ∷ [])
+    ∙ ap (λ v. xs ++ v) (sym (questions_in_more asked s small))

@@ -1,11 +1,14 @@
 -- Queries after an emission, made cold, and without one of them.
-use Rattle.std.proofs.Common.{◌≡◌, ℕ, true, false, not, cond, option_map, IfSome, Option, Some, None, List, [], ◌∷◌, bytes_eq, refl, sym, ap, ◌∙◌, subst}
+use Rattle.std.proofs.Common.{◌≡◌, ℕ, true, false, not, cond, option_map, IfSome, Option, Some, None, List, [], ◌∷◌, bytes_eq, map, refl, sym, ap, ◌∙◌, subst}
 use Rattle.std.proofs.lemmas.Option.{same_Some}
+use Rattle.std.proofs.lemmas.Slice.Eq.{bytes_eq-Decides}
+use Rattle.std.specs.List.{AllByRecursion, IsDistinct}
 use Rattle.rx_value.specs.Named.{named}
 use Rattle.rx_query.specs.declared.results.Row.{Row}
 use Rattle.rx_collection.specs.Held.{Held}
-use Rattle.rx_observe.specs.Fresh.{fresh}
-use Rattle.rx_observe.specs.Observing.{Queries, AllRight, each, and_query, without, settled, cooled}
+use Rattle.rx_query.specs.Result.{fresh_rows}
+use Rattle.rx_observe.specs.Lived.{AreObserved}
+use Rattle.rx_observe.specs.Observing.{Queries, AllRight, AllCold, HaveDistinctNames, each, and_query, without, settled, cooled}
 use Rattle.rx_observe.specs.Rows.{unseen, emitted, with_emission, emissions_of, emissions_due}
 use Rattle.rx_observe.specs.Watched.{Watched, kept, IsRight}
 use Rattle.rx_observe.specs.declared.emission.Emission.{Emission}
@@ -36,8 +39,9 @@ module _ (c : Held) where
   right_settled [] all = tt
   right_settled (q ∷ qs) all = (
     record {
+      limited = all.0.limited;
       keyed = all.0.keyed;
-      from_scratch = kept_settled q.1.rows q.1.emitted (fresh q.1.query c.documents)
+      from_scratch = kept_settled q.1.rows q.1.emitted (fresh_rows q.1.query c.documents)
           all.0.from_scratch;
     },
     right_settled qs all.1,
@@ -52,7 +56,7 @@ module _ (c : Held) where
   none_left [] = refl
   none_left (q ∷ qs) =
       ap (λ o. with_emission q.0 o (emissions_due c (each (settled c) qs)))
-      (settled_none (fresh q.1.query c.documents))
+      (settled_none (fresh_rows q.1.query c.documents))
       ∙ none_left qs
 
   -- with one more
@@ -83,8 +87,8 @@ module _ (c : Held) where
   emissions_are_due [] all = refl
   emissions_are_due (q ∷ qs) all =
       ap (λ o. with_emission q.0 o (emissions_of qs))
-      (due_at q.1.rows q.1.emitted (fresh q.1.query c.documents) all.0.from_scratch)
-      ∙ ap (with_emission q.0 (unseen (Some (fresh q.1.query c.documents)) q.1.emitted))
+      (due_at q.1.rows q.1.emitted (fresh_rows q.1.query c.documents) all.0.from_scratch)
+      ∙ ap (with_emission q.0 (unseen (Some (fresh_rows q.1.query c.documents)) q.1.emitted))
       (emissions_are_due qs all.1)
 
   -- the query of a name is right
@@ -116,9 +120,10 @@ module _ (c : Held) where
       → AllRight c (each cooled qs)
   right_cooled [] none all = tt
   right_cooled (q ∷ qs) none all =
-      let rows = fresh q.1.query c.documents in
+      let rows = fresh_rows q.1.query c.documents in
       let seen = all_emitted q.0 (unseen (Some rows) q.1.emitted) (emissions_due c qs) none in (
         record {
+          limited = all.0.limited;
           keyed = all.0.keyed;
           from_scratch = seen_last rows q.1.emitted seen.0;
         },
@@ -139,3 +144,86 @@ none_named name (q ∷ qs) =
       | false ↦ (λ other.
           ap (λ b. cond b (Some q.1) (named (without name qs) name)) other ∙ none_named name qs)
     ] refl
+
+-- ---- names
+
+-- what is done to each leaves the names
+names_each : (f : Watched → Watched) (qs : Queries) → map (λ q. q.0) (each f qs) ≡ map (λ q. q.0) qs
+names_each f [] = refl
+names_each f (q ∷ qs) = ap (λ ns. q.0 ∷ ns) (names_each f qs)
+
+-- so they stay distinct
+pub distinct_each : (f : Watched → Watched) (qs now : Queries) → now ≡ each f qs
+    → HaveDistinctNames qs → HaveDistinctNames now
+distinct_each f qs now is h =
+    subst (IsDistinct bytes_eq) (sym (ap (map (λ (q : List ℕ × Watched). q.0)) is ∙ names_each f qs)) h
+
+-- a test of two texts is the same either way round
+other_way : (k l : List ℕ) → bytes_eq k l ≡ false → bytes_eq l k ≡ false
+other_way k l h =
+    (elim (bytes_eq l k) as (λ b. bytes_eq l k ≡ b → b ≡ false) [
+      | true ↦ (λ e. let same = sym ((bytes_eq-Decides l k).0 e) in
+          let yes = (bytes_eq-Decides k l).1 same in cc)
+      | false ↦ (λ e. refl)
+    ]) refl
+
+-- one that isn't named is none of them
+named_apart : (q : List ℕ × Watched) (qs : Queries) (name : List ℕ) → named (q ∷ qs) name ≡ None
+    → (bytes_eq name q.0 ≡ false) × (named qs name ≡ None)
+named_apart q qs name none =
+    (elim (bytes_eq name q.0) as (λ b. bytes_eq name q.0 ≡ b
+    → cond b (Some q.1) (named qs name) ≡ None
+    → (bytes_eq name q.0 ≡ false) × (named qs name ≡ None)) [
+      | true ↦ (λ e h. cc)
+      | false ↦ (λ e h. (e, h))
+    ]) refl none
+
+-- with one more
+all_more : (P : List ℕ → Type 0) (qs : Queries) (name : List ℕ) (w : Watched)
+    → AllByRecursion P (map (λ q. q.0) qs) → P name
+    → AllByRecursion P (map (λ q. q.0) (and_query qs name w))
+all_more P [] name w all h = (h, tt)
+all_more P (q ∷ qs) name w all h = (all.0, all_more P qs name w all.1 h)
+
+pub distinct_more : (qs : Queries) (name : List ℕ) (w : Watched) → HaveDistinctNames qs
+    → named qs name ≡ None → HaveDistinctNames (and_query qs name w)
+unfolding IsDistinct
+distinct_more [] name w h none = (tt, tt)
+distinct_more (q ∷ qs) name w h none =
+    let apart = named_apart q qs name none in (
+      all_more (λ n. bytes_eq q.0 n ≡ false) qs name w h.0 (other_way name q.0 apart.0),
+      distinct_more qs name w h.1 apart.1,
+    )
+
+-- without some
+all_without : (P : List ℕ → Type 0) (qs : Queries) (name : List ℕ)
+    → AllByRecursion P (map (λ q. q.0) qs) → AllByRecursion P (map (λ q. q.0) (without name qs))
+all_without P [] name all = tt
+all_without P (q ∷ qs) name all =
+    let rest = all_without P qs name all.1 in
+    elim (not (bytes_eq name q.0)) as (λ b. AllByRecursion P (map (λ (x : List ℕ × Watched). x.0)
+    (cond b (q ∷ without name qs) (without name qs))))
+    [ true ↦ (all.0, rest) | false ↦ rest ]
+
+pub distinct_without : (qs : Queries) (name : List ℕ) → HaveDistinctNames qs
+    → HaveDistinctNames (without name qs)
+unfolding IsDistinct
+distinct_without [] name h = tt
+distinct_without (q ∷ qs) name h =
+    let rest = distinct_without qs name h.1 in
+    elim (not (bytes_eq name q.0)) as (λ b. HaveDistinctNames
+    (cond b (q ∷ without name qs) (without name qs)))
+    [ true ↦ (all_without (λ n. bytes_eq q.0 n ≡ false) qs name h.0, rest) | false ↦ rest ]
+
+-- queries made cold are cold
+cold_cooled : (qs : Queries) → AllCold (each cooled qs)
+cold_cooled [] = tt
+cold_cooled (q ∷ qs) = (refl, cold_cooled qs)
+
+pub all_cold : (qs now : Queries) → now ≡ each cooled qs → AllCold now
+all_cold qs now is = subst AllCold (sym is) (cold_cooled qs)
+
+-- where no query is observed all is well
+pub none_observed : (c : Held) → AreObserved c []
+unfolding IsDistinct
+none_observed c = record { names = tt; right = tt }

@@ -1,6 +1,5 @@
 pub mod Fresh
 pub mod Applying
-pub mod Bits
 pub mod Unseen
 pub mod Done
 pub mod Steps

@@ -3,8 +3,10 @@ use Rattle.std.proofs.Common.{◌≡◌, false, List, [], ◌∷◌, refl, sym, 
 use Rattle.rx_document.specs.declared.stored.Stored.{Stored}
 use Rattle.rx_collection.specs.Commit.{with_row}
 use Rattle.rx_collection.specs.Held.{Held}
-use Rattle.rx_observe.specs.Observing.{Observing, Queries, AllRight, each, queries_after, change_by, hear, put_all}
+use Rattle.rx_observe.specs.Lived.{AreObserved}
+use Rattle.rx_observe.specs.Observing.{Observing, Queries, AllRight, each, queries_after, change_by, watch_after, put_all}
 use Rattle.rx_observe.specs.Watched.{Watched, stepped}
+use Rattle.rx_observe.proofs.Emitting.{distinct_each}
 use Rattle.rx_observe.proofs.Steps.{right_after}
 
 -- what is done to each query, and then something else
@@ -33,11 +35,18 @@ whole c qs = record { collection = c; queries = qs; broken = false }
 module _ (c new : Held) (row : Stored) (qs now : Queries) (new_is : new ≡ with_row c row)
     (now_is : now ≡ queries_after c row qs) where
   -- after a row the queries are right
-  pub right_put : AllRight c qs → AllRight new now
+  right_put : AllRight c qs → AllRight new now
   right_put all =
       subst (λ d. AllRight d now) (sym new_is)
       (subst (AllRight (with_row c row)) (sym now_is)
       (right_after c (with_row c row) (change_by c row) qs refl all))
+
+  pub observed_put : AreObserved c qs → AreObserved new now
+  observed_put kept = record {
+    names = distinct_each (stepped (with_row c row).documents (change_by c row)) qs now now_is
+        kept.names;
+    right = right_put kept.right;
+  }
 
   -- the other rows make of that what all make of what was before
   pub put_on : (rows : List Stored)
@@ -47,6 +56,6 @@ module _ (c new : Held) (row : Stored) (qs now : Queries) (new_is : new ≡ with
       ∙ (λ i. record {
         collection = (put_all (whole c qs) (row ∷ rows)).collection;
         queries = each_then (stepped (with_row c row).documents (change_by c row))
-            (hear (with_row c row) rows) qs i;
+            (watch_after (with_row c row) rows) qs i;
         broken = false;
       })

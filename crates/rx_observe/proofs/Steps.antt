@@ -1,5 +1,5 @@
 -- One observed query after a change, and all of them.
-use Rattle.std.proofs.Common.{◌≡◌, ◌≢◌, true, false, option_map, Option, Some, None, List, [], ◌∷◌, refl, sym, ap, ◌∙◌, subst}
+use Rattle.std.proofs.Common.{◌≡◌, ◌≢◌, false, option_map, Option, Some, None, List, [], ◌∷◌, refl, sym, ap, ◌∙◌, subst}
 use Rattle.std.proofs.lemmas.Option.{same_Some}
 use Rattle.std.specs.Prelude.{IfSome, is_some}
 use Rattle.rx_value.specs.Named.{named}
@@ -10,25 +10,21 @@ use Rattle.rx_document.specs.declared.stored.Stored.{Stored}
 use Rattle.rx_table.specs.Rows.{table_of}
 use Rattle.rx_table.specs.declared.action.Action.{Action}
 use Rattle.rx_table.specs.declared.action.Action.TheVariants.{RunFullQueryAgain}
-use Rattle.rx_query.specs.Asked.{Asked, asked}
+use Rattle.rx_query.specs.Asked.{Asked}
+use Rattle.rx_query.specs.Result.{fresh_rows, IsCollection}
 use Rattle.rx_query.specs.States.{bits_of}
-use Rattle.rx_query.specs.declared.query.Query.{Query}
 use Rattle.rx_query.specs.declared.results.Row.{Row}
-use Rattle.rx_actions.specs.Right.{IsCollection}
 use Rattle.rx_collection.specs.Commit.{IsNext, with_row}
 use Rattle.rx_collection.specs.Held.{Held}
 use Rattle.rx_collection.specs.Lawful.{IsLawful}
 use Rattle.rx_collection.proofs.Changes.{with_row-differs, with_row-named}
 use Rattle.rx_collection.proofs.Lawful.{lawful_put}
 use Rattle.rx_observe.specs.Applied.{answer_for}
-use Rattle.rx_observe.specs.Counts.{counted}
-use Rattle.rx_observe.specs.declared.counts.Counts.{Counts}
 use Rattle.rx_observe.specs.declared.observed.Applied.TheVariants.{Patched, NeedsFull}
-use Rattle.rx_observe.specs.Following.{given, heard, Becomes, Follows, AllFollow}
-use Rattle.rx_observe.specs.Fresh.{fresh}
+use Rattle.rx_observe.specs.Following.{Becomes, Follows, AllFollow}
 use Rattle.rx_observe.specs.Observing.{Queries, AllRight, each, change_by}
-use Rattle.rx_observe.specs.Watched.{Watched, unknown, action_at, rows_after, applied, IsReady, stepped, kept}
-use Rattle.rx_observe.proofs.Applying.{cold_full, acts_rightly, gives_fresh, rows_patched}
+use Rattle.rx_observe.specs.Watched.{Watched, action_at, counted_at, rows_after, applied, IsReady, stepped, kept}
+use Rattle.rx_observe.proofs.Applying.{cold_full, ready, gives_fresh, rows_patched}
 use Rattle.rx_observe.proofs.Fresh.{is_collection_for}
 
 -- an answer tells the action
@@ -44,24 +40,11 @@ full_rows _ answer q c rows = cc
 cold_needs_full : (q : Asked) (c : Change) → answer_for (action_at q c None) ≡ NeedsFull
 cold_needs_full q c = ap answer_for (cold_full q c)
 
--- ---- the change as a query gets it
-
-module _ {Y : Type 0} (shown : Y → List Row) (rows : Option (List Row)) (c : Change) where
-  -- where it has no rows
-  pub given_cold : (x : Change) → x ≡ unknown c → (seen : Option Y) → option_map shown seen ≡ rows
-      → is_some seen ≡ false → x ≡ given rows c
-  given_cold x is None same none = is ∙ ap (λ o. given o c) same
-  given_cold x is (Some y) same none = cc
-
-  -- and where it has some
-  pub given_warm : (seen : Option Y) → option_map shown seen ≡ rows → is_some seen ≡ true
-      → c ≡ given rows c
-  given_warm None same some = cc
-  given_warm (Some y) same some = ap (λ o. given o c) same
-
--- a query's limit isn't 0
-pub limited_as : (query : Query) (q : Asked) → asked query ≡ q → q.limit ≢ Some 0
-limited_as query q is = subst (λ x. x.limit ≢ Some 0) is query.limited
+-- a query that keeps no rows is cold
+pub no_rows : {Y : Type 0} (shown : Y → List Row) (rows : Option (List Row)) (lent : Option Y)
+    → option_map shown lent ≡ rows → is_some lent ≡ false → rows ≡ None
+no_rows shown rows None same none = sym same
+no_rows shown rows (Some y) same none = cc
 
 -- ---- a query that was right
 
@@ -77,77 +60,65 @@ module _ (q : Asked) (limited : q.limit ≢ Some 0) (c : Change) (old new : Held
   col' = is_collection_for q.primary new keyed_new becomes.lawful_new
 
   pub ready_at : (rows emitted : Option (List Row))
-      → kept rows emitted ≡ Some (fresh q old.documents) → IfSome rows (IsReady q c)
+      → kept rows emitted ≡ Some (fresh_rows q old.documents) → IfSome rows (IsReady q c)
   ready_at None emitted right = tt
   ready_at (Some rows) emitted right =
-      subst (IsReady q c) (sym (same_Some rows (fresh q old.documents) right))
-      (λ known. (acts_rightly q limited c old.documents new.documents col col' becomes.differ
-      becomes.change known).there)
+      subst (IsReady q c) (sym (same_Some rows (fresh_rows q old.documents) right))
+      (ready q limited c old.documents new.documents col col' becomes.differ becomes.change)
 
   rows_at : (rows emitted : Option (List Row))
-      → kept rows emitted ≡ Some (fresh q old.documents)
-      → answer_for (action_at q (given rows c) rows) ≡ Patched
-      → rows_after (action_at q (given rows c) rows) q (given rows c) rows
-      ≡ Some (fresh q new.documents)
+      → kept rows emitted ≡ Some (fresh_rows q old.documents)
+      → answer_for (action_at q c rows) ≡ Patched
+      → rows_after (action_at q c rows) q c rows ≡ Some (fresh_rows q new.documents)
   rows_at None emitted right answer =
-      let bad : NeedsFull ≡ Patched = sym (cold_needs_full q (unknown c)) ∙ answer in cc
+      let bad : NeedsFull ≡ Patched = sym (cold_needs_full q c) ∙ answer in cc
   rows_at (Some rows) emitted right answer =
-      let is = same_Some rows (fresh q old.documents) right in
+      let is = same_Some rows (fresh_rows q old.documents) right in
       let Goal : List Row → Type 0 = λ r. answer_for (table_of (bits_of q c r)) ≡ Patched
-      → rows_after (table_of (bits_of q c r)) q c (Some r) ≡ Some (fresh q new.documents) in
+      → rows_after (table_of (bits_of q c r)) q c (Some r) ≡ Some (fresh_rows q new.documents) in
       subst Goal (sym is) (λ answer.
-      let known = known_patched (table_of (bits_of q c (fresh q old.documents))) answer in
-      sym (rows_patched (table_of (bits_of q c (fresh q old.documents))) known q c
-      (Some (fresh q old.documents)))
+      let known = known_patched (table_of (bits_of q c (fresh_rows q old.documents))) answer in
+      sym (rows_patched (table_of (bits_of q c (fresh_rows q old.documents))) known q c
+      (Some (fresh_rows q old.documents)))
       ∙ ap (λ r. Some r) (gives_fresh q limited c old.documents new.documents col col' becomes.differ
       becomes.change known)) answer
 
-  -- the change as the query gets it counts alike
-  counts_at : (rows : Option (List Row)) (n : Counts)
-      → counted (action_at q (given rows c) rows) n ≡ counted (action_at q c rows) n
-  counts_at None n = refl
-  counts_at (Some rows) n = refl
-
-module _ (c : Change) (w : Watched) (new : Held) (limited : w.query.limit ≢ Some 0)
-    (f : Follows c w new) where
+module _ (c : Change) (w : Watched) (new : Held) (f : Follows c w new) where
   -- the action's rows are there
   pub ready_for : IfSome w.rows (IsReady w.query c)
   ready_for =
-      ready_at w.query limited c f.old new f.becomes f.right.keyed w.rows w.emitted f.right.from_scratch
-
-  counts_for : counted (heard w c) w.counts ≡ counted (action_at w.query c w.rows) w.counts
-  counts_for = counts_at w.query limited c f.old new f.becomes f.right.keyed w.rows w.counts
+      ready_at w.query f.right.limited c f.old new f.becomes f.right.keyed w.rows w.emitted
+      f.right.from_scratch
 
   -- patched, it is as it is to be
-  pub patched : answer_for (heard w c) ≡ Patched
-      → applied (heard w c) (given w.rows c) w ≡ stepped new.documents c w
+  pub patched : answer_for (action_at w.query c w.rows) ≡ Patched
+      → applied c w ≡ stepped new.documents c w
   patched answer =
-      let rows = rows_at w.query limited c f.old new f.becomes f.right.keyed w.rows w.emitted
+      let rows = rows_at w.query f.right.limited c f.old new f.becomes f.right.keyed w.rows w.emitted
       f.right.from_scratch answer in
-      (λ i. record { query = w.query; rows = rows i; emitted = w.emitted; counts = counts_for i })
+      (λ i. record {
+        query = w.query;
+        rows = rows i;
+        emitted = w.emitted;
+        counts = counted_at w.query c w.rows w.counts;
+      })
 
   -- and so it is where it has run in full
-  module _ (now : Watched) (value : now ≡ applied (heard w c) (given w.rows c) w) where
-    pub is_cold : answer_for (heard w c) ≡ NeedsFull → now.rows ≡ None
+  module _ (now : Watched) (value : now ≡ applied c w) where
+    pub is_cold : answer_for (action_at w.query c w.rows) ≡ NeedsFull → now.rows ≡ None
     is_cold answer =
         ap (λ (v : Watched). v.rows) value
-        ∙ full_rows (heard w c) answer w.query (given w.rows c) w.rows
+        ∙ full_rows (action_at w.query c w.rows) answer w.query c w.rows
 
-    pub filled : (rows : List Row) → rows ≡ fresh now.query new.documents
+    pub filled : (rows : List Row) → rows ≡ fresh_rows now.query new.documents
         → (let v : Watched = record now { rows = Some rows } in v ≡ stepped new.documents c w)
     filled rows rows_is =
-        let rows' = rows_is ∙ ap (λ (v : Watched). fresh v.query new.documents) value in
+        let rows' = rows_is ∙ ap (λ (v : Watched). fresh_rows v.query new.documents) value in
         (λ i. record {
           query = (value i).query;
           rows = Some (rows' i);
           emitted = (value i).emitted;
           counts = (value i).counts;
-        })
-        ∙ (λ i. record {
-          query = w.query;
-          rows = Some (fresh w.query new.documents);
-          emitted = w.emitted;
-          counts = counts_for i;
         })
 
 -- ---- all queries, after a row
@@ -188,6 +159,10 @@ pub right_after : (old c : Held) (x : Change) (qs : Queries) → old.schema ≡ 
     → AllRight old qs → AllRight c (each (stepped c.documents x) qs)
 right_after old c x [] same all = tt
 right_after old c x (q ∷ qs) same all = (
-  record { keyed = all.0.keyed ∙ ap (λ s. s.primary) same; from_scratch = refl },
+  record {
+    limited = all.0.limited;
+    keyed = all.0.keyed ∙ ap (λ s. s.primary) same;
+    from_scratch = refl;
+  },
   right_after old c x qs same all.1,
 )

@@ -64,15 +64,6 @@ kept_seen (Some r) (Some last) h =
       | false ↦ (λ differ h. cc)
     ] refl h
 
--- and what is unseen is kept
-pub kept_unseen : (rows emitted : Option (List Row)) (r : List Row)
-    → unseen rows emitted ≡ Some r → Some r ≡ kept rows emitted
-kept_unseen None emitted r h = cc
-kept_unseen (Some x) None r h = sym h
-kept_unseen (Some x) (Some last) r h =
-    elim (same_rows x last) as (λ b. cond b None (Some x) ≡ Some r → Some r ≡ Some x)
-    [ true ↦ (λ h. cc) | false ↦ (λ h. sym h) ] h
-
 -- what was emitted last isn't to be emitted again
 pub settled_none : (r : List Row) → unseen (Some r) (Some r) ≡ None
 settled_none r = unseen_none (Some r) (Some r) (λ s is. is)

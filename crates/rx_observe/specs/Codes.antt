@@ -9,8 +9,8 @@ use Rattle.rx_collection.specs.contracts.collection.Collection as collection
 use Rattle.rx_observe.specs.AskedCode.{asked_code}
 use Rattle.rx_observe.specs.Observing.{Observing, Queries}
 use Rattle.rx_observe.specs.Watched.{Watched}
-use Rattle.rx_observe.specs.contracts.counts.Counts as counts
-use Rattle.rx_observe.specs.declared.counts.Counts.{Counts}
+use Rattle.rx_table.specs.contracts.counts.Counts as counts
+use Rattle.rx_table.specs.declared.counts.Counts.{Counts}
 
 -- rows that may be kept
 abbrev pub rows_code : Coded (Option (List Row))

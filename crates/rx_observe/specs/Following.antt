@@ -1,22 +1,11 @@
 -- How a change reaches observed queries that were right before it.
-use Rattle.std.specs.Prelude.{◌≡◌, List, Option, Some, None}
+use Rattle.std.specs.Prelude.{◌≡◌}
 use Rattle.rx_document.specs.Change.{change_of, DifferAt}
 use Rattle.rx_document.specs.declared.change.Change.{Change}
-use Rattle.rx_table.specs.declared.action.Action.{Action}
-use Rattle.rx_query.specs.declared.results.Row.{Row}
 use Rattle.rx_collection.specs.Held.{Held}
 use Rattle.rx_collection.specs.Lawful.{IsLawful}
 use Rattle.rx_observe.specs.Observing.{Queries, AllRight}
-use Rattle.rx_observe.specs.Watched.{Watched, unknown, action_at, IsRight}
-
--- the change as a query gets it
-abbrev pub given : Option (List Row) → Change → Change
-given None c = unknown c
-given (Some rows) c = c
-
--- the table's action for it
-abbrev pub heard : Watched → Change → Action
-heard w c = action_at w.query (given w.rows c) w.rows
+use Rattle.rx_observe.specs.Watched.{Watched, IsRight}
 
 -- the change is what made one collection of the other
 pub record Becomes (c : Change) (old new : Held) : Type 0 where

@@ -1,5 +1,3 @@
-pub mod Fresh
-pub mod Counts
 pub mod Watched
 pub mod AskedCode
 pub mod Codes

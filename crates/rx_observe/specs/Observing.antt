@@ -1,16 +1,17 @@
 -- A collection and its observed queries.
-use Rattle.std.specs.Prelude.{ℕ, Bool, not, List, [], ◌∷◌, ◌++◌, map, filter, Some, None}
-use Rattle.std.specs.List.{AllByRecursion}
+use Rattle.std.specs.Prelude.{◌≡◌, ℕ, Bool, not, List, [], ◌∷◌, ◌++◌, map, filter, Some, None}
+use Rattle.std.specs.List.{AllByRecursion, IsDistinct}
 use Rattle.std.specs.Str.{bytes_eq}
 use Rattle.rx_document.specs.Change.{change_of}
+use Rattle.rx_document.specs.Documents.{Documents}
 use Rattle.rx_document.specs.declared.change.Change.{Change}
 use Rattle.rx_document.specs.declared.stored.Stored.{Stored}
 use Rattle.rx_query.specs.Asked.{Asked}
 use Rattle.rx_collection.specs.Commit.{with_row, with_rows}
 use Rattle.rx_collection.specs.Held.{Held}
-use Rattle.rx_observe.specs.Counts.{no_counts}
-use Rattle.rx_observe.specs.Fresh.{fresh}
-use Rattle.rx_observe.specs.Watched.{Watched, stepped, IsRight}
+use Rattle.rx_table.specs.Counts.{no_counts}
+use Rattle.rx_query.specs.Result.{fresh_rows}
+use Rattle.rx_observe.specs.Watched.{Watched, stepped, with_emitted, IsRight}
 
 -- observed queries with their names, in the order of observing
 abbrev pub Queries : Type 0
@@ -26,6 +27,14 @@ pub record Observing : Type 0 where
 abbrev pub AllRight : Held → Queries → Type 0
 AllRight c qs = AllByRecursion (λ q. IsRight c q.1) qs
 
+-- no name stands twice
+abbrev pub HaveDistinctNames : Queries → Type 0
+HaveDistinctNames qs = IsDistinct bytes_eq (map (λ q. q.0) qs)
+
+-- each query is cold
+abbrev pub AllCold : Queries → Type 0
+AllCold qs = AllByRecursion (λ q. q.1.rows ≡ None) qs
+
 -- each query with something done to it
 abbrev pub each : (Watched → Watched) → Queries → Queries
 each f qs = map (λ q. (q.0, f q.1)) qs
@@ -39,16 +48,16 @@ abbrev pub queries_after : Held → Stored → Queries → Queries
 queries_after c row = each (stepped (with_row c row).documents (change_by c row))
 
 -- an observed query after rows that its collection takes one after another
-abbrev pub hear : Held → List Stored → Watched → Watched
-hear c [] w = w
-hear c (row ∷ rows) w =
-    hear (with_row c row) rows (stepped (with_row c row).documents (change_by c row) w)
+abbrev pub watch_after : Held → List Stored → Watched → Watched
+watch_after c [] w = w
+watch_after c (row ∷ rows) w =
+    watch_after (with_row c row) rows (stepped (with_row c row).documents (change_by c row) w)
 
 -- the collection with rows, and each query after them
 abbrev pub put_all : Observing → List Stored → Observing
 put_all o rows = record {
   collection = with_rows o.collection rows;
-  queries = each (hear o.collection rows) o.queries;
+  queries = each (watch_after o.collection rows) o.queries;
   broken = o.broken;
 }
 
@@ -57,10 +66,10 @@ abbrev pub with_queries : Observing → Queries → Observing
 with_queries o qs = record { collection = o.collection; queries = qs; broken = o.broken }
 
 -- a query that has run once and of which nothing was emitted
-abbrev pub just_observed : Held → Asked → Watched
-just_observed c q = record {
+abbrev pub new_watch : Asked → Documents → Watched
+new_watch q documents = record {
   query = q;
-  rows = Some (fresh q c.documents);
+  rows = Some (fresh_rows q documents);
   emitted = None;
   counts = no_counts;
 }
@@ -75,12 +84,7 @@ without name qs = filter (λ q. not (bytes_eq name q.0)) qs
 
 -- the rows from scratch are those emitted last
 abbrev pub settled : Held → Watched → Watched
-settled c w = record {
-  query = w.query;
-  rows = w.rows;
-  emitted = Some (fresh w.query c.documents);
-  counts = w.counts;
-}
+settled c w = with_emitted (fresh_rows w.query c.documents) w
 
 -- an observed query without the rows that it kept
 abbrev pub cooled : Watched → Watched

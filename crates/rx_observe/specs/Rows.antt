@@ -5,7 +5,7 @@ use Rattle.std.specs.Str.{bytes_eq}
 use Rattle.rx_value.specs.Equal.{fields_eq}
 use Rattle.rx_query.specs.declared.results.Row.{Row}
 use Rattle.rx_collection.specs.Held.{Held}
-use Rattle.rx_observe.specs.Fresh.{fresh}
+use Rattle.rx_query.specs.Result.{fresh_rows}
 use Rattle.rx_observe.specs.Watched.{Watched, kept}
 use Rattle.rx_observe.specs.declared.emission.Emission.{Emission}
 
@@ -46,5 +46,5 @@ emissions_of (q ∷ qs) = with_emission q.0 (unseen_of q) (emissions_of qs)
 abbrev pub emissions_due : Held → List (List ℕ × Watched) → List Emission
 emissions_due c [] = []
 emissions_due c (q ∷ qs) =
-    with_emission q.0 (unseen (Some (fresh q.1.query c.documents)) q.1.emitted)
+    with_emission q.0 (unseen (Some (fresh_rows q.1.query c.documents)) q.1.emitted)
     (emissions_due c qs)

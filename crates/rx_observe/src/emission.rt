@@ -49,7 +49,7 @@ fn look(
     ensures copies { OnOk result (unseen.new.copies.items
         ≡ unseen.old.copies.items ++ unseen_of (name.now, observed.now) ∷ []) }
 {
-    match observed.unseen(alloc)? {
+    match observed.unseen()? {
         None => unseen.copies.push(None)?,
         Some(rows) => {
             let emission = Emission {

@@ -1,8 +1,7 @@
 ghost use Rattle.std.specs.Prelude.{◌≡◌, map, IfOk};
 ghost use Rattle.std.specs.Map.{values_of};
 ghost use Rattle.rx_query.specs.Asked.{asked};
-ghost use Rattle.rx_actions.specs.Right.{row_of};
-ghost use Rattle.rx_observe.specs.Fresh.{found, fresh};
+ghost use Rattle.rx_query.specs.Result.{result_of, row_of, fresh_rows};
 
 use rx_collection::Collection;
 use rx_document::Stored;
@@ -17,7 +16,7 @@ pub(crate) fn find_in<'a>(
 ) -> Result<Vec<&'a Stored>, AllocError>
     requires keyed { (asked query.now).primary ≡ collection.now.schema.primary }
     ensures { IfOk result (λ documents. map (λ d. d.now) documents.items
-        ≡ found (asked query.now) (values_of collection.now.documents)) }
+        ≡ result_of (asked query.now) (values_of collection.now.documents)) }
 {
     let documents: Vec<&Stored> = collection.all().collect(alloc)?;
     query.scratch(alloc, documents.as_slice())
@@ -30,7 +29,7 @@ pub(crate) fn run_in_full(
     query: &Query,
 ) -> Result<Results, AllocError>
     requires keyed { (asked query.now).primary ≡ collection.now.schema.primary }
-    ensures { IfOk result (λ rows. rows ≡ fresh (asked query.now) collection.now.documents) }
+    ensures { IfOk result (λ rows. rows ≡ fresh_rows (asked query.now) collection.now.documents) }
 {
     let found = find_in(alloc, collection, query)?;
     copy_rows(alloc, found.as_slice())

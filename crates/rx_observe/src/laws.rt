@@ -1,7 +1,8 @@
-ghost use Rattle.rx_observe.specs.Laws.{FreshIsFromScratch};
+ghost use Rattle.rx_observe.specs.Laws.{RowsAreFromScratch, FreshRowsAreReady};
 
-/// States that the rows of observed queries are those from scratch for those who build on them, and
-/// does nothing.
+/// States that what is found and the rows of observed queries are those of the query's one result,
+/// and that such rows are what a change asks for, for those who build on them, and does nothing.
 pub fn observed_laws()
-    ensures fresh { FreshIsFromScratch }
+    ensures from_scratch { RowsAreFromScratch }
+    ensures ready { FreshRowsAreReady }
 {}

@@ -1,8 +1,6 @@
 //! Observed queries over a collection, whose rows are kept true by small changes.
 #![tactic(auto)]
 
-mod counts;
-mod decide;
 mod emission;
 mod full;
 mod laws;
@@ -11,7 +9,6 @@ mod observed;
 mod rows;
 mod step;
 
-pub use counts::Counts;
 pub use emission::Emission;
 pub use laws::observed_laws;
 pub use live::Live;

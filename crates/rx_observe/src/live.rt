@@ -3,8 +3,8 @@ ghost use Rattle.std.specs.Map.{values_of};
 ghost use Rattle.rx_value.specs.Named.{named};
 ghost use Rattle.rx_query.specs.Asked.{asked};
 ghost use Rattle.rx_collection.specs.Commit.{AreNext, with_rows};
-ghost use Rattle.rx_observe.specs.Fresh.{found};
-ghost use Rattle.rx_observe.specs.Observing.{AllRight, each, put_all, with_queries, just_observed, and_query, without, settled, cooled};
+ghost use Rattle.rx_query.specs.Result.{result_of};
+ghost use Rattle.rx_observe.specs.Observing.{AllRight, HaveDistinctNames, AllCold, each, put_all, with_queries, new_watch, and_query, without, settled, cooled};
 ghost use Rattle.rx_observe.specs.Rows.{emissions_due};
 ghost use Rattle.rx_observe.specs.Watched.{IsRight};
 
@@ -13,18 +13,23 @@ use crate::full::{find_in, run_in_full};
 use crate::observed::Observed;
 use crate::step::put_row;
 use rx_collection::{Collection, Holder};
+use rx_diagram::Diagram;
 use rx_document::Stored;
 use rx_query::Query;
 use rx_value::RxText;
 use std::alloc::{AllocError, Global};
 use std::marker::Model;
+use std::rc::Rc;
 
 /// A collection with its observed queries, by name, in the order of observing. Where memory ran out
 /// in the midst of a commit it is broken: nothing more may be asked of it.
 #[derive(Drop)]
 pub struct Live {
+    alloc: Global,
     collection: Collection,
     queries: Vec<(RxText, Observed)>,
+    /// A share of the one diagram.
+    diagram: Rc<Diagram>,
     broken: bool,
 }
 
@@ -44,27 +49,29 @@ impl Model for Live {
 }
 
 impl Live {
-    pub fn new(alloc: Global, collection: Collection) -> Live
+    pub fn new(alloc: Global, collection: Collection, diagram: Rc<Diagram>) -> Live
         ensures { result ≡ record { collection = collection; queries = []; broken = false } }
     {
         Live {
+            alloc,
             collection,
             queries: Vec::new(alloc),
+            diagram,
             broken: false,
         }
     }
 
     /// Observes a query after all others. It runs once, which isn't counted.
-    pub fn observe(&mut self, alloc: Global, name: RxText, query: Query) -> Result<(), AllocError>
+    pub fn observe(&mut self, name: RxText, query: Query) -> Result<(), AllocError>
         requires whole { self.old.broken ≡ false }
         requires new { named self.old.queries name ≡ None }
         requires keyed { (asked query).primary ≡ self.old.collection.schema.primary }
         ensures ok { OnOk result (self.new ≡ with_queries self.old
-            (and_query self.old.queries name (just_observed self.old.collection (asked query)))) }
+            (and_query self.old.queries name (new_watch (asked query) self.old.collection.documents))) }
         ensures err { OnErr result (self.new ≡ self.old) }
     {
-        let rows = run_in_full(alloc, &self.collection, &query)?;
-        let mut observed = Observed::new(query);
+        let rows = run_in_full(self.alloc, &self.collection, &query)?;
+        let mut observed = Observed::new(self.alloc, query);
         observed.fill(rows);
         self.queries.push((name, observed))?;
         Ok(())
@@ -74,6 +81,8 @@ impl Live {
     pub fn adopt(&mut self, queries: Vec<(RxText, Observed)>)
         requires whole { self.old.broken ≡ false }
         requires none { self.old.queries ≡ [] }
+        requires names { HaveDistinctNames queries.items }
+        requires cold { AllCold queries.items }
         requires right { AllRight self.old.collection queries.items }
         ensures { self.new ≡ with_queries self.old queries.items }
     {
@@ -84,6 +93,7 @@ impl Live {
         ensures value { option_map (λ o. o.now) result ≡ named self.now.queries name.now }
         ensures right { self.now.broken ≡ false
             → IfSome result (λ o. IsRight self.now.collection o.now) }
+        ensures names { self.now.broken ≡ false → HaveDistinctNames self.now.queries }
     {
         find_query(self.queries.as_slice(), name)
     }
@@ -104,14 +114,14 @@ impl Live {
     pub fn find<'a>(&'a self, alloc: Global, query: &Query) -> Result<Vec<&'a Stored>, AllocError>
         requires keyed { (asked query.now).primary ≡ self.now.collection.schema.primary }
         ensures { IfOk result (λ documents. map (λ d. d.now) documents.items
-            ≡ found (asked query.now) (values_of self.now.collection.documents)) }
+            ≡ result_of (asked query.now) (values_of self.now.collection.documents)) }
     {
         find_in(alloc, &self.collection, query)
     }
 
     /// What is to be shown: the rows of each query that differ from those emitted last. They are
     /// those emitted last from then on.
-    pub fn emissions(&mut self, alloc: Global) -> Result<Vec<Emission>, AllocError>
+    pub fn emissions(&mut self) -> Result<Vec<Emission>, AllocError>
         requires whole { self.old.broken ≡ false }
         ensures due { IfOk result
             (λ all. all.items ≡ emissions_due self.old.collection self.old.queries) }
@@ -121,10 +131,10 @@ impl Live {
         ensures err { OnErr result (self.new ≡ self.old) }
     {
         let mut unseen = Unseen {
-            emissions: Vec::new(alloc),
-            copies: Vec::new(alloc),
+            emissions: Vec::new(self.alloc),
+            copies: Vec::new(self.alloc),
         };
-        look_all(alloc, self.queries.as_slice(), &mut unseen)?;
+        look_all(self.alloc, self.queries.as_slice(), &mut unseen)?;
         let Unseen { emissions, copies } = unseen;
         emit_all(&mut self.queries, copies);
         Ok(emissions)
@@ -135,14 +145,12 @@ impl Live {
     pub fn release(self) -> Vec<(RxText, Observed)>
         requires whole { self.broken ≡ false }
         ensures value { result.items ≡ each cooled self.queries }
+        ensures names { HaveDistinctNames result.items }
+        ensures cold { AllCold result.items }
         ensures right { emissions_due self.collection self.queries ≡ []
             → AllRight self.collection result.items }
     {
-        let Live {
-            collection: _collection,
-            mut queries,
-            broken: _,
-        } = self;
+        let Live { mut queries, .. } = self;
         cool_all(&mut queries);
         queries
     }
@@ -185,7 +193,7 @@ impl Holder for Live {
         &self.collection
     }
 
-    fn put_rows(&mut self, alloc: Global, rows: Vec<Stored>) -> Result<(), AllocError>
+    fn put_rows(&mut self, rows: Vec<Stored>) -> Result<(), AllocError>
         requires whole { self.old.broken ≡ false }
         requires next { AreNext self.old.collection rows.items }
         ensures rows { OnOk result
@@ -196,7 +204,13 @@ impl Holder for Live {
     {
         self.broken = true;
         for row in rows {
-            put_row(alloc, &mut self.collection, &mut self.queries, row)?;
+            put_row(
+                self.alloc,
+                &self.diagram,
+                &mut self.collection,
+                &mut self.queries,
+                row,
+            )?;
         }
         self.broken = false;
         Ok(())

@@ -1,20 +1,24 @@
 ghost use Rattle.std.specs.Prelude.{◌≡◌, ◌≢◌, Some, None, IfSome, IfOk, OnOk, OnErr, option_map};
 ghost use Rattle.rx_document.specs.declared.change.Before.TheVariants.{Unknown};
+ghost use Rattle.rx_diagram.specs.Asked.{asked_of};
+ghost use Rattle.rx_table.specs.Counts.{is_full};
+ghost use Rattle.rx_table.specs.Rows.{table_of};
 ghost use Rattle.rx_table.specs.declared.action.Action.TheVariants.{RunFullQueryAgain};
 ghost use Rattle.rx_query.specs.After.{after, AreThere};
 ghost use Rattle.rx_query.specs.Asked.{asked};
-ghost use Rattle.rx_observe.specs.Applied.{answer_for};
+ghost use Rattle.rx_query.specs.States.{bits_of, OnlyMatchingInside};
+ghost use Rattle.rx_observe.specs.Applied.{answer_for, changes_rows};
 ghost use Rattle.rx_observe.specs.Rows.{unseen, emitted};
 ghost use Rattle.rx_observe.specs.Observing.{cooled};
-ghost use Rattle.rx_observe.specs.Watched.{cold, action_at, applied, IsReady, StaysFresh};
+ghost use Rattle.rx_observe.specs.Watched.{cold, bits_at, action_at, asked_at, applied, IsReady, StaysFresh};
 
-use crate::counts::Counts;
-use crate::decide::decide;
 use crate::rows::are_same_rows;
 use rx_actions::act;
+use rx_diagram::{Decided, Diagram};
 use rx_document::Change;
 use rx_query::{Query, Results};
-use rx_table::Action;
+use rx_states::Facts;
+use rx_table::{Action, Counts};
 use std::alloc::{AllocError, Global};
 use std::marker::Model;
 
@@ -31,6 +35,7 @@ pub enum Applied {
 /// rows.
 #[derive(Drop)]
 pub struct Observed {
+    alloc: Global,
     query: Query,
     rows: Option<Results>,
     emitted: Option<Results>,
@@ -55,10 +60,11 @@ impl Model for Observed {
 }
 
 impl Observed {
-    pub fn new(query: Query) -> Observed
+    pub fn new(alloc: Global, query: Query) -> Observed
         ensures { result ≡ cold (asked query) }
     {
         Observed {
+            alloc,
             query,
             rows: None,
             emitted: None,
@@ -96,42 +102,59 @@ impl Observed {
         self.touched = true;
     }
 
-    /// Changes the rows as the decision table says. A query that has to run in full is cold then.
-    pub fn apply(&mut self, alloc: Global, change: &Change) -> Result<Applied, AllocError>
+    /// Changes the rows as the decision table says, asking what the diagram asks. A query that has
+    /// to run in full is cold then.
+    pub fn apply(&mut self, diagram: &Diagram, change: &Change) -> Result<Applied, AllocError>
         requires cold { self.old.rows ≡ None → change.now.before ≡ Unknown }
-        requires there { IfSome self.old.rows (IsReady self.old.query change.now) }
+        requires ready { IfSome self.old.rows (IsReady self.old.query change.now) }
         ensures answer { IfOk result (λ a. a
             ≡ answer_for (action_at self.old.query change.now self.old.rows)) }
-        ensures value { OnOk result (self.new ≡ applied
-            (action_at self.old.query change.now self.old.rows) change.now self.old) }
+        ensures value { OnOk result (self.new ≡ applied change.now self.old) }
         ensures fresh { OnOk result
             (StaysFresh self.old.query change.now self.old.rows self.new.rows) }
         ensures err { OnErr result (self.new ≡ self.old) }
     {
-        let action = self.action(alloc, change);
-        if action == Action::RunFullQueryAgain {
+        let decided = self.decide(diagram, change);
+        self.follow(decided.action, decided.asked.count_ones(), change)
+    }
+
+    // Does what the table says of a change, for which so many questions were asked.
+    fn follow(&mut self, action: Action, asked: u32, change: &Change) -> Result<Applied, AllocError>
+        requires ready { IfSome self.old.rows (IsReady self.old.query change.now) }
+        requires action { action ≡ action_at self.old.query change.now self.old.rows }
+        requires asked { asked ≡ asked_at self.old.query change.now self.old.rows }
+        ensures answer { IfOk result (λ a. a
+            ≡ answer_for (action_at self.old.query change.now self.old.rows)) }
+        ensures value { OnOk result (self.new ≡ applied change.now self.old) }
+        ensures fresh { OnOk result
+            (StaysFresh self.old.query change.now self.old.rows self.new.rows) }
+        ensures err { OnErr result (self.new ≡ self.old) }
+    {
+        if is_full(action) {
             self.rows = None;
-            self.counts.count(action);
+            self.counts.count(action, asked);
             return Ok(Applied::NeedsFull);
         }
-        self.touched |= action != Action::DoNothing;
-        patch(alloc, action, &self.query, change, &mut self.rows)?;
-        self.counts.count(action);
+        self.touched |= changes_rows(action);
+        patch(self.alloc, action, &self.query, change, &mut self.rows)?;
+        self.counts.count(action, asked);
         Ok(Applied::Patched)
     }
 
-    fn action(&self, alloc: Global, change: &Change) -> Action
-        requires { self.now.rows ≡ None → change.now.before ≡ Unknown }
-        ensures { result ≡ action_at self.now.query change.now self.now.rows }
+    fn decide(&self, diagram: &Diagram, change: &Change) -> Decided
+        requires cold { self.now.rows ≡ None → change.now.before ≡ Unknown }
+        requires ready { IfSome self.now.rows (IsReady self.now.query change.now) }
+        ensures action { result.action ≡ action_at self.now.query change.now self.now.rows }
+        ensures asked { result.asked ≡ asked_of (bits_at self.now.query change.now self.now.rows) }
     {
         match &self.rows {
-            Some(rows) => decide(&self.query, change, rows),
-            None => decide(&self.query, change, &Results::new(alloc)),
+            Some(rows) => decide(diagram, &self.query, change, rows),
+            None => decide(diagram, &self.query, change, &Results::new(self.alloc)),
         }
     }
 
     /// A copy of the rows, where they differ from those emitted last.
-    pub(crate) fn unseen(&self, alloc: Global) -> Result<Option<Results>, AllocError>
+    pub(crate) fn unseen(&self) -> Result<Option<Results>, AllocError>
         ensures { IfOk result (λ copy. copy ≡ unseen self.now.rows self.now.emitted) }
     {
         if !self.touched {
@@ -139,12 +162,12 @@ impl Observed {
         }
         match (&self.rows, &self.emitted) {
             (None, _) => Ok(None),
-            (Some(rows), None) => Ok(Some(rows.copy(alloc)?)),
+            (Some(rows), None) => Ok(Some(rows.copy(self.alloc)?)),
             (Some(rows), Some(last)) => {
                 if are_same_rows(rows, last) {
                     Ok(None)
                 } else {
-                    Ok(Some(rows.copy(alloc)?))
+                    Ok(Some(rows.copy(self.alloc)?))
                 }
             }
         }
@@ -170,6 +193,27 @@ impl Observed {
     {
         self.rows = None;
     }
+}
+
+fn decide(diagram: &Diagram, query: &Query, change: &Change, rows: &Results) -> Decided
+    requires { OnlyMatchingInside (asked query.now) change.now rows.now }
+    ensures action { result.action ≡ table_of (bits_of (asked query.now) change.now rows.now) }
+    ensures asked { result.asked ≡ asked_of (bits_of (asked query.now) change.now rows.now) }
+{
+    let mut facts = Facts::of_result(query, change, rows);
+    diagram.decide(&mut facts)
+}
+
+fn is_full(action: Action) -> bool
+    ensures { result ≡ is_full action }
+{
+    matches!(action, Action::RunFullQueryAgain)
+}
+
+fn changes_rows(action: Action) -> bool
+    ensures { result ≡ changes_rows action }
+{
+    !matches!(action, Action::DoNothing)
 }
 
 // Does to the rows, if there are any, what another action says than to run in full.

@@ -5,13 +5,14 @@ ghost use Rattle.rx_collection.specs.Commit.{IsNext, with_row};
 ghost use Rattle.rx_collection.specs.Lawful.{IsLawful};
 ghost use Rattle.rx_query.specs.Asked.{asked};
 ghost use Rattle.rx_observe.specs.Applied.{answer_for};
-ghost use Rattle.rx_observe.specs.Following.{given, heard, Follows, AllFollow};
+ghost use Rattle.rx_observe.specs.Following.{Follows, AllFollow};
 ghost use Rattle.rx_observe.specs.Observing.{AllRight, each, change_by, queries_after};
-ghost use Rattle.rx_observe.specs.Watched.{unknown, applied, IsReady, stepped};
+ghost use Rattle.rx_observe.specs.Watched.{unknown, action_at, applied, IsReady, stepped};
 
 use crate::full::run_in_full;
 use crate::observed::{Applied, Observed};
 use rx_collection::Collection;
+use rx_diagram::Diagram;
 use rx_document::{Before, Change, Stored};
 use rx_value::{Fields, RxText};
 use std::alloc::{AllocError, Global};
@@ -19,6 +20,7 @@ use std::alloc::{AllocError, Global};
 // Writes a row, and brings each query up to date.
 pub(crate) fn put_row(
     alloc: Global,
+    diagram: &Diagram,
     collection: &mut Collection,
     queries: &mut Vec<(RxText, Observed)>,
     row: Stored,
@@ -30,11 +32,11 @@ pub(crate) fn put_row(
         (queries.new.items ≡ queries_after collection.old row queries.old.items) }
 {
     if queries.is_empty() {
-        return collection.put(alloc, row);
+        return collection.put(row);
     }
     let change = change_by(alloc, collection, &row)?;
-    collection.put(alloc, row)?;
-    step_all(alloc, queries, collection, &change)
+    collection.put(row)?;
+    step_all(alloc, diagram, queries, collection, &change)
 }
 
 // The change that a row is about to make.
@@ -72,6 +74,7 @@ fn live(alloc: Global, document: &Stored) -> Result<Option<Fields>, AllocError>
 
 fn step_all(
     alloc: Global,
+    diagram: &Diagram,
     queries: &mut Vec<(RxText, Observed)>,
     collection: &Collection,
     change: &Change,
@@ -82,7 +85,7 @@ fn step_all(
 {
     for i in 0..queries.len() {
         let query = &mut queries[i];
-        step(alloc, &mut query.1, collection, change)?;
+        step(alloc, diagram, &mut query.1, collection, change)?;
     }
     Ok(())
 }
@@ -90,6 +93,7 @@ fn step_all(
 // A query after a change that the collection has already.
 fn step(
     alloc: Global,
+    diagram: &Diagram,
     observed: &mut Observed,
     collection: &Collection,
     change: &Change,
@@ -98,9 +102,7 @@ fn step(
     ensures { OnOk result
         (observed.new ≡ stepped collection.now.documents change.now observed.old) }
 {
-    // for the proof alone: a query's limit isn't 0
-    let _query = observed.query();
-    match hear(alloc, observed, change)? {
+    match apply(alloc, diagram, observed, change)? {
         Applied::Patched => Ok(()),
         Applied::NeedsFull => {
             let rows = run_in_full(alloc, collection, observed.query())?;
@@ -110,16 +112,22 @@ fn step(
     }
 }
 
-fn hear(alloc: Global, observed: &mut Observed, change: &Change) -> Result<Applied, AllocError>
+// A cold query isn't told what was before.
+fn apply(
+    alloc: Global,
+    diagram: &Diagram,
+    observed: &mut Observed,
+    change: &Change,
+) -> Result<Applied, AllocError>
     requires { IfSome observed.old.rows (IsReady observed.old.query change.now) }
-    ensures answer { IfOk result (λ a. a ≡ answer_for (heard observed.old change.now)) }
-    ensures value { OnOk result (observed.new ≡ applied (heard observed.old change.now)
-        (given observed.old.rows change.now) observed.old) }
+    ensures answer { IfOk result (λ a. a
+        ≡ answer_for (action_at observed.old.query change.now observed.old.rows)) }
+    ensures value { OnOk result (observed.new ≡ applied change.now observed.old) }
 {
     if observed.rows().is_none() {
-        return observed.apply(alloc, &unknown(alloc, change)?);
+        return observed.apply(diagram, &unknown(alloc, change)?);
     }
-    observed.apply(alloc, change)
+    observed.apply(diagram, change)
 }
 
 // The change as a cold query gets it.

@@ -4,7 +4,8 @@ use Rattle.rx_diagram.specs.Building.{IsBuilt}
 use Rattle.rx_diagram.proofs.build.+edge_from.Goals as goal
 
 pub returns-then-i-eq-QUESTIONS : goal.returns-then-i-eq-QUESTIONS
-returns-then-i-eq-QUESTIONS t c = built_end _ _ _ _ c.if-i-eq-QUESTIONS.true c.table.ensures c.requires.reduced
+returns-then-i-eq-QUESTIONS t c = built_end _ _ _ _ c.if-i-eq-QUESTIONS.true c.table.ensures
+    c.requires.reduced
 
 pub edge_from-requires : goal.edge_from-requires
 edge_from-requires t c =
@@ -27,10 +28,14 @@ share-requires t c =
     let more = c.in_ok-yes.ensures.few in
     record {
       reduced = c.in_ok-yes.ensures.reduced;
-      later = is_later _ _ _ _ _ _ _ c.state_at-state.ensures c.in_ok-no.ensures c.in_ok-yes.ensures;
+      later = is_later _ _ _ _ _ _ _ c.state_at-state.ensures c.in_ok-no.ensures
+          c.in_ok-yes.ensures;
       room = omega arith;
     }
 
 pub returns : goal.returns
-returns t c = built_step _ _ _ _ c.args.i c.args.bits c.in_ok-no.no c.in_ok-yes.yes c.in_ok-edge.edge _ (omega arith) c.state_at-state.ensures refl refl
-    c.in_ok-no.ensures (subst (λ (m : ℕ). IsBuilt c.edge_from.new.nodes.items c.edge_from-2.new.nodes.items (c.args.i + 1) m c.in_ok-yes.yes) c.with_yes.ensures c.in_ok-yes.ensures) c.in_ok-edge.ensures
+returns t c = built_step _ _ _ _ c.args.i c.args.bits c.in_ok-no.no c.in_ok-yes.yes
+    c.in_ok-edge.edge _ (omega arith) c.state_at-state.ensures refl refl
+    c.in_ok-no.ensures (subst (λ (m : ℕ). IsBuilt c.edge_from.new.nodes.items
+    c.edge_from-2.new.nodes.items (c.args.i + 1) m c.in_ok-yes.yes) c.with_yes.ensures
+    c.in_ok-yes.ensures) c.in_ok-edge.ensures

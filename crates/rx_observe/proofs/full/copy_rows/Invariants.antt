@@ -1,5 +1,5 @@
 use Rattle.std.proofs.Common.{◌≡◌, map, take}
-use Rattle.rx_actions.specs.Right.{row_of}
+use Rattle.rx_query.specs.Result.{row_of}
 use Rattle.rx_observe.proofs.full.copy_rows.Given as goal
 
 -- the rows of the documents so far

@@ -1,5 +1,6 @@
-use Rattle.rx_observe.proofs.Fresh.{fresh_is}
+use Rattle.rx_observe.proofs.Applying.{fresh_ready}
+use Rattle.rx_observe.proofs.Fresh.{from_scratch}
 use Rattle.rx_observe.proofs.laws.observed_laws.Goals as goal
 
 pub returns : goal.returns
-returns c = record { fresh = fresh_is }
+returns c = record { from_scratch = from_scratch; ready = fresh_ready }

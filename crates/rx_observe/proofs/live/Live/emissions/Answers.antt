@@ -1,23 +1,27 @@
 use Rattle.std.proofs.Common.{ap, ◌∙◌}
 use Rattle.rx_observe.specs.Lived.{observing}
 use Rattle.rx_observe.specs.Observing.{Observing, each, with_queries, settled}
-use Rattle.rx_observe.specs.Rows.{emissions_of, emissions_due}
-use Rattle.rx_observe.proofs.Emitting.{emitted_settled, all_right_settled, none_left, emissions_are_due}
+use Rattle.rx_observe.specs.Rows.{emitted, emissions_of, emissions_due}
+use Rattle.rx_observe.proofs.Emitting.{distinct_each, emitted_settled, all_right_settled, none_left, emissions_are_due}
 use Rattle.rx_observe.proofs.live.Live.emissions.Goals as goal
 
 pub invariant_of-self : goal.invariant_of-self
 invariant_of-self c =
     let i = c.self.inside in
-    λ whole. let all = c.self.invariant whole in
-    all_right_settled i.collection i.queries.items c.emit_all.new.queries.items
-    (c.emit_all.ensures ∙ emitted_settled i.collection i.queries.items all) all
+    λ whole. let kept = c.self.invariant whole in
+    let now = c.emit_all.new.queries.items in
+    record {
+      names = distinct_each emitted i.queries.items now c.emit_all.ensures kept.names;
+      right = all_right_settled i.collection i.queries.items now
+          (c.emit_all.ensures ∙ emitted_settled i.collection i.queries.items kept.right) kept.right;
+    }
 
 pub returns-clause-due : goal.returns-clause-due
 returns-clause-due c =
     let o = observing c.self.inside in
     let whole = ap (λ (x : Observing). x.broken) c.self.view_is ∙ c.requires.whole in
     c.in_ok-look_all.ensures.emissions ∙ ap emissions_of c.as_slice.ensures.value
-    ∙ emissions_are_due o.collection o.queries (c.self.invariant whole)
+    ∙ emissions_are_due o.collection o.queries (c.self.invariant whole).right
     ∙ ap (λ (x : Observing). emissions_due x.collection x.queries) c.self.view_is
 
 pub returns-clause-ok : goal.returns-clause-ok
@@ -25,7 +29,7 @@ returns-clause-ok c =
     let o = observing c.self.inside in
     let whole = ap (λ (x : Observing). x.broken) c.self.view_is ∙ c.requires.whole in
     ap (with_queries o)
-    (c.emit_all.ensures ∙ emitted_settled o.collection o.queries (c.self.invariant whole))
+    (c.emit_all.ensures ∙ emitted_settled o.collection o.queries (c.self.invariant whole).right)
     ∙ ap (λ (x : Observing). with_queries x (each (settled x.collection) x.queries)) c.self.view_is
 
 pub returns-clause-none_left : goal.returns-clause-none_left
@@ -33,5 +37,5 @@ returns-clause-none_left c =
     let o = observing c.self.inside in
     let whole = ap (λ (x : Observing). x.broken) c.self.view_is ∙ c.requires.whole in
     ap (emissions_due o.collection)
-    (c.emit_all.ensures ∙ emitted_settled o.collection o.queries (c.self.invariant whole))
+    (c.emit_all.ensures ∙ emitted_settled o.collection o.queries (c.self.invariant whole).right)
     ∙ none_left o.collection o.queries

@@ -1,6 +1,6 @@
 use Rattle.std.proofs.Common.{◌≡◌, Bor, IfSome, false, ap, ◌∙◌, subst}
 use Rattle.rx_value.specs.Named.{named}
-use Rattle.rx_observe.specs.Observing.{Observing}
+use Rattle.rx_observe.specs.Observing.{Observing, HaveDistinctNames}
 use Rattle.rx_observe.specs.Watched.{IsRight}
 use Rattle.rx_observe.specs.declared.observed.Observed.{Observed}
 use Rattle.rx_observe.specs.Lived.{observing}
@@ -16,4 +16,9 @@ returns-clause-right c =
     → IfSome c.find_query.result (λ q. IsRight x.collection q.now) in
     subst Right c.self.view_is
     (λ whole. lent_right o.collection name o.queries (λ (q : Bor Observed). q.now)
-    c.find_query.result (c.self.invariant whole) at)
+    c.find_query.result (c.self.invariant whole).right at)
+
+pub returns-clause-names : goal.returns-clause-names
+returns-clause-names c =
+    let Names : Observing → Type 0 = λ x. x.broken ≡ false → HaveDistinctNames x.queries in
+    subst Names c.self.view_is (λ whole. (c.self.invariant whole).names)
