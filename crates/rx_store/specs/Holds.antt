@@ -1,0 +1,62 @@
+-- Legal files, and what a disk holds.
+use Rattle.std.specs.Prelude.{◌≡◌, ◌<◌, ◌^◌, ℕ, List, ◌++◌, Some}
+use Rattle.rx_disk.specs.declared.disk.Disk.{Ghosts}
+use Rattle.rx_disk.specs.Moments.{LeavesOnly}
+use Rattle.rx_frame.specs.File.{StandsFor, end_of}
+use Rattle.rx_journal.specs.Ready.{IsReady}
+use Rattle.rx_journal.specs.declared.journal.Journal.{Journal}
+use Rattle.rx_world.specs.World.{World}
+use Rattle.rx_world.specs.Replay.{replay}
+
+-- ---- files
+
+-- a file is legal: it stands for bodies that end where a journal may end, and they make a world
+pub record IsLegalFile (file : List ℕ) (bodies : List (List ℕ)) (w : World) : Type 0 where
+  pub stands : StandsFor file bodies
+  pub short : end_of bodies < 2 ^ 32
+  pub plays : replay bodies ≡ Some w
+
+-- no bodies and no world make the file legal
+abbrev pub IsIllegalFile : List ℕ → Type 0
+IsIllegalFile file = (bodies : List (List ℕ)) (w : World) → IsLegalFile file bodies w → ⊥
+
+-- some bodies and some world do
+abbrev pub IsJournalOfSome : List ℕ → Type 0
+IsJournalOfSome file = (bodies : List (List ℕ)) × (w : World) × IsLegalFile file bodies w
+
+-- bytes are a legal file of these bodies and a front of some more
+pub record StandsLegally (bodies more : List (List ℕ)) (c : List ℕ) : Type 0 where
+  pub front : List (List ℕ)
+  pub rest : List (List ℕ)
+  pub whole : more ≡ front ++ rest
+  pub stands : StandsFor c (bodies ++ front)
+  pub short : end_of (bodies ++ front) < 2 ^ 32
+  pub world : World
+  pub legal : replay (bodies ++ front) ≡ Some world
+
+-- ---- disks
+
+-- a crash now leaves a file of these bodies
+abbrev pub ImagesStandFor : {D : Type 0} → Ghosts D → D → List (List ℕ) → Type 0
+ImagesStandFor d disk bodies = (c : List ℕ) → d.image disk c → StandsFor c bodies
+
+-- a crash now leaves a legal file of the bodies and a front of some more
+abbrev pub Leaves : {D : Type 0} → Ghosts D → D → List (List ℕ) → List (List ℕ) → Type 0
+Leaves d disk bodies more = (c : List ℕ) → d.image disk c → StandsLegally bodies more c
+
+-- at each moment from the old disk to the new one, each image is a legal file of the bodies and a
+-- front of some more
+abbrev pub GrowsLegally
+    : {D : Type 0} → Ghosts D → D → D → List (List ℕ) → List (List ℕ) → Type 0
+GrowsLegally d old new bodies more = LeavesOnly d old new (StandsLegally bodies more)
+
+-- the disk holds exactly these bodies, and they make the world
+pub record Holds
+    {D : Type 0}
+    (d : Ghosts D)
+    (disk : D)
+    (journal : Journal)
+    (bodies : List (List ℕ))
+    (w : World) : Type 0 where
+  pub ready : IsReady d disk journal bodies
+  pub played : replay bodies ≡ Some w

@@ -1,0 +1,4 @@
+pub mod Holds
+pub mod Safe
+pub mod Stops
+pub mod Made
