@@ -12,10 +12,9 @@ use Rattle.rx_observe.specs.Observing.{Observing, Queries, each, cooled, with_qu
 use Rattle.rx_observe.specs.Rows.{unseen, with_emission, emissions_due}
 use Rattle.rx_observe.specs.Watched.{Watched}
 use Rattle.rx_world.proofs.Looked.{equal_names}
-use Rattle.rx_session.specs.Doing.{with_watched}
 use Rattle.rx_session.specs.Lives.{with_cooled, bare, each_live}
 use Rattle.rx_session.specs.Placed.{Lives, watched_at, with_found, queries_of, IsListed, IsQuiet, ArePlaced, AreUnwatched}
-use Rattle.rx_session.specs.Session.{Observed}
+use Rattle.rx_session.specs.Session.{Observed, with_watched}
 use Rattle.rx_session.specs.declared.place.Place.{Place}
 use Rattle.rx_session.proofs.Adding.{names_flip}
 use Rattle.rx_session.proofs.Places.{all_map, colls, named-map}

@@ -33,12 +33,31 @@ pub fn apply(
     ensures illegal { IsErrOf result ApplyFault.Illegal
         → legal (content entry) (world_of world) ≡ false }
 {
+    change(world, alloc, entry, diagram)
+}
+
+// Applies a record, and brings the queries of its collection up to date.
+fn change(
+    world: World<Live>,
+    alloc: Global,
+    entry: Record,
+    diagram: &Rc<Diagram>,
+) -> Result<World<Live>, ApplyFault>
+    requires ordered { IsOrdered (content entry) }
+    ensures ok { IfOk result (λ w. (world_of w ≡ step (content entry) (world_of world))
+        × (legal (content entry) (world_of world) ≡ true)) }
+    ensures lives { IfOk result
+        (λ w. IsAfter (touch (content entry)) (holders_in world) (holders_in w)) }
+    ensures distinct { IfOk result (λ w. AreDistinct (world_of w)) }
+    ensures illegal { IsErrOf result ApplyFault.Illegal
+        → legal (content entry) (world_of world) ≡ false }
+{
     world.apply(alloc, entry, &|collection| {
         Ok(Live::new(alloc, collection, diagram.clone()?))
     })
 }
 
-// Applies a legal record, and brings the queries of its collection up to date.
+// The same of a legal record.
 pub(crate) fn apply_legal(
     world: World<Live>,
     alloc: Global,

@@ -41,8 +41,8 @@ done c =
       keyed = subst (λ (s : Session).
           has_key (asked w.query).primary (named s.world.collections w.coll) ≡ true)
           (sym c.self.view_is) c.requires.1;
-      emitted = c.in_ok-observe_in.ensures.lives;
-      epochs = c.in_ok-observe_in.ensures.epoch;
+      emitted = c.in_ok-due.ensures.lives;
+      epochs = c.in_ok-due.ensures.epoch;
     }
 
 -- the places, with the new one
@@ -51,8 +51,8 @@ added : (c : goal.In_ok-add_place)
     ≡ c.self.inside.places.items ++ place_in c.args.watch.coll c.args.watch.name ∷ []
 added c = c.in_ok-add_place.ensures
 
-pub invariant_of-result : goal.invariant_of-result
-invariant_of-result c =
+pub invariant_of-session : goal.invariant_of-session
+invariant_of-session c =
     let i = c.self.inside in
     let w = c.args.watch in
     let last = c.observe_in.new.world in
@@ -78,7 +78,7 @@ pub returns-clause-emissions : goal.returns-clause-emissions
 returns-clause-emissions c =
     let i = c.self.inside in
     let w = c.args.watch in
-    c.in_ok-observe_in.ensures.due
+    c.in_ok-due.ensures.due
     ∙ watched_due w.name w.coll (asked w.query) i.world c.observe_in.new.world i.moment i.places.items
     (done c)
     ∙ ap (λ (s : Session). emissions (after (watch w.name w.coll (asked w.query)) s)) c.self.view_is
@@ -89,8 +89,8 @@ returns-clause-before c =
     subst IsSettled c.self.view_is
     (is_settled i.world i.places.items c.self.invariant.quiet i.moment)
 
-pub returns-in_err-observe_in-clause-before : goal.returns-in_err-observe_in-clause-before
-returns-in_err-observe_in-clause-before c =
+pub returns-in_err-due-clause-before : goal.returns-in_err-due-clause-before
+returns-in_err-due-clause-before c =
     let i = c.self.inside in
     subst IsSettled c.self.view_is
     (is_settled i.world i.places.items c.self.invariant.quiet i.moment)

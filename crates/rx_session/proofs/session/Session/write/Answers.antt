@@ -10,8 +10,8 @@ use Rattle.rx_session.proofs.Settling.{IsWritten, is_settled, session_of, writte
 use Rattle.rx_session.proofs.session.Session.write.Goals as goal
 
 -- what was done to the collections
-done : (c : goal.In_ok-take_due_in)
-    → IsWritten (content c.args.entry) c.self.inside.world c.in_ok-apply_legal.field-0 c.take_due_in.new.world
+done : (c : goal.In_ok-due)
+    → IsWritten (content c.args.entry) c.self.inside.world c.in_ok-world.world c.take_due_in.new.world
     c.self.inside.places.items
 done c = record {
   placed = c.self.invariant.placed;
@@ -19,18 +19,18 @@ done c = record {
   quiet = c.self.invariant.quiet;
   allowed = subst (λ (s : Session). legal (content c.args.entry) s.world ≡ true) (sym c.self.view_is)
       c.requires.0;
-  stepped = c.in_ok-apply_legal.ensures.world;
-  applied = c.in_ok-apply_legal.ensures.lives;
-  emitted = c.in_ok-take_due_in.ensures.lives
-      ∙ ap (λ o. settled_in o (holders_in c.in_ok-apply_legal.field-0)) c.in_ok-coll.ensures;
-  epochs = c.in_ok-take_due_in.ensures.epoch;
+  stepped = c.in_ok-world.ensures.world;
+  applied = c.in_ok-world.ensures.lives;
+  emitted = c.in_ok-due.ensures.lives
+      ∙ ap (λ o. settled_in o (holders_in c.in_ok-world.world)) c.in_ok-coll.ensures;
+  epochs = c.in_ok-due.ensures.epoch;
 }
 
-pub invariant_of-result : goal.invariant_of-result
-invariant_of-result c =
+pub invariant_of-session : goal.invariant_of-session
+invariant_of-session c =
     let i = c.self.inside in
     let entry = content c.args.entry in
-    let new = c.in_ok-apply_legal.field-0 in
+    let new = c.in_ok-world.world in
     let last = c.take_due_in.new.world in
     let ps = i.places.items in
     record {
@@ -46,14 +46,14 @@ returns-clause-session c =
     let last = c.take_due_in.new.world in
     let ps = i.places.items in
     subst (λ (s : Session). session_of last i.moment ps ≡ settled_session (after (write entry) s))
-    c.self.view_is (written_session entry i.world c.in_ok-apply_legal.field-0 last i.moment ps (done c))
+    c.self.view_is (written_session entry i.world c.in_ok-world.world last i.moment ps (done c))
 
 pub returns-clause-emissions : goal.returns-clause-emissions
 returns-clause-emissions c =
     let i = c.self.inside in
     let entry = content c.args.entry in
-    let new = c.in_ok-apply_legal.field-0 in
-    c.in_ok-take_due_in.ensures.due
+    let new = c.in_ok-world.world in
+    c.in_ok-due.ensures.due
     ∙ ap (λ o. due_in o (holders_in new)) c.in_ok-coll.ensures
     ∙ written_due entry i.world new c.take_due_in.new.world i.moment i.places.items (done c)
     ∙ ap (λ (s : Session). emissions (after (write entry) s)) c.self.view_is
@@ -70,14 +70,14 @@ returns-in_err-coll-clause-before c =
     subst IsSettled c.self.view_is
     (is_settled i.world i.places.items c.self.invariant.quiet i.moment)
 
-pub returns-in_err-apply_legal-clause-before : goal.returns-in_err-apply_legal-clause-before
-returns-in_err-apply_legal-clause-before c =
+pub returns-in_err-world-clause-before : goal.returns-in_err-world-clause-before
+returns-in_err-world-clause-before c =
     let i = c.self.inside in
     subst IsSettled c.self.view_is
     (is_settled i.world i.places.items c.self.invariant.quiet i.moment)
 
-pub returns-in_err-take_due_in-clause-before : goal.returns-in_err-take_due_in-clause-before
-returns-in_err-take_due_in-clause-before c =
+pub returns-in_err-due-clause-before : goal.returns-in_err-due-clause-before
+returns-in_err-due-clause-before c =
     let i = c.self.inside in
     subst IsSettled c.self.view_is
     (is_settled i.world i.places.items c.self.invariant.quiet i.moment)
