@@ -1,2 +1,3 @@
-pub mod Tokens
+mod Counted
 mod Examples
+pub mod Floats

@@ -1,10 +1,8 @@
 -- What the lines of output have in common.
 use Rattle.std.specs.Prelude.{ℕ, List, [], ◌∷◌, ◌++◌, map, Option, Some, None}
-use Rattle.json.specs.Token.{Token, key}
-use Rattle.json.specs.Tree.{json_tokens}
-use Rattle.serde_json.specs.Data.{Data, number, unsigned, array, Members, member}
+use Rattle.serde_json.specs.Data.{Data, number, unsigned, string, array, Members, member, put}
 use Rattle.serde_json.specs.View.{items_of}
-use Rattle.serde_json.specs.Written.{compact_text, outline}
+use Rattle.serde_json.specs.Written.{compact_text}
 
 abbrev pub number_data : ℕ → Data
 number_data n = number (unsigned n)
@@ -18,15 +16,16 @@ abbrev pub optional_member : List ℕ → Option Data → Members → Members
 optional_member name None more = more
 optional_member name (Some d) more = member name d more
 
+-- the members with these data at a name, where there are any
+abbrev pub with_data : List ℕ → Option Data → Members → Members
+with_data name None ms = ms
+with_data name (Some d) ms = put name d ms
+
+-- the members with a text at a name, where there is one
+abbrev pub with_text : List ℕ → Option (List ℕ) → Members → Members
+with_text name None ms = ms
+with_text name (Some t) ms = put name (string t) ms
+
 -- the compact text of an object, and a line feed
 abbrev pub output_line : Data → List ℕ
 output_line d = compact_text d ++ 10 ∷ []
-
--- the tokens of its text
-abbrev pub tokens_of : Data → List Token
-tokens_of d = json_tokens (outline d)
-
--- those of a member, where there is one
-abbrev pub member_tokens : List ℕ → Option Data → List Token
-member_tokens name None = []
-member_tokens name (Some d) = key name ∷ tokens_of d

@@ -1,108 +1,73 @@
 // What the lines of output have in common.
-ghost use Rattle.std.specs.Prelude.{◌≡◌, ◌++◌, [], ◌∷◌, IfOk, OnOk, option_map, string_bytes};
-ghost use Rattle.json.specs.Token.{key};
-ghost use Rattle.serde_json.specs.Data.{Data, string};
+ghost use Rattle.std.specs.Prelude.{◌≡◌, IfOk, OnOk, false, option_map, string_bytes};
+ghost use Rattle.serde_json.specs.Data.{string, put};
+ghost use Rattle.serde_json.specs.View.{view, members_view};
+ghost use Rattle.serde_json.specs.Written.{has_float};
 ghost use Rattle.rx_value.specs.Writing.{fields_data};
 ghost use Rattle.rx_reply.specs.Answer.{rows_of};
-ghost use Rattle.rx_reply.specs.Writing.{list_data, member_tokens, number_data, output_line, tokens_of};
+ghost use Rattle.rx_reply.specs.Writing.{list_data, with_text, output_line};
 
-use json::Writer;
 use rx_document::Stored;
-use rx_value::{RxText, put_fields};
+use rx_value::{RxText, fields_json};
+use serde_json::{Map, Value as Json};
 use std::alloc::{AllocError, Global};
 
-// What a line is written by.
-pub(crate) fn new_writer(alloc: Global) -> Writer
-    ensures before { result.before ≡ [] }
-    ensures tokens { result.tokens ≡ [] }
+pub(crate) fn output_line(alloc: Global, json: &Json) -> Result<String, AllocError>
+    ensures { has_float (view json.now) ≡ false
+        → IfOk result (λ t. string_bytes t ≡ output_line (view json.now)) }
 {
-    Writer::new(Vec::new(alloc))
-}
-
-// The line of output that was written.
-pub(crate) fn into_line(writer: Writer) -> Result<String, AllocError>
-    requires { writer.before ≡ [] }
-    ensures { (d : Data) → writer.tokens ≡ tokens_of d
-        → IfOk result (λ t. string_bytes t ≡ output_line d) }
-{
-    // A writer gives UTF-8.
-    let mut text = unsafe { String::from_utf8_unchecked(writer.into_inner()) };
+    let mut text = json.to_string(alloc)?;
     text.push('\n')?;
     Ok(text)
 }
 
-pub(crate) fn put_number(writer: &mut Writer, name: &str, n: u64) -> Result<(), AllocError>
-    ensures tokens { OnOk result (writer.new.tokens
-        ≡ writer.old.tokens ++ key name.now ∷ tokens_of (number_data n)) }
-    ensures before { writer.new.before ≡ writer.old.before }
+// The list of the objects of the fields.
+pub(crate) fn rows_json(alloc: Global, rows: &[&Stored]) -> Result<Json, AllocError>
+    ensures { IfOk result (λ j. view j ≡ list_data fields_data (rows_of rows.now)) }
 {
-    writer.key(name)?;
-    writer.u64(n)
+    let mut items = Vec::with_capacity(alloc, rows.len())?;
+    for doc in rows {
+        items.push(fields_json(alloc, &doc.state.fields)?)?;
+    }
+    Ok(Json::Array(items))
 }
 
-pub(crate) fn put_text(writer: &mut Writer, name: &str, text: &str) -> Result<(), AllocError>
-    ensures tokens { OnOk result (writer.new.tokens
-        ≡ writer.old.tokens ++ key name.now ∷ tokens_of (string text.now)) }
-    ensures before { writer.new.before ≡ writer.old.before }
+pub(crate) fn texts_json(alloc: Global, texts: &[RxText]) -> Result<Json, AllocError>
+    ensures { IfOk result (λ j. view j ≡ list_data string texts.now) }
 {
-    writer.key(name)?;
-    writer.string(text)
+    let mut items = Vec::with_capacity(alloc, texts.len())?;
+    for text in texts {
+        items.push(Json::try_from_str(alloc, text.as_str())?)?;
+    }
+    Ok(Json::Array(items))
 }
 
-// A text, where there is one.
-pub(crate) fn put_maybe_text(
-    writer: &mut Writer,
+// Puts a member into an object.
+pub(crate) fn put(
+    alloc: Global,
+    members: &mut Map<String, Json>,
+    name: &str,
+    value: Json,
+) -> Result<(), AllocError>
+    ensures { OnOk result (members_view members.new.entries
+        ≡ put name.now (view value) (members_view members.old.entries)) }
+{
+    members.insert(String::from_str(alloc, name)?, value)?;
+    Ok(())
+}
+
+// Puts a text into an object, where there is one.
+pub(crate) fn put_text(
+    alloc: Global,
+    members: &mut Map<String, Json>,
     name: &str,
     text: Option<&str>,
 ) -> Result<(), AllocError>
-    ensures tokens { OnOk result (writer.new.tokens ≡ writer.old.tokens
-        ++ member_tokens name.now (option_map (λ t. string t.now) text.entry)) }
-    ensures before { writer.new.before ≡ writer.old.before }
+    ensures { OnOk result (members_view members.new.entries
+        ≡ with_text name.now (option_map (λ t. t.now) text.entry) (members_view members.old.entries)) }
 {
     match text {
-        Some(text) => put_text(writer, name, text),
+        Some(text) => put(alloc, members, name, Json::try_from_str(alloc, text)?),
         None => Ok(()),
     }
-}
-
-// A number, where there is one.
-pub(crate) fn put_maybe_number(
-    writer: &mut Writer,
-    name: &str,
-    n: Option<u64>,
-) -> Result<(), AllocError>
-    ensures tokens { OnOk result (writer.new.tokens
-        ≡ writer.old.tokens ++ member_tokens name.now (option_map number_data n)) }
-    ensures before { writer.new.before ≡ writer.old.before }
-{
-    match n {
-        Some(n) => put_number(writer, name, n),
-        None => Ok(()),
-    }
-}
-
-// The list of the objects of the fields of documents.
-pub(crate) fn write_rows(writer: &mut Writer, rows: &[&Stored]) -> Result<(), AllocError>
-    ensures tokens { OnOk result (writer.new.tokens
-        ≡ writer.old.tokens ++ tokens_of (list_data fields_data (rows_of rows.now))) }
-    ensures before { writer.new.before ≡ writer.old.before }
-{
-    writer.begin_array()?;
-    for doc in rows {
-        put_fields(writer, &doc.state.fields)?;
-    }
-    writer.end_array()
-}
-
-// The list of texts.
-pub(crate) fn write_texts(writer: &mut Writer, texts: &[RxText]) -> Result<(), AllocError>
-    ensures tokens { OnOk result (writer.new.tokens
-        ≡ writer.old.tokens ++ tokens_of (list_data string texts.now)) }
-    ensures before { writer.new.before ≡ writer.old.before }
-{
-    writer.begin_array()?;
-    for text in texts {
-        writer.string(text.as_str())?;
-    }
-    writer.end_array()
 }
