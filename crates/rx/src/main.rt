@@ -4,7 +4,7 @@
 
 use rx_disk::FileDisk;
 use rx_outside::{StdSink, StdSource, write_all};
-use rx_top::{Words, command_of, rx};
+use rx_top::{Command, Words, command_of, rx};
 use rx_value::RxText;
 use std::alloc::AllocError;
 use std::env::Env;
@@ -54,7 +54,7 @@ fn fill_streams<R: Files<File = File>>(rt: &R) -> io::Result<()> {
 fn command<R: Env + AllocGlobal>(rt: &R) -> Result<(Words, RxText), AllocError> {
     let words = words(rt)?;
     let path = match command_of(&words) {
-        Some(command) => command.path.copy(rt.alloc())?,
+        Some(Command::Run { path, .. }) => path.copy(rt.alloc())?,
         None => RxText::new(rt.alloc(), "")?,
     };
     Ok((words, path))

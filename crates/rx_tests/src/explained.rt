@@ -38,14 +38,14 @@ const EXPLAINED: &str = r#"
 < {"line":L,"ok":"observe"}
 < {"emit":"q","rows":[]}
 > {"do":"explain","name":"q"}
-< {"actions":{},"changes":0,"full":0,"line":L,"ok":"explain"}
+< {"actions":{},"asked":0,"changes":0,"full":0,"line":L,"ok":"explain"}
 > I(c,a,1)
 < {"line":L,"ok":"insert","rev":"1-c"}
 < {"emit":"q","rows":[{"id":"a","n":1}]}
 > I(c,a,1)
 < {"code":14,"line":L,"refused":"conflict","rev":"1-c"}
 > {"do":"explain","name":"q"}
-< {"actions":{"insertFirst":1},"changes":1,"full":0,"line":L,"ok":"explain"}
+< {"actions":{"insertFirst":1},"asked":6,"changes":1,"full":0,"line":L,"ok":"explain"}
 
 == a full window that loses a row is queried again
 > C(c)
@@ -63,7 +63,7 @@ const EXPLAINED: &str = r#"
 < {"line":L,"ok":"remove","rev":"2-c"}
 < {"emit":"q","rows":[{"id":"b","n":2},{"id":"d","n":3}]}
 > {"do":"explain","name":"q"}
-< {"actions":{"runFullQueryAgain":1},"changes":1,"full":1,"line":L,"ok":"explain"}
+< {"actions":{"runFullQueryAgain":1},"asked":13,"changes":1,"full":1,"line":L,"ok":"explain"}
 
 == a full window whose row moves past its end is queried again
 > C(c)
@@ -81,7 +81,7 @@ const EXPLAINED: &str = r#"
 < {"line":L,"ok":"patch","rev":"2-c"}
 < {"emit":"q","rows":[{"id":"a","n":1},{"id":"d","n":3}]}
 > {"do":"explain","name":"q"}
-< {"actions":{"runFullQueryAgain":1},"changes":1,"full":1,"line":L,"ok":"explain"}
+< {"actions":{"runFullQueryAgain":1},"asked":10,"changes":1,"full":1,"line":L,"ok":"explain"}
 
 == a change among the skipped rows needs nothing
 > C(c)
@@ -98,7 +98,7 @@ const EXPLAINED: &str = r#"
 > {"do":"patch","in":"c","key":"b","set":{"n":0}}
 < {"line":L,"ok":"patch","rev":"2-c"}
 > {"do":"explain","name":"q"}
-< {"actions":{"doNothing":1},"changes":1,"full":0,"line":L,"ok":"explain"}
+< {"actions":{"doNothing":1},"asked":13,"changes":1,"full":0,"line":L,"ok":"explain"}
 
 == a removal among the skipped rows takes the first row away
 > C(c)
@@ -116,7 +116,7 @@ const EXPLAINED: &str = r#"
 < {"line":L,"ok":"remove","rev":"2-c"}
 < {"emit":"q","rows":[{"id":"d","n":3}]}
 > {"do":"explain","name":"q"}
-< {"actions":{"removeFirstItem":1},"changes":1,"full":0,"line":L,"ok":"explain"}
+< {"actions":{"removeFirstItem":1},"asked":14,"changes":1,"full":0,"line":L,"ok":"explain"}
 
 == the one place is taken by a smaller document
 > C(c)
@@ -130,7 +130,7 @@ const EXPLAINED: &str = r#"
 < {"line":L,"ok":"insert","rev":"1-c"}
 < {"emit":"q","rows":[{"id":"a","n":1}]}
 > {"do":"explain","name":"q"}
-< {"actions":{"removeFirstInsertFirst":1},"changes":1,"full":0,"line":L,"ok":"explain"}
+< {"actions":{"removeFirstInsertFirst":1},"asked":13,"changes":1,"full":0,"line":L,"ok":"explain"}
 
 == documents come before a full window
 > C(c)
@@ -151,7 +151,7 @@ const EXPLAINED: &str = r#"
 < {"line":L,"ok":"patch","rev":"2-c"}
 < {"emit":"q","rows":[{"id":"d","n":0},{"id":"e","n":1}]}
 > {"do":"explain","name":"q"}
-< {"actions":{"removeLastInsertFirst":2},"changes":2,"full":0,"line":L,"ok":"explain"}
+< {"actions":{"removeLastInsertFirst":2},"asked":25,"changes":2,"full":0,"line":L,"ok":"explain"}
 
 == a change while all matching documents are skipped
 > C(c)
@@ -163,8 +163,10 @@ const EXPLAINED: &str = r#"
 < {"emit":"q","rows":[]}
 > {"do":"patch","in":"c","key":"a","set":{"n":2}}
 < {"line":L,"ok":"patch","rev":"2-c"}
+> {"do":"remove","in":"c","key":"a"}
+< {"line":L,"ok":"remove","rev":"3-c"}
 > {"do":"explain","name":"q"}
-< {"actions":{"doNothing":1},"changes":1,"full":0,"line":L,"ok":"explain"}
+< {"actions":{"doNothing":2},"asked":10,"changes":2,"full":0,"line":L,"ok":"explain"}
 
 == the rows of a bulk count one by one, by rising keys
 > C(c)
@@ -176,7 +178,7 @@ const EXPLAINED: &str = r#"
 < {"line":L,"ok":"bulk","revs":["1-c","1-c","1-c"]}
 < {"emit":"q","rows":[{"id":"a"},{"id":"b"},{"id":"d"}]}
 > {"do":"explain","name":"q"}
-< {"actions":{"insertFirst":1,"insertLast":2},"changes":3,"full":0,"line":L,"ok":"explain"}
+< {"actions":{"insertFirst":1,"insertLast":2},"asked":32,"changes":3,"full":0,"line":L,"ok":"explain"}
 
 == each place of a row that stays
 > C(c)
@@ -198,7 +200,7 @@ const EXPLAINED: &str = r#"
 > {"do":"patch","in":"c","key":"d","set":{}}
 < {"line":L,"ok":"patch","rev":"3-c"}
 > {"do":"explain","name":"q"}
-< {"actions":{"removeFirstInsertFirst":1,"removeLastInsertLast":2,"replaceExisting":1},"changes":4,"full":0,"line":L,"ok":"explain"}
+< {"actions":{"removeFirstInsertFirst":1,"removeLastInsertLast":2,"replaceExisting":1},"asked":52,"changes":4,"full":0,"line":L,"ok":"explain"}
 
 == each place of a row that goes
 > C(c)
@@ -218,7 +220,7 @@ const EXPLAINED: &str = r#"
 < {"line":L,"ok":"remove","rev":"2-c"}
 < {"emit":"q","rows":[{"id":"d"}]}
 > {"do":"explain","name":"q"}
-< {"actions":{"removeExisting":1,"removeFirstItem":1,"removeLastItem":1},"changes":3,"full":0,"line":L,"ok":"explain"}
+< {"actions":{"removeExisting":1,"removeFirstItem":1,"removeLastItem":1},"asked":39,"changes":3,"full":0,"line":L,"ok":"explain"}
 
 == skipped rows change places with the window
 > C(c)
@@ -238,7 +240,7 @@ const EXPLAINED: &str = r#"
 < {"line":L,"ok":"patch","rev":"3-c"}
 < {"emit":"q","rows":[{"id":"b","n":4}]}
 > {"do":"explain","name":"q"}
-< {"actions":{"doNothing":1,"removeFirstInsertLast":1},"changes":2,"full":0,"line":L,"ok":"explain"}
+< {"actions":{"doNothing":1,"removeFirstInsertLast":1},"asked":26,"changes":2,"full":0,"line":L,"ok":"explain"}
 
 == each place of a row that comes
 > C(c)
@@ -262,7 +264,7 @@ const EXPLAINED: &str = r#"
 < {"line":L,"ok":"insert","rev":"1-c"}
 < {"emit":"q","rows":[{"id":"y"},{"id":"z","n":1},{"id":"b","n":5},{"id":"m","n":5},{"id":"a","n":9}]}
 > {"do":"explain","name":"q"}
-< {"actions":{"insertAtSortPosition":1,"insertFirst":3,"insertLast":1},"changes":5,"full":0,"line":L,"ok":"explain"}
+< {"actions":{"insertAtSortPosition":1,"insertFirst":3,"insertLast":1},"asked":58,"changes":5,"full":0,"line":L,"ok":"explain"}
 
 == rows go by a removal, by a change, and once
 > C(c)
@@ -284,7 +286,7 @@ const EXPLAINED: &str = r#"
 > {"do":"remove","in":"c","key":"d"}
 < {"line":L,"ok":"remove","rev":"3-c"}
 > {"do":"explain","name":"q"}
-< {"actions":{"doNothing":1,"removeExisting":1,"removeFirstItem":1,"removeLastItem":1},"changes":4,"full":0,"line":L,"ok":"explain"}
+< {"actions":{"doNothing":1,"removeExisting":1,"removeFirstItem":1,"removeLastItem":1},"asked":53,"changes":4,"full":0,"line":L,"ok":"explain"}
 
 == a change that moves no row
 > {"do":"collection","name":"c","schema":S2}
@@ -308,7 +310,7 @@ const EXPLAINED: &str = r#"
 > {"do":"patch","in":"c","key":"e","set":{"t":"outside"}}
 < {"line":L,"ok":"patch","rev":"2-c"}
 > {"do":"explain","name":"q"}
-< {"actions":{"doNothing":2,"removeFirstInsertFirst":1,"removeLastInsertLast":1,"replaceExisting":1},"changes":5,"full":0,"line":L,"ok":"explain"}
+< {"actions":{"doNothing":2,"removeFirstInsertFirst":1,"removeLastInsertLast":1,"replaceExisting":1},"asked":63,"changes":5,"full":0,"line":L,"ok":"explain"}
 
 == a change that moves a row
 > C(c)
@@ -331,7 +333,7 @@ const EXPLAINED: &str = r#"
 < {"line":L,"ok":"upsert","rev":"2-c"}
 < {"emit":"q","rows":[{"id":"d"},{"id":"a","n":0},{"id":"b","n":3}]}
 > {"do":"explain","name":"q"}
-< {"actions":{"removeExistingAndInsertAtSortPosition":4},"changes":4,"full":0,"line":L,"ok":"explain"}
+< {"actions":{"removeExistingAndInsertAtSortPosition":4},"asked":51,"changes":4,"full":0,"line":L,"ok":"explain"}
 
 == a full window behind skipped rows
 > C(c)
@@ -364,7 +366,77 @@ const EXPLAINED: &str = r#"
 < {"line":L,"ok":"bulk","revs":["4-c","1-c"]}
 < {"emit":"q","rows":[{"id":"f","n":0},{"id":"e","n":4}]}
 > {"do":"explain","name":"q"}
-< {"actions":{"doNothing":3,"runFullQueryAgain":6},"changes":9,"full":6,"line":L,"ok":"explain"}
+< {"actions":{"doNothing":3,"runFullQueryAgain":6},"asked":105,"changes":9,"full":6,"line":L,"ok":"explain"}
+
+== a document enters a full window in its middle
+> C(c)
+< made
+> I(c,a,1)
+< insert 1-c
+> I(c,b,3)
+< insert 1-c
+> {"do":"observe","name":"q","in":"c","query":{"sort":[{"n":"asc"}],"limit":2}}
+< {"line":L,"ok":"observe"}
+< {"emit":"q","rows":[{"id":"a","n":1},{"id":"b","n":3}]}
+> I(c,d,2)
+< {"line":L,"ok":"insert","rev":"1-c"}
+< {"emit":"q","rows":[{"id":"a","n":1},{"id":"d","n":2}]}
+> {"do":"explain","name":"q"}
+< {"actions":{"insertAtSortPositionRemoveLast":1},"asked":13,"changes":1,"full":0,"line":L,"ok":"explain"}
+
+== a document moves within reach of a full window
+> C(c)
+< made
+> I(c,a,1)
+< insert 1-c
+> I(c,b,3)
+< insert 1-c
+> I(c,d,9)
+< insert 1-c
+> {"do":"observe","name":"q","in":"c","query":{"sort":[{"n":"asc"}],"limit":2}}
+< {"line":L,"ok":"observe"}
+< {"emit":"q","rows":[{"id":"a","n":1},{"id":"b","n":3}]}
+> {"do":"patch","in":"c","key":"d","set":{"n":2}}
+< {"line":L,"ok":"patch","rev":"2-c"}
+< {"emit":"q","rows":[{"id":"a","n":1},{"id":"d","n":2}]}
+> {"do":"explain","name":"q"}
+< {"actions":{"insertAtSortPositionRemoveLast":1},"asked":12,"changes":1,"full":0,"line":L,"ok":"explain"}
+
+== a full window behind skipped rows is entered in its middle
+> C(c)
+< made
+> {"do":"bulk","in":"c","docs":[{"id":"a","n":1},{"id":"b","n":2},{"id":"d","n":4},{"id":"e","n":6}]}
+< {"line":L,"ok":"bulk","revs":["1-c","1-c","1-c","1-c"]}
+> {"do":"observe","name":"q","in":"c","query":{"sort":[{"n":"asc"}],"skip":1,"limit":2}}
+< {"line":L,"ok":"observe"}
+< {"emit":"q","rows":[{"id":"b","n":2},{"id":"d","n":4}]}
+> I(c,f,3)
+< {"line":L,"ok":"insert","rev":"1-c"}
+< {"emit":"q","rows":[{"id":"b","n":2},{"id":"f","n":3}]}
+> {"do":"patch","in":"c","key":"e","set":{"n":3}}
+< {"line":L,"ok":"patch","rev":"2-c"}
+< {"emit":"q","rows":[{"id":"b","n":2},{"id":"e","n":3}]}
+> {"do":"remove","in":"c","key":"e"}
+< {"line":L,"ok":"remove","rev":"3-c"}
+< {"emit":"q","rows":[{"id":"b","n":2},{"id":"f","n":3}]}
+> {"do":"explain","name":"q"}
+< {"actions":{"insertAtSortPositionRemoveLast":2,"runFullQueryAgain":1},"asked":38,"changes":3,"full":1,"line":L,"ok":"explain"}
+
+== a full window in the order of the key alone
+> C(c)
+< made
+> {"do":"bulk","in":"c","docs":[{"id":"b"},{"id":"f"},{"id":"h"}]}
+< {"line":L,"ok":"bulk","revs":["1-c","1-c","1-c"]}
+> {"do":"observe","name":"q","in":"c","query":{"limit":3}}
+< {"line":L,"ok":"observe"}
+< {"emit":"q","rows":[{"id":"b"},{"id":"f"},{"id":"h"}]}
+> {"do":"insert","in":"c","doc":{"id":"d"}}
+< {"line":L,"ok":"insert","rev":"1-c"}
+< {"emit":"q","rows":[{"id":"b"},{"id":"d"},{"id":"f"}]}
+> {"do":"insert","in":"c","doc":{"id":"z"}}
+< insert 1-c
+> {"do":"explain","name":"q"}
+< {"actions":{"doNothing":1,"insertAtSortPositionRemoveLast":1},"asked":25,"changes":2,"full":0,"line":L,"ok":"explain"}
 
 == a window of one
 > C(c)
@@ -393,7 +465,7 @@ const EXPLAINED: &str = r#"
 < {"line":L,"ok":"patch","rev":"2-c"}
 < {"emit":"q","rows":[{"id":"a","n":7}]}
 > {"do":"explain","name":"q"}
-< {"actions":{"doNothing":1,"insertFirst":1,"removeFirstInsertFirst":2,"runFullQueryAgain":3},"changes":7,"full":3,"line":L,"ok":"explain"}
+< {"actions":{"doNothing":1,"insertFirst":1,"removeFirstInsertFirst":2,"runFullQueryAgain":3},"asked":73,"changes":7,"full":3,"line":L,"ok":"explain"}
 
 == a window behind all documents
 > C(c)
@@ -421,7 +493,7 @@ const EXPLAINED: &str = r#"
 < {"line":L,"ok":"bulk","revs":["3-c","3-c"]}
 < {"emit":"q","rows":[{"id":"d","n":1},{"id":"e","n":1}]}
 > {"do":"explain","name":"q"}
-< {"actions":{"insertLast":1,"removeFirstItem":2,"runFullQueryAgain":5},"changes":8,"full":5,"line":L,"ok":"explain"}
+< {"actions":{"insertLast":1,"removeFirstItem":2,"runFullQueryAgain":5},"asked":78,"changes":8,"full":5,"line":L,"ok":"explain"}
 
 == a change that no query of the collection sees counts, and one of another collection doesn't
 > C(c)
@@ -438,7 +510,7 @@ const EXPLAINED: &str = r#"
 > {"do":"bulk","in":"c","docs":[]}
 < {"line":L,"ok":"bulk","revs":[]}
 > {"do":"explain","name":"q"}
-< {"actions":{"doNothing":1},"changes":1,"full":0,"line":L,"ok":"explain"}
+< {"actions":{"doNothing":1},"asked":6,"changes":1,"full":0,"line":L,"ok":"explain"}
 
 == a query that is forgotten emits no more, and its name is free
 > C(c)
@@ -471,7 +543,7 @@ const EXPLAINED: &str = r#"
 < {"line":L,"ok":"observe"}
 < {"emit":"q","rows":[]}
 > {"do":"explain","name":"q"}
-< {"actions":{},"changes":0,"full":0,"line":L,"ok":"explain"}
+< {"actions":{},"asked":0,"changes":0,"full":0,"line":L,"ok":"explain"}
 > I(c,b,1)
 < {"line":L,"ok":"insert","rev":"1-c"}
 < {"emit":"p","rows":[{"id":"b","n":1}]}
@@ -494,7 +566,7 @@ const OPENED: &str = r#"
 < {"line":L,"ok":"patch","rev":"2-c"}
 < {"emit":"q","rows":[{"id":"a","n":2}]}
 > {"do":"explain","name":"q"}
-< {"actions":{"runFullQueryAgain":1},"changes":1,"full":1,"line":L,"ok":"explain"}
+< {"actions":{"runFullQueryAgain":1},"asked":4,"changes":1,"full":1,"line":L,"ok":"explain"}
 
 == counts and the last emitted result stay, and the second change finds the query warm
 > C(c)
@@ -508,18 +580,18 @@ const OPENED: &str = r#"
 > {"do":"restart"}
 < {"epoch":2,"line":L,"ok":"restart"}
 > {"do":"explain","name":"q"}
-< {"actions":{"insertFirst":1},"changes":1,"full":0,"line":L,"ok":"explain"}
+< {"actions":{"insertFirst":1},"asked":6,"changes":1,"full":0,"line":L,"ok":"explain"}
 > {"do":"patch","in":"c","key":"a","set":{}}
 < {"line":L,"ok":"patch","rev":"2-c"}
 > {"do":"explain","name":"q"}
-< {"actions":{"insertFirst":1,"runFullQueryAgain":1},"changes":2,"full":1,"line":L,"ok":"explain"}
+< {"actions":{"insertFirst":1,"runFullQueryAgain":1},"asked":10,"changes":2,"full":1,"line":L,"ok":"explain"}
 > {"do":"restart"}
 < {"epoch":3,"line":L,"ok":"restart"}
 > {"do":"bulk","in":"c","docs":[{"id":"b"},{"id":"d"}]}
 < {"line":L,"ok":"bulk","revs":["1-c","1-c"]}
 < {"emit":"q","rows":[{"id":"a","n":1},{"id":"b"},{"id":"d"}]}
 > {"do":"explain","name":"q"}
-< {"actions":{"insertFirst":1,"insertLast":1,"runFullQueryAgain":2},"changes":4,"full":2,"line":L,"ok":"explain"}
+< {"actions":{"insertFirst":1,"insertLast":1,"runFullQueryAgain":2},"asked":27,"changes":4,"full":2,"line":L,"ok":"explain"}
 
 == the present moment stays, and what was stored
 > C(c)

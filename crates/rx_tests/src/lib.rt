@@ -1,5 +1,5 @@
 //! Tests of whole runs over forms in memory: what the clauses of `rx` leave to examples, and that
-//! runs succeed where memory is ample.
+//! runs succeed where memory is ample; and one run whose contract is its transcript.
 #![tactic(auto)]
 
 #[cfg(test)]
@@ -12,12 +12,17 @@ mod endless;
 mod explained;
 #[cfg(test)]
 mod hashes;
+mod headline;
 #[cfg(test)]
 mod journal;
 #[cfg(test)]
 mod limits;
 #[cfg(test)]
 mod many;
+#[cfg(test)]
+mod pages;
+#[cfg(test)]
+mod played;
 #[cfg(test)]
 mod queries;
 #[cfg(test)]
@@ -35,12 +40,18 @@ mod selectors;
 #[cfg(test)]
 mod short;
 #[cfg(test)]
+mod starved;
+#[cfg(test)]
 mod statuses;
 #[cfg(test)]
 mod stops;
+#[cfg(test)]
+mod values;
 #[cfg(test)]
 mod windows;
 #[cfg(test)]
 mod words;
 #[cfg(test)]
 mod world;
+
+pub use headline::{Played, play_in_memory};

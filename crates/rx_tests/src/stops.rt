@@ -1,60 +1,100 @@
 // A disk that fails at each of its calls, and stops within each.
 use crate::run::{RUN, Ran, Setting, run};
-use crate::short::script_line;
-use std::alloc::Global;
+use crate::short::{due_line, script_line};
+use std::alloc::{AllocError, Global};
 use std::test::Fail;
 
-// A collection and two inserts, and what they are answered.
-const LINES: [&str; 3] = ["C(c)", "I(c,a,1)", "I(c,b,2)"];
-
-const REPLIES: [&str; 3] = [
-    "{\"line\":1,\"new\":true,\"ok\":\"collection\"}\n",
-    "{\"line\":2,\"ok\":\"insert\",\"rev\":\"1-c\"}\n",
-    "{\"line\":3,\"ok\":\"insert\",\"rev\":\"1-c\"}\n",
+// A collection, an insert, a bulk, an opening and an insert in the new epoch, and what they are
+// answered.
+const LINES: [(&str, &str); 5] = [
+    ("C(c)", "made"),
+    ("I(c,a,1)", "insert 1-c"),
+    (
+        r#"{"do":"bulk","in":"c","docs":[{"id":"b","n":2},{"id":"d","n":3}]}"#,
+        r#"{"line":L,"ok":"bulk","revs":["1-c","1-c"]}"#,
+    ),
+    (r#"{"do":"restart"}"#, r#"{"epoch":2,"line":L,"ok":"restart"}"#),
+    ("I(c,e,4)", "insert 1-c"),
 ];
 
 // The lines of a second run, and the replies where the documents are held.
 const LOOKS: &str = r#"{"do":"get","in":"c","key":"a"}
 {"do":"get","in":"c","key":"b"}
+{"do":"get","in":"c","key":"d"}
+{"do":"get","in":"c","key":"e"}
 "#;
 
-const HELD: [&str; 2] = [
+const HELD: [&str; 4] = [
     r#"{"doc":{"id":"a","n":1},"line":1,"lwt":1,"ok":"get","rev":"1-c"}"#,
     r#"{"doc":{"id":"b","n":2},"line":2,"lwt":2,"ok":"get","rev":"1-c"}"#,
+    r#"{"doc":{"id":"d","n":3},"line":3,"lwt":2,"ok":"get","rev":"1-c"}"#,
+    r#"{"doc":{"id":"e","n":4},"line":4,"lwt":3,"ok":"get","rev":"1-c"}"#,
 ];
 
+// How many documents are held once so many lines were answered.
+const HELD_AFTER: [usize; 6] = [0, 0, 1, 3, 3, 4];
+
 // More than the calls that such a run makes.
-const CALLS: u64 = 32;
+const CALLS: u64 = 64;
 
-const PICKS: [&[u8]; 3] = [&[], &[1; 400], &[255; 400]];
+const PICKS: [&[u8]; 3] = [&[], &[1; 800], &[255; 800]];
 
-fn play(alloc: Global, fails: &[u64]) -> Result<Ran, Fail> {
+fn play(alloc: Global, setting: &Setting<'_>) -> Result<Ran, AllocError> {
     let mut script = String::new(alloc);
-    for line in LINES {
+    for (line, _) in LINES {
         script.push_str(script_line(alloc, line)?.as_str())?;
         script.push('\n')?;
     }
+    run(alloc, setting, RUN, script.as_str().as_bytes(), &[])
+}
+
+// The run whose disk fails at this call.
+fn play_failing(alloc: Global, call: u64) -> Result<Ran, AllocError> {
     let setting = Setting {
-        disk_fails: fails,
+        disk_fails: &[call],
         ..Setting::PLAIN
     };
-    Ok(run(alloc, &setting, RUN, script.as_str().as_bytes(), &[])?)
+    play(alloc, &setting)
 }
 
 // How many of the replies stand in an output, which then is whole or stops by the disk.
 fn replies(alloc: Global, ran: &Ran) -> Result<usize, Fail> {
     let mut due = String::new(alloc);
-    for (count, reply) in REPLIES.iter().enumerate() {
+    let mut number = 0u64;
+    for (count, (_, reply)) in LINES.iter().enumerate() {
         let stopped = format!(in alloc; "{due}{{\"stop\":\"disk\"}}\n")?;
         if ran.status == 3 && ran.output.as_slice() == stopped.as_str().as_bytes() {
             return Ok(count);
         }
-        due.push_str(reply)?;
+        number = number.saturating_add(1);
+        due.push_str(due_line(alloc, reply, number)?.as_str())?;
+        due.push('\n')?;
     }
     if ran.status == 0 && ran.output.as_slice() == due.as_str().as_bytes() {
-        return Ok(REPLIES.len());
+        return Ok(LINES.len());
     }
     Err(Fail::new(format_args!("status {} with other lines", ran.status)))
+}
+
+// How many documents a second run over these bytes finds, from the first on. There are no others.
+fn held(alloc: Global, journal: &[u8]) -> Result<usize, Fail> {
+    let looked = run(alloc, &Setting::PLAIN, RUN, LOOKS.as_bytes(), journal)?;
+    if looked.status > 1 {
+        return Err(Fail::new(format_args!("status {} over what is left", looked.status)));
+    }
+    let found = str::from_utf8(looked.output.as_slice())?.lines();
+    let mut count = 0usize;
+    let mut missing = false;
+    for (line, due) in found.zip(HELD) {
+        if line == due && !missing {
+            count = count.saturating_add(1);
+        } else if line.contains("\"refused\":") {
+            missing = true;
+        } else {
+            return Err(Fail::new(format_args!("{line} in the place of {due}")));
+        }
+    }
+    Ok(count)
 }
 
 // Each call of the disk fails in turn, until a run needs no more of them.
@@ -62,33 +102,32 @@ fn replies(alloc: Global, ran: &Ran) -> Result<usize, Fail> {
 fn a_failing_disk_ends_the_run(rt: HostRuntime) -> Result<(), Fail> {
     let mut before = 0;
     for failing in 1..CALLS {
-        let ran = play(rt.alloc(), &[failing])?;
+        let ran = play_failing(rt.alloc(), failing)?;
         let count = replies(rt.alloc(), &ran)?;
         assert!(rt; before <= count, "{failing}");
         before = count;
     }
-    assert_eq!(rt; before, REPLIES.len());
+    assert_eq!(rt; before, LINES.len());
     Ok(())
 }
 
 // Up to the call that fails the runs are the same, so each stop of a run in which none does is
-// tried, and those within the failing call and after it.
+// tried, and those within the failing call and after it. What is left opens again, and has all the
+// rows of a line or none.
 #[test]
 fn what_a_stop_within_any_call_leaves_opens_again(rt: HostRuntime) -> Result<(), Fail> {
     // With 0 no call fails.
     for failing in 0..CALLS {
-        let ran = play(rt.alloc(), &[failing])?;
+        let ran = play_failing(rt.alloc(), failing)?;
         let end = if failing == 0 { CALLS } else { failing + 2 };
         for stop in failing..end {
             for pick in PICKS {
                 let left = ran.disk.stopped(stop, pick)?;
-                let opened = run(rt.alloc(), &Setting::PLAIN, RUN, b"", left.as_slice())?;
-                assert_eq!(rt;
-                    opened.status,
-                    0,
-                    "call {failing} fails, stop within {stop}"
+                let count = held(rt.alloc(), left.as_slice())?;
+                assert!(rt;
+                    HELD_AFTER.contains(&count),
+                    "call {failing} fails, stop within {stop}: {count}"
                 );
-                assert!(rt; opened.output.is_empty());
             }
         }
     }
@@ -98,17 +137,30 @@ fn what_a_stop_within_any_call_leaves_opens_again(rt: HostRuntime) -> Result<(),
 #[test]
 fn each_answered_write_is_held_after_the_stop(rt: HostRuntime) -> Result<(), Fail> {
     for failing in 0..CALLS {
-        let ran = play(rt.alloc(), &[failing])?;
-        let answered = replies(rt.alloc(), &ran)?.saturating_sub(1);
+        let ran = play_failing(rt.alloc(), failing)?;
+        let answered = replies(rt.alloc(), &ran)?;
         for pick in PICKS {
             let left = ran.disk.stopped(CALLS, pick)?;
-            let script = LOOKS.as_bytes();
-            let opened = run(rt.alloc(), &Setting::PLAIN, RUN, script, left.as_slice())?;
-            let mut found = str::from_utf8(opened.output.as_slice())?.lines();
-            for held in HELD.iter().take(answered) {
-                assert!(rt; found.next() == Some(*held), "call {failing} fails");
-            }
+            let count = held(rt.alloc(), left.as_slice())?;
+            let due = HELD_AFTER.iter().skip(answered).next().copied().unwrap_or(0);
+            assert!(rt; due <= count, "call {failing} fails: {count} for {due}");
         }
+    }
+    Ok(())
+}
+
+// The sink fails between two writes: what stands on the disk has the records of the lines answered
+// and of the one whose reply it didn't take, and of no other.
+#[test]
+fn a_run_goes_on_after_a_sink_that_failed(rt: HostRuntime) -> Result<(), Fail> {
+    for (line, due) in (1..6u64).zip(HELD_AFTER.iter().skip(1)) {
+        let setting = Setting {
+            write_fails: &[line],
+            ..Setting::PLAIN
+        };
+        let ran = play(rt.alloc(), &setting)?;
+        assert_eq!(rt; ran.status, 5);
+        assert_eq!(rt; held(rt.alloc(), ran.disk.bytes())?, *due);
     }
     Ok(())
 }

@@ -4,7 +4,7 @@ use Rattle.std.proofs.lemmas.Bool.Decides.{eqb_tells}
 use Rattle.rx_top.specs.declared.reader.Next.{Next}
 use Rattle.rx_top.specs.declared.cause.ReadFault.{ReadFault}
 use Rattle.rx_script.specs.Line.{max_line_bytes}
-use Rattle.rx_top.specs.Reader.{Reading, Advances, Comes, TakesKept, StopsWithin, Took, kept, rest_of}
+use Rattle.rx_top.specs.Reader.{Reading, Advances, Comes, TakesKept, StopsWithin, Took, kept_front, rest_of}
 use Rattle.rx_top.specs.declared.reader.Next.TheVariants.{Line, Last}
 use Rattle.rx_top.proofs.Ends.{kept_kept, within-append}
 
@@ -14,7 +14,7 @@ pub comes_line : (old new : Reading) (s left : List ℕ) → Comes old.line s (o
     → TakesKept Line new.line s (new.unread ++ left)
 comes_line old new s left come adv = (
   come.0 ++ adv.0,
-  adv.3 ∙ ap (λ v. kept (v ++ adv.0)) come.3 ∙ kept_kept come.0 adv.0,
+  adv.3 ∙ ap (λ v. kept_front (v ++ adv.0)) come.3 ∙ kept_kept come.0 adv.0,
   (
     come.1 ∙ ap (λ v. come.0 ++ (v ++ left)) adv.1
         ∙ ap (λ v. come.0 ++ v) (append_assoc adv.0 (10 ∷ new.unread) left)
@@ -31,7 +31,7 @@ comes_all old new s left come adv = (
   come.0 ++ old.unread,
   come.1 ∙ sym (append_assoc come.0 old.unread left),
   within-append come.0 old.unread come.2 adv.1,
-  adv.2 ∙ ap (λ v. kept (v ++ old.unread)) come.3 ∙ kept_kept come.0 old.unread,
+  adv.2 ∙ ap (λ v. kept_front (v ++ old.unread)) come.3 ∙ kept_kept come.0 old.unread,
 )
 
 -- a piece more was read
@@ -45,7 +45,7 @@ empty_take zero xs more h = absurd (omega (arith, more))
 empty_take (suc n) [] more h = refl
 empty_take (suc n) (x ∷ xs) more h = cc
 
-empty_line : (front : List ℕ) → [] ≡ kept front → front ≡ []
+empty_line : (front : List ℕ) → [] ≡ kept_front front → front ≡ []
 empty_line front h = empty_take (max_line_bytes + 1) front (omega arith) h
 
 -- nothing is left, and nothing came
@@ -64,7 +64,7 @@ comes_last line s left new come held f none = (
     come.1 ∙ ap (λ v. come.0 ++ v) f
         ∙ append-nil come.0,
     come.2,
-    λ e. held (come.3 ∙ ap kept e),
+    λ e. held (come.3 ∙ ap kept_front e),
     none,
   ),
 )

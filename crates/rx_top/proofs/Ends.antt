@@ -5,7 +5,7 @@ use Rattle.std.proofs.lemmas.List.{take_all, take_min, take-append-le, length-ta
 use Rattle.std.proofs.Math.Seq.{take-append-add, take-length}
 use Rattle.memchr.specs.Find.{is_byte, Passes, Nowhere, IsFirstByte}
 use Rattle.rx_script.specs.Line.{max_line_bytes}
-use Rattle.rx_top.specs.Reader.{is_within, kept}
+use Rattle.rx_top.specs.Reader.{is_within, kept_front}
 
 other : (b : Bool) (rest : Bool) → (b ≡ true → ⊥) → rest ≡ true → (not b && rest) ≡ true
 other true rest h g = absurd (h refl)
@@ -26,30 +26,30 @@ within_all xs h = ap is_within (sym (take-length xs)) ∙ within_take (length xs
 
 -- bytes more of a line
 pub kept_more : (a b : List ℕ) → length a ≤ max_line_bytes + 1
-    → a ++ take ((max_line_bytes + 1) - length a) b ≡ kept (a ++ b)
+    → a ++ take ((max_line_bytes + 1) - length a) b ≡ kept_front (a ++ b)
 kept_more a b h =
     let count : length a + ((max_line_bytes + 1) - length a) ≡ max_line_bytes + 1 = omega arith in
     sym (take-append-add a b ((max_line_bytes + 1) - length a)) ∙ ap (λ n. take n (a ++ b)) count
 
 pub kept_split : (a b : List ℕ) (n : ℕ) → length a ≤ max_line_bytes + 1
     → n ≡ min ((max_line_bytes + 1) - length a) (length b)
-    → a ++ take n b ≡ kept (a ++ b)
+    → a ++ take n b ≡ kept_front (a ++ b)
 kept_split a b n h e =
     ap (λ k. a ++ take k b) e ∙ ap (λ v. a ++ v) (take_min ((max_line_bytes + 1) - length a) b)
     ∙ kept_more a b h
 
-short : (a b : List ℕ) → length a ≤ max_line_bytes + 1 → kept (kept a ++ b) ≡ kept (a ++ b)
-short a b h = ap (λ v. kept (v ++ b)) (take_all (max_line_bytes + 1) a h)
+short : (a b : List ℕ) → length a ≤ max_line_bytes + 1 → kept_front (kept_front a ++ b) ≡ kept_front (a ++ b)
+short a b h = ap (λ v. kept_front (v ++ b)) (take_all (max_line_bytes + 1) a h)
 
-long : (a b : List ℕ) → max_line_bytes + 1 ≤ length a → kept (kept a ++ b) ≡ kept (a ++ b)
+long : (a b : List ℕ) → max_line_bytes + 1 ≤ length a → kept_front (kept_front a ++ b) ≡ kept_front (a ++ b)
 long a b h =
-    let whole : length (kept a) ≡ max_line_bytes + 1 = length-take-le (max_line_bytes + 1) a h in
-    take-append-le (max_line_bytes + 1) (kept a) b (omega (arith, whole))
-    ∙ (ap (λ n. take n (kept a)) (sym whole) ∙ take-length (kept a))
+    let whole : length (kept_front a) ≡ max_line_bytes + 1 = length-take-le (max_line_bytes + 1) a h in
+    take-append-le (max_line_bytes + 1) (kept_front a) b (omega (arith, whole))
+    ∙ (ap (λ n. take n (kept_front a)) (sym whole) ∙ take-length (kept_front a))
     ∙ sym (take-append-le (max_line_bytes + 1) a b h)
 
 -- what is kept tells what will be kept
-pub kept_kept : (a b : List ℕ) → kept (kept a ++ b) ≡ kept (a ++ b)
+pub kept_kept : (a b : List ℕ) → kept_front (kept_front a ++ b) ≡ kept_front (a ++ b)
 kept_kept a b = elim (leb_tells (length a) (max_line_bytes + 1))
     [ inl w ↦ short a b w.1 | inr w ↦ long a b (omega (arith, w.1)) ]
 

@@ -5,19 +5,19 @@ use Rattle.std.specs.Fmt.{digits}
 use Rattle.rx_outside.specs.declared.stop.Stop.TheVariants.{Disk}
 use Rattle.rx_top.specs.Lines.{lines}
 use Rattle.rx_top.specs.Stops.{full_line, last_words}
-use Rattle.rx_top.specs.Words.{command_of, usual_limit}
+use Rattle.rx_top.specs.Words.{Run, command_of, usual_limit}
 use Rattle.rx_top.specs.declared.cause.Cause.TheVariants.{Work}
 
 alone : command_of (codes "run" ∷ codes "j" ∷ [])
-    ≡ Some (record { path = codes "j"; limit = usual_limit })
+    ≡ Some (Run (codes "j") usual_limit)
 alone = refl
 
 before : command_of (codes "run" ∷ codes "--max-journal=009" ∷ codes "j" ∷ [])
-    ≡ Some (record { path = codes "j"; limit = 9 })
+    ≡ Some (Run (codes "j") 9)
 before = refl
 
 behind : command_of (codes "run" ∷ codes "j" ∷ codes "--max-journal" ∷ codes "4294967295" ∷ [])
-    ≡ Some (record { path = codes "j"; limit = 4294967295 })
+    ≡ Some (Run (codes "j") 4294967295)
 behind = refl
 
 too_low : command_of (codes "run" ∷ codes "--max-journal" ∷ codes "8" ∷ codes "j" ∷ []) ≡ None

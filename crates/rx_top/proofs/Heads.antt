@@ -1,116 +1,164 @@
 -- A whole run from its parts.
-use Rattle.std.proofs.Common.{◌≡◌, ◌≤◌, inl, inr, ℕ, List, [], ◌∷◌, ◌++◌, Bool, Result, Err, IsErrOf, refl, sym, ◌∙◌, ap, subst, append_assoc, append-nil}
+use Rattle.std.proofs.Common.{◌≡◌, ◌≤◌, inl, inr, ℕ, ◌+◌, List, length, [], ◌∷◌, ◌++◌, Bool, Result, None, Some, Err, IsErrOf, refl, sym, ◌∙◌, ap, subst, append-nil}
 use Rattle.rx_disk.specs.declared.disk.Disk.{Ghosts}
 use Rattle.rx_disk.proofs.Moments.{started}
-use Rattle.rx_engine.specs.Engine.{IsFull}
-use Rattle.rx_engine.specs.Holds.{GrowsLegally, Leaves, StandsLegally}
+use Rattle.rx_engine.specs.Engine.{IsAt, limit_of, session_of}
+use Rattle.rx_store.specs.Holds.{GrowsLegally, Leaves, IsIllegalFile, IsJournalOfSome, StandsLegally}
 use Rattle.rx_engine.specs.declared.engine.Engine.{Engine}
 use Rattle.rx_engine.specs.Opening.{epoch_body, opened}
-use Rattle.rx_engine.proofs.Growing.{grows_on, none_yet as none_grown}
+use Rattle.rx_store.proofs.Growing.{none_yet as none_grown}
 use Rattle.rx_frame.specs.File.{end_of}
+use Rattle.rx_journal.specs.Reading.{IsUntouched}
+use Rattle.rx_session.specs.Session.{Session}
+use Rattle.rx_store.specs.Safe.{IsFull}
 use Rattle.rx_outside.specs.declared.stop.Stop.{Stop}
-use Rattle.rx_outside.specs.declared.stop.Stop.TheVariants.{Full}
+use Rattle.rx_outside.specs.declared.stop.Stop.TheVariants.{Disk, NotJournal, Full, Memory}
 use Rattle.rx_world.specs.World.{World}
+use Rattle.rx_top.specs.Chunks.{Keeps}
 use Rattle.rx_top.specs.Lines.{lines}
-use Rattle.rx_top.specs.Run.{Exit, IsStart, Reads, Replies, Run, WasPlayed}
-use Rattle.rx_top.specs.Story.{wrote}
+use Rattle.rx_top.specs.Run.{KeepsFrom, KeepsRun, NeedsJournal, Plays, Reads, Writes, WasPlayed, stop_of}
+use Rattle.rx_top.specs.Script.{line_effect}
+use Rattle.rx_top.specs.Start.{IsStart, StaysLegal}
+use Rattle.rx_top.specs.Story.{chunks, next_chunk, state_after}
 use Rattle.rx_top.specs.declared.cause.Cause.{Cause}
 use Rattle.rx_top.specs.declared.cause.Cause.TheVariants.{Read, Work}
-use Rattle.rx_top.specs.declared.cause.ReadFault.TheVariants.{Memory}
-use Rattle.rx_top.proofs.Reached.{CountsNow, OnlyNow}
+use Rattle.rx_top.specs.declared.cause.ReadFault.TheVariants as fault
+use Rattle.rx_top.proofs.Chunks.{CountsNow, OnlyNow, keeps_behind, leaves_then, stays_legal}
 
 pub same_open : (why st : Stop) → IsErrOf {T = Bool} (Err (Work why)) (Work st)
     → IsErrOf {T = Engine} (Err why) st
 same_open why st h = let same : why ≡ st = cc in ap Err same
 
-module _
-    {D : Type 0} (d : Ghosts D) (d0 d1 : D) (tells : Type 0) (w0 w1 : List ℕ)
-    (bodies : List (List ℕ)) (w : World) (input left : List ℕ) (limit : ℕ)
-  where
-    -- the journal wasn't opened
-    unopened : (ended : Result Bool Cause) → (WasPlayed ended → ⊥)
-        → Reads ended input left [] (lines input) (opened w)
-        → (tells → Replies ended w0 w1 [])
-        → GrowsLegally d d0 d1 bodies (epoch_body w ∷ []) → CountsNow d d1
-        → ((would most : ℕ) → ended ≡ Err (Work (Full would most))
-        → (most ≡ limit) × IsFull bodies (epoch_body w ∷ []) would most)
-        → Run d d0 d1 tells w0 w1 bodies w input left limit ended
-    unopened ended unplayed reads replies grows counts full = record {
-      done = [];
-      rest = lines input;
-      whole = refl;
-      reads = reads;
-      replies = replies;
-      sure = [];
-      more = epoch_body w ∷ [];
-      due = inl (unplayed, refl, refl, refl);
-      moments = grows;
-      steps = inl refl;
-      now = subst (λ (bs : List (List ℕ)). Leaves d d1 bs (epoch_body w ∷ [])) (sym (append-nil bodies))
-          (λ c here. grows.each c (counts (d.moment d0) c grows.later here));
-      fits = inl refl;
-      full = λ would most is. (
-        (full would most is).0,
-        subst (λ (bs : List (List ℕ)). IsFull bs (epoch_body w ∷ []) would most)
-            (sym (append-nil bodies)) (full would most is).1,
-      );
-    }
+-- what is said beside the play is said in other words
+pub said_as : {k_tells : Type 0} {w0 w1 input left : List ℕ} {s : Session} {ended : Result Bool Cause}
+    (P Q : List (List ℕ) → List (List ℕ) → Type 0)
+    → ((done rest : List (List ℕ)) → P done rest → Q done rest)
+    → Plays line_effect k_tells w0 w1 input left s ended P
+    → Plays line_effect k_tells w0 w1 input left s ended Q
+said_as P Q f p = record {
+  done = p.done;
+  rest = p.rest;
+  whole = p.whole;
+  reads = p.reads;
+  writes = p.writes;
+  kept = f p.done p.rest p.kept;
+}
 
-    -- the opening stopped
-    pub open_stopped : (why : Stop) → (tells → w1 ≡ w0)
-        → GrowsLegally d d0 d1 bodies (epoch_body w ∷ []) → CountsNow d d1
-        → ((would most : ℕ) → IsErrOf {T = Engine} (Err why) (Full would most)
-        → (most ≡ limit) × IsFull bodies (epoch_body w ∷ []) would most)
-        → Run d d0 d1 tells w0 w1 bodies w input left limit (Err (Work why))
-    open_stopped why same grows counts full =
-        unopened (Err (Work why)) (λ none. none) tt (λ t. same t ∙ sym (append-nil w0)) grows counts
-        (λ would most is. full would most (same_open why (Full would most) is))
+-- nothing was played
+pub unplayed : (tells : Type 0) (w0 w1 input left : List ℕ) (s : Session)
+    (ended : Result Bool Cause) (P : List (List ℕ) → List (List ℕ) → Type 0)
+    → Reads line_effect ended input left [] (lines input) s
+    → (tells → Writes ended w0 w1 []) → P [] (lines input)
+    → Plays line_effect tells w0 w1 input left s ended P
+unplayed tells w0 w1 input left s ended P reads writes kept = record {
+  done = [];
+  rest = lines input;
+  whole = refl;
+  reads = reads;
+  writes = writes;
+  kept = kept;
+}
 
--- memory ran out before the journal was opened
-pub no_reader : {D : Type 0} (d : Ghosts D) (disk : D) (tells : Type 0) (written : List ℕ)
-    (bodies : List (List ℕ)) (w : World) (input left : List ℕ) (limit : ℕ)
-    → IsStart d disk bodies w → OnlyNow d disk → CountsNow d disk
-    → Run d disk disk tells written written bodies w input left limit (Err (Read Memory))
-no_reader d disk tells written bodies w input left limit start only counts =
-    unopened d disk disk tells written written bodies w input left limit (Err (Read Memory))
-    (λ none. none) tt
-    (λ t. sym (append-nil written))
-    (started d disk (StandsLegally bodies (epoch_body w ∷ []))
-    (λ c here. none_grown bodies (epoch_body w ∷ []) w c start.legal.plays
-    (start.alike c (only c here)) start.legal.short))
-    counts (λ would most is. cc)
+module _ {D : Type 0} (d : Ghosts D) (bodies : List (List ℕ)) (w : World) where
+  nothing_yet : (disk : D) → OnlyNow d disk → IsStart d disk bodies w
+      → GrowsLegally d disk disk bodies []
+  nothing_yet disk only start =
+      started d disk (StandsLegally bodies [])
+      (λ c here. none_grown bodies [] w c start.legal.plays
+      (start.alike c (only c here)) start.legal.short)
 
--- the lines were played over the journal that was opened
-pub played : {D : Type 0} (d : Ghosts D) (d0 d1 d2 : D) (tells : Type 0) (w0 w1 : List ℕ)
-    (bodies : List (List ℕ)) (w : World) (input left : List ℕ) (limit : ℕ)
-    (ended : Result Bool Cause) → GrowsLegally d d0 d1 bodies (epoch_body w ∷ [])
-    → end_of (bodies ++ epoch_body w ∷ []) ≤ limit
-    → Exit d d1 d2 tells w0 w1 (bodies ++ epoch_body w ∷ []) input left (opened w) limit ended
-    → Run d d0 d2 tells w0 w1 bodies w input left limit ended
-played d d0 d1 d2 tells w0 w1 bodies w input left limit ended grows fits e =
-    let all = wrote 1 e.done (opened w) in
-    let same = append_assoc bodies (epoch_body w ∷ []) all in
+  -- nothing was done to the disk
+  pub still_legal : (disk : D) → IsStart d disk bodies w → OnlyNow d disk → CountsNow d disk
+      → StaysLegal d disk disk bodies
+  still_legal disk start only counts =
+      stays_legal d disk disk bodies [] (nothing_yet disk only start) counts
+
+module _ {D : Type 0} (d : Ghosts D) (bodies : List (List ℕ)) (w : World) (limit : ℕ) where
+  -- the opening stopped
+  pub open_keeps : (d0 d1 : D) (why : Stop) (rest : List (List ℕ))
+      → GrowsLegally d d0 d1 bodies (epoch_body w ∷ []) → CountsNow d d1
+      → ((would most : ℕ) → IsErrOf {T = Engine} (Err why) (Full would most)
+      → (most ≡ limit) × IsFull d d1 bodies (epoch_body w ∷ []) would most)
+      → OnlyNow d d0 → IsStart d d0 bodies w
+      → KeepsRun d d0 d1 bodies w limit (Err (Work why)) [] rest
+  open_keeps d0 d1 why rest grows counts full only start = inl (
+    λ none. none,
+    refl,
     record {
-      done = e.done;
-      rest = e.rest;
-      whole = e.whole;
-      reads = e.reads;
-      replies = e.replies;
-      sure = epoch_body w ∷ all;
-      more = e.more;
-      due = inr (refl, e.next);
-      moments = grows_on d d0 d1 d2 bodies (epoch_body w ∷ []) (all ++ e.more) grows e.moments;
-      steps = inr (
-        d1,
-        e.mid,
-        grows,
-        e.steps,
-        subst (λ (bs : List (List ℕ)). GrowsLegally d e.mid d2 bs e.more) same e.last,
-      );
-      now = subst (λ (bs : List (List ℕ)). Leaves d d2 bs e.more) same e.sure;
-      fits = inr (subst (λ (bs : List (List ℕ)). end_of bs ≤ limit) same (e.fits fits));
-      full = λ would most is. (
-        (e.full would most is).0,
-        subst (λ (bs : List (List ℕ)). IsFull bs e.more would most) same (e.full would most is).1,
-      );
-    }
+      moments = grows;
+      mid = d0;
+      steps = nothing_yet d bodies w d0 only start;
+      last = subst (λ (bs : List (List ℕ)). GrowsLegally d d0 d1 bs (epoch_body w ∷ [])) (sym (append-nil bodies))
+          grows;
+      sure = subst (λ (bs : List (List ℕ)). Leaves d d1 bs (epoch_body w ∷ [])) (sym (append-nil bodies))
+          (leaves_then d d0 d1 bodies (epoch_body w ∷ []) grows counts);
+      fits = inl refl;
+      full = λ would most is.
+          let found = full would most (ap Err (some_stop why (Full would most) is)) in (
+            found.0,
+            subst (λ (bs : List (List ℕ)). IsFull d d1 bs (epoch_body w ∷ []) would most)
+                (sym (append-nil bodies)) found.1,
+          );
+    },
+  )
+    where
+      some_stop : (a b : Stop) → Some a ≡ Some b → a ≡ b
+      some_stop a b e = cc
+
+  -- memory ran out before the journal was opened
+  pub no_reader_keeps : (disk : D) (rest : List (List ℕ)) → IsStart d disk bodies w
+      → OnlyNow d disk → CountsNow d disk
+      → KeepsRun d disk disk bodies w limit (Err (Read fault.Memory)) [] rest
+  no_reader_keeps disk rest start only counts =
+      let here = nothing_yet d bodies w disk only start in
+      inl (
+        λ none. none,
+        refl,
+        record {
+          moments = here;
+          mid = disk;
+          steps = here;
+          last = subst (λ (bs : List (List ℕ)). GrowsLegally d disk disk bs []) (sym (append-nil bodies)) here;
+          sure = subst (λ (bs : List (List ℕ)). Leaves d disk bs []) (sym (append-nil bodies))
+              (leaves_then d disk disk bodies [] here counts);
+          fits = inl refl;
+          full = λ would most is. cc;
+        },
+      )
+
+  -- the lines were played over the journal that was opened
+  pub played_keeps : (d0 d1 d2 : D) (first : Engine) (ended : Result Bool Cause)
+      (done rest : List (List ℕ)) → GrowsLegally d d0 d1 bodies (epoch_body w ∷ [])
+      → end_of (bodies ++ epoch_body w ∷ []) ≤ limit → limit_of first ≡ limit
+      → session_of first ≡ opened w → IsAt d d1 first (bodies ++ epoch_body w ∷ []) → d.tells
+      → KeepsFrom d d1 d2 first ended done rest
+      → KeepsRun d d0 d2 bodies w limit ended done rest
+  played_keeps d0 d1 d2 first ended done rest grows fits same_limit same at t kept =
+      let all = bodies ++ epoch_body w ∷ [] in
+      let here = kept t all at (subst (λ (n : ℕ). end_of all ≤ n) (sym same_limit) fits) in
+      let K : Session → ℕ → Type 0 = λ s n. Keeps d d1 d2 all (chunks line_effect 1 done s)
+      (next_chunk line_effect (length done + 1) rest (state_after line_effect 1 done s)) n (stop_of ended) in
+      inr (keeps_behind d d0 d1 d2 bodies (epoch_body w ∷ []) (chunks line_effect 1 done (opened w)) _
+      limit (stop_of ended) grows
+      (subst (λ (s : Session). K s limit) same (subst (λ (n : ℕ). K (session_of first) n) same_limit here))
+      fits)
+
+-- nothing was done to a disk
+pub untouched : {D : Type 0} (d : Ghosts D) (disk : D) → OnlyNow d disk → IsUntouched d disk disk
+untouched d disk only = record {
+  same = refl;
+  crash = λ c now. now;
+  moments = started d disk (d.image disk) only;
+}
+
+-- a file is no journal, or it is one
+pub not_both : {A : Type 0} (file : List ℕ) → IsIllegalFile file → IsJournalOfSome file → A
+not_both file illegal legal = absurd (illegal legal.0 legal.1 legal.2)
+
+-- what is said of some end
+pub needs_journal : (why : Stop) → NeedsJournal (Err (Work why))
+    → (would : ℕ) × (most : ℕ) × (why ≡ Full would most)
+needs_journal Disk h = absurd h
+needs_journal NotJournal h = absurd h
+needs_journal Memory h = absurd h
+needs_journal (Full would most) h = (would, most, refl)

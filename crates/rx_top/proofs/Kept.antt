@@ -7,8 +7,8 @@ use Rattle.rx_engine.specs.Meaning.{Meaning, meaning}
 use Rattle.rx_session.specs.Session.{Session}
 use Rattle.rx_script.specs.Line.{max_line_bytes}
 use Rattle.rx_top.specs.Lines.{is_blank}
-use Rattle.rx_top.specs.Reader.{kept}
-use Rattle.rx_top.specs.Story.{meant, nothing}
+use Rattle.rx_top.specs.Reader.{kept_front}
+use Rattle.rx_top.specs.Script.{effect_of, line_effect, no_effect}
 
 above : (n : ℕ) → max_line_bytes < n → leb n max_line_bytes ≡ false
 above n h = elim (leb_tells n max_line_bytes)
@@ -18,17 +18,18 @@ above n h = elim (leb_tells n max_line_bytes)
 long_blank : (line : List ℕ) → max_line_bytes < length line → is_blank line ≡ false
 long_blank line h = rw (above (length line) h) refl
 
-still_long : (line : List ℕ) → max_line_bytes < length line → max_line_bytes < length (kept line)
+still_long : (line : List ℕ) → max_line_bytes < length line → max_line_bytes < length (kept_front line)
 still_long line h = omega (arith, length-take-le (max_line_bytes + 1) line (omega (arith, h)))
 
-kept_blank : (line : List ℕ) → is_blank (kept line) ≡ is_blank line
+kept_blank : (line : List ℕ) → is_blank (kept_front line) ≡ is_blank line
 kept_blank line = elim (leb_tells (length line) max_line_bytes) [
   | inl w ↦ ap is_blank (take_all (max_line_bytes + 1) line (omega (arith, w.1)))
   | inr w ↦ let h : max_line_bytes < length line = omega (arith, w.1) in
-      long_blank (kept line) (still_long line h) ∙ sym (long_blank line h)
+      long_blank (kept_front line) (still_long line h) ∙ sym (long_blank line h)
 ]
 
-pub kept_meant : (n : ℕ) (line : List ℕ) (s : Session) → meant n (kept line) s ≡ meant n line s
-kept_meant n line s =
-    ap (λ b. cond b (nothing s) (meaning n (kept line) s)) (kept_blank line)
-    ∙ ap (λ (m : Meaning). cond (is_blank line) (nothing s) m) (same_when_cut n line s)
+pub kept_effect : (n : ℕ) (line : List ℕ) (s : Session)
+    → line_effect n (kept_front line) s ≡ line_effect n line s
+kept_effect n line s =
+    ap (λ b. cond b (no_effect s) (effect_of (meaning n (kept_front line) s))) (kept_blank line)
+    ∙ ap (λ (m : Meaning). cond (is_blank line) (no_effect s) (effect_of m)) (same_when_cut n line s)

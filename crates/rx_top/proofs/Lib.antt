@@ -3,9 +3,12 @@ pub mod Ends
 pub mod Coming
 pub mod Story
 pub mod Kept
-pub mod Reached
+pub mod Chunks
+pub mod Growth
 pub mod Exits
+pub mod Work
 pub mod Heads
 pub mod Stopping
 pub mod Statuses
+pub mod GoingOn
 pub mod Limits

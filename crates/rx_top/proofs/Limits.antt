@@ -7,7 +7,7 @@ use Rattle.std.proofs.lemmas.Str.Parse.{IsNumeralModel, numerals_by_value, parse
 use Rattle.std.specs.Prelude.{codes}
 use Rattle.std.specs.Str.{bytes_eq}
 use Rattle.std.specs.Str.Parse.{ParsesUnsigned, digits_value}
-use Rattle.rx_top.specs.Words.{Command, are_digits, at_path, command_after, command_of, is_limit, is_path, limit_apart, limit_joined, limit_of, option, lowest_limit, highest_limit, usual_limit}
+use Rattle.rx_top.specs.Words.{Command, Run, are_digits, at_path, command_after, command_of, command_limit, is_limit, is_path, limit_apart, limit_joined, limit_of, option, lowest_limit, highest_limit, usual_limit}
 
 own : IsNumeralModel (λ ds. are_digits ds ≡ true) (digits_value 10)
 own = numerals_by_value _ (search rules)
@@ -57,6 +57,9 @@ no_joined word none = not_so (bytes_eq (take 14 word) (option ++ 61 ∷ [])) (li
 abbrev pub IsGranted : ℕ → Type 0
 IsGranted n = (9 ≤ n) × (n < 2 ^ 32)
 
+abbrev HasLimit : Command → Type 0
+HasLimit (Run path limit) = IsGranted limit
+
 choice : {A : Type 0} (P : A → Type 0) (b : Bool) (x y : Option A) → (b ≡ true → IfSome x P)
     → IfSome y P → IfSome (cond b x y) P
 choice P true x y h k = h refl
@@ -81,16 +84,16 @@ limit_good ds = choice IsGranted (is_limit ds) (Some (digits_value 10 ds)) None 
             [ inl w ↦ w.1 | inr w ↦ absurd (true≢false (sym e ∙ w.0)) ]
 
 path_good : (path : List ℕ) (limit : Option ℕ) → IfSome limit IsGranted
-    → IfSome (at_path path limit) (λ c. IsGranted c.limit)
+    → IfSome (at_path path limit) HasLimit
 path_good path None h = tt
-path_good path (Some n) h = choice (λ (c : Command). IsGranted c.limit) (is_path path)
-    (Some (record { path = path; limit = n })) None (λ _. h) tt
+path_good path (Some n) h = choice HasLimit (is_path path)
+    (Some (Run path n)) None (λ _. h) tt
 
-after_good : (words : List (List ℕ)) → IfSome (command_after words) (λ c. IsGranted c.limit)
+after_good : (words : List (List ℕ)) → IfSome (command_after words) HasLimit
 after_good [] = tt
 after_good (path ∷ []) = path_good path (Some usual_limit) (omega arith, omega arith)
 after_good (a ∷ b ∷ []) =
-    choice (λ (c : Command). IsGranted c.limit) (is_path a) (at_path a (limit_joined b))
+    choice HasLimit (is_path a) (at_path a (limit_joined b))
     (at_path b (limit_joined a)) (λ _. path_good a (limit_joined b) (joined b))
     (path_good b (limit_joined a) (joined a))
   where
@@ -99,7 +102,7 @@ after_good (a ∷ b ∷ []) =
         choice IsGranted (bytes_eq (take 14 word) (option ++ 61 ∷ [])) (limit_of (drop 14 word)) None
         (λ _. limit_good (drop 14 word)) tt
 after_good (a ∷ b ∷ c ∷ []) =
-    choice (λ (c : Command). IsGranted c.limit) (is_path a) (at_path a (limit_apart b c))
+    choice HasLimit (is_path a) (at_path a (limit_apart b c))
     (at_path c (limit_apart a b)) (λ _. path_good a (limit_apart b c) (apart b c))
     (path_good c (limit_apart a b) (apart a b))
   where
@@ -108,13 +111,16 @@ after_good (a ∷ b ∷ c ∷ []) =
         choice IsGranted (bytes_eq word option) (limit_of digits) None (λ _. limit_good digits) tt
 after_good (a ∷ b ∷ c ∷ d ∷ more) = tt
 
-pub command_good : (words : List (List ℕ)) → IfSome (command_of words) (λ c. IsGranted c.limit)
+pub command_good : (words : List (List ℕ)) → IfSome (command_of words) HasLimit
 command_good [] = tt
 command_good (name ∷ words) =
-    choice (λ (c : Command). IsGranted c.limit) (bytes_eq name (codes "run")) (command_after words)
+    choice HasLimit (bytes_eq name (codes "run")) (command_after words)
     None (λ _. after_good words) tt
 
-pub granted_limit : (words : List (List ℕ)) (path : List ℕ) (limit : ℕ)
-    → command_of words ≡ Some (record { path = path; limit = limit }) → IsGranted limit
-granted_limit words path limit is =
-    subst (λ (o : Option Command). IfSome o (λ c. IsGranted c.limit)) is (command_good words)
+pub granted_limit : (words : List (List ℕ)) (c : Command) → command_of words ≡ Some c
+    → IsGranted (command_limit (Some c))
+granted_limit words c is =
+    within c (subst (λ (o : Option Command). IfSome o HasLimit) is (command_good words))
+  where
+    within : (c : Command) → HasLimit c → IsGranted (command_limit (Some c))
+    within (Run path limit) has = has

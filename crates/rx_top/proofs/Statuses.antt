@@ -2,26 +2,27 @@
 use Rattle.std.proofs.Common.{◌≡◌, ◌<◌, ◌≤◌, ◌⊎◌, ⊎_elim, inl, inr, ℕ, ◌+◌, List, [], ◌∷◌, ◌++◌, Bool, true, false, Result, Ok, Err, refl, sym, ◌∙◌, ap, subst, arith, append_assoc, append-nil, length, take, cond}
 use Rattle.std.specs.Prelude.{codes}
 use Rattle.rx_disk.specs.declared.disk.Disk.{Ghosts}
-use Rattle.rx_engine.specs.Engine.{IsFull}
-use Rattle.rx_engine.specs.Holds.{IsLegalFile, StandsLegally}
+use Rattle.rx_store.specs.Safe.{IsFull}
+use Rattle.rx_store.specs.Holds.{IsLegalFile, StandsLegally}
 use Rattle.rx_engine.specs.Opening.{epoch_body, opened}
-use Rattle.rx_session.specs.Session.{Session}
 use Rattle.rx_frame.specs.File.{end_of}
 use Rattle.rx_outside.specs.Failed.{Rises}
 use Rattle.rx_outside.specs.Sink.{WritesFront}
 use Rattle.rx_outside.specs.declared.stop.Stop.{Stop}
 use Rattle.rx_outside.specs.declared.stop.Stop.TheVariants.{Disk, NotJournal, Full, Memory}
 use Rattle.rx_world.specs.World.{World}
+use Rattle.rx_top.specs.Chunks.{Keeps}
 use Rattle.rx_top.specs.Lines.{cut, lines}
 use Rattle.rx_top.specs.Reader.{max_input_bytes}
-use Rattle.rx_top.specs.Run.{IsDue, Run, StopsAfter}
-use Rattle.rx_top.specs.Stops.{EndsWith, Stops, full_line, last_words, named, status_of}
-use Rattle.rx_top.specs.Story.{any_refused, after_all, next_bodies, told, wrote}
+use Rattle.rx_top.specs.Run.{HasRun, IsDue, KeepsRun, NeedsJournal, Plays, StopsAfter, due_after, run_bodies, run_chunks, stop_of}
+use Rattle.rx_top.specs.Script.{line_effect, transcript}
+use Rattle.rx_top.specs.Stops.{EndsWith, Stops, full_line, last_words, stop_line, status_of}
+use Rattle.rx_top.specs.Story.{any_refused, replies, state_after}
 use Rattle.rx_top.specs.declared.cause.Cause.{Cause}
 use Rattle.rx_top.specs.declared.cause.Cause.TheVariants.{Read, Sink, Work}
 use Rattle.rx_top.specs.declared.cause.ReadFault.TheVariants as fault
 use Rattle.rx_top.proofs.Stopping.{stops_told}
-use Rattle.rx_top.proofs.Story.{told-append}
+use Rattle.rx_top.proofs.Story.{replies-append}
 
 pub is_ok : (e : Result Bool Cause) → status_of e < 2 → (r : Bool) × (e ≡ Ok r)
 is_ok (Ok false) h = (false, refl)
@@ -119,13 +120,32 @@ is_too_long (Err (Work NotJournal)) h = absurd (omega (arith, h))
 is_too_long (Err (Work (Full would limit))) h = absurd (omega (arith, h))
 is_too_long (Err (Read fault.TooLong)) h = refl
 
--- a record that is due would end past a limit, and the last line says so
-abbrev pub FullAt
-    : Type 0 → ℕ → ℕ → List ℕ → List ℕ → List (List ℕ) → World → List ℕ → ℕ → Type 0
-FullAt tells f0 f2 w0 w2 bodies w input limit =
-    (done : List (List ℕ)) × (rest : List (List ℕ)) × (would : ℕ)
-    × IsDue bodies w (lines input) done rest would limit
-    × Stops tells f0 f2 w0 w2 (told 1 done (opened w)) (full_line would limit)
+-- which statuses come over a journal alone
+abbrev pub IsOverJournal : ℕ → Type 0
+IsOverJournal n = (n < 2) ⊎ (n ≡ 4) ⊎ (n ≡ 5) ⊎ (n ≡ 8) ⊎ (n ≡ 9)
+
+unlike : {A : Type 0} (n : ℕ) → 2 ≤ n → (n ≡ 4 → ⊥) → (n ≡ 5 → ⊥) → (n ≡ 8 → ⊥) → (n ≡ 9 → ⊥)
+    → IsOverJournal n → A
+unlike n low a b c d (inl h) = absurd (omega (arith, low, h))
+unlike n low a b c d (inr (inl h)) = absurd (a h)
+unlike n low a b c d (inr (inr (inl h))) = absurd (b h)
+unlike n low a b c d (inr (inr (inr (inl h)))) = absurd (c h)
+unlike n low a b c d (inr (inr (inr (inr h)))) = absurd (d h)
+
+pub over_journal : (e : Result Bool Cause) → IsOverJournal (status_of e) → NeedsJournal e
+over_journal (Ok refused) h = tt
+over_journal (Err (Work Disk)) h = unlike 3 (omega arith) (λ e. omega (arith, e)) (λ e. omega (arith, e))
+    (λ e. omega (arith, e)) (λ e. omega (arith, e)) h
+over_journal (Err (Read fault.Failed)) h = tt
+over_journal (Err Sink) h = tt
+over_journal (Err (Work Memory)) h = unlike 6 (omega arith) (λ e. omega (arith, e)) (λ e. omega (arith, e))
+    (λ e. omega (arith, e)) (λ e. omega (arith, e)) h
+over_journal (Err (Read fault.Memory)) h = unlike 6 (omega arith) (λ e. omega (arith, e)) (λ e. omega (arith, e))
+    (λ e. omega (arith, e)) (λ e. omega (arith, e)) h
+over_journal (Err (Work NotJournal)) h = unlike 7 (omega arith) (λ e. omega (arith, e)) (λ e. omega (arith, e))
+    (λ e. omega (arith, e)) (λ e. omega (arith, e)) h
+over_journal (Err (Work (Full would limit))) h = tt
+over_journal (Err (Read fault.TooLong)) h = tt
 
 status_of_ok : (r : Bool) → status_of (Ok r) ≡ cond r 1 0
 status_of_ok false = refl
@@ -145,221 +165,222 @@ legal_now bodies c s =
           (record { stands = s.stands; short = s.short; plays = s.legal }),
     )
 
-module _
-    {D : Type 0} (d : Ghosts D) (old new : D) (tells : Type 0) (f0 f1 f2 : ℕ) (w0 w1 w2 : List ℕ)
-    (bodies : List (List ℕ)) (w : World) (input left : List ℕ) (limit : ℕ)
-  where
-    abbrev R : Result Bool Cause → Type 0
-    R e = Run d old new tells w0 w1 bodies w input left limit e
+no_line : (f0 f2 : ℕ) (a b : List ℕ) → (b ≡ a ++ []) ⊎ (WritesFront a b [] × Rises f0 f2) → b ≡ a
+no_line f0 f2 a b (inl e) = e ∙ append-nil a
+no_line f0 f2 a b (inr f) =
+    f.0.3 ∙ ap (λ v. a ++ v) (none_before f.0.0 f.0.1 f.0.2) ∙ append-nil a
 
-    abbrev Line : Result Bool Cause → Type 0
-    Line e = EndsWith tells f1 f2 w1 w2 (last_words e)
+module _
+    (tells : Type 0) (f0 f2 : ℕ) (w0 w2 : List ℕ) (w : World) (input left : List ℕ) (status : ℕ)
+    (Kept : Result Bool Cause → List (List ℕ) → List (List ℕ) → Type 0)
+    (has : HasRun tells f0 f2 w0 w2 w input left status Kept)
+  where
+    -- the play and the last line, where the end is known
+    abbrev Ended : Result Bool Cause → Type 0
+    Ended e =
+        Plays line_effect tells w0 has.before input left (opened w) e (Kept e)
+        × EndsWith tells f0 f2 has.before w2 (last_words e)
+
+    ended_as : (e : Result Bool Cause) → has.ended ≡ e → Ended e
+    ended_as e is = subst Ended is (has.run, has.line)
 
     -- ---- the whole input
 
-    all_done : (r : Bool) (run : R (Ok r)) → run.done ≡ lines input
-    all_done r run =
+    played : status < 2 → (r : Bool) × (status ≡ cond r 1 0) × Ended (Ok r)
+    played low =
+        let ok = is_ok has.ended (subst (λ (n : ℕ). n < 2) has.is_status low) in (
+          ok.0,
+          has.is_status ∙ ap status_of ok.1 ∙ status_of_ok ok.0,
+          ended_as (Ok ok.0) ok.1,
+        )
+
+    all_done : (r : Bool) (end : Ended (Ok r)) → end.0.done ≡ lines input
+    all_done r end =
+        let run = end.0 in
         sym (run.whole ∙ ap (λ (v : List (List ℕ)). run.done ++ v) run.reads.0 ∙ append-nil run.done)
 
-    pub status : (e : Result Bool Cause) → status_of e < 2 → R e
-        → status_of e ≡ cond (any_refused 1 (lines input) (opened w)) 1 0
-    status e h run =
-        let ok = is_ok e h in
-        let run' = subst R ok.1 run in
-        ap status_of ok.1 ∙ status_of_ok ok.0
-        ∙ ap (λ b. cond b 1 0) (run'.reads.1
-        ∙ ap (λ (v : List (List ℕ)). any_refused 1 v (opened w)) (all_done ok.0 run'))
+    pub status_tells : status < 2
+        → status ≡ cond (any_refused line_effect 1 (lines input) (opened w)) 1 0
+    status_tells low =
+        let p = played low in
+        p.1 ∙ ap (λ b. cond b 1 0) (p.2.0.reads.1
+        ∙ ap (λ (v : List (List ℕ)). any_refused line_effect 1 v (opened w)) (all_done p.0 p.2))
 
-    no_line : (a b : List ℕ) → (b ≡ a ++ []) ⊎ (WritesFront a b [] × Rises f1 f2) → b ≡ a
-    no_line a b (inl e) = e ∙ append-nil a
-    no_line a b (inr f) =
-        f.0.3 ∙ ap (λ v. a ++ v) (none_before f.0.0 f.0.1 f.0.2) ∙ append-nil a
+    pub wrote_transcript : status < 2 → tells → w2 ≡ w0 ++ transcript (lines input) (opened w)
+    wrote_transcript low t =
+        let p = played low in
+        no_line f0 f2 has.before w2 (p.2.1 t) ∙ p.2.0.writes t
+        ∙ ap (λ (v : List (List ℕ)). w0 ++ transcript v (opened w)) (all_done p.0 p.2)
 
-    pub transcript : (e : Result Bool Cause) → status_of e < 2 → R e → Line e → tells
-        → w2 ≡ w0 ++ told 1 (lines input) (opened w)
-    transcript e h run line t =
-        let ok = is_ok e h in
-        let run' = subst R ok.1 run in
-        no_line w1 w2 (subst Line ok.1 line t) ∙ run'.replies t
-        ∙ ap (λ (v : List (List ℕ)). w0 ++ told 1 v (opened w)) (all_done ok.0 run')
+    -- what was kept of all lines
+    pub kept_of_all : status < 2 → (r : Bool) × (rest : List (List ℕ)) × Kept (Ok r) (lines input) rest
+    kept_of_all low =
+        let p = played low in (
+          p.0,
+          p.2.0.rest,
+          subst (λ (v : List (List ℕ)). Kept (Ok p.0) v p.2.0.rest) (all_done p.0 p.2) p.2.0.kept,
+        )
 
     -- ---- the stops
 
-    stops : (e : Result Bool Cause) (told : List ℕ) (line : List ℕ) → f0 ≤ f1
-        → (tells → w1 ≡ w0 ++ told) → EndsWith tells f1 f2 w1 w2 line
-        → Stops tells f0 f2 w0 w2 told line
-    stops e told line le had ends = stops_told tells f0 f1 f2 w0 w1 w2 told line le had ends
+    stops : (had line : List ℕ) → (tells → has.before ≡ w0 ++ had)
+        → EndsWith tells f0 f2 has.before w2 line → Stops tells f0 f2 w0 w2 had line
+    stops had line is ends = stops_told tells f0 f0 f2 w0 has.before w2 had line (omega arith) is ends
 
-    pub read : (e : Result Bool Cause) → status_of e ≡ 4 → f0 ≤ f1 → R e → Line e
+    pub read : status ≡ 4
         → (given : List ℕ) × (input ≡ given ++ left)
-        × Stops tells f0 f2 w0 w2 (told 1 (cut given).whole (opened w)) (named (codes "read"))
-    read e h le run line =
-        let same = is_read e h in
-        let run' = subst R same run in
-        let reads = run'.reads in (
+        × Stops tells f0 f2 w0 w2 (transcript (cut given).whole (opened w)) (stop_line (codes "read"))
+    read is =
+        let end = ended_as (Err (Read fault.Failed)) (is_read has.ended (sym has.is_status ∙ is)) in
+        let reads = end.0.reads in (
           reads.0,
           reads.1,
-          stops e (told 1 (cut reads.0).whole (opened w)) (named (codes "read")) le
-              (λ t. run'.replies t ∙ ap (λ (v : List (List ℕ)). w0 ++ told 1 v (opened w)) reads.2)
-              (subst Line same line),
+          stops (transcript (cut reads.0).whole (opened w)) (stop_line (codes "read"))
+              (λ t. end.0.writes t
+              ∙ ap (λ (v : List (List ℕ)). w0 ++ transcript v (opened w)) reads.2)
+              end.1,
         )
 
-    pub too_long : (e : Result Bool Cause) → status_of e ≡ 9 → f0 ≤ f1 → R e → Line e
+    pub too_long : status ≡ 9
         → (given : List ℕ) × (input ≡ given ++ left) × (length given ≡ max_input_bytes + 1)
-        × Stops tells f0 f2 w0 w2 (told 1 (cut (take max_input_bytes given)).whole (opened w))
-        (named (codes "too_long"))
-    too_long e h le run line =
-        let same = is_too_long e h in
-        let run' = subst R same run in
-        let reads = run'.reads in (
+        × Stops tells f0 f2 w0 w2 (transcript (cut (take max_input_bytes given)).whole (opened w))
+        (stop_line (codes "too_long"))
+    too_long is =
+        let end = ended_as (Err (Read fault.TooLong)) (is_too_long has.ended (sym has.is_status ∙ is)) in
+        let reads = end.0.reads in (
           reads.0,
           reads.1,
           reads.2,
-          stops e (told 1 (cut (take max_input_bytes reads.0)).whole (opened w))
-              (named (codes "too_long")) le
-              (λ t. run'.replies t ∙ ap (λ (v : List (List ℕ)). w0 ++ told 1 v (opened w)) reads.3)
-              (subst Line same line),
+          stops (transcript (cut (take max_input_bytes reads.0)).whole (opened w))
+              (stop_line (codes "too_long"))
+              (λ t. end.0.writes t
+              ∙ ap (λ (v : List (List ℕ)). w0 ++ transcript v (opened w)) reads.3)
+              end.1,
         )
 
-    pub sink : (e : Result Bool Cause) → status_of e ≡ 5 → R e → Line e → tells
-        → WritesFront w0 w2 (told 1 (lines input) (opened w))
-    sink e h run line t =
-        let same = is_sink e h in
-        let run' = subst R same run in
-        let front = run'.replies t in
-        let more = told (1 + length run'.done) run'.rest (after_all 1 run'.done (opened w)) in (
+    pub sink : status ≡ 5 → tells → WritesFront w0 w2 (transcript (lines input) (opened w))
+    sink is t =
+        let end = ended_as (Err Sink) (is_sink has.ended (sym has.is_status ∙ is)) in
+        let run = end.0 in
+        let front = run.writes t in
+        let more = replies line_effect (1 + length run.done) run.rest
+        (state_after line_effect 1 run.done (opened w)) in (
           front.0,
           front.1 ++ more,
-          ap (λ (v : List (List ℕ)). told 1 v (opened w)) run'.whole
-              ∙ told-append 1 run'.done run'.rest (opened w) ∙ ap (λ v. v ++ more) front.2
+          ap (λ (v : List (List ℕ)). transcript v (opened w)) run.whole
+              ∙ replies-append line_effect 1 run.done run.rest (opened w) ∙ ap (λ v. v ++ more) front.2
               ∙ append_assoc front.0 front.1 more,
-          no_line w1 w2 (subst Line same line t) ∙ front.3,
+          no_line f0 f2 has.before w2 (end.1 t) ∙ front.3,
         )
 
-    stopped : (why : Stop) → f0 ≤ f1 → R (Err (Work why)) → Line (Err (Work why))
-        → StopsAfter tells f0 f2 w0 w2 (lines input) (opened w) (last_words (Err (Work why)))
-    stopped why le run line = (
-      run.done,
-      run.rest,
-      run.whole,
-      stops (Err (Work why)) (told 1 run.done (opened w)) (last_words (Err (Work why))) le run.replies
-          line,
+    abbrev Stopped : List ℕ → Type 0
+    Stopped line = StopsAfter tells f0 f2 w0 w2 (lines input) (opened w) line
+
+    work_stopped : (why : Stop) → Ended (Err (Work why)) → Stopped (last_words (Err (Work why)))
+    work_stopped why end = (
+      end.0.done,
+      end.0.rest,
+      end.0.whole,
+      stops (transcript end.0.done (opened w)) (last_words (Err (Work why))) end.0.writes end.1,
     )
 
-    pub disk : (e : Result Bool Cause) → status_of e ≡ 3 → f0 ≤ f1 → R e → Line e
-        → StopsAfter tells f0 f2 w0 w2 (lines input) (opened w) (named (codes "disk"))
-    disk e h le run line =
-        let same = is_disk e h in stopped Disk le (subst R same run) (subst Line same line)
+    pub disk : status ≡ 3 → Stopped (stop_line (codes "disk"))
+    disk is = work_stopped Disk
+        (ended_as (Err (Work Disk)) (is_disk has.ended (sym has.is_status ∙ is)))
 
-    pub memory : (e : Result Bool Cause) → status_of e ≡ 6 → f0 ≤ f1 → R e → Line e
-        → StopsAfter tells f0 f2 w0 w2 (lines input) (opened w) (named (codes "memory"))
-    memory e h le run line = elim (is_memory e h) [
-      | inl same ↦ stopped Memory le (subst R same run) (subst Line same line)
-      | inr same ↦ reader_stopped le (subst R same run) (subst Line same line)
+    pub not_journal : status ≡ 7 → Stopped (stop_line (codes "not_journal"))
+    not_journal is = work_stopped NotJournal
+        (ended_as (Err (Work NotJournal)) (is_not_journal has.ended (sym has.is_status ∙ is)))
+
+    pub memory : status ≡ 6 → Stopped (stop_line (codes "memory"))
+    memory is = elim (is_memory has.ended (sym has.is_status ∙ is)) [
+      | inl same ↦ work_stopped Memory (ended_as (Err (Work Memory)) same)
+      | inr same ↦ reader_stopped (ended_as (Err (Read fault.Memory)) same)
     ]
       where
-        reader_stopped : f0 ≤ f1 → R (Err (Read fault.Memory)) → Line (Err (Read fault.Memory))
-            → StopsAfter tells f0 f2 w0 w2 (lines input) (opened w) (named (codes "memory"))
-        reader_stopped le run line = (
-          run.done,
-          run.rest,
-          run.whole,
-          stops (Err (Read fault.Memory)) (told 1 run.done (opened w)) (named (codes "memory")) le
-              run.replies line,
+        reader_stopped : Ended (Err (Read fault.Memory)) → Stopped (stop_line (codes "memory"))
+        reader_stopped end = (
+          end.0.done,
+          end.0.rest,
+          end.0.whole,
+          stops (transcript end.0.done (opened w)) (stop_line (codes "memory")) end.0.writes end.1,
         )
 
-    -- ---- what is kept
+    -- the limit, and what was kept then
+    pub full : status ≡ 8
+        → (would : ℕ) × (most : ℕ) × (done : List (List ℕ)) × (rest : List (List ℕ))
+        × (lines input ≡ done ++ rest) × Kept (Err (Work (Full would most))) done rest
+        × Stops tells f0 f2 w0 w2 (transcript done (opened w)) (full_line would most)
+    full is =
+        let why = is_full has.ended (sym has.is_status ∙ is) in
+        let end = ended_as (Err (Work (Full why.0 why.1))) why.2 in (
+          why.0,
+          why.1,
+          end.0.done,
+          end.0.rest,
+          end.0.whole,
+          end.0.kept,
+          stops (transcript end.0.done (opened w)) (full_line why.0 why.1) end.0.writes end.1,
+        )
 
-    sure_is : (r : Bool) (run : R (Ok r))
-        → (run.sure ≡ epoch_body w ∷ wrote 1 (lines input) (opened w)) × (run.more ≡ [])
-    sure_is r run = elim run.due [
-      | inl e ↦ absurd (e.0 tt)
-      | inr e ↦ (
-        e.0 ∙ ap (λ (v : List (List ℕ)). epoch_body w ∷ wrote 1 v (opened w)) (all_done r run),
-        ⊎_elim (λ none. none) (λ due. due ∙ no_next (length run.done + 1) run.rest _ run.reads.0) e.1,
-      )
-    ]
-      where
-        no_next : (n : ℕ) (rest : List (List ℕ)) (s : Session) → rest ≡ []
-            → next_bodies n rest s ≡ []
-        no_next n [] s e = refl
-        no_next n (l ∷ ls) s e = cc
+-- ---- what is kept
 
-    pub kept : (e : Result Bool Cause) → status_of e < 2 → R e → (c : List ℕ) → d.image new c
-        → (after : World)
-        × IsLegalFile c (bodies ++ epoch_body w ∷ wrote 1 (lines input) (opened w)) after
-    kept e h run c here =
-        let ok = is_ok e h in
-        let run' = subst R ok.1 run in
-        let is = sure_is ok.0 run' in
-        legal_now (bodies ++ epoch_body w ∷ wrote 1 (lines input) (opened w)) c
-        (subst (λ (bs : List (List ℕ)). StandsLegally (bodies ++ bs) [] c) is.0
-        (subst (λ (bs : List (List ℕ)). StandsLegally (bodies ++ run'.sure) bs c) is.1 (run'.now c here)))
+module _
+    {D : Type 0} (d : Ghosts D) (old new : D) (tells : Type 0) (f0 f2 : ℕ) (w0 w2 : List ℕ)
+    (bodies : List (List ℕ)) (w : World) (input left : List ℕ) (limit status : ℕ)
+    (has : HasRun tells f0 f2 w0 w2 w input left status (KeepsRun d old new bodies w limit))
+  where
+    -- a run that was played has all of its chunks
+    keeps_all : status < 2
+        → (r : Bool) × (rest : List (List ℕ))
+        × Keeps d old new bodies (run_chunks w (lines input)) (due_after w (lines input) rest) limit
+        (stop_of (Ok r))
+    keeps_all low =
+        let all = kept_of_all tells f0 f2 w0 w2 w input left status _ has low in
+        (all.0, all.1, ⊎_elim (λ un. absurd (un.0 tt)) (λ keeps. keeps) all.2)
 
-    pub fits : (e : Result Bool Cause) → status_of e < 2 → R e
-        → end_of (bodies ++ epoch_body w ∷ wrote 1 (lines input) (opened w)) ≤ limit
-    fits e h run =
-        let ok = is_ok e h in
-        let run' = subst R ok.1 run in
-        let is = (sure_is ok.0 run').0 in
-        ⊎_elim (λ none. let same : epoch_body w ∷ wrote 1 (lines input) (opened w) ≡ [] = sym is ∙ none in cc)
-        (λ le. subst (λ (bs : List (List ℕ)). end_of (bodies ++ bs) ≤ limit) is le) run'.fits
+    pub kept : status < 2 → (c : List ℕ) → d.image new c
+        → (after : World) × IsLegalFile c (bodies ++ run_bodies w (lines input)) after
+    kept low c here =
+        legal_now (bodies ++ run_bodies w (lines input)) c ((keeps_all low).2.sure c here)
 
-    not_full : (bs : List (List ℕ)) (would most : ℕ) → IsFull bs [] would most → ⊥
-    not_full bs would most f = nothing_in f.before f.body f.behind f.whole
-      where
-        nothing_in : (xs : List (List ℕ)) (x : List ℕ) (ys : List (List ℕ)) → [] ≡ xs ++ x ∷ ys → ⊥
-        nothing_in [] x ys h = cc
-        nothing_in (y ∷ xs) x ys h = cc
+    pub fits : status < 2 → end_of (bodies ++ run_bodies w (lines input)) ≤ limit
+    fits low = ⊎_elim (λ none. cc) (λ le. le) (keeps_all low).2.fits
 
     -- a record that is due next would end past a limit
     abbrev Past : List (List ℕ) → List (List ℕ) → ℕ → ℕ → Type 0
     Past done rest would most =
-        ((done ≡ []) × IsFull bodies (epoch_body w ∷ []) would most)
-        ⊎ IsFull (bodies ++ epoch_body w ∷ wrote 1 done (opened w))
-        (next_bodies (length done + 1) rest (after_all 1 done (opened w))) would most
+        ((done ≡ []) × IsFull d new bodies (epoch_body w ∷ []) would most)
+        ⊎ IsFull d new (bodies ++ run_bodies w done) (due_after w done rest) would most
 
-    pub full : (e : Result Bool Cause) → status_of e ≡ 8 → f0 ≤ f1 → R e → Line e
+    past : (would most : ℕ) (done rest : List (List ℕ))
+        → KeepsRun d old new bodies w limit (Err (Work (Full would most))) done rest
+        → (most ≡ limit) × Past done rest would most
+    past would most done rest (inl un) =
+        let full = un.2.full would most refl in (
+          full.0,
+          inl (
+            un.1,
+            subst (λ (bs : List (List ℕ)). IsFull d new bs (epoch_body w ∷ []) would most) (append-nil bodies)
+                full.1,
+          ),
+        )
+    past would most done rest (inr keeps) =
+        let full = keeps.full would most refl in (full.0, inr full.1)
+
+    pub is_due : status ≡ 8
         → (done : List (List ℕ)) × (rest : List (List ℕ)) × (would : ℕ)
-        × IsDue bodies w (lines input) done rest would limit
-        × Stops tells f0 f2 w0 w2 (told 1 done (opened w)) (full_line would limit)
-    full e h le run line =
-        let is = is_full e h in
-        let would = is.0 in
-        let most = is.1 in
-        let run' = subst R is.2 run in
-        let due = run'.full would most refl in
-        let line' = subst Line is.2 line in (
-          run'.done,
-          run'.rest,
-          would,
+        × IsDue d new bodies w (lines input) done rest would limit
+        × Stops tells f0 f2 w0 w2 (transcript done (opened w)) (full_line would limit)
+    is_due is =
+        let f = full tells f0 f2 w0 w2 w input left status _ has is in
+        let p = past f.0 f.1 f.2 f.3 f.5 in (
+          f.2,
+          f.3,
+          f.0,
           record {
-            whole = run'.whole;
-            past = subst (λ (n : ℕ). Past run'.done run'.rest would n) due.0
-                (past run'.done run'.rest run'.sure run'.more would most
-                (⊎_elim (λ n. inl (n.1, n.2, n.3)) (λ o. inr o) run'.due) due.1);
+            whole = f.4;
+            past = subst (λ (n : ℕ). Past f.2 f.3 f.0 n) p.0 p.1;
           },
-          subst (λ (n : ℕ). Stops tells f0 f2 w0 w2 (told 1 run'.done (opened w)) (full_line would n))
-              due.0
-              (stops (Err (Work (Full would most))) (told 1 run'.done (opened w)) (full_line would most) le
-              run'.replies line'),
+          subst (λ (n : ℕ). Stops tells f0 f2 w0 w2 (transcript f.2 (opened w)) (full_line f.0 n)) p.0 f.6,
         )
-      where
-        past : (done rest sure more : List (List ℕ)) (would most : ℕ)
-            → ((done ≡ []) × (sure ≡ []) × (more ≡ epoch_body w ∷ []))
-            ⊎ ((sure ≡ epoch_body w ∷ wrote 1 done (opened w)) × ((more ≡ [])
-            ⊎ (more ≡ next_bodies (length done + 1) rest (after_all 1 done (opened w)))))
-            → IsFull (bodies ++ sure) more would most → Past done rest would most
-        past done rest sure more would most (inl e) f = inl (
-          e.0,
-          subst (λ (bs : List (List ℕ)). IsFull bs (epoch_body w ∷ []) would most)
-              (ap (λ (bs : List (List ℕ)). bodies ++ bs) e.1 ∙ append-nil bodies)
-              (subst (λ (bs : List (List ℕ)). IsFull (bodies ++ sure) bs would most) e.2 f),
-        )
-        past done rest sure more would most (inr e) f = elim e.1 [
-          | inl none ↦ absurd (not_full (bodies ++ sure) would most
-              (subst (λ (bs : List (List ℕ)). IsFull (bodies ++ sure) bs would most) none f))
-          | inr is ↦ inr (subst (λ (bs : List (List ℕ)). IsFull (bodies ++ bs)
-              (next_bodies (length done + 1) rest (after_all 1 done (opened w))) would most) e.0
-              (subst (λ (bs : List (List ℕ)). IsFull (bodies ++ sure) bs would most) is f))
-        ]

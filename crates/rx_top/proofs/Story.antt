@@ -1,21 +1,22 @@
 -- The story of a run, line after line.
 use Rattle.std.proofs.Common.{◌≡◌, ◌∙◌, refl, sym, ap, ℕ, ◌+◌, suc, Bool, true, false, not, cond, ◌&&◌, ◌||◌, ◌==◌, List, [], ◌∷◌, ◌++◌, length, arith, append_assoc, append-nil, length-append}
-use Rattle.rx_session.specs.Session.{Session}
 use Rattle.rx_top.specs.Lines.{Cut, cut, byte_before, last_line, lines}
 use Rattle.rx_top.specs.Reader.{is_within}
-use Rattle.rx_top.specs.Story.{said, bodies_in, is_refused, next, told, wrote, any_refused, after_all}
+use Rattle.rx_top.specs.Story.{Step, any_refused, chunks, replies, state_after}
 
--- the lines of `done` were played from a session on, and `rest` is to come
+-- the lines of `done` were played from a state on, and `rest` is to come
 pub record SoFar
+    {S : Type 0}
+    (step : Step S)
     (done input rest : List ℕ)
     (n : ℕ)
     (refused : Bool)
-    (s0 s : Session) : Type 0 where
+    (s0 s : S) : Type 0 where
   pub whole : (cut done).rest ≡ []
   pub split : input ≡ done ++ rest
   pub number : n ≡ length (cut done).whole
-  pub refusals : refused ≡ any_refused 1 (cut done).whole s0
-  pub session : s ≡ after_all 1 (cut done).whole s0
+  pub refusals : refused ≡ any_refused step 1 (cut done).whole s0
+  pub state : s ≡ state_after step 1 (cut done).whole s0
 
 -- ---- cutting
 
@@ -83,40 +84,6 @@ cut-append (b ∷ bs) x h = append_step b bs x (b == 10) h (cut-append bs x)
 
 -- ---- lists of lines
 
-pub told-append : (n : ℕ) (ls ms : List (List ℕ)) (s : Session)
-    → told n (ls ++ ms) s ≡ told n ls s ++ told (n + length ls) ms (after_all n ls s)
-told-append n [] ms s = let e : n ≡ n + 0 = omega arith in ap (λ m. told m ms s) e
-told-append n (l ∷ ls) ms s =
-    let e : (n + 1) + length ls ≡ n + suc (length ls) = omega arith in
-    ap (λ v. said n l s ++ v) (told-append (n + 1) ls ms (next n l s)
-    ∙ ap (λ m. told (n + 1) ls (next n l s)
-    ++ told m ms (after_all (n + 1) ls (next n l s))) e)
-    ∙ sym (append_assoc (said n l s) (told (n + 1) ls (next n l s))
-    (told (n + suc (length ls)) ms (after_all (n + 1) ls (next n l s))))
-
-pub told-push : (n : ℕ) (ls : List (List ℕ)) (l : List ℕ) (s : Session) (k : ℕ)
-    → k ≡ n + length ls → told n (ls ++ l ∷ []) s ≡ told n ls s ++ said k l (after_all n ls s)
-told-push n ls l s k is =
-    told-append n ls (l ∷ []) s
-    ∙ ap (λ v. told n ls s ++ v) (append-nil (said (n + length ls) l (after_all n ls s)))
-    ∙ ap (λ m. told n ls s ++ said m l (after_all n ls s)) (sym is)
-
-pub wrote-push : (n : ℕ) (ls : List (List ℕ)) (l : List ℕ) (s : Session) (k : ℕ)
-    → k ≡ n + length ls
-    → wrote n (ls ++ l ∷ []) s ≡ wrote n ls s ++ bodies_in k l (after_all n ls s)
-wrote-push n [] l s k is =
-    let e : n ≡ k = omega (arith, is) in
-    append-nil (bodies_in n l s) ∙ ap (λ m. bodies_in m l s) e
-wrote-push n (y ∷ ys) l s k is =
-    ap (λ v. bodies_in n y s ++ v) (wrote-push (n + 1) ys l (next n y s) k (omega (arith, is)))
-    ∙ sym (append_assoc (bodies_in n y s) (wrote (n + 1) ys (next n y s)) _)
-
-pub after_all-push : (n : ℕ) (ls : List (List ℕ)) (l : List ℕ) (s : Session) (k : ℕ)
-    → k ≡ n + length ls → after_all n (ls ++ l ∷ []) s ≡ next k l (after_all n ls s)
-after_all-push n [] l s k is = let e : n ≡ k = omega (arith, is) in ap (λ m. next m l s) e
-after_all-push n (y ∷ ys) l s k is =
-    after_all-push (n + 1) ys l (next n y s) k (omega (arith, is))
-
 or_assoc : (a b c : Bool) → ((a || b) || c) ≡ (a || (b || c))
 or_assoc true b c = refl
 or_assoc false b c = refl
@@ -125,24 +92,69 @@ or_false : (b : Bool) → (b || false) ≡ b
 or_false true = refl
 or_false false = refl
 
-refused-push : (n : ℕ) (ls : List (List ℕ)) (l : List ℕ) (s : Session) (k : ℕ)
-    → k ≡ n + length ls → any_refused n (ls ++ l ∷ []) s
-    ≡ (any_refused n ls s || is_refused k l (after_all n ls s))
-refused-push n [] l s k is =
-    let e : n ≡ k = omega (arith, is) in
-    or_false (is_refused n l s) ∙ ap (λ m. is_refused m l s) e
-refused-push n (y ∷ ys) l s k is =
-    ap (λ v. is_refused n y s || v) (refused-push (n + 1) ys l (next n y s) k (omega (arith, is)))
-    ∙ sym (or_assoc (is_refused n y s) (any_refused (n + 1) ys (next n y s)) _)
+module _ {S : Type 0} (step : Step S) where
+  pub replies-append : (n : ℕ) (ls ms : List (List ℕ)) (s : S)
+      → replies step n (ls ++ ms) s
+      ≡ replies step n ls s ++ replies step (n + length ls) ms (state_after step n ls s)
+  replies-append n [] ms s = let e : n ≡ n + 0 = omega arith in ap (λ m. replies step m ms s) e
+  replies-append n (l ∷ ls) ms s =
+      let e : (n + 1) + length ls ≡ n + suc (length ls) = omega arith in
+      let now = step n l s in
+      let after = state_after step (n + 1) ls now.next in
+      ap (λ v. now.reply ++ v) (replies-append (n + 1) ls ms now.next
+      ∙ ap (λ m. replies step (n + 1) ls now.next ++ replies step m ms after) e)
+      ∙ sym (append_assoc now.reply (replies step (n + 1) ls now.next)
+      (replies step (n + suc (length ls)) ms after))
 
--- a line more, after n lines
-pub refused_more : (ls : List (List ℕ)) (l : List ℕ) (n : ℕ) (r : Bool) (s0 s : Session)
-    → n ≡ length ls → r ≡ any_refused 1 ls s0 → s ≡ after_all 1 ls s0
-    → (r || is_refused (n + 1) l s) ≡ any_refused 1 (ls ++ l ∷ []) s0
-refused_more ls l n r s0 s count is after =
-    ap (λ v. v || is_refused (n + 1) l s) is
-    ∙ ap (λ (x : Session). any_refused 1 ls s0 || is_refused (n + 1) l x) after
-    ∙ sym (refused-push 1 ls l s0 (n + 1) (omega (arith, count)))
+  pub replies-push : (n : ℕ) (ls : List (List ℕ)) (l : List ℕ) (s : S) (k : ℕ)
+      → k ≡ n + length ls
+      → replies step n (ls ++ l ∷ []) s
+      ≡ replies step n ls s ++ (step k l (state_after step n ls s)).reply
+  replies-push n ls l s k is =
+      let after = state_after step n ls s in
+      replies-append n ls (l ∷ []) s
+      ∙ ap (λ v. replies step n ls s ++ v) (append-nil (step (n + length ls) l after).reply)
+      ∙ ap (λ m. replies step n ls s ++ (step m l after).reply) (sym is)
+
+  pub chunks-push : (n : ℕ) (ls : List (List ℕ)) (l : List ℕ) (s : S) (k : ℕ)
+      → k ≡ n + length ls
+      → chunks step n (ls ++ l ∷ []) s
+      ≡ chunks step n ls s ++ (step k l (state_after step n ls s)).bodies ∷ []
+  chunks-push n [] l s k is =
+      let e : n ≡ k = omega (arith, is) in ap (λ m. (step m l s).bodies ∷ []) e
+  chunks-push n (y ∷ ys) l s k is =
+      let now = step n y s in
+      ap (λ (v : List (List (List ℕ))). now.bodies ∷ v)
+      (chunks-push (n + 1) ys l now.next k (omega (arith, is)))
+
+  pub state_after-push : (n : ℕ) (ls : List (List ℕ)) (l : List ℕ) (s : S) (k : ℕ)
+      → k ≡ n + length ls
+      → state_after step n (ls ++ l ∷ []) s ≡ (step k l (state_after step n ls s)).next
+  state_after-push n [] l s k is =
+      let e : n ≡ k = omega (arith, is) in ap (λ m. (step m l s).next) e
+  state_after-push n (y ∷ ys) l s k is =
+      state_after-push (n + 1) ys l (step n y s).next k (omega (arith, is))
+
+  refused-push : (n : ℕ) (ls : List (List ℕ)) (l : List ℕ) (s : S) (k : ℕ)
+      → k ≡ n + length ls
+      → any_refused step n (ls ++ l ∷ []) s
+      ≡ (any_refused step n ls s || (step k l (state_after step n ls s)).refused)
+  refused-push n [] l s k is =
+      let e : n ≡ k = omega (arith, is) in
+      or_false (step n l s).refused ∙ ap (λ m. (step m l s).refused) e
+  refused-push n (y ∷ ys) l s k is =
+      let now = step n y s in
+      ap (λ v. now.refused || v) (refused-push (n + 1) ys l now.next k (omega (arith, is)))
+      ∙ sym (or_assoc now.refused (any_refused step (n + 1) ys now.next) _)
+
+  -- a line more, after n lines
+  pub refused_more : (ls : List (List ℕ)) (l : List ℕ) (n : ℕ) (r : Bool) (s0 s : S)
+      → n ≡ length ls → r ≡ any_refused step 1 ls s0 → s ≡ state_after step 1 ls s0
+      → (r || (step (n + 1) l s).refused) ≡ any_refused step 1 (ls ++ l ∷ []) s0
+  refused_more ls l n r s0 s count is after =
+      ap (λ v. v || (step (n + 1) l s).refused) is
+      ∙ ap (λ (x : S). any_refused step 1 ls s0 || (step (n + 1) l x).refused) after
+      ∙ sym (refused-push 1 ls l s0 (n + 1) (omega (arith, count)))
 
 -- ---- the story goes on
 
@@ -156,41 +168,43 @@ pub lines_more : (done l : List ℕ) → (cut done).rest ≡ [] → is_within l 
     → (cut (done ++ (l ++ 10 ∷ []))).whole ≡ (cut done).whole ++ l ∷ []
 lines_more done l h within = ap (λ (x : Cut). x.whole) (line_cut done l h within)
 
-pub none_yet : (input : List ℕ) (s : Session) → SoFar [] input input 0 false s s
-none_yet input s = record {
-  whole = refl;
-  split = refl;
-  number = refl;
-  refusals = refl;
-  session = refl;
-}
+module _ {S : Type 0} (step : Step S) where
+  pub none_yet : (input : List ℕ) (s : S) → SoFar step [] input input 0 false s s
+  none_yet input s = record {
+    whole = refl;
+    split = refl;
+    number = refl;
+    refusals = refl;
+    state = refl;
+  }
 
--- a line was played
-pub line_more : (done input rest rest' l : List ℕ) (n : ℕ) (r : Bool) (s0 s : Session)
-    → SoFar done input rest n r s0 s
-    → rest ≡ l ++ 10 ∷ rest' → is_within l ≡ true
-    → SoFar (done ++ (l ++ 10 ∷ [])) input rest' (n + 1) (r || is_refused (n + 1) l s) s0
-    (next (n + 1) l s)
-line_more done input rest rest' l n r s0 s so e within =
-    let c = line_cut done l so.whole within in
-    let ls = (cut done).whole in
-    record {
-      whole = ap (λ (x : Cut). x.rest) c;
-      split = so.split ∙ ap (λ v. done ++ v) (e ∙ sym (append_assoc l (10 ∷ []) rest'))
-          ∙ sym (append_assoc done (l ++ 10 ∷ []) rest');
-      number = rw c (omega (arith, so.number, length-append ls (l ∷ [])));
-      refusals = refused_more ls l n r s0 s so.number so.refusals so.session
-          ∙ ap (λ (x : Cut). any_refused 1 x.whole s0) (sym c);
-      session = ap (λ (x : Session). next (n + 1) l x) so.session
-          ∙ sym (after_all-push 1 ls l s0 (n + 1) (omega (arith, so.number)))
-          ∙ ap (λ (x : Cut). after_all 1 x.whole s0) (sym c);
-    }
+  -- a line was played
+  pub line_more : (done input rest rest' l : List ℕ) (n : ℕ) (r : Bool) (s0 s : S)
+      → SoFar step done input rest n r s0 s
+      → rest ≡ l ++ 10 ∷ rest' → is_within l ≡ true
+      → SoFar step (done ++ (l ++ 10 ∷ [])) input rest' (n + 1)
+      (r || (step (n + 1) l s).refused) s0 (step (n + 1) l s).next
+  line_more done input rest rest' l n r s0 s so e within =
+      let c = line_cut done l so.whole within in
+      let ls = (cut done).whole in
+      record {
+        whole = ap (λ (x : Cut). x.rest) c;
+        split = so.split ∙ ap (λ v. done ++ v) (e ∙ sym (append_assoc l (10 ∷ []) rest'))
+            ∙ sym (append_assoc done (l ++ 10 ∷ []) rest');
+        number = rw c (omega (arith, so.number, length-append ls (l ∷ [])));
+        refusals = refused_more step ls l n r s0 s so.number so.refusals so.state
+            ∙ ap (λ (x : Cut). any_refused step 1 x.whole s0) (sym c);
+        state = ap (λ (x : S). (step (n + 1) l x).next) so.state
+            ∙ sym (state_after-push step 1 ls l s0 (n + 1) (omega (arith, so.number)))
+            ∙ ap (λ (x : Cut). state_after step 1 x.whole s0) (sym c);
+      }
 
 -- ---- what is to come
 
-pub rest_lines : (done input rest : List ℕ) (n : ℕ) (r : Bool) (s0 s : Session)
-    → SoFar done input rest n r s0 s → lines input ≡ (cut done).whole ++ lines rest
-rest_lines done input rest n r s0 s so =
+pub rest_lines : {S : Type 0} (step : Step S) (done input rest : List ℕ) (n : ℕ) (r : Bool)
+    (s0 s : S) → SoFar step done input rest n r s0 s
+    → lines input ≡ (cut done).whole ++ lines rest
+rest_lines step done input rest n r s0 s so =
     ap lines so.split
     ∙ ap (λ (x : Cut). x.whole ++ last_line x.rest) (cut-append done rest so.whole)
     ∙ append_assoc (cut done).whole (cut rest).whole (last_line (cut rest).rest)

@@ -1,6 +1,11 @@
 pub mod Words
+pub mod Shown
 pub mod Lines
 pub mod Reader
 pub mod Story
+pub mod Script
 pub mod Stops
+pub mod Chunks
+pub mod Start
 pub mod Run
+pub mod Work

@@ -14,8 +14,8 @@ abbrev pub is_within : List ℕ → Bool
 is_within = list_all (λ b. not (b == 10))
 
 -- what is kept of a line: enough to tell that it is too long
-abbrev pub kept : List ℕ → List ℕ
-kept line = take (max_line_bytes + 1) line
+abbrev pub kept_front : List ℕ → List ℕ
+kept_front line = take (max_line_bytes + 1) line
 
 -- what a reader holds: what it kept of the present line, the bytes that it read and that belong to
 -- no line yet, and how many bytes it was given
@@ -41,7 +41,7 @@ Takes End line old new = (old ≡ []) × (new ≡ [])
 
 -- a line was taken of what was to come, and is kept
 abbrev pub TakesKept : Next → List ℕ → List ℕ → List ℕ → Type 0
-TakesKept next line old new = (l : List ℕ) × (line ≡ kept l) × Takes next l old new
+TakesKept next line old new = (l : List ℕ) × (line ≡ kept_front l) × Takes next l old new
 
 -- no line ended in what was taken
 abbrev pub StopsWithin : List ℕ → List ℕ → Type 0
@@ -50,7 +50,7 @@ StopsWithin old new = (front : List ℕ) × (old ≡ front ++ new) × (is_within
 -- a front of what was to come went to the line
 abbrev pub Comes : List ℕ → List ℕ → List ℕ → Type 0
 Comes line old new = (front : List ℕ) × (old ≡ front ++ new) × (is_within front ≡ true)
-    × (line ≡ kept front)
+    × (line ≡ kept_front front)
 
 -- so many bytes of what was left were given
 abbrev pub Took : ℕ → List ℕ → List ℕ → (ℕ → Type 0) → Type 0
@@ -60,6 +60,6 @@ Took given old new P = (taken : List ℕ) × (old ≡ taken ++ new) × P (given 
 abbrev pub Advances : Bool → Reading → Reading → Type 0
 Advances true old new =
     (l : List ℕ) × (old.unread ≡ l ++ 10 ∷ new.unread) × (is_within l ≡ true)
-    × (new.line ≡ kept (old.line ++ l))
+    × (new.line ≡ kept_front (old.line ++ l))
 Advances false old new =
-    (new.unread ≡ []) × (is_within old.unread ≡ true) × (new.line ≡ kept (old.line ++ old.unread))
+    (new.unread ≡ []) × (is_within old.unread ≡ true) × (new.line ≡ kept_front (old.line ++ old.unread))

@@ -21,8 +21,8 @@ status_of (Err (Work (Full would limit))) = 8
 status_of (Err (Read fault.TooLong)) = 9
 
 -- the line that names a stop
-abbrev pub named : List ℕ → List ℕ
-named name = codes "{\"stop\":\"" ++ (name ++ codes "\"}\n")
+abbrev pub stop_line : List ℕ → List ℕ
+stop_line name = codes "{\"stop\":\"" ++ (name ++ codes "\"}\n")
 
 -- that of a journal which is full
 abbrev pub full_line : ℕ → ℕ → List ℕ
@@ -33,14 +33,14 @@ full_line would limit =
 -- the last line of a run, which one that was played to its end lacks, and one whose sink failed
 abbrev pub last_words : Result Bool Cause → List ℕ
 last_words (Ok refused) = []
-last_words (Err (Work Disk)) = named (codes "disk")
-last_words (Err (Read fault.Failed)) = named (codes "read")
+last_words (Err (Work Disk)) = stop_line (codes "disk")
+last_words (Err (Read fault.Failed)) = stop_line (codes "read")
 last_words (Err Sink) = []
-last_words (Err (Work Memory)) = named (codes "memory")
-last_words (Err (Read fault.Memory)) = named (codes "memory")
-last_words (Err (Work NotJournal)) = named (codes "not_journal")
+last_words (Err (Work Memory)) = stop_line (codes "memory")
+last_words (Err (Read fault.Memory)) = stop_line (codes "memory")
+last_words (Err (Work NotJournal)) = stop_line (codes "not_journal")
 last_words (Err (Work (Full would limit))) = full_line would limit
-last_words (Err (Read fault.TooLong)) = named (codes "too_long")
+last_words (Err (Read fault.TooLong)) = stop_line (codes "too_long")
 
 -- After what it had the sink took the line, or a front of it where it failed.
 abbrev pub EndsWith : Type 0 → ℕ → ℕ → List ℕ → List ℕ → List ℕ → Type 0

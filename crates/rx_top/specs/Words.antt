@@ -4,10 +4,9 @@ use Rattle.std.specs.List.{list_all}
 use Rattle.std.specs.Str.{bytes_eq}
 use Rattle.std.specs.Str.Parse.{digits_value}
 
--- the path of a journal, and the length that the journal may have
-pub record Command : Type 0 where
-  pub path : List ℕ
-  pub limit : ℕ
+pub data Command : Type 0 where
+  -- play a script over the journal at a path, which may have so many bytes
+  Run : (path : List ℕ) (limit : ℕ) → Command
 
 abbrev pub lowest_limit : ℕ
 lowest_limit = 9
@@ -55,7 +54,7 @@ limit_joined word =
 abbrev pub at_path : List ℕ → Option ℕ → Option Command
 at_path path None = None
 at_path path (Some limit) =
-    if is_path path then Some (record { path = path; limit = limit }) else None
+    if is_path path then Some (Run path limit) else None
 
 -- the words after `run`: a path, with the option before or after it
 abbrev pub command_after : List (List ℕ) → Option Command
@@ -72,9 +71,9 @@ command_of [] = None
 command_of (name ∷ words) = if bytes_eq name (codes "run") then command_after words else None
 
 -- the length that the words grant a journal
-abbrev pub granted_by : Option Command → ℕ
-granted_by None = 0
-granted_by (Some c) = c.limit
+abbrev pub command_limit : Option Command → ℕ
+command_limit None = 0
+command_limit (Some (Run path limit)) = limit
 
-abbrev pub granted : List (List ℕ) → ℕ
-granted words = granted_by (command_of words)
+abbrev pub journal_limit : List (List ℕ) → ℕ
+journal_limit words = command_limit (command_of words)

@@ -3,11 +3,13 @@
 #![tactic(auto)]
 
 mod cause;
+mod laws;
 mod play;
 mod reader;
 mod stop;
 mod top;
 mod words;
 
+pub use laws::{goes_on, starts_empty};
 pub use top::rx;
 pub use words::{Command, Words, command_of};

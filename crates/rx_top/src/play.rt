@@ -1,20 +1,20 @@
 // Plays a script from its source to its sink, over an open journal.
 ghost use Rattle.std.specs.Prelude.{◌≡◌, ◌≤◌, ◌++◌, ℕ, List, [], IfOk, OnOk, IsErrOf};
 ghost use Rattle.std.specs.List.{list_all};
-ghost use Rattle.rx_disk.specs.Disk.{Rose};
-ghost use Rattle.rx_engine.specs.Engine.{IsAt, IsFull, limit_of, session_of};
-ghost use Rattle.rx_engine.specs.Holds.{GrowsLegally, Leaves};
-ghost use Rattle.rx_frame.specs.File.{end_of};
+ghost use Rattle.rx_engine.specs.Engine.{IsAt, limit_of, session_of};
 ghost use Rattle.rx_outside.specs.Failed.{Rises};
 ghost use Rattle.rx_outside.specs.Sink.{WritesFront};
 ghost use Rattle.rx_outside.specs.declared.stop.Stop.{Stop};
 ghost use Rattle.rx_outside.specs.declared.stop.Stop.TheVariants as stop;
+ghost use Rattle.rx_store.specs.Safe.{IsCrashSafe};
 ghost use Rattle.rx_top.specs.declared.cause.ReadFault.{ReadFault};
 ghost use Rattle.rx_top.specs.declared.cause.ReadFault.TheVariants as fault;
 ghost use Rattle.rx_top.specs.Lines.{is_blank, is_space};
 ghost use Rattle.rx_top.specs.Reader.{Took, max_input_bytes};
-ghost use Rattle.rx_top.specs.Run.{Exit};
-ghost use Rattle.rx_top.specs.Story.{bodies_in, is_refused, next, said};
+ghost use Rattle.rx_top.specs.Run.{KeepsFrom, Plays};
+ghost use Rattle.rx_top.specs.Script.{line_effect};
+ghost use Rattle.rx_top.specs.Start.{StaysLegal};
+ghost use Rattle.rx_top.specs.Work.{HasAll, work_of};
 
 use crate::cause::Cause;
 use crate::reader::{Next, Reader};
@@ -36,9 +36,11 @@ pub(crate) fn play<S: Source, K: Sink, D: Disk>(
 ) -> Result<bool, Cause>
     requires at { D.tells → (bodies : List (List ℕ)) × IsAt D.Disk disk.old first bodies }
     requires fresh { reader.old ≡ record { line = []; unread = []; given = 0 } }
-    ensures exit { S.tells → D.tells → (bodies : List (List ℕ)) → IsAt D.Disk disk.old first bodies
-        → Exit D.Disk disk.old disk.new K.tells (K.written out.old) (K.written out.new) bodies
-        (S.left source.old) (S.left source.new) (session_of first) (limit_of first) result }
+    ensures exit { S.tells → Plays line_effect K.tells (K.written out.old) (K.written out.new)
+        (S.left source.old) (S.left source.new) (session_of first) result
+        (KeepsFrom D.Disk disk.old disk.new first result) }
+    ensures legal { D.tells → (bodies : List (List ℕ)) → IsAt D.Disk disk.old first bodies
+        → StaysLegal D.Disk disk.old disk.new bodies }
     ensures whole { S.tells → OnOk result (S.left source.new ≡ []) }
     ensures within { S.tells → (IsErrOf result (Cause.Read fault.TooLong) → ⊥)
         → Took 0 (S.left source.old) (S.left source.new) (λ n. n ≤ max_input_bytes) }
@@ -46,7 +48,7 @@ pub(crate) fn play<S: Source, K: Sink, D: Disk>(
         → Rises (S.faults source.old) (S.faults source.new) }
     ensures sink { IsErrOf result Cause.Sink → Rises (K.faults out.old) (K.faults out.new) }
     ensures disk_only { IsErrOf result (Cause.Work stop.Disk)
-        → Rose (D.faults disk.old) (D.faults disk.new) }
+        → Rises (D.faults disk.old) (D.faults disk.new) }
     ensures not_journal { D.tells → IsErrOf result (Cause.Work stop.NotJournal) → ⊥ }
     ensures source_faults { S.faults source.old ≤ S.faults source.new }
     ensures sink_faults { K.faults out.old ≤ K.faults out.new }
@@ -64,12 +66,12 @@ pub(crate) fn play<S: Source, K: Sink, D: Disk>(
             return Ok(refused);
         }
         number += 1;
-        let told = match say(alloc, engine, reader.line(), number, out, disk) {
-            Ok(told) => told,
+        let played = match play_line(alloc, engine, reader.line(), number, out, disk) {
+            Ok(played) => played,
             Err(cause) => return Err(cause),
         };
-        engine = told.0;
-        refused |= told.1;
+        engine = played.0;
+        refused |= played.1;
         if let Next::Last = next {
             return Ok(refused);
         }
@@ -77,7 +79,7 @@ pub(crate) fn play<S: Source, K: Sink, D: Disk>(
 }
 
 // Plays one line and writes its reply, and says whether it was refused.
-fn say<K: Sink, D: Disk>(
+fn play_line<K: Sink, D: Disk>(
     alloc: Global,
     engine: Engine,
     line: &[u8],
@@ -86,37 +88,24 @@ fn say<K: Sink, D: Disk>(
     disk: &mut D,
 ) -> Result<(Engine, bool), Cause>
     requires { D.tells → (bodies : List (List ℕ)) × IsAt D.Disk disk.old engine bodies }
-    ensures next { IfOk result (λ p. session_of p.0 ≡ next number line.now (session_of engine)) }
-    ensures refused { IfOk result (λ p. p.1 ≡ is_refused number line.now (session_of engine)) }
+    ensures next { IfOk result (λ p. session_of p.0 ≡ (line_effect number line.now (session_of engine)).next) }
+    ensures refused { IfOk result (λ p. p.1 ≡ (line_effect number line.now (session_of engine)).refused) }
     ensures written { K.tells → OnOk result
-        (K.written out.new ≡ K.written out.old ++ said number line.now (session_of engine)) }
+        (K.written out.new ≡ K.written out.old ++ (line_effect number line.now (session_of engine)).reply) }
     ensures front { K.tells → IsErrOf result Cause.Sink
-        → WritesFront (K.written out.old) (K.written out.new) (said number line.now (session_of engine)) }
+        → WritesFront (K.written out.old) (K.written out.new) (line_effect number line.now (session_of engine)).reply }
     ensures unsaid { K.tells → (s : Stop) → IsErrOf result (Cause.Work s)
         → K.written out.new ≡ K.written out.old }
     ensures no_read { (f : ReadFault) → IsErrOf result (Cause.Read f) → ⊥ }
-    ensures moments { D.tells → (bodies : List (List ℕ)) → IsAt D.Disk disk.old engine bodies
-        → GrowsLegally D.Disk disk.old disk.new bodies (bodies_in number line.now (session_of engine)) }
-    ensures at { D.tells → (bodies : List (List ℕ)) → IsAt D.Disk disk.old engine bodies
-        → IfOk result (λ p.
-        IsAt D.Disk disk.new p.0 (bodies ++ bodies_in number line.now (session_of engine))) }
-    ensures sure { D.tells → (bodies : List (List ℕ)) → IsAt D.Disk disk.old engine bodies
-        → IsErrOf result Cause.Sink
-        → Leaves D.Disk disk.new (bodies ++ bodies_in number line.now (session_of engine)) [] }
+    // The line's records: what holds at each moment, where the work was done, and where it stopped.
+    ensures safe { D.tells → (bodies : List (List ℕ)) → IsAt D.Disk disk.old engine bodies
+        → IsCrashSafe D.Disk disk.old disk.new bodies
+        (line_effect number line.now (session_of engine)).bodies (limit_of engine)
+        (HasAll D.Disk disk.new) (work_of result) }
     ensures limit { IfOk result (λ p. limit_of p.0 ≡ limit_of engine) }
-    ensures fits { D.tells → (bodies : List (List ℕ)) → IsAt D.Disk disk.old engine bodies
-        → end_of bodies ≤ limit_of engine → OnOk result
-        (end_of (bodies ++ bodies_in number line.now (session_of engine)) ≤ limit_of engine) }
-    ensures fits_sunk { D.tells → (bodies : List (List ℕ)) → IsAt D.Disk disk.old engine bodies
-        → end_of bodies ≤ limit_of engine → IsErrOf result Cause.Sink
-        → end_of (bodies ++ bodies_in number line.now (session_of engine)) ≤ limit_of engine }
-    ensures full { D.tells → (bodies : List (List ℕ)) → IsAt D.Disk disk.old engine bodies
-        → (would limit : ℕ) → IsErrOf result (Cause.Work (stop.Full would limit))
-        → (limit ≡ limit_of engine)
-        × IsFull bodies (bodies_in number line.now (session_of engine)) would limit }
     ensures sink { IsErrOf result Cause.Sink → Rises (K.faults out.old) (K.faults out.new) }
     ensures disk_only { IsErrOf result (Cause.Work stop.Disk)
-        → Rose (D.faults disk.old) (D.faults disk.new) }
+        → Rises (D.faults disk.old) (D.faults disk.new) }
     ensures not_journal { D.tells → IsErrOf result (Cause.Work stop.NotJournal) → ⊥ }
     ensures sink_faults { K.faults out.old ≤ K.faults out.new }
     ensures disk_faults { D.faults disk.old ≤ D.faults disk.new }

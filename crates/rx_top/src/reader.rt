@@ -2,7 +2,7 @@
 ghost use Rattle.std.specs.Prelude.{◌≡◌, ◌<◌, ◌≤◌, ◌+◌, ◌-◌, ◌++◌, ◌∷◌, ◌⊎◌, ℕ, List, [], true, false, take, drop, length, IfOk, OnOk, OnErr, IfSome, IfNone, IsErrOf, min};
 ghost use Rattle.rx_outside.specs.Failed.{Rises};
 ghost use Rattle.rx_script.specs.Line.{max_line_bytes};
-ghost use Rattle.rx_top.specs.Reader.{is_within, kept, max_input_bytes, TakesKept, StopsWithin};
+ghost use Rattle.rx_top.specs.Reader.{is_within, kept_front, max_input_bytes, TakesKept, StopsWithin};
 
 use crate::cause::ReadFault;
 use memchr::memchr;
@@ -179,7 +179,7 @@ fn line_end(bytes: &[u8]) -> Option<usize>
 // Adds bytes to what is kept of a line.
 fn keep(line: &mut Vec<u8>, bytes: &[u8]) -> Result<(), AllocError>
     requires { length line.old.items ≤ max_line_bytes + 1 }
-    ensures kept { OnOk result (line.new.items ≡ kept (line.old.items ++ bytes.now)) }
+    ensures kept { OnOk result (line.new.items ≡ kept_front (line.old.items ++ bytes.now)) }
     ensures bounded { length line.new.items ≤ max_line_bytes + 1 }
 {
     let room = (MAX_LINE_BYTES + 1) - line.len();

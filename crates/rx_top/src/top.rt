@@ -1,26 +1,26 @@
-ghost use Rattle.std.specs.Prelude.{◌≡◌, ◌≢◌, ◌+◌, ◌<◌, ◌≤◌, ◌++◌, ◌∷◌, ◌⊎◌, ◌↔◌, List, ℕ, [], length, take, codes, ◌^◌, None, if◌then◌else◌, OnOk, IsErrOf};
-ghost use Rattle.rx_disk.specs.Disk.{Rose};
-ghost use Rattle.rx_engine.specs.Engine.{IsFull};
-ghost use Rattle.rx_engine.specs.Holds.{IsLegalFile};
-ghost use Rattle.rx_engine.specs.Opening.{epoch_body, opened};
+ghost use Rattle.std.specs.Prelude.{◌≡◌, ◌≢◌, ⊤, ◌+◌, ◌<◌, ◌≤◌, ◌++◌, ◌∷◌, ◌⊎◌, ◌↔◌, List, ℕ, [], length, take, codes, ◌^◌, None, if◌then◌else◌, OnOk, IsErrOf};
+ghost use Rattle.rx_engine.specs.Opening.{opened};
 ghost use Rattle.rx_frame.specs.File.{end_of};
+ghost use Rattle.rx_journal.specs.Reading.{IsUntouched};
 ghost use Rattle.rx_outside.specs.Failed.{Rises};
 ghost use Rattle.rx_outside.specs.Sink.{WritesFront};
+ghost use Rattle.rx_store.specs.Holds.{IsIllegalFile, IsJournalOfSome, IsLegalFile};
 ghost use Rattle.rx_world.specs.World.{World};
 ghost use Rattle.rx_outside.specs.declared.stop.Stop.TheVariants as stop;
 ghost use Rattle.rx_top.specs.declared.cause.ReadFault.TheVariants as fault;
 ghost use Rattle.rx_top.specs.Lines.{cut, lines};
 ghost use Rattle.rx_top.specs.Reader.{Took, max_input_bytes};
-ghost use Rattle.rx_top.specs.Run.{FromStart, HasRun, IsDue, Run, StopsAfter, WasPlayed};
-ghost use Rattle.rx_top.specs.Stops.{Stops, full_line, named};
-ghost use Rattle.rx_top.specs.Story.{any_refused, told, wrote};
-ghost use Rattle.rx_top.specs.Words.{command_of, granted};
+ghost use Rattle.rx_top.specs.Run.{HasRun, HasRunSomewhere, IsDue, KeepsRun, NeedsJournal, Plays, StopsAfter, run_bodies};
+ghost use Rattle.rx_top.specs.Script.{has_refusal, line_effect, transcript};
+ghost use Rattle.rx_top.specs.Start.{FromStart, StaysLegal};
+ghost use Rattle.rx_top.specs.Stops.{Stops, full_line, stop_line};
+ghost use Rattle.rx_top.specs.Words.{command_of, journal_limit};
 
 use crate::cause::{Cause, ReadFault};
 use crate::play::play;
 use crate::reader::Reader;
 use crate::stop::{status_of, write_end};
-use crate::words::{Words, command_of};
+use crate::words::{Words, command_limit, command_of};
 use rx_disk::Disk;
 use rx_engine::Engine;
 use rx_outside::{Sink, Source, write_all};
@@ -58,81 +58,102 @@ pub fn rx<S: Source, K: Sink, D: Disk>(
     // disk is a legal file of the old records and a front of those that are due, and at its end it
     // has all those of the lines done.
     ensures headline { result ≢ 2 → S.tells → FromStart D.Disk disk.old (λ bodies w.
-        HasRun D.Disk disk.old disk.new K.tells (K.faults out.old) (K.faults out.new)
-        (K.written out.old) (K.written out.new) bodies w (S.left source.old) (S.left source.new)
-        (granted words.now.words.items) result) }
+        HasRun K.tells (K.faults out.old) (K.faults out.new) (K.written out.old) (K.written out.new) w
+        (S.left source.old) (S.left source.new) result
+        (KeepsRun D.Disk disk.old disk.new bodies w (journal_limit words.now.words.items))) }
+
+    // Also where the source doesn't tell what it gives, each image is a legal file that goes on from
+    // the old records, at each moment of the call and at its end.
+    ensures legal { FromStart D.Disk disk.old (λ bodies w.
+        StaysLegal D.Disk disk.old disk.new bodies) }
+
+    // Over any disk: the same of what was written, from some world on.
+    ensures over_any_disk { result ≢ 2 → S.tells → HasRunSomewhere K.tells (K.faults out.old)
+        (K.faults out.new) (K.written out.old) (K.written out.new) (S.left source.old)
+        (S.left source.new) result }
+    ensures transcript_over_any_disk { result < 2 → S.tells → K.tells → (w : World)
+        × (K.written out.new ≡ K.written out.old ++ transcript (lines (S.left source.old)) (opened w)) }
+
+    // A file that isn't legal stays as it was, and nothing that a crash leaves is new.
+    ensures illegal { D.tells → IsIllegalFile (D.content disk.old)
+        → IsUntouched D.Disk disk.old disk.new }
 
     // The whole input was played, and the journal has its records.
     ensures whole_input { result < 2 → S.tells → S.left source.new ≡ [] }
     ensures status { result < 2 → S.tells → FromStart D.Disk disk.old (λ bodies w.
-        result ≡ (if any_refused 1 (lines (S.left source.old)) (opened w) then 1 else 0)) }
+        result ≡ (if has_refusal (lines (S.left source.old)) (opened w) then 1 else 0)) }
     ensures whole_transcript { result < 2 → S.tells → K.tells
         → FromStart D.Disk disk.old (λ bodies w.
-        K.written out.new ≡ K.written out.old ++ told 1 (lines (S.left source.old)) (opened w)) }
+        K.written out.new ≡ K.written out.old ++ transcript (lines (S.left source.old)) (opened w)) }
     ensures kept { result < 2 → S.tells → FromStart D.Disk disk.old (λ bodies w.
         (c : List ℕ) → D.image disk.new c → (after : World) × IsLegalFile c
-        (bodies ++ epoch_body w ∷ wrote 1 (lines (S.left source.old)) (opened w)) after) }
+        (bodies ++ run_bodies w (lines (S.left source.old))) after) }
 
     // The words are no command: nothing is read, and the disk isn't touched.
     ensures usage { (result ≡ 2) ↔ (command_of words.now.words.items ≡ None) }
     ensures nothing_read { result ≡ 2 → source.new ≡ source.old }
     ensures not_opened { result ≡ 2 → disk.new ≡ disk.old }
     ensures usage_line { result ≡ 2 → Stops K.tells (K.faults out.old) (K.faults out.new)
-        (K.written out.old) (K.written out.new) [] (named (codes "usage")) }
+        (K.written out.old) (K.written out.new) [] (stop_line (codes "usage")) }
 
     // The source failed, after the lines that ended in what it gave.
     ensures read_fault { result ≡ 4 → Rises (S.faults source.old) (S.faults source.new) }
     ensures read { result ≡ 4 → S.tells → FromStart D.Disk disk.old (λ bodies w.
         (given : List ℕ) × (S.left source.old ≡ given ++ S.left source.new)
         × Stops K.tells (K.faults out.old) (K.faults out.new) (K.written out.old) (K.written out.new)
-        (told 1 (cut given).whole (opened w)) (named (codes "read"))) }
+        (transcript (cut given).whole (opened w)) (stop_line (codes "read"))) }
 
     // The sink failed, and took a front of what is due.
     ensures sink_fault { result ≡ 5 → Rises (K.faults out.old) (K.faults out.new) }
     ensures sink { result ≡ 5 → S.tells → K.tells → FromStart D.Disk disk.old (λ bodies w.
         WritesFront (K.written out.old) (K.written out.new)
-        (told 1 (lines (S.left source.old)) (opened w))) }
+        (transcript (lines (S.left source.old)) (opened w))) }
 
     // Memory ran out, after some of the lines.
     ensures memory { result ≡ 6 → S.tells → FromStart D.Disk disk.old (λ bodies w.
         StopsAfter K.tells (K.faults out.old) (K.faults out.new) (K.written out.old)
-        (K.written out.new) (lines (S.left source.old)) (opened w) (named (codes "memory"))) }
+        (K.written out.new) (lines (S.left source.old)) (opened w) (stop_line (codes "memory"))) }
 
     // The source gave one byte past the limit: exactly then, after the lines that end within it.
     ensures too_long { result ≡ 9 → S.tells → FromStart D.Disk disk.old (λ bodies w.
         (given : List ℕ) × (S.left source.old ≡ given ++ S.left source.new)
         × (length given ≡ max_input_bytes + 1)
         × Stops K.tells (K.faults out.old) (K.faults out.new) (K.written out.old) (K.written out.new)
-        (told 1 (cut (take max_input_bytes given)).whole (opened w)) (named (codes "too_long"))) }
+        (transcript (cut (take max_input_bytes given)).whole (opened w)) (stop_line (codes "too_long"))) }
     ensures within { result ≢ 9 → S.tells
         → Took 0 (S.left source.old) (S.left source.new) (λ given. given ≤ max_input_bytes) }
 
     // The disk failed, after some of the lines.
-    ensures disk_fault { result ≡ 3 → Rose (D.faults disk.old) (D.faults disk.new) }
+    ensures disk_fault { result ≡ 3 → Rises (D.faults disk.old) (D.faults disk.new) }
     ensures disk { result ≡ 3 → S.tells → FromStart D.Disk disk.old (λ bodies w.
         StopsAfter K.tells (K.faults out.old) (K.faults out.new) (K.written out.old)
-        (K.written out.new) (lines (S.left source.old)) (opened w) (named (codes "disk"))) }
+        (K.written out.new) (lines (S.left source.old)) (opened w) (stop_line (codes "disk"))) }
 
     // A legal file is never refused. One that is refused stays as it was, and nothing is read. No
-    // line is played over a file that isn't legal.
-    ensures not_journal { result ≡ 7 → D.tells → (bodies : List (List ℕ)) (w : World)
-        → IsLegalFile (D.content disk.old) bodies w → ⊥ }
-    ensures not_journal_kept { result ≡ 7 → D.tells → D.content disk.new ≡ D.content disk.old }
+    // line is played over a file that isn't legal, nor is one full. Over a disk that doesn't tell its
+    // content a restart may refuse what it finds, after the replies to some lines.
+    ensures not_journal { result ≡ 7 → D.tells → IsIllegalFile (D.content disk.old) }
+    ensures not_journal_kept { result ≡ 7 → D.tells → IsUntouched D.Disk disk.old disk.new }
     ensures not_journal_unread { result ≡ 7 → D.tells → source.new ≡ source.old }
     ensures not_journal_line { result ≡ 7 → D.tells → Stops K.tells (K.faults out.old) (K.faults out.new)
-        (K.written out.old) (K.written out.new) [] (named (codes "not_journal")) }
-    ensures stood { (result < 2) ⊎ (result ≡ 4) ⊎ (result ≡ 5) ⊎ (result ≡ 9) → D.tells
-        → (bodies : List (List ℕ)) × (w : World) × IsLegalFile (D.content disk.old) bodies w }
+        (K.written out.old) (K.written out.new) [] (stop_line (codes "not_journal")) }
+    ensures not_journal_over_any_disk { result ≡ 7 → S.tells → (w : World)
+        × StopsAfter K.tells (K.faults out.old) (K.faults out.new) (K.written out.old)
+        (K.written out.new) (lines (S.left source.old)) (opened w) (stop_line (codes "not_journal")) }
+    ensures stood { (result < 2) ⊎ (result ≡ 4) ⊎ (result ≡ 5) ⊎ (result ≡ 8) ⊎ (result ≡ 9) → D.tells
+        → IsJournalOfSome (D.content disk.old) }
 
-    // A record that is due would end past the limit: only then, and the stop line says where.
+    // A record that is due would end past the limit: only then, the stop line says where, and the
+    // record isn't there.
     ensures full { result ≡ 8 → S.tells → FromStart D.Disk disk.old (λ bodies w.
         (done : List (List ℕ)) × (rest : List (List ℕ)) × (would : ℕ)
-        × IsDue bodies w (lines (S.left source.old)) done rest would (granted words.now.words.items)
+        × IsDue D.Disk disk.new bodies w (lines (S.left source.old)) done rest would
+        (journal_limit words.now.words.items)
         × Stops K.tells (K.faults out.old) (K.faults out.new) (K.written out.old) (K.written out.new)
-        (told 1 done (opened w)) (full_line would (granted words.now.words.items))) }
+        (transcript done (opened w)) (full_line would (journal_limit words.now.words.items))) }
     ensures fits { result < 2 → S.tells → FromStart D.Disk disk.old (λ bodies w.
-        end_of (bodies ++ epoch_body w ∷ wrote 1 (lines (S.left source.old)) (opened w))
-        ≤ granted words.now.words.items) }
+        end_of (bodies ++ run_bodies w (lines (S.left source.old)))
+        ≤ journal_limit words.now.words.items) }
 
     ensures statuses { result ≤ 9 }
     ensures source_faults { S.faults source.old ≤ S.faults source.new }
@@ -141,7 +162,7 @@ pub fn rx<S: Source, K: Sink, D: Disk>(
 {
     match command_of(words) {
         Some(command) => {
-            let ended = run(alloc, command.limit, source, out, disk);
+            let ended = run(alloc, command_limit(&command), source, out, disk);
             // The first cause decides the status, so a failure here has none of its own.
             let _ = write_end(out, &ended);
             status_of(&ended)
@@ -164,22 +185,26 @@ fn run<S: Source, K: Sink, D: Disk>(
     requires low { 9 ≤ limit }
     requires high { limit < 2 ^ 32 }
     ensures run { S.tells → FromStart D.Disk disk.old (λ bodies w.
-        Run D.Disk disk.old disk.new K.tells (K.written out.old) (K.written out.new) bodies w
-        (S.left source.old) (S.left source.new) limit result) }
+        Plays line_effect K.tells (K.written out.old) (K.written out.new) (S.left source.old)
+        (S.left source.new) (opened w) result
+        (KeepsRun D.Disk disk.old disk.new bodies w limit result)) }
+    ensures legal { FromStart D.Disk disk.old (λ bodies w.
+        StaysLegal D.Disk disk.old disk.new bodies) }
+    ensures over_any_disk { S.tells → (w : World) × Plays line_effect K.tells (K.written out.old)
+        (K.written out.new) (S.left source.old) (S.left source.new) (opened w) result (λ done rest. ⊤) }
+    ensures illegal { D.tells → IsIllegalFile (D.content disk.old)
+        → IsUntouched D.Disk disk.old disk.new }
     ensures whole { S.tells → OnOk result (S.left source.new ≡ []) }
     ensures within { S.tells → (IsErrOf result (Cause.Read fault.TooLong) → ⊥)
         → Took 0 (S.left source.old) (S.left source.new) (λ n. n ≤ max_input_bytes) }
-    ensures stood { D.tells → WasPlayed result
-        → (bodies : List (List ℕ)) × (w : World) × IsLegalFile (D.content disk.old) bodies w }
+    ensures stood { D.tells → NeedsJournal result → IsJournalOfSome (D.content disk.old) }
     ensures read { IsErrOf result (Cause.Read fault.Failed)
         → Rises (S.faults source.old) (S.faults source.new) }
     ensures sink { IsErrOf result Cause.Sink → Rises (K.faults out.old) (K.faults out.new) }
     ensures disk_only { IsErrOf result (Cause.Work stop.Disk)
-        → Rose (D.faults disk.old) (D.faults disk.new) }
+        → Rises (D.faults disk.old) (D.faults disk.new) }
     ensures not_journal { D.tells → IsErrOf result (Cause.Work stop.NotJournal)
-        → (bodies : List (List ℕ)) (w : World) → IsLegalFile (D.content disk.old) bodies w → ⊥ }
-    ensures not_journal_kept { D.tells → IsErrOf result (Cause.Work stop.NotJournal)
-        → D.content disk.new ≡ D.content disk.old }
+        → IsIllegalFile (D.content disk.old) }
     ensures not_journal_unread { D.tells → IsErrOf result (Cause.Work stop.NotJournal)
         → source.new ≡ source.old }
     ensures not_journal_unsaid { D.tells → K.tells → IsErrOf result (Cause.Work stop.NotJournal)

@@ -1,6 +1,7 @@
 // The words of a command.
 ghost use Rattle.std.specs.Prelude.{◌≡◌, None, Some, IfSome, IfNone};
-ghost use Rattle.rx_top.specs.Words.{are_digits, at_path, command_after, command_of, is_digit, is_path, limit_apart, limit_joined, limit_of};
+ghost use Rattle.rx_top.specs.Shown.{command};
+ghost use Rattle.rx_top.specs.Words.{are_digits, at_path, command_after, command_of, command_limit, is_digit, is_path, limit_apart, limit_joined, limit_of};
 
 use rx_journal::{LONGEST, SHORTEST};
 use rx_value::RxText;
@@ -14,18 +15,17 @@ pub struct Words {
     pub words: Vec<RxText>,
 }
 
-/// What the words ask: to play a script over the journal at a path, which may have so many bytes.
+/// What the words ask.
 #[derive(Clone, Copy)]
-pub struct Command<'a> {
-    pub path: &'a RxText,
-    pub limit: u64,
+pub enum Command<'a> {
+    /// To play a script over the journal at a path, which may have so many bytes.
+    Run { path: &'a RxText, limit: u64 },
 }
 
 /// The command that the words are: `run`, and after it a path and at most one
 /// `--max-journal N` or `--max-journal=N`, in any order.
 pub fn command_of<'a>(words: &'a Words) -> Option<Command<'a>>
-    ensures some { IfSome result (λ c. command_of words.now.words.items
-        ≡ Some (record { path = c.path.now; limit = c.limit })) }
+    ensures some { IfSome result (λ c. command_of words.now.words.items ≡ Some (command c)) }
     ensures none { IfNone result (command_of words.now.words.items ≡ None) }
 {
     match words.words.as_slice() {
@@ -34,9 +34,17 @@ pub fn command_of<'a>(words: &'a Words) -> Option<Command<'a>>
     }
 }
 
+/// The length that a command grants its journal.
+pub(crate) fn command_limit(asked: &Command<'_>) -> u64
+    ensures { result ≡ command_limit (Some (command asked.now)) }
+{
+    match asked {
+        Command::Run { limit, .. } => *limit,
+    }
+}
+
 fn command_after<'a>(words: &'a [RxText]) -> Option<Command<'a>>
-    ensures some { IfSome result (λ c. command_after words.now
-        ≡ Some (record { path = c.path.now; limit = c.limit })) }
+    ensures some { IfSome result (λ c. command_after words.now ≡ Some (command c)) }
     ensures none { IfNone result (command_after words.now ≡ None) }
 {
     match words {
@@ -50,12 +58,11 @@ fn command_after<'a>(words: &'a [RxText]) -> Option<Command<'a>>
 }
 
 fn at_path<'a>(path: &'a RxText, limit: Option<u64>) -> Option<Command<'a>>
-    ensures some { IfSome result (λ c. at_path path.now limit
-        ≡ Some (record { path = c.path.now; limit = c.limit })) }
+    ensures some { IfSome result (λ c. at_path path.now limit ≡ Some (command c)) }
     ensures none { IfNone result (at_path path.now limit ≡ None) }
 {
     match limit {
-        Some(limit) if is_path(path) => Some(Command { path, limit }),
+        Some(limit) if is_path(path) => Some(Command::Run { path, limit }),
         _ => None,
     }
 }

@@ -2,14 +2,16 @@ use Rattle.std.proofs.Common.{◌≡◌, ◌++◌, ◌+◌, ◌-◌, ◌≤◌, 
 use Rattle.rx_engine.specs.Engine.{IsAt}
 use Rattle.rx_top.specs.Reader.{max_input_bytes, Took}
 use Rattle.rx_top.proofs.Exits.{Along}
+use Rattle.rx_top.proofs.Growth.{HasGrown}
 use Rattle.rx_top.proofs.play.play.Given as goal
 
 abbrev pub invariant-lines : goal.invariant-lines
 invariant-lines g l = record {
-  along : g.S.Source.tells → Along g.D.Disk g.D.Disk.tells g.K.Sink.tells l.fn.disk l.disk l.fn.first
+  along : g.S.Source.tells → Along g.D.Disk g.K.Sink.tells l.fn.disk l.disk l.fn.first
       l.engine (g.K.Sink.written l.fn.out) (g.K.Sink.written l.out) (g.S.Source.left l.fn.source)
       (l.reader.unread ++ g.S.Source.left l.source) l.number l.refused;
-  at : g.D.Disk.tells → (bodies : List (List ℕ)) × IsAt g.D.Disk l.disk l.engine bodies;
+  grown : g.D.Disk.tells → (bodies : List (List ℕ)) → IsAt g.D.Disk l.fn.disk l.fn.first bodies
+      → HasGrown g.D.Disk l.fn.disk l.disk l.engine bodies;
   took : g.S.Source.tells
       → Took 0 (g.S.Source.left l.fn.source) (g.S.Source.left l.source) (λ n. n ≡ l.reader.given);
   source_faults : g.S.Source.faults l.fn.source ≤ g.S.Source.faults l.source;

@@ -1,51 +1,129 @@
-use Rattle.std.proofs.Common.{◌++◌, ◌∷◌, [], ℕ, refl, subst}
-use Rattle.rx_engine.specs.Engine.{limit_of}
+use Rattle.std.proofs.Common.{◌++◌, ◌∷◌, [], ⊎_elim, Err, ap, sym, append-nil, subst}
 use Rattle.rx_engine.specs.Opening.{epoch_body, opened}
-use Rattle.rx_session.specs.Session.{Session}
 use Rattle.rx_outside.specs.declared.stop.Stop.TheVariants.{NotJournal}
-use Rattle.rx_top.specs.Run.{Exit}
-use Rattle.rx_top.proofs.Heads.{no_reader, open_stopped, played, same_open}
+use Rattle.std.specs.Prelude.{⊤}
+use Rattle.rx_session.specs.Session.{Session}
+use Rattle.rx_world.specs.World.{empty}
+use Rattle.rx_top.specs.Lines.{lines}
+use Rattle.rx_top.specs.Run.{KeepsRun, Plays}
+use Rattle.rx_top.specs.Script.{line_effect}
+use Rattle.rx_top.specs.declared.cause.Cause.TheVariants.{Read, Work}
+use Rattle.rx_top.specs.declared.cause.ReadFault.TheVariants as ReadFault
+use Rattle.rx_top.proofs.Chunks.{stays_legal}
+use Rattle.rx_top.proofs.Growth.{legal_on}
+use Rattle.rx_top.proofs.Heads.{needs_journal, no_reader_keeps, not_both, open_keeps, played_keeps, said_as, same_open, still_legal, unplayed, untouched}
 use Rattle.rx_top.proofs.top.run.Goals as goal
 
 pub returns-in-Err-clause-run : goal.returns-in-Err-clause-run
 returns-in-Err-clause-run g c = λ told t bodies w start.
-    no_reader g.D.Disk c.args.disk.now g.K.Sink.tells (g.K.Sink.written c.args.out.now) bodies w
-    (g.S.Source.left c.args.source.now) (g.S.Source.left c.args.source.now) c.args.limit start
+    let input = g.S.Source.left c.args.source.now in
+    unplayed g.K.Sink.tells _ _ input _ (opened w) (Err (Read ReadFault.Memory))
+    (KeepsRun g.D.Disk c.args.disk.now c.args.disk.now bodies w c.args.limit (Err (Read ReadFault.Memory)))
+    tt (λ k. sym (append-nil (g.K.Sink.written c.args.out.now)))
+    (no_reader_keeps g.D.Disk bodies w c.args.limit c.args.disk.now (lines input) start
+    (λ f. g.met.D.Disk.only_now c.args.disk.now f t)
+    (λ s f le now. g.met.D.Disk.counts_now c.args.disk.now s f t le now))
+
+pub returns-in-Err-clause-legal : goal.returns-in-Err-clause-legal
+returns-in-Err-clause-legal g c = λ t bodies w start.
+    still_legal g.D.Disk bodies w c.args.disk.now start
     (λ f. g.met.D.Disk.only_now c.args.disk.now f t)
     (λ s f le now. g.met.D.Disk.counts_now c.args.disk.now s f t le now)
 
 pub play-requires-clause-at : goal.play-requires-clause-at
 play-requires-clause-at g c = λ t.
     let stood = c.in-Ok-open.ensures.stood t in
-    (stood.0 ++ epoch_body stood.1 ∷ [], (c.in-Ok-open.ensures.opened t stood.0 stood.1 stood.2).1)
+    (stood.0 ++ epoch_body stood.1 ∷ [], (c.in-Ok-open.ensures.safe t stood.0 stood.1 stood.2).at)
 
 pub returns-in-Ok-open-clause-run : goal.returns-in-Ok-open-clause-run
 returns-in-Ok-open-clause-run g c = λ told t bodies w start.
     let found = c.in-Ok-open.ensures.opened t bodies w start.legal in
-    played g.D.Disk c.args.disk.now c.open.new.disk c.play.new.disk g.K.Sink.tells
-    (g.K.Sink.written c.args.out.now) (g.K.Sink.written c.play.new.out) bodies w
-    (g.S.Source.left c.args.source.now) (g.S.Source.left c.play.new.source) c.args.limit c.play.result
-    (c.open.ensures.moments t bodies w start.legal start.alike)
-    (c.in-Ok-open.ensures.fits t bodies w start.legal)
-    (subst (λ (n : ℕ). Exit g.D.Disk c.open.new.disk c.play.new.disk g.K.Sink.tells
-    (g.K.Sink.written c.args.out.now) (g.K.Sink.written c.play.new.out)
-    (bodies ++ epoch_body w ∷ []) (g.S.Source.left c.args.source.now)
-    (g.S.Source.left c.play.new.source) (opened w) n c.play.result) c.in-Ok-open.ensures.limit
-    (subst (λ (s : Session). Exit g.D.Disk c.open.new.disk c.play.new.disk g.K.Sink.tells
-    (g.K.Sink.written c.args.out.now) (g.K.Sink.written c.play.new.out)
-    (bodies ++ epoch_body w ∷ []) (g.S.Source.left c.args.source.now)
-    (g.S.Source.left c.play.new.source) s (limit_of c.in-Ok-open.engine) c.play.result) found.0
-    (c.play.ensures.exit told t (bodies ++ epoch_body w ∷ []) found.1)))
+    let safe = c.in-Ok-open.ensures.safe t bodies w start.legal in
+    subst (λ (s : Session). Plays line_effect g.K.Sink.tells (g.K.Sink.written c.args.out.now)
+    (g.K.Sink.written c.play.new.out) (g.S.Source.left c.args.source.now)
+    (g.S.Source.left c.play.new.source) s c.play.result
+    (KeepsRun g.D.Disk c.args.disk.now c.play.new.disk bodies w c.args.limit c.play.result)) found
+    (said_as _ _
+    (λ done rest kept. played_keeps g.D.Disk bodies w c.args.limit c.args.disk.now c.open.new.disk
+    c.play.new.disk c.in-Ok-open.engine c.play.result done rest
+    (safe.moments start.alike) (⊎_elim (λ none. cc) (λ le. le) safe.fits) c.in-Ok-open.ensures.limit found
+    safe.at t kept)
+    (c.play.ensures.exit told))
+
+pub returns-in-Ok-open-clause-legal : goal.returns-in-Ok-open-clause-legal
+returns-in-Ok-open-clause-legal g c = λ t bodies w start.
+    let safe = c.in-Ok-open.ensures.safe t bodies w start.legal in
+    legal_on g.D.Disk c.args.disk.now c.open.new.disk c.play.new.disk bodies (epoch_body w ∷ [])
+    (safe.moments start.alike) (c.play.ensures.legal t (bodies ++ epoch_body w ∷ []) safe.at)
 
 pub returns-clause-run : goal.returns-clause-run
 returns-clause-run g c = λ told t bodies w start.
-    open_stopped g.D.Disk c.args.disk.now c.open.new.disk g.K.Sink.tells
-    (g.K.Sink.written c.args.out.now) (g.K.Sink.written c.args.out.now) bodies w
-    (g.S.Source.left c.args.source.now) (g.S.Source.left c.args.source.now) c.args.limit
-    c.in-Err-open.stop (λ _. refl) (c.open.ensures.moments t bodies w start.legal start.alike)
+    let input = g.S.Source.left c.args.source.now in
+    unplayed g.K.Sink.tells _ _ input _ (opened w) (Err (Work c.in-Err-open.stop))
+    (KeepsRun g.D.Disk c.args.disk.now c.open.new.disk bodies w c.args.limit (Err (Work c.in-Err-open.stop)))
+    tt (λ k. sym (append-nil (g.K.Sink.written c.args.out.now)))
+    (open_keeps g.D.Disk bodies w c.args.limit c.args.disk.now c.open.new.disk c.in-Err-open.stop
+    (lines input)
+    ((c.in-Err-open.ensures.safe t bodies w start.legal).moments start.alike)
     (λ s f le now. g.met.D.Disk.counts_now c.open.new.disk s f t le now)
-    (c.in-Err-open.ensures.full t bodies w start.legal)
+    (c.in-Err-open.ensures.safe t bodies w start.legal).full
+    (λ f. g.met.D.Disk.only_now c.args.disk.now f t) start)
+
+pub returns-clause-legal : goal.returns-clause-legal
+returns-clause-legal g c = λ t bodies w start.
+    stays_legal g.D.Disk c.args.disk.now c.open.new.disk bodies (epoch_body w ∷ [])
+    ((c.in-Err-open.ensures.safe t bodies w start.legal).moments start.alike)
+    (λ s f le now. g.met.D.Disk.counts_now c.open.new.disk s f t le now)
 
 pub returns-clause-not_journal : goal.returns-clause-not_journal
-returns-clause-not_journal g c = λ t is.
-    c.in-Err-open.ensures.not_journal t (same_open c.in-Err-open.stop NotJournal is)
+returns-clause-not_journal g c = λ t is bodies w legal.
+    (c.in-Err-open.ensures.safe t bodies w legal).not_journal (same_open c.in-Err-open.stop NotJournal is)
+
+-- ---- over any disk
+
+pub returns-in-Err-clause-over_any_disk : goal.returns-in-Err-clause-over_any_disk
+returns-in-Err-clause-over_any_disk g c = λ told. (
+  empty,
+  unplayed g.K.Sink.tells _ _ (g.S.Source.left c.args.source.now) _ (opened empty)
+      (Err (Read ReadFault.Memory)) (λ done rest. ⊤) tt
+      (λ k. sym (append-nil (g.K.Sink.written c.args.out.now))) tt,
+)
+
+pub returns-clause-over_any_disk : goal.returns-clause-over_any_disk
+returns-clause-over_any_disk g c = λ told. (
+  empty,
+  unplayed g.K.Sink.tells _ _ (g.S.Source.left c.args.source.now) _ (opened empty)
+      (Err (Work c.in-Err-open.stop)) (λ done rest. ⊤) tt
+      (λ k. sym (append-nil (g.K.Sink.written c.args.out.now))) tt,
+)
+
+pub returns-in-Ok-open-clause-over_any_disk : goal.returns-in-Ok-open-clause-over_any_disk
+returns-in-Ok-open-clause-over_any_disk g c = λ told.
+    let begun = c.in-Ok-open.ensures.begun in (
+      begun.0,
+      subst (λ (s : Session). Plays line_effect g.K.Sink.tells (g.K.Sink.written c.args.out.now)
+          (g.K.Sink.written c.play.new.out) (g.S.Source.left c.args.source.now)
+          (g.S.Source.left c.play.new.source) s c.play.result (λ done rest. ⊤)) begun.1
+          (said_as _ _ (λ done rest kept. tt) (c.play.ensures.exit told)),
+    )
+
+-- ---- files that aren't legal
+
+pub returns-in-Err-clause-illegal : goal.returns-in-Err-clause-illegal
+returns-in-Err-clause-illegal g c = λ t illegal.
+    untouched g.D.Disk c.args.disk.now (λ f. g.met.D.Disk.only_now c.args.disk.now f t)
+
+pub returns-clause-illegal : goal.returns-clause-illegal
+returns-clause-illegal g c = λ t illegal. c.in-Err-open.ensures.illegal t illegal
+
+pub returns-in-Ok-open-clause-illegal : goal.returns-in-Ok-open-clause-illegal
+returns-in-Ok-open-clause-illegal g c = λ t illegal.
+    not_both (g.D.Disk.content c.args.disk.now) illegal (c.in-Ok-open.ensures.stood t)
+
+pub returns-in-Ok-open-clause-stood : goal.returns-in-Ok-open-clause-stood
+returns-in-Ok-open-clause-stood g c = λ t needs. c.in-Ok-open.ensures.stood t
+
+pub returns-clause-stood : goal.returns-clause-stood
+returns-clause-stood g c = λ t needs.
+    let full = needs_journal c.in-Err-open.stop needs in
+    c.in-Err-open.ensures.full_stood t full.0 full.1 (ap Err full.2)
