@@ -177,12 +177,20 @@ def closed_streams(folder):
     return "input fails with 4, output with 5, and the journal never stands in their place"
 
 
+def needs_strace():
+    if not shutil.which("strace"):
+        raise Skipped("strace is not there")
+    if subprocess.run(["strace", "-qq", "-o", os.devnull, "true"], check=False,
+                      stderr=subprocess.DEVNULL).returncode:
+        raise Skipped("strace may not trace here")
+
+
 def trace(folder, journal, lines):
-    """The system calls of a run, in order, each as its name and its words."""
+    """The system calls of a run, in order, each as its name, its words and its answer."""
     out = os.path.join(folder, "trace")
     command = ["strace", "-qq", "-o", out, "-e",
                "trace=openat,fsync,fdatasync,flock,pread64,pwrite64,write,close", RX]
-    status, _ = run(journal, lines, command=command)
+    status, _ = run(journal, lines, command=command, cwd=folder)
     insist(status == 0, f"the traced run ended with {status}")
     with open(out, encoding="utf-8", errors="replace") as file:
         calls = (re.match(r"(\w+)\((.*)\)\s+= (-?\d+)", line) for line in file)
@@ -190,38 +198,38 @@ def trace(folder, journal, lines):
 
 
 def order_of_calls(folder):
-    if not shutil.which("strace"):
-        raise Skipped("strace is not there")
-    if subprocess.run(["strace", "-qq", "-o", os.devnull, "true"], check=False,
-                      stderr=subprocess.DEVNULL).returncode:
-        raise Skipped("strace may not trace here")
-    journal = os.path.join(folder, "journal")
-    for keys in (["a", "b"], ["c", "d"]):
-        calls = trace(folder, journal, inserts(keys))
-        calls = calls[[place for place, (name, words, answer) in enumerate(calls)
-                       if name == "openat" and f'"{journal}"' in words and answer >= 0][0]:]
-        folders = [place for place, (name, words, _) in enumerate(calls)
-                   if name == "openat" and f'"{folder}"' in words]
-        insist(len(folders) == 1, f"the folder was opened {len(folders)} times")
-        descriptor = calls[folders[0]][2]
-        insist(("fsync", str(descriptor), 0) in calls[folders[0]:], "the folder was not synced")
-        names = [name for name, _, _ in calls]
-        insist("flock" in names, "the file was not locked")
-        reply = names.index("write")
-        insist(folders[0] < reply, "a reply was written before the folder was synced")
-        locked = names.index("flock")
-        insist("LOCK_EX|LOCK_NB" in calls[locked][1], f"the lock: {calls[locked][1]}")
-        touched = [names.index(name) for name in ("pread64", "pwrite64") if name in names]
-        insist(locked < min(touched), "the file was read or written before it was locked")
-        opened = calls[locked][1].split(",")[0]
-        insist(("close", opened, 0) not in calls[:len(calls) - 1 - names[::-1].index("write")],
-               "the lock was given up before the last reply")
+    needs_strace()
+    for journal, parent in ((os.path.join(folder, "journal"), folder), ("near", ".")):
+        for keys in (["a", "b"], ["c", "d"]):
+            calls = trace(folder, journal, inserts(keys))
+            opened = [place for place, (name, words, answer) in enumerate(calls)
+                      if name == "openat" and f'"{journal}"' in words and answer >= 0]
+            insist(len(opened) == 1, f"the journal was opened {len(opened)} times")
+            locked_and_named(calls[opened[0]:], parent)
     return "each run locks before it reads or writes, and syncs the folder once, before any reply"
 
 
+def locked_and_named(calls, parent):
+    """The calls of a run from where it opened its journal on."""
+    journal = str(calls[0][2])
+    names = [name for name, _, _ in calls]
+    insist("flock" in names, "the file was not locked")
+    locked = names.index("flock")
+    insist(calls[locked][1] == f"{journal}, LOCK_EX|LOCK_NB", f"the lock: {calls[locked][1]}")
+    touched = [names.index(name) for name in ("pread64", "pwrite64") if name in names]
+    insist(locked < min(touched), "the file was read or written before it was locked")
+    replies = [place for place, name in enumerate(names) if name == "write"]
+    insist(("close", journal, 0) not in calls[:replies[-1]], "the lock was given up before the end")
+    folders = [place for place, (name, words, _) in enumerate(calls)
+               if name == "openat" and f'"{parent}"' in words]
+    insist(len(folders) == 1, f"the folder was opened {len(folders)} times")
+    insist(folders[0] < replies[0], "a reply was written before the folder was synced")
+    synced = ("fsync", str(calls[folders[0]][2]), 0)
+    insist(synced in calls[folders[0]:replies[0]], "the folder was not synced")
+
+
 def synced_before_reply(folder):
-    if not shutil.which("strace"):
-        raise Skipped("strace is not there")
+    needs_strace()
     journal = os.path.join(folder, "journal")
     calls = trace(folder, journal, inserts([f"k{key}" for key in range(20)]))
     open_writes = 0
