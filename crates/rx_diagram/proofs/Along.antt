@@ -1,4 +1,4 @@
--- A walk that counts the states that it asks.
+-- A walk that counts the questions that it asks.
 use Rattle.std.proofs.Common.{◌≡◌, ◌≢◌, ℕ, suc, ◌+◌, ◌-◌, ◌<◌, ◌≤◌, ◌^◌, ◌↔◌, ◌⊎◌, inl, inr, Bool, true, false, List, length, refl, sym, ap, ◌∙◌, subst, arith}
 use Rattle.std.proofs.Math.Pow.{pow_mono}
 use Rattle.rx_table.specs.declared.action.Action.{Action}
@@ -15,12 +15,14 @@ use Rattle.rx_diagram.proofs.Walks.{final-act}
 use Rattle.rx_diagram.proofs.Paths.{IsRight, Reaches, reaches_root, reaches_next, matters, matters_not}
 use Rattle.rx_diagram.proofs.Numbers.{bit-above, bit-low, bit-here, pow-suc}
 
+-- where the walk is for these answers, and that it asked exactly the questions before i that matter
 pub record Along (ns : List Node) (root : Edge) (n i : ℕ) (e : Edge) (asked : ℕ) : Type 0 where
   pub reaches : Reaches ns root n i e
   pub within : i ≤ 19
   pub small : asked < 2 ^ i
   pub exact : (j : ℕ) → j < i → is_set asked j ≡ true ↔ Matters n j
 
+-- it begins at the root
 pub along_root : (ns : List Node) (root : Edge) (n : ℕ) → From ns 0 root → Along ns root n 0 root 0
 along_root ns root n f = record {
   reaches = reaches_root ns root n f;
@@ -29,7 +31,7 @@ along_root ns root n f = record {
   exact = λ j lt. absurd (omega arith);
 }
 
--- the states up to l of which none but l is asked from i on
+-- a node on the way: its question is asked, and none between i and it
 pub along_next : (ns : List Node) (root : Edge) → IsRight ns root → (n i k asked : ℕ)
     → Along ns root n i (To k) asked
     → Along ns root n (suc (level ns k)) (edge_of (is_set n (level ns k)) (node ns k))
@@ -67,12 +69,14 @@ along_next ns root w n i k asked a = record {
               (a.reaches.from.0, lt) m),
         )
 
+-- at an action it is the one of the answers
 pub along_action : (ns : List Node) (root : Edge) → IsRight ns root → (n i asked : ℕ) (act : Action)
     → n < 2 ^ 19 → Along ns root n i (Act act) asked → act ≡ table_of n
 along_action ns root w n i asked act lt a =
     let e : Act act ≡ Act (table_of n) = sym (final-act ns (answers_of n) act)
     ∙ sym (a.reaches.same (answers_of n) (λ j below. refl)) ∙ w.right n lt in cc
 
+-- and what it asked are all questions that matter
 pub along_end : (ns : List Node) (root : Edge) → IsRight ns root → (n i asked : ℕ) (act : Action)
     → Along ns root n i (Act act) asked → IsAsked n asked
 along_end ns root w n i asked act a = record {
@@ -89,6 +93,7 @@ along_end ns root w n i asked act a = record {
           λ m. absurd (matters_not ns root w n i j (Act act) a.reaches (omega arith) tt m),
         )
 
+-- the root of the diagram is right
 pub right_of_diagram : (ns : List Node) → IsDiagram ns → IsRight ns (root_of ns)
 unfolding final
 right_of_diagram ns d = record {
@@ -102,6 +107,7 @@ pub record Walked (ns : List Node) (n : ℕ) (e : Edge) (asked : ℕ) : Type 0 w
   pub i : ℕ
   pub along : Along ns (root_of ns) n i e asked
 
+-- it begins at the root
 pub walked_root : (ns : List Node) (n : ℕ) → IsDiagram ns → Walked ns n (root_of ns) 0
 walked_root ns n d = record {
   i = 0;
@@ -109,6 +115,7 @@ walked_root ns n d = record {
       (omega arith, omega arith));
 }
 
+-- it goes on along the edge of the answer
 pub walked_next : (ns : List Node) (n k asked : ℕ) → IsDiagram ns → Walked ns n (To k) asked
     → Walked ns n (edge_of (is_set n (level ns k)) (node ns k)) (asked + 2 ^ level ns k)
 walked_next ns n k asked d w = record {
@@ -116,17 +123,19 @@ walked_next ns n k asked d w = record {
   along = along_next ns (root_of ns) (right_of_diagram ns d) n w.i k asked w.along;
 }
 
+-- at an action it is the one of the answers
 pub walked_action : (ns : List Node) (n asked : ℕ) (act : Action) → IsDiagram ns → n < 2 ^ 19
     → Walked ns n (Act act) asked → act ≡ table_of n
 walked_action ns n asked act d lt w = along_action ns (root_of ns) (right_of_diagram ns d) n w.i
     asked act lt w.along
 
+-- and what it asked are all questions that matter
 pub walked_end : (ns : List Node) (n asked : ℕ) (act : Action) → IsDiagram ns
     → Walked ns n (Act act) asked → IsAsked n asked
 walked_end ns n asked act d w = along_end ns (root_of ns) (right_of_diagram ns d) n w.i asked act
     w.along
 
--- at a node: it is there, and no state from its own on was asked
+-- at a node: it is there, and no question from its own on was asked
 pub walked_here : (ns : List Node) (n k asked : ℕ) → Walked ns n (To k) asked
     → (k < length ns) × (asked < 2 ^ level ns k)
 walked_here ns n k asked w =
@@ -153,6 +162,7 @@ walked_step ns n k asked asked' e e' nd answer d w is node_is answer_is edge_is 
     (subst (λ (m : ℕ). Walked ns n (edge_of (is_set n (level ns k)) (node ns k)) m) sum
     (walked_next ns n k asked d w'))
 
+-- each step comes nearer to the end
 pub step_smaller : (ns : List Node) (n k asked : ℕ) (e e' : Edge) (nd : Node) (answer : Bool)
     → IsDiagram ns → Walked ns n e asked → e ≡ To k → nd ≡ node ns k
     → e' ≡ edge_of answer nd → rank e' < rank e
@@ -164,6 +174,7 @@ step_smaller ns n k asked e e' nd answer d w is node_is edge_is =
     ∙ ap (λ (x : Node). edge_of answer x) node_is in
     rw (there, is) (omega arith)
 
+-- no later question was asked
 pub step_fits : (ns : List Node) (n k asked : ℕ) (e : Edge) (nd : Node) → Walked ns n e asked
     → e ≡ To k → nd ≡ node ns k → asked < 2 ^ index_of nd.state
 step_fits ns n k asked e nd w is node_is =

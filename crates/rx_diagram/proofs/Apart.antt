@@ -1,4 +1,4 @@
--- Actions, states and edges can be told apart.
+-- Actions, questions and edges can be told apart.
 use Rattle.std.proofs.Common.{◌≡◌, ◌≢◌, ℕ, zero, suc, ◌<◌, ◌⊎◌, inl, inr, List, [], ◌∷◌, get_or, refl, sym, ap, ◌∙◌, arith}
 use Rattle.rx_table.specs.declared.action.Action.{Action}
 use Rattle.rx_table.specs.declared.action.Action.TheVariants.{DoNothing, InsertFirst, InsertLast, RemoveFirstItem, RemoveLastItem, RemoveFirstInsertLast, RemoveLastInsertFirst, RemoveFirstInsertFirst, RemoveLastInsertLast, RemoveExisting, ReplaceExisting, InsertAtSortPosition, RemoveExistingAndInsertAtSortPosition, RunFullQueryAgain, InsertAtSortPositionRemoveLast}
@@ -17,6 +17,7 @@ all_actions = DoNothing ∷ InsertFirst ∷ InsertLast ∷ RemoveFirstItem ∷ R
     ∷ RemoveExistingAndInsertAtSortPosition ∷ RunFullQueryAgain ∷ InsertAtSortPositionRemoveLast
     ∷ []
 
+-- each at its place
 action_at_place : (a : Action) → get_or all_actions (place_of a) DoNothing ≡ a
 unfolding all_actions
 action_at_place DoNothing = refl
@@ -35,6 +36,7 @@ action_at_place RemoveExistingAndInsertAtSortPosition = refl
 action_at_place RunFullQueryAgain = refl
 action_at_place InsertAtSortPositionRemoveLast = refl
 
+-- numbers are one or not
 pub nat_same : (m n : ℕ) → (m ≡ n) ⊎ (m ≢ n)
 nat_same zero zero = inl refl
 nat_same zero (suc n) = inr (λ e. cc)
@@ -50,12 +52,14 @@ pub same_place : (a c : Action) → place_of a ≡ place_of c → a ≡ c
 same_place a c e =
     sym (action_at_place a) ∙ ap (λ k. get_or all_actions k DoNothing) e ∙ action_at_place c
 
+-- so are actions
 pub action_same : (a c : Action) → (a ≡ c) ⊎ (a ≢ c)
 action_same a c = elim (nat_same (place_of a) (place_of c)) [
   | inl e ↦ inl (same_place a c e)
   | inr e ↦ inr (λ h. e (ap place_of h))
 ]
 
+-- and edges
 pub edge_same : (e f : Edge) → (e ≡ f) ⊎ (e ≢ f)
 edge_same (Act a) (Act c) =
     elim (action_same a c) [ inl e ↦ inl (ap Act e) | inr e ↦ inr (λ h. let g : a ≡ c = cc in e g) ]
@@ -67,6 +71,7 @@ edge_same (To j) (To k) = elim (nat_same j k) [
       ≡ k = cc in e g)
 ]
 
+-- each question at its number
 state_at_index : (s : StateName) → get_or all_states (index_of s) IsInsert ≡ s
 state_at_index IsInsert = refl
 state_at_index IsUpdate = refl
@@ -88,10 +93,12 @@ state_at_index IsSortedAfterLast = refl
 state_at_index WasMatching = refl
 state_at_index DoesMatchNow = refl
 
+-- questions of one number are one
 pub same_state : (s t : StateName) → index_of s ≡ index_of t → s ≡ t
 same_state s t e = sym (state_at_index s) ∙ ap (λ k. get_or all_states k IsInsert) e
     ∙ state_at_index t
 
+-- there are nineteen
 pub index_small : (s : StateName) → index_of s < 19
 index_small IsInsert = omega arith
 index_small IsUpdate = omega arith

@@ -1,4 +1,4 @@
--- The diagram of the table, from its last state to its first.
+-- The diagram of the table, from its last question to its first.
 use Rattle.std.proofs.Common.{◌≡◌, ◌≢◌, ℕ, zero, suc, ◌+◌, ◌-◌, ◌*◌, ◌<◌, ◌≤◌, ◌^◌, ◌%◌, ◌/◌, ◌⊎◌, inl, inr, Bool, true, false, cond, eqb, ◌||◌, List, [], length, refl, sym, ap, ◌∙◌, subst, arith}
 use Rattle.std.specs.List.{list_any}
 use Rattle.std.proofs.lemmas.Nat.{mod-pow-add}
@@ -23,7 +23,7 @@ use Rattle.rx_diagram.proofs.Numbers.{pow-suc}
 use Rattle.rx_diagram.proofs.Walks.{from_lower, final-act, final_same}
 use Rattle.rx_diagram.proofs.Grows.{longer_refl, longer_trans, from_longer, final_longer, any_longer, to_is, either_left, either_right}
 
--- all states are answered
+-- all questions are answered
 pub built_leaf : (ns : List Node) (k : ℕ) → IsReduced ns → IsBuilt ns ns 19 k (Act (table_of k))
 built_leaf ns k r = record {
   grown = longer_refl ns;
@@ -35,6 +35,7 @@ built_leaf ns k r = record {
   led = λ j le lt. absurd (omega arith);
 }
 
+-- a bit times its weight, by cases
 by_bit : (d p r x : ℕ) → d < 2 → x ≡ d * p + r → x ≡ cond (eqb d 1) p 0 + r
 by_bit zero p r x lt e = omega arith
 by_bit (suc zero) p r x lt e = omega arith
@@ -48,7 +49,7 @@ mod_next n i =
     by_bit (n / 2 ^ i % 2) (2 ^ i) (n % 2 ^ i) (n % 2 ^ suc i) (omega arith)
     (ap (λ (j : ℕ). n % 2 ^ j) same ∙ e)
 
--- both answers of a state, and its node
+-- both answers of a question, and its node
 pub built_node : (old mid late new : List Node) (i k : ℕ) (low high e : Edge) (nd : Node) → i < 19
     → index_of nd.state ≡ i → nd.no ≡ low → nd.yes ≡ high
     → IsBuilt old mid (suc i) k low → IsBuilt mid late (suc i) (k + 2 ^ i) high
@@ -117,13 +118,16 @@ built_step old mid late new i k low high e nd small level_is low_is high_is a b 
     (subst (λ (j : ℕ). IsBuilt old mid j k low) one a)
     (subst (λ (j : ℕ). IsBuilt mid late j (k + 2 ^ i) high) one b) s
 
+-- each question halves the room that is left
 pub pow_left : (i : ℕ) → i < 19 → 2 ^ (19 - i) ≡ 2 * 2 ^ (19 - (i + 1))
 pow_left i lt = let e : 19 - i ≡ suc (19 - (i + 1)) = omega arith in
     ap (λ (j : ℕ). 2 ^ j) e ∙ pow-suc (19 - (i + 1))
 
+-- and doubles the numbers of the answers before it
 pub pow_up : (i : ℕ) → 2 ^ (i + 1) ≡ 2 * 2 ^ i
 pow_up i = let e : i + 1 ≡ suc i = omega arith in ap (λ (j : ℕ). 2 ^ j) e ∙ pow-suc i
 
+-- the same, as the code has it
 pub built_end : (ns : List Node) (i k : ℕ) (a : Action) → i ≡ 19 → a ≡ table_of k → IsReduced ns
     → IsBuilt ns ns i k (Act a)
 built_end ns i k a i_is a_is r = subst (λ (j : ℕ). IsBuilt ns ns j k (Act a)) (sym i_is)
@@ -143,6 +147,7 @@ is_later mid late old i k m nd level_is a b =
     side true = b.from
     side false = from_longer mid late b.grown (i + 1) nd.no a.from
 
+-- where there are no nodes all is well
 pub no_nodes_reduced : IsReduced []
 no_nodes_reduced = record {
   ordered = λ answer j k lt. absurd (omega arith);
@@ -150,6 +155,7 @@ no_nodes_reduced = record {
   one_node = λ j k lt. absurd (omega arith);
 }
 
+-- an edge leads to one node alone
 to_other : (k j : ℕ) → k ≢ j → is_to j (To k) ≡ false
 to_other k j ne = grind (arith, nat_tests)
 
@@ -170,10 +176,11 @@ last_not_led ns j r last h =
         sym (ap (λ (v : Bool). v || is_to j (node ns k).yes) v_is) ∙ leads in
         let less = (r.ordered true k j lt (to_is j (node ns k).yes yes_is)).0 in omega arith
 
--- the answers before state 4 don't count
+-- the first four answers don't count
 unfoldable cleared : ℕ → ℕ
 cleared n = n / 2 ^ 4 * 2 ^ 4
 
+-- the bits from the fifth on are kept
 bit-cleared : (n j : ℕ) → 4 ≤ j → is_set (cleared n) j ≡ is_set n j
 unfolding cleared
 bit-cleared n j le =
@@ -185,10 +192,12 @@ bit-cleared n j le =
     ∙ ap (λ (v : ℕ). eqb v 1) (bit_at_cat_high q 4 0 j (omega arith) le
     ∙ sym (bit_at_cat_high q 4 r j (omega arith) le)) ∙ ap (λ (v : ℕ). is_set v j) whole
 
+-- such a number is in range
 cleared_in : (n : ℕ) → n < 2 ^ 19 → cleared n < 2 ^ 19
 unfolding cleared
 cleared_in n lt = omega arith
 
+-- and its first four bits are none
 cleared_mod : (n : ℕ) → cleared n % 2 ^ 4 ≡ 0
 unfolding cleared
 cleared_mod n = omega arith
@@ -244,6 +253,7 @@ cleared_late n IsSortedAfterLast = bit-cleared n 16 (omega arith)
 cleared_late n WasMatching = bit-cleared n 17 (omega arith)
 cleared_late n DoesMatchNow = bit-cleared n 18 (omega arith)
 
+-- so the first four answers may be any
 table_cleared : (n : ℕ) → table_of (cleared n) ≡ table_of n
 table_cleared n =
     ap action_of (λ i s. cleared_late n s i) ∙ table_late (holds n) (holds (cleared n))

@@ -8,21 +8,25 @@ use Rattle.rx_diagram.proofs.Apart.{same_state, edge_same, nat_same}
 use Rattle.rx_diagram.proofs.Walks.{from_lower, from_next, final-act, final-to}
 use Rattle.std.proofs.lemmas.Bool.Decides.{nat_tests}
 
--- the answers with that of one state put in
+-- the answers with that of one question put in
 abbrev pub put : ℕ → Bool → (ℕ → Bool) → ℕ → Bool
 put i v b j = cond (eqb j i) v (b j)
 
+-- there it is
 pub put_here : (i : ℕ) (v : Bool) (b : ℕ → Bool) → put i v b i ≡ v
 put_here i v b = grind (arith, nat_tests)
 
+-- and elsewhere the answers are as they were
 pub put_other : (i : ℕ) (v : Bool) (b : ℕ → Bool) (j : ℕ) → j ≢ i → put i v b j ≡ b j
 put_other i v b j ne = grind (arith, nat_tests)
 
+-- answers that are those of b before question i, and lead from two edges to two actions
 pub record Parting (ns : List Node) (i : ℕ) (e f : Edge) (b : ℕ → Bool) : Type 0 where
   pub answers : ℕ → Bool
   pub before : (j : ℕ) → j < i → answers j ≡ b j
   pub apart : final ns answers e ≢ final ns answers f
 
+-- the edges may be swapped
 swapped : (ns : List Node) (i : ℕ) (e f : Edge) (b : ℕ → Bool) → Parting ns i e f b
     → Parting ns i f e b
 swapped ns i e f b p = record {
@@ -31,10 +35,12 @@ swapped ns i e f b p = record {
   apart = λ h. p.apart (sym h);
 }
 
+-- how far an edge is from the actions at most
 abbrev pub rank : Edge → ℕ
 rank (Act a) = 0
 rank (To k) = suc k
 
+-- a node's edges are nearer
 pub child_rank : (ns : List Node) → IsReduced ns → (v : Bool) (k : ℕ) → k < length ns
     → rank (edge_of v (node ns k)) ≤ k
 child_rank ns r v k lt = below (edge_of v (node ns k)) refl
@@ -43,7 +49,7 @@ child_rank ns r v k lt = below (edge_of v (node ns k)) refl
     below (Act a) is = omega arith
     below (To j) is = let o = r.ordered v k j lt is in omega arith
 
--- what parts c and d under the answer v of state l parts e and f before
+-- what parts c and d under the answer v of question l parts e and f before
 lifted : (ns : List Node) (i l : ℕ) (v : Bool) (b : ℕ → Bool) (e f c d : Edge) → i ≤ l
     → ((a : ℕ → Bool) → a l ≡ v → final ns a e ≡ final ns a c)
     → ((a : ℕ → Bool) → a l ≡ v → final ns a f ≡ final ns a d)
@@ -56,15 +62,17 @@ lifted ns i l v b e f c d le to_c to_d p =
       apart = λ h. p.apart (sym (to_c p.answers here) ∙ h ∙ to_d p.answers here);
     }
 
+-- a node is as its edge of the answer
 to_child : (ns : List Node) → IsReduced ns → (k : ℕ) → k < length ns → (v : Bool) (a : ℕ → Bool)
     → a (level ns k) ≡ v → final ns a (To k) ≡ final ns a (edge_of v (node ns k))
 to_child ns r k lt v a is = final-to ns r a k lt ∙ ap (λ w. final ns a (edge_of w (node ns k))) is
 
+-- two edges of that rank part
 abbrev pub PartsUpTo : List Node → ℕ → Type 0
 PartsUpTo ns t = (i : ℕ) (e f : Edge) (b : ℕ → Bool) → rank e + rank f ≤ t → From ns i e
     → From ns i f → e ≢ f → Parting ns i e f b
 
--- a node and an edge to a later state
+-- a node and an edge to a later question
 one_side : (ns : List Node) → IsReduced ns → (t : ℕ) → PartsUpTo ns t
     → (k : ℕ) (f : Edge) (i : ℕ) (b : ℕ → Bool)
     → suc k + rank f ≤ suc t → k < length ns → i ≤ level ns k → From ns (suc (level ns k)) f
@@ -82,7 +90,7 @@ one_side ns r t rec k f i b small lt le from = elim (edge_same (node ns k).no f)
         lifted ns i l v b (To k) f c f le (to_child ns r k lt v) (λ a is. refl)
         (rec (suc l) c f (put l v b) (omega arith) (from_next ns r k lt v) from ne)
 
--- two nodes of one state
+-- two nodes of one question
 both_sides : (ns : List Node) → IsReduced ns → (t : ℕ) → PartsUpTo ns t → (j k i : ℕ) (b : ℕ → Bool)
     → suc j + suc k ≤ suc t → j < length ns → k < length ns → i ≤ level ns j
     → level ns j ≡ level ns k → j ≢ k → Parting ns i (To j) (To k) b
@@ -111,6 +119,7 @@ both_sides ns r t rec j k i b small ltj ltk le same ne =
         (from_lower ns (suc l) (suc (level ns k)) d (omega arith) (from_next ns r k ltk v))
         apart)
 
+-- and so do any
 parts : (ns : List Node) → IsReduced ns → (t : ℕ) → PartsUpTo ns t
 parts ns r t i (Act a) (Act c) b small fe ff ne =
     record {
@@ -142,7 +151,7 @@ parts ns r (suc t) i (To j) (To k) b small fe ff ne = elim (order (level ns j) (
           (omega arith)
     ]
 
--- two edges that differ lead to two actions under some answers that are given up to the edges' states
+-- two edges that differ lead to two actions under some answers, given up to the edges' questions
 pub differ : (ns : List Node) → IsReduced ns → (i : ℕ) (e f : Edge) (b : ℕ → Bool) → From ns i e
     → From ns i f → e ≢ f → Parting ns i e f b
 differ ns r i e f b fe ff ne = parts ns r (rank e + rank f) i e f b (omega arith) fe ff ne

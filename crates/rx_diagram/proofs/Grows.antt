@@ -13,15 +13,18 @@ use Rattle.rx_diagram.specs.Building.{IsLater, IsLonger, IsShared}
 use Rattle.rx_diagram.proofs.Apart.{nat_same}
 use Rattle.rx_diagram.proofs.Walks.{from_lower, from_next, walk-zero, walk-act, walk-to, final-to}
 
+-- nodes begin with themselves
 pub longer_refl : (ns : List Node) → IsLonger ns ns
 longer_refl ns = record { longer = omega arith; kept = λ j lt. refl }
 
+-- and with what those begin with that they begin with
 pub longer_trans : (a b c : List Node) → IsLonger a b → IsLonger b c → IsLonger a c
 longer_trans a b c g h = record {
   longer = let x = g.longer in let y = h.longer in omega arith;
   kept = λ j lt. let x = g.longer in h.kept j (omega arith) ∙ g.kept j lt;
 }
 
+-- an edge leads to later questions among more nodes too
 pub from_longer : (old new : List Node) → IsLonger old new → (i : ℕ) (e : Edge) → From old i e
     → From new i e
 from_longer old new g i (Act a) f = tt
@@ -30,6 +33,7 @@ from_longer old new g i (To k) f =
     let same : level new k ≡ level old k = ap (λ (nd : Node). index_of nd.state) (g.kept k f.0) in
     (let lt = f.0 in omega arith, let le = f.1 in omega arith)
 
+-- and walks are the same
 walk_longer : (old new : List Node) → IsReduced old → IsLonger old new
     → (t : ℕ) (b : ℕ → Bool) (e : Edge) → From old 0 e → walk t new b e ≡ walk t old b e
 walk_longer old new r g zero b e f = walk-zero new b e ∙ sym (walk-zero old b e)
@@ -43,11 +47,13 @@ walk_longer old new r g (suc t) b (To k) f =
     (from_next old r k f.0 (b (level old k))))
     ∙ sym (walk-to t old b k)
 
+-- and so are their ends
 pub final_longer : (old new : List Node) → IsReduced old → IsLonger old new
     → (b : ℕ → Bool) (e : Edge) → From old 0 e → final new b e ≡ final old b e
 unfolding final
 final_longer old new r g b e f = walk_longer old new r g 19 b e f
 
+-- and what some node does, some node does
 pub any_longer : (p : Node → Bool) (old new : List Node) → IsLonger old new → list_any p old ≡ true
     → list_any p new ≡ true
 any_longer p old new g h =
@@ -57,9 +63,11 @@ any_longer p old new g h =
     let old_is : node old at.0 ≡ at.1 = get_or_default old at.0 _ at.1 at.2 ∙ at.3 in
     list_any_at p new at.0 _ lt (ap p (g.kept at.0 at.2 ∙ old_is) ∙ at.4)
 
+-- an edge leads to its node
 pub is_to_here : (j : ℕ) → is_to j (To j) ≡ true
 is_to_here j = grind (arith, nat_tests)
 
+-- and where it does, it is that edge
 pub to_is : (j : ℕ) (e : Edge) → is_to j e ≡ true → e ≡ To j
 to_is j (Act a) h = let bad : false ≡ true = h in cc
 to_is j (To k) h = let same : k ≡ j = grind (arith, nat_tests) in ap To same
@@ -78,9 +86,11 @@ any_leads ns k j answer lt is = list_any_at (leads_to j) ns k _ lt (leads answer
         by_yes false y h = h
     leads false is = ap (λ x. x || is_to j (node ns k).yes) (ap (is_to j) is ∙ is_to_here j)
 
+-- one of two
 pub either_left : (x y : Bool) → x ≡ true → (x || y) ≡ true
 either_left x y h = ap (λ v. v || y) h
 
+-- or the other
 pub either_right : (x y : Bool) → y ≡ true → (x || y) ≡ true
 either_right true y h = refl
 either_right false y h = h
@@ -123,6 +133,7 @@ shared_found ns nd k r lt is = record {
   fresh = λ j le small. absurd (omega arith);
 }
 
+-- with one more they are longer
 pub longer_push : (ns : List Node) (nd : Node) → IsLonger ns (ns ++ nd ∷ [])
 longer_push ns nd = record {
   longer = omega (arith, length-append ns (nd ∷ []));

@@ -6,10 +6,12 @@ use Rattle.rx_table.specs.States.{is_set}
 use Rattle.rx_diagram.specs.Asked.{number}
 use Rattle.rx_diagram.proofs.Apart.{nat_same}
 
+-- what is left of a number after its lowest bit
 half : (b : Bool) (n : ℕ) → (cond b 1 0 + 2 * n) / 2 ≡ n
 half true n = omega arith
 half false n = omega arith
 
+-- and that bit
 odd : (b : Bool) (n : ℕ) → eqb ((cond b 1 0 + 2 * n) % 2) 1 ≡ b
 odd true n = let r : (1 + 2 * n) % 2 ≡ 1 = omega arith in rw r refl
 odd false n = let r : (0 + 2 * n) % 2 ≡ 0 = omega arith in rw r refl
@@ -28,13 +30,16 @@ bit-number (suc t) b (suc j) lt =
     ∙ ap (λ (v : ℕ). is_set v j) (half (b 0) rest)
     ∙ bit-number t (λ i. b (suc i)) j (omega arith)
 
+-- one bit more doubles the range
 small_step : (b : Bool) (n p : ℕ) → n < p → cond b 1 0 + 2 * n < 2 * p
 small_step true n p lt = omega arith
 small_step false n p lt = omega arith
 
+-- as powers do
 pub pow-suc : (t : ℕ) → 2 ^ suc t ≡ 2 * 2 ^ t
 pow-suc t = omega arith
 
+-- so many answers stay below that power
 pub number-small : (t : ℕ) (b : ℕ → Bool) → number t b < 2 ^ t
 unfolding number
 number-small zero b = omega arith
@@ -50,6 +55,7 @@ pub bit-low : (n k i : ℕ) → i < k → is_set (n + 2 ^ k) i ≡ is_set n i
 bit-low n k i lt = ap (λ (v : ℕ). is_set v i) (let e : n + 2 ^ k ≡ 1 * 2 ^ k + n = omega arith in e)
     ∙ ap (λ v. eqb v 1) (bit_at_cat_low 1 k n i lt)
 
+-- it is set
 pub bit-here : (n k : ℕ) → n < 2 ^ k → is_set (n + 2 ^ k) k ≡ true
 bit-here n k lt =
     let e : n + 2 ^ k ≡ 1 * 2 ^ k + n = omega arith in
@@ -57,6 +63,7 @@ bit-here n k lt =
     ap (λ (v : ℕ). is_set v k) e ∙ ap (λ v. eqb v 1) (bit_at_cat_high 1 k n k lt (omega arith))
     ∙ ap (λ j. eqb (bit_at 1 j) 1) z
 
+-- and the others are as they were
 pub bit-other : (n k i : ℕ) → n < 2 ^ k → i ≢ k → is_set (n + 2 ^ k) i ≡ is_set n i
 bit-other n k i small ne = elim (nat_same (suc i - k) 0) [
   | inl e ↦ bit-low n k i (omega arith)

@@ -16,15 +16,18 @@ use Rattle.rx_diagram.specs.Asked.{Matters, IsAsked, any_below, same_action, tel
 use Rattle.rx_diagram.proofs.Apart.{nat_same, same_place}
 use Rattle.rx_diagram.proofs.Numbers.{bit-number, number-small}
 
+-- a bit is told by what it stands for
 same_bit : (P : Type 0) (x y : Bool) → x ≡ true ↔ P → y ≡ true ↔ P → x ≡ y
 same_bit P true true h k = refl
 same_bit P true false h k = sym (k.1 (h.0 refl))
 same_bit P false true h k = h.1 (k.0 refl)
 same_bit P false false h k = refl
 
+-- bits are one where they are set alike
 below_two : (x y : ℕ) → x < 2 → y < 2 → eqb x 1 ≡ eqb y 1 → x ≡ y
 below_two x y lx ly h = grind (arith, nat_tests)
 
+-- so the number is one
 pub asked_once : (n a b : ℕ) → IsAsked n a → IsAsked n b → a ≡ b
 asked_once n a b p q = same_from_bits_below 19 a b p.in_range q.in_range
     (λ i lt. below_two (bit_at a i) (bit_at b i) (bit_at-lt a i) (bit_at-lt b i)
@@ -81,6 +84,7 @@ flipped zero lt = refl
 flipped (suc zero) lt = refl
 flipped (suc (suc d)) lt = absurd (omega arith)
 
+-- and with none
 kept : (d : ℕ) → d < 2 → (d + 0) % 2 ≡ d
 kept d lt = omega arith
 
@@ -98,15 +102,18 @@ xor_other m i j ne =
     (bit_at_xor m (2 ^ i) j ∙ ap (λ (v : ℕ). (bit_at m j + v) % 2) (bit_at-pow_other i j ne)
     ∙ kept (bit_at m j) (bit_at-lt m j))
 
+-- the number stays in range
 xor_in : (m i : ℕ) → i < 19 → m < 2 ^ 19 → bit_xor m (2 ^ i) < 2 ^ 19
 xor_in m i small lt = xor_lt 19 m (2 ^ i) lt (pow-lt small)
 
 -- ---- a number that tells shows that the question matters, and the other way round
 
+-- nothing is its opposite
 differ_from : (x : Bool) → x ≡ not x → ⊥
 differ_from true h = false≢true (sym h)
 differ_from false h = false≢true h
 
+-- one of two that differ is the opposite of the other
 other_way : (x y : Bool) → x ≢ y → y ≡ not x
 other_way true true h = absurd (h refl)
 other_way true false h = refl
@@ -118,10 +125,12 @@ both_left : (x y : Bool) → (x && y) ≡ true → x ≡ true
 both_left true y h = refl
 both_left false y h = absurd (false≢true h)
 
+-- the other one
 both_right : (x y : Bool) → (x && y) ≡ true → y ≡ true
 both_right true y h = h
 both_right false y h = absurd (false≢true h)
 
+-- and both of them
 both : (x y : Bool) → x ≡ true → y ≡ true → (x && y) ≡ true
 both x y h k = rw (h, k) refl
 
@@ -140,6 +149,7 @@ no_other a b ne = go (same_action a b) refl
         apart_places : place_of a ≡ place_of b → ⊥
         apart_places e = ne (same_place a b e)
 
+-- a number that tells shows it
 tells_matters : (n i m : ℕ) → i < 19 → m < 2 ^ 19 → tells n i m ≡ true → Matters n i
 tells_matters n i m small lt h =
     let flip = bit_xor m (2 ^ i) in
@@ -163,6 +173,7 @@ tells_matters n i m small lt h =
       apart = λ e. false≢true (sym unlike ∙ itself (table_of m) (table_of flip) e);
     }
 
+-- and what shows it is such a number
 matters_tells : (n i : ℕ) → i < 19 → (w : Matters n i) → tells n i w.one ≡ true
 matters_tells n i small w =
     let flip = bit_xor w.one (2 ^ i) in
@@ -178,6 +189,7 @@ matters_tells n i small w =
     both (eqb (w.one % 2 ^ i) (n % 2 ^ i)) _ (grind (arith, nat_tests))
     (no_other (table_of w.one) (table_of flip) (λ e. w.apart (e ∙ ap table_of (sym two_is))))
 
+-- the function gives the asked questions
 pub asked_is : (n : ℕ) → IsAsked n (asked_of n)
 unfolding asked_of is_asked
 asked_is n = record {

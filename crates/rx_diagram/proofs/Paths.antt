@@ -1,4 +1,4 @@
--- The states that a walk asks are those on which the table depends.
+-- The questions that a walk asks are those that matter.
 use Rattle.std.proofs.Common.{◌≡◌, ◌≢◌, ℕ, suc, ◌-◌, ◌<◌, ◌≤◌, ◌^◌, inl, inr, Bool, true, false, List, refl, sym, ap, ◌∙◌, arith}
 use Rattle.rx_table.specs.Rows.{table_of}
 use Rattle.rx_table.specs.States.{is_set}
@@ -18,15 +18,17 @@ pub record IsRight (ns : List Node) (root : Edge) : Type 0 where
   pub from : From ns 0 root
   pub right : (n : ℕ) → n < 2 ^ 19 → final ns (answers_of n) root ≡ Act (table_of n)
 
--- the answers of n before state i lead from the root to the edge
+-- the answers of n before question i lead from the root to the edge
 pub record Reaches (ns : List Node) (root : Edge) (n i : ℕ) (e : Edge) : Type 0 where
   pub from : From ns i e
   pub same : (b : ℕ → Bool) → ((j : ℕ) → j < i → b j ≡ is_set n j) → final ns b root ≡ final ns b e
 
+-- to begin with
 pub reaches_root : (ns : List Node) (root : Edge) (n : ℕ) → From ns 0 root
     → Reaches ns root n 0 root
 reaches_root ns root n f = record { from = f; same = λ b h. refl }
 
+-- and along a node's edge
 pub reaches_next : (ns : List Node) (root : Edge) (n i k : ℕ) → IsReduced ns
     → Reaches ns root n i (To k)
     → Reaches ns root n (suc (level ns k)) (edge_of (is_set n (level ns k)) (node ns k))
@@ -39,7 +41,7 @@ reaches_next ns root n i k r p =
           ∙ ap (λ v. final ns b (edge_of v (node ns k))) (h l (omega arith));
     }
 
--- what the table of a number's answers is
+-- the end of any answers is their table's action
 right_of : (ns : List Node) (root : Edge) → IsRight ns root → (b : ℕ → Bool)
     → final ns b root ≡ Act (table_of (number 19 b))
 right_of ns root w b =
@@ -47,7 +49,7 @@ right_of ns root w b =
     (λ j le lt. sym (bit-number 19 b j lt))
     ∙ w.right (number 19 b) (number-small 19 b)
 
--- a node on the way is of a state that matters
+-- a node on the way asks a question that matters
 pub matters : (ns : List Node) (root : Edge) → IsRight ns root → (n i k : ℕ)
     → Reaches ns root n i (To k) → Matters n (level ns k)
 matters ns root w n i k p = record {
@@ -108,7 +110,7 @@ matters ns root w n i k p = record {
           (omega arith))
     ]
 
--- a state that is passed over doesn't matter
+-- a question that is passed over doesn't
 pub matters_not : (ns : List Node) (root : Edge) → IsRight ns root → (n i j : ℕ) (e : Edge)
     → Reaches ns root n i e → i ≤ j → From ns (suc j) e → Matters n j → ⊥
 matters_not ns root w n i j e p le from m = m.apart (same_action (sym (w.right m.one m.one_in)

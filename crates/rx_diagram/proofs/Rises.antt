@@ -1,4 +1,4 @@
--- The states of a number's bits, one more at a time.
+-- The questions of a number's bits, one more at a time.
 use Rattle.std.proofs.Common.{◌≡◌, ◌≢◌, ℕ, suc, ◌+◌, ◌<◌, ◌≤◌, ◌^◌, ◌⊎◌, inl, inr, Bool, true, false, cond, eqb, ◌||◌, List, [], ◌∷◌, ◌++◌, refl, sym, ap, ◌∙◌, subst, arith, rules, Option, Some, None, append_assoc, append-nil}
 use Rattle.std.specs.List.{filter, list_any}
 use Rattle.std.proofs.lemmas.Bool.Decides.{nat_tests}
@@ -10,26 +10,29 @@ use Rattle.rx_diagram.specs.Asked.{questions_in}
 use Rattle.rx_diagram.proofs.Apart.{nat_same, same_state}
 use Rattle.rx_diagram.proofs.Numbers.{bit-above, bit-here, bit-other}
 
+-- numbers that differ are not equal
 eqb_other : (m n : ℕ) → m ≢ n → eqb m n ≡ false
 eqb_other m n ne = grind (arith, nat_tests)
 
--- the states rise
+-- the questions rise
 abbrev pub Rising : ℕ → List StateName → Type 0
 Rising i [] = Unit {0}
 Rising i (s ∷ ss) = (i ≤ index_of s) × Rising (suc (index_of s)) ss
 
+-- none passes from i on
 none_above : (i : ℕ) (ss : List StateName) (p : StateName → Bool) → Rising i ss
     → ((s : StateName) → i ≤ index_of s → p s ≡ false) → filter p ss ≡ []
 none_above i [] p r h = refl
 none_above i (s ∷ ss) p r h = rw (h s r.0) (none_above (suc (index_of s)) ss p r.1 (λ t le. let lt =
     r.0 in h t (omega arith)))
 
+-- one in front of both, or of neither
 one_more : (b : Bool) (x : StateName) (xs ys zs : List StateName) → ys ≡ xs ++ zs
     → cond b (x ∷ ys) ys ≡ cond b (x ∷ xs) xs ++ zs
 one_more true x xs ys zs e = ap (λ v. x ∷ v) e
 one_more false x xs ys zs e = e
 
--- a state after all those that pass, added
+-- a question after all those that pass, added
 filter_more : (i : ℕ) (ss : List StateName) (p q : StateName → Bool) (s : StateName) → Rising i ss
     → list_any (λ t. eqb (index_of t) (index_of s)) ss ≡ true
     → ((t : StateName) → index_of t ≢ index_of s → q t ≡ p t)
@@ -63,9 +66,11 @@ filter_more i (t ∷ ss) p q s r has same none here =
         (eqb_other (index_of t) (index_of s) ne)) ∙ has in
         rw (same t ne) (one_more (p t) t (filter p ss) (filter q ss) (s ∷ []) (further rest))
 
+-- all questions do
 all_rise : Rising 0 all_states
 all_rise = search rules
 
+-- and each is among them
 all_have : (s : StateName) → list_any (λ t. eqb (index_of t) (index_of s)) all_states ≡ true
 all_have IsInsert = refl
 all_have IsUpdate = refl
@@ -87,10 +92,12 @@ all_have IsSortedAfterLast = refl
 all_have WasMatching = refl
 all_have DoesMatchNow = refl
 
+-- no bits, no questions
 pub questions_in_none : questions_in 0 ≡ []
 unfolding questions_in
 questions_in_none = refl
 
+-- one more bit above the others, one more question at the end
 pub questions_in_more : (asked : ℕ) (s : StateName) → asked < 2 ^ index_of s
     → questions_in (asked + 2 ^ index_of s) ≡ questions_in asked ++ s ∷ []
 unfolding questions_in
@@ -101,11 +108,12 @@ questions_in_more asked s small =
     (λ t le. bit-above asked (index_of s) (index_of t) small le)
     (bit-here asked (index_of s) small)
 
--- what an asker tells
+-- what whoever answers tells
 pub adds_none : (t : Option (List StateName)) → Adds t (questions_in 0) t
 adds_none None = tt
 adds_none (Some xs) = sym (ap (λ ys. xs ++ ys) questions_in_none ∙ append-nil xs)
 
+-- one question more
 pub adds_more : (old now new : Option (List StateName)) (asked : ℕ) (s : StateName)
     → asked < 2 ^ index_of s
     → Adds old (questions_in asked) now → Adds now (s ∷ []) new

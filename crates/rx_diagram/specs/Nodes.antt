@@ -65,8 +65,8 @@ pub record IsReduced (ns : List Node) : Type 0 where
 abbrev pub root_of : List Node → Edge
 root_of ns = To (length ns - 1)
 
--- The nodes are the table's: reduced, each but the last led to, and from the last one the answers in
--- any bits lead to the table's action.
+-- The nodes are the table's: reduced, each but the last led to, and from the last one the answers
+-- in any bits lead to the table's action.
 pub record IsDiagram (ns : List Node) : Type 0 where
   pub some : 0 < length ns
   pub reduced : IsReduced ns

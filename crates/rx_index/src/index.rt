@@ -1,4 +1,4 @@
-ghost use Rattle.std.specs.Prelude.{◌≡◌, [], IfOk, OnOk, OnErr, option_map};
+ghost use Rattle.std.specs.Prelude.{◌≡◌, ◌<◌, ◌^◌, [], length, IfOk, OnOk, OnErr, option_map};
 ghost use Rattle.std.specs.List.Sorted.{IsStrictlySortedBy};
 ghost use Rattle.std.specs.Ordering.{is_eq};
 ghost use Rattle.rx_value.specs.Named.{named, put_in_order};
@@ -89,6 +89,7 @@ impl Index {
     pub fn range(&self, low: &Bound, high: &Bound) -> Range<'_>
         ensures ids { result ≡ ids_between low.now high.now self.now.keys }
         ensures rising { IsStrictlySortedBy position_cmp self.now.keys }
+        ensures fits { length result < 2 ^ 63 }
     {
         let high = if high < low { low } else { high };
         Range::new(self.keys.range((End::Included(low), End::Excluded(high))))

@@ -30,8 +30,7 @@ short_bare bytes bodies short whole =
     let split : bytes ≡ header ++ whole.gate ∷ whole.rest =
     whole.split ∙ ap (λ (bs : List (List ℕ)). front bs ++ whole.gate ∷ whole.rest) none in
     let size : length whole.rest ≡ 0 =
-    omega (arith, short, ap length split, length-append header (whole.gate ∷ whole.rest)) in
-    (
+    omega (arith, short, ap length split, length-append header (whole.gate ∷ whole.rest)) in (
       whole.gate,
       whole.closed,
       split ∙ ap (λ (l : List ℕ). header ++ whole.gate ∷ l) (length-zero whole.rest size),

@@ -79,7 +79,8 @@ module _ (q : Asked) (limited : q.limit ≢ Some 0) (c : Change) (old new : Docu
 
 -- rows from scratch are ready
 pub fresh_ready : FreshRowsAreReady
-fresh_ready q c old new limited col col' differ change = ready q limited c old new col col' differ change
+fresh_ready q c old new limited col col' differ change =
+    ready q limited c old new col col' differ change
 
 -- rows from scratch stay so
 pub stays_fresh : (q : Asked) → q.limit ≢ Some 0 → (c : Change) (rows : Option (List Row))
@@ -121,7 +122,12 @@ module _ (w now : Watched) (c : Change) (a : Action) (asked : ℕ) (rows : Optio
 
   -- so the query is as after a change
   pub applied_is : rows ≡ rows_after a w.query c w.rows
-      → (let x : Watched = record { query = w.query; rows = rows; emitted = w.emitted; counts = counts }
+      → (let x : Watched = record {
+        query = w.query;
+        rows = rows;
+        emitted = w.emitted;
+        counts = counts;
+      }
       in x ≡ applied c now)
   applied_is rows_is =
       let patched = rows_is ∙ ap (λ x. rows_after x w.query c w.rows) own in
@@ -135,7 +141,12 @@ module _ (w now : Watched) (c : Change) (a : Action) (asked : ℕ) (rows : Optio
 
   -- where the action gave the rows
   pub patched_is : a ≢ RunFullQueryAgain → rows ≡ option_map (after a w.query c) w.rows
-      → (let x : Watched = record { query = w.query; rows = rows; emitted = w.emitted; counts = counts }
+      → (let x : Watched = record {
+        query = w.query;
+        rows = rows;
+        emitted = w.emitted;
+        counts = counts;
+      }
       in x ≡ applied c now)
   patched_is known rows_is = applied_is (rows_is ∙ rows_patched a known w.query c w.rows)
 
@@ -150,7 +161,12 @@ module _ (w now : Watched) (c : Change) (a : Action) (asked : ℕ) (rows : Optio
 
   -- where the query runs in full there are none
   pub full_is : a ≡ RunFullQueryAgain → rows ≡ None
-      → (let x : Watched = record { query = w.query; rows = rows; emitted = w.emitted; counts = counts }
+      → (let x : Watched = record {
+        query = w.query;
+        rows = rows;
+        emitted = w.emitted;
+        counts = counts;
+      }
       in x ≡ applied c now)
   full_is full none =
       applied_is (none ∙ ap (λ x. rows_after x w.query c w.rows) (sym full))
@@ -170,7 +186,8 @@ never_touched true n is = absurd (false≢true (sym is))
 
 -- rows that weren't touched are those emitted last
 pub untouched : (t n : Bool) (a : Action) (q : Asked) (c : Change)
-    (old rows emitted : Option (List Row)) → n ≡ changes_rows a → rows ≡ option_map (after a q c) old
+    (old rows emitted : Option (List Row)) → n ≡ changes_rows a
+    → rows ≡ option_map (after a q c) old
     → (t ≡ false → (r : List Row) → old ≡ Some r → emitted ≡ Some r) → (t || n) ≡ false
     → (r : List Row) → rows ≡ Some r → emitted ≡ Some r
 untouched t n a q c old rows emitted is rows_is before none r at =
@@ -192,7 +209,8 @@ there_for a c q old (Some rows) same known is given =
 -- ---- a cold query
 
 -- such rows are ready
-pub cold_inside : (q : Asked) (c : Change) (rows : List Row) → rows ≡ [] → OnlyMatchingInside q c rows
+pub cold_inside : (q : Asked) (c : Change) (rows : List Row) → rows ≡ []
+    → OnlyMatchingInside q c rows
 cold_inside q c rows none =
     subst (OnlyMatchingInside q c) (sym none) (λ inside. absurd (false≢true inside))
 
@@ -207,7 +225,12 @@ module _ (w : Watched) (c x : Change) (is : x ≡ unknown c) (none : w.rows ≡ 
   pub cold_applied : applied x w ≡ applied c w
   cold_applied =
       let Goal : Option (List Row) → Type 0 = λ rows.
-      (let v : Watched = record { query = w.query; rows = rows; emitted = w.emitted; counts = w.counts }
+      (let v : Watched = record {
+        query = w.query;
+        rows = rows;
+        emitted = w.emitted;
+        counts = w.counts;
+      }
       in applied x v ≡ applied c v) in
       subst Goal (sym none)
       (ap (λ y. applied y (record {

@@ -156,7 +156,8 @@ names_each f (q ∷ qs) = ap (λ ns. q.0 ∷ ns) (names_each f qs)
 pub distinct_each : (f : Watched → Watched) (qs now : Queries) → now ≡ each f qs
     → HaveDistinctNames qs → HaveDistinctNames now
 distinct_each f qs now is h =
-    subst (IsDistinct bytes_eq) (sym (ap (map (λ (q : List ℕ × Watched). q.0)) is ∙ names_each f qs)) h
+    subst (IsDistinct bytes_eq) (sym (ap (map (λ (q : List ℕ × Watched). q.0)) is
+    ∙ names_each f qs)) h
 
 -- a test of two texts is the same either way round
 other_way : (k l : List ℕ) → bytes_eq k l ≡ false → bytes_eq l k ≡ false

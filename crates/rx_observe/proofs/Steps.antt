@@ -80,7 +80,8 @@ module _ (q : Asked) (limited : q.limit ≢ Some 0) (c : Change) (old new : Held
       let known = known_patched (table_of (bits_of q c (fresh_rows q old.documents))) answer in
       sym (rows_patched (table_of (bits_of q c (fresh_rows q old.documents))) known q c
       (Some (fresh_rows q old.documents)))
-      ∙ ap (λ r. Some r) (gives_fresh q limited c old.documents new.documents col col' becomes.differ
+      ∙ ap (λ r. Some r) (gives_fresh q limited c old.documents new.documents col col'
+      becomes.differ
       becomes.change known)) answer
 
 module _ (c : Change) (w : Watched) (new : Held) (f : Follows c w new) where
@@ -94,7 +95,8 @@ module _ (c : Change) (w : Watched) (new : Held) (f : Follows c w new) where
   pub patched : answer_for (action_at w.query c w.rows) ≡ Patched
       → applied c w ≡ stepped new.documents c w
   patched answer =
-      let rows = rows_at w.query f.right.limited c f.old new f.becomes f.right.keyed w.rows w.emitted
+      let rows = rows_at w.query f.right.limited c f.old new f.becomes f.right.keyed w.rows
+      w.emitted
       f.right.from_scratch answer in
       (λ i. record {
         query = w.query;

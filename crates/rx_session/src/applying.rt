@@ -52,9 +52,11 @@ fn change(
     ensures illegal { IsErrOf result ApplyFault.Illegal
         → legal (content entry) (world_of world) ≡ false }
 {
-    world.apply(alloc, entry, &|collection| {
-        Ok(Live::new(alloc, collection, diagram.clone()?))
-    })
+    world.apply(
+        alloc,
+        entry,
+        &|collection| { Ok(Live::new(alloc, collection, diagram.clone()?)) },
+    )
 }
 
 // The same of a legal record.
@@ -70,9 +72,11 @@ pub(crate) fn apply_legal(
     ensures lives { IfOk result
         (λ w. IsAfter (touch (content entry)) (holders_in world) (holders_in w)) }
 {
-    world.apply_legal(alloc, entry, &|collection| {
-        Ok(Live::new(alloc, collection, diagram.clone()?))
-    })
+    world.apply_legal(
+        alloc,
+        entry,
+        &|collection| { Ok(Live::new(alloc, collection, diagram.clone()?)) },
+    )
 }
 
 // The collection whose documents a record writes.

@@ -27,11 +27,7 @@ use std::alloc::{AllocError, Global};
 
 impl Session {
     /// The session after what a line does, and the emissions that are due then, which are emitted.
-    pub fn next(
-        self,
-        alloc: Global,
-        doing: Doing,
-    ) -> Result<(Session, Vec<Emission>), AllocError>
+    pub fn next(self, alloc: Global, doing: Doing) -> Result<(Session, Vec<Emission>), AllocError>
         requires { MayDo (done_by doing) self }
         ensures session { IfOk result (λ p. p.0 ≡ settled_session (after (done_by doing) self)) }
         ensures emissions { IfOk result (λ p. p.1.items ≡ emissions (after (done_by doing) self)) }

@@ -57,7 +57,13 @@ impl Facts<'_> {
     fn is_outside(&self) -> bool
         ensures { IsTrue result → states_in self.now WasInResult ≡ false }
     {
-        self.matching_only && !answer(self.query, self.change, self.results, StateName::WasMatching)
+        self.matching_only
+            && !answer(
+                self.query,
+                self.change,
+                self.results,
+                StateName::WasMatching,
+            )
     }
 }
 

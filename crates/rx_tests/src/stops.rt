@@ -13,7 +13,10 @@ const LINES: [(&str, &str); 5] = [
         r#"{"do":"bulk","in":"c","docs":[{"id":"b","n":2},{"id":"d","n":3}]}"#,
         r#"{"line":L,"ok":"bulk","revs":["1-c","1-c"]}"#,
     ),
-    (r#"{"do":"restart"}"#, r#"{"epoch":2,"line":L,"ok":"restart"}"#),
+    (
+        r#"{"do":"restart"}"#,
+        r#"{"epoch":2,"line":L,"ok":"restart"}"#,
+    ),
     ("I(c,e,4)", "insert 1-c"),
 ];
 
@@ -142,7 +145,12 @@ fn each_answered_write_is_held_after_the_stop(rt: HostRuntime) -> Result<(), Fai
         for pick in PICKS {
             let left = ran.disk.stopped(CALLS, pick)?;
             let count = held(rt.alloc(), left.as_slice())?;
-            let due = HELD_AFTER.iter().skip(answered).next().copied().unwrap_or(0);
+            let due = HELD_AFTER
+                .iter()
+                .skip(answered)
+                .next()
+                .copied()
+                .unwrap_or(0);
             assert!(rt; due <= count, "call {failing} fails: {count} for {due}");
         }
     }

@@ -1,7 +1,6 @@
 // Values: texts of either kind, fields and states as JSON texts, and copies.
 use rx_value::{
-    MARK, RxText, State, fields_text, read_fields, read_fields_beside, text,
-    write_fields,
+    MARK, RxText, State, fields_text, read_fields, read_fields_beside, text, write_fields,
 };
 use serde_json::Value as Json;
 use std::test::Fail;

@@ -22,11 +22,11 @@ pub returns-clause-legal : goal.returns-clause-legal
 returns-clause-legal c = λ w held.
     let same : c.in_ok-copy.field-0 ≡ c.args.collection.now.name = search rules in
     let written : c.in_ok-rows_out.field-0.items
-        ≡ map out_of (rows_of c.args.collection.now c.args.states.items c.in-Some.lwt) = search rules in
+    ≡ map out_of (rows_of c.args.collection.now c.args.states.items c.in-Some.lwt) = search rules in
     rw (same, written) ((fits c).legal w held)
 
 pub returns-clause-ordered : goal.returns-clause-ordered
 returns-clause-ordered c =
     let written : c.in_ok-rows_out.field-0.items
-        ≡ map out_of (rows_of c.args.collection.now c.args.states.items c.in-Some.lwt) = search rules in
+    ≡ map out_of (rows_of c.args.collection.now c.args.states.items c.in-Some.lwt) = search rules in
     rw written (fits c).ordered

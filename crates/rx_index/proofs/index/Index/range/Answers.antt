@@ -1,7 +1,9 @@
-use Rattle.std.proofs.Common.{◌∙◌, ap, sym}
+use Rattle.std.proofs.Common.{◌<◌, ◌^◌, length, ◌∙◌, ap, sym, subst}
+use Rattle.std.proofs.lemmas.List.{length-map}
 use Rattle.std.specs.Ordering.{is_gt}
 use Rattle.rx_index.specs.Index.{is_between, ids_between}
-use Rattle.rx_index.specs.Position.{position_cmp}
+use Rattle.std.specs.Map.{keys_of}
+use Rattle.rx_index.specs.Position.{position_cmp, id_of}
 use Rattle.rx_index.proofs.Between.{ids_in, same_crossed, forward, forward_same}
 use Rattle.rx_index.proofs.index.Index.range.Goals as goal
 use Rattle.rx_index.proofs.index.Index.range.Goals.{then-lt, else-lt}
@@ -27,3 +29,10 @@ returns-clause-ids c =
     ])
     (c.range.ensures.between tt)
     ∙ ap (λ i. ids_between low high i.keys) c.self.view_is
+
+pub returns-clause-fits : goal.returns-clause-fits
+returns-clause-fits c =
+    subst (λ n. n < 2 ^ 63)
+    (sym (ap length c.new.ensures ∙ length-map (keys_of c.range.result) id_of
+    ∙ length-map c.range.result (λ e. e.0)))
+    c.range.ensures.fits
