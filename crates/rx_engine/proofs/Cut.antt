@@ -3,15 +3,15 @@ use Rattle.std.proofs.Common.{◌≡◌, ℕ, ◌+◌, ◌<◌, List, length, ta
 use Rattle.std.proofs.Math.Dec.{leb}
 use Rattle.std.proofs.lemmas.Bool.{leb-true, leb-false, lt-leb}
 use Rattle.std.proofs.lemmas.List.{take_all, length-take-le}
-use Rattle.rx_value.specs.Due.{◌>>◌, or_fault}
+use Rattle.rx_value.specs.Due.{◌>>◌, lifted, or_fault}
 use Rattle.rx_script.specs.Asked.{is_object}
 use Rattle.rx_script.specs.Line.{max_line_bytes, demand, json_of, form_of, line_of}
 use Rattle.rx_script.specs.declared.fault.LineFault.TheVariants as fault
 use Rattle.rx_session.specs.Session.{Session}
-use Rattle.rx_engine.specs.Faults.{of_line, lifted}
-use Rattle.rx_engine.specs.Lines.{perform}
+use Rattle.rx_engine.specs.Faults.{of_line}
+use Rattle.rx_engine.specs.Lines.{asked_outcome}
 use Rattle.rx_engine.specs.Meaning.{meaning, meaning_of}
-use Rattle.rx_engine.specs.Outcome.{outcome_of}
+use Rattle.rx_engine.specs.Outcome.{outcome_or_refusal}
 
 -- a line that is too long is nothing else
 too_long : (line : List ℕ) → max_line_bytes < length line → line_of line ≡ Err fault.TooLong
@@ -37,5 +37,5 @@ pub same_when_cut : (n : ℕ) (line : List ℕ) (s : Session)
     → meaning n (take (max_line_bytes + 1) line) s ≡ meaning n line s
 unfolding meaning
 same_when_cut n line s =
-    ap (λ read. meaning_of n (outcome_of (lifted of_line read >> λ ask. perform ask s)) s)
+    ap (λ read. meaning_of n (outcome_or_refusal (lifted of_line read >> λ ask. asked_outcome ask s)) s)
     (same_when_long (max_line_bytes + 1) (omega arith) line)

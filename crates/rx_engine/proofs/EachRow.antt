@@ -8,7 +8,7 @@ use Rattle.std.proofs.lemmas.List.{drop_all}
 use Rattle.serde_json.specs.Data.{Data}
 use Rattle.serde_json.specs.View.{view}
 use Rattle.serde_json.specs.declared.value.Value.{Value as Json}
-use Rattle.rx_value.specs.Due.{◌>>◌, or_fault, unless}
+use Rattle.rx_value.specs.Due.{◌>>◌, demand, lifted, or_fault, unless}
 use Rattle.rx_value.specs.Named.{named, put_in_order}
 use Rattle.rx_value.specs.Reading.{fields_of}
 use Rattle.rx_value.specs.declared.state.State.{State}
@@ -17,14 +17,16 @@ use Rattle.rx_value.specs.declared.value.Value.TheVariants.{Flag, Int, Text}
 use Rattle.rx_value.proofs.Named.{named-put_in_order}
 use Rattle.rx_schema.specs.Validity.{Fault as Invalidity, first_fault}
 use Rattle.rx_collection.specs.Held.{Held}
-use Rattle.rx_reply.specs.declared.refusal.Refusal.{Refusal}
 use Rattle.rx_reply.specs.declared.refusal.Refusal.TheVariants.{Twice}
 use Rattle.rx_reply.specs.declared.refusal.DocumentFault.TheVariants.{Key}
-use Rattle.rx_world.specs.Commit.{IsValidState}
-use Rattle.rx_engine.specs.Documents.{text_of, key_in, state_of, valid_by, is_free}
-use Rattle.rx_engine.specs.Faults.{of_document, of_invalidity, of_value, lifted, demand}
+use Rattle.rx_world.specs.Step.{IsValidState}
+use Rattle.rx_world.proofs.States.{valid_state}
+use Rattle.rx_value.specs.Value.{text_of}
+use Rattle.rx_engine.specs.Documents.{key_in, state_of, valid_by, is_free}
+use Rattle.rx_engine.specs.Faults.{of_document, of_invalidity, of_value}
 use Rattle.rx_engine.specs.Writes.{Keys, in_row, at_row, row_state, rows_states}
 use Rattle.rx_engine.specs.declared.fault.Fault.{Fault}
+use Rattle.rx_engine.specs.declared.fault.Fault.TheVariants.{Refused}
 
 -- the states so far, before those that are left
 abbrev pub after : List State → Result (List State) Fault → Result (List State) Fault
@@ -66,7 +68,7 @@ no_fault : (fault : Invalidity → Fault) (o : Option Invalidity) (u : ⊤) → 
 no_fault fault None u h = refl
 no_fault fault (Some x) u h = cc
 
-none_seen : (o : Option ⊤) (r : Refusal) (u : ⊤) → demand (not (is_some o)) r ≡ Ok u → o ≡ None
+none_seen : (o : Option ⊤) (r : Fault) (u : ⊤) → demand (not (is_some o)) r ≡ Ok u → o ≡ None
 none_seen None r u h = refl
 none_seen (Some x) r u h = cc
 
@@ -74,7 +76,7 @@ module _ (c : Held) where
   -- what is left to do with the state of a row
   abbrev checked : ℕ → Keys → State → Result State Fault
   checked row seen state =
-      demand (not (is_some (named seen state.key))) (Twice row) >> λ _.
+      demand (not (is_some (named seen state.key))) (Refused (Twice row)) >> λ _.
       in_row row (valid_by c.schema state.fields) >> λ _.
       in_row row (is_free c state.key) >> λ _.
       Ok state
@@ -84,7 +86,7 @@ module _ (c : Held) where
       → IsValidState c.schema s × (named seen s.key ≡ None)
   row_given row seen d s h =
       let read = bound (in_row row (state_of c.schema.primary d)) (checked row seen) s h in
-      let fresh = bound (demand (not (is_some (named seen read.0.key))) (Twice row))
+      let fresh = bound (demand (not (is_some (named seen read.0.key))) (Refused (Twice row)))
       (λ _. in_row row (valid_by c.schema read.0.fields) >> λ _.
       in_row row (is_free c read.0.key) >> λ _. Ok read.0) s read.2 in
       let valid = bound (in_row row (valid_by c.schema read.0.fields))
@@ -92,14 +94,13 @@ module _ (c : Held) where
       let free = bound (in_row row (is_free c read.0.key)) (λ _. Ok read.0) s valid.2 in
       let is : read.0 ≡ s = cc (free.2) in
       subst (λ (s : State). IsValidState c.schema s × (named seen s.key ≡ None)) is (
-        record {
-          valid = no_fault (λ fault. of_document (of_invalidity fault))
-              (first_fault c.schema read.0.fields) fresh.0
-              (lifted_ok (at_row row) (valid_by c.schema read.0.fields) valid.0 valid.1);
-          carried = state_carries c.schema.primary d read.0
-              (lifted_ok (at_row row) (state_of c.schema.primary d) read.0 read.1);
-        },
-        none_seen (named seen read.0.key) (Twice row) fresh.0 fresh.1,
+        valid_state c.schema read.0
+            (no_fault (λ fault. of_document (of_invalidity fault))
+            (first_fault c.schema read.0.fields) fresh.0
+            (lifted_ok (at_row row) (valid_by c.schema read.0.fields) valid.0 valid.1))
+            (state_carries c.schema.primary d read.0
+            (lifted_ok (at_row row) (state_of c.schema.primary d) read.0 read.1)),
+        none_seen (named seen read.0.key) (Refused (Twice row)) fresh.0 fresh.1,
       )
 
   -- a state among those behind a row

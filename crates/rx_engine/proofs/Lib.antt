@@ -1,8 +1,8 @@
 pub mod Cut
-pub mod Growing
+pub mod Idle
 pub mod Keeping
 pub mod Opened
-pub mod Replaying
+pub mod Outcomes
 pub mod Setting
 pub mod Live
 pub mod EachRow

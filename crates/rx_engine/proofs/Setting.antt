@@ -8,7 +8,7 @@ use Rattle.rx_value.specs.Named.{named, put_in_order}
 use Rattle.rx_value.specs.declared.value.Value.{Value}
 use Rattle.rx_value.specs.declared.value.Value.TheVariants.{Flag, Int, Text}
 use Rattle.rx_value.proofs.Named.{named-put_in_order}
-use Rattle.rx_world.specs.Step.{is_text}
+use Rattle.rx_value.specs.Value.{is_text}
 use Rattle.rx_engine.specs.Documents.{keeps_key, with_fields}
 
 -- what is left begins with the item there

@@ -3,13 +3,12 @@ use Rattle.std.specs.Prelude.{⊤, ◌||◌, ℕ, Bool, false, not, List, [], �
 use Rattle.std.specs.List.{list_all}
 use Rattle.std.specs.Str.{bytes_eq}
 use Rattle.serde_json.specs.Data.{Data}
-use Rattle.rx_value.specs.Due.{◌>>◌, or_fault, unless}
+use Rattle.rx_value.specs.Due.{◌>>◌, lifted, or_fault, unless}
 use Rattle.rx_value.specs.Fields.{Pairs}
 use Rattle.rx_value.specs.Named.{named, put_in_order}
 use Rattle.rx_value.specs.Reading.{fields_of}
+use Rattle.rx_value.specs.Value.{is_text, text_of}
 use Rattle.rx_value.specs.declared.state.State.{State}
-use Rattle.rx_value.specs.declared.value.Value.{Value}
-use Rattle.rx_value.specs.declared.value.Value.TheVariants.{Text}
 use Rattle.rx_schema.specs.Validity.{first_fault}
 use Rattle.rx_schema.specs.declared.shape.Shape.{Shape}
 use Rattle.rx_document.specs.Revision.{revision_text}
@@ -18,16 +17,11 @@ use Rattle.rx_collection.specs.Commit.{next_height}
 use Rattle.rx_collection.specs.Held.{Held}
 use Rattle.rx_reply.specs.declared.refusal.DocumentFault.TheVariants.{Key, Conflict}
 use Rattle.rx_reply.specs.declared.refusal.Refusal.TheVariants.{NoDocument}
-use Rattle.rx_world.specs.Step.{is_text}
-use Rattle.rx_engine.specs.Faults.{of_value, of_document, of_invalidity, lifted}
+use Rattle.rx_engine.specs.Faults.{of_value, of_document, of_invalidity}
 use Rattle.rx_engine.specs.declared.fault.Fault.{Fault}
 use Rattle.rx_engine.specs.declared.fault.Fault.TheVariants.{Refused}
 
 -- ---- as a line gives them
-
-abbrev pub text_of : Option Value → Option (List ℕ)
-text_of (Some (Text t)) = Some t
-text_of _ = None
 
 -- the text of the primary key
 abbrev pub key_in : List ℕ → Pairs → Result (List ℕ) Fault
@@ -61,12 +55,12 @@ abbrev pub if_live : Option Stored → Option Stored
 if_live None = None
 if_live (Some d) = if d.state.deleted then None else Some d
 
-abbrev pub live_at : Held → List ℕ → Option Stored
-live_at c key = if_live (named c.documents key)
+abbrev pub live_document : Held → List ℕ → Option Stored
+live_document c key = if_live (named c.documents key)
 
 -- the document of a key, which is to be live
 abbrev pub document_at : Held → List ℕ → Result Stored Fault
-document_at c key = or_fault (Refused NoDocument) (live_at c key)
+document_at c key = or_fault (Refused NoDocument) (live_document c key)
 
 -- its revision, where one is given, is that one
 abbrev pub has_revision : Option (List ℕ) → Stored → Result ⊤ Fault
@@ -78,7 +72,7 @@ has_revision (Some rev) d =
 -- the key isn't that of a live document
 abbrev pub is_free : Held → List ℕ → Result ⊤ Fault
 is_free c key =
-    unless (λ d. of_document (Conflict (revision_text d.rev))) (live_at c key) (Ok tt)
+    unless (λ d. of_document (Conflict (revision_text d.rev))) (live_document c key) (Ok tt)
 
 -- the revision that the next write of a key gets
 abbrev pub next_revision : Held → List ℕ → List ℕ

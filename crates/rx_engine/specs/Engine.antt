@@ -1,10 +1,11 @@
 -- An engine and its disk.
-use Rattle.std.specs.Prelude.{◌≡◌, ◌<◌, ℕ, List, [], ◌++◌, ◌∷◌, string_bytes}
+use Rattle.std.specs.Prelude.{◌≡◌, ℕ, List, [], string_bytes}
 use Rattle.rx_disk.specs.declared.disk.Disk.{Ghosts}
-use Rattle.rx_frame.specs.File.{end_of}
-use Rattle.rx_engine.specs.Holds.{Holds}
-use Rattle.rx_engine.specs.Meaning.{Meaning}
+use Rattle.rx_store.specs.Holds.{Holds}
+use Rattle.rx_reply.specs.Reply.{answer_line}
 use Rattle.rx_session.specs.Session.{Session}
+use Rattle.rx_engine.specs.Lines.{outcome}
+use Rattle.rx_engine.specs.Meaning.{Meaning, meaning}
 use Rattle.rx_engine.specs.declared.engine.Engine.{Engine}
 use Rattle.rx_engine.specs.declared.engine.Output.{Output}
 
@@ -24,11 +25,9 @@ pub record Answers (m : Meaning) (e : Engine) (o : Output) : Type 0 where
   pub reply : string_bytes o.text ≡ m.reply
   pub refused : o.refused ≡ m.refused
 
--- a record of some would end past the limit, after the bodies and the records before it
-pub record IsFull (bodies more : List (List ℕ)) (would limit : ℕ) : Type 0 where
-  pub before : List (List ℕ)
-  pub body : List ℕ
-  pub behind : List (List ℕ)
-  pub whole : more ≡ before ++ body ∷ behind
-  pub would_end : would ≡ end_of (bodies ++ before ++ body ∷ [])
-  pub past : limit < would
+-- a line left the session: it has no records and no emissions, and its output is its answer alone
+pub record LeavesSession (number : ℕ) (line : List ℕ) (s : Session) (e : Engine) (o : Output)
+    : Type 0 where
+  pub records : (meaning number line s).records ≡ []
+  pub session : session_of e ≡ s
+  pub reply : string_bytes o.text ≡ answer_line number (outcome line s).answer

@@ -1,5 +1,5 @@
 -- Why a line changes nothing, from the faults of its parts. Want of memory stays so.
-use Rattle.std.specs.Prelude.{⊤, Bool, if◌then◌else◌, None, Result, Ok, Err}
+use Rattle.std.specs.Prelude.{None}
 use Rattle.rx_value.specs.declared.fault.ValueFault.{ValueFault}
 use Rattle.rx_value.specs.declared.fault.ValueFault.TheVariants as value
 use Rattle.rx_schema.specs.Validity.{Fault as Invalidity, missing, unknown, of_kind, of_bounds, of_length}
@@ -51,12 +51,3 @@ of_invalidity (unknown name) = document.Invalid cause.Unknown name
 of_invalidity (of_kind name) = document.Invalid cause.Kind name
 of_invalidity (of_bounds name) = document.Invalid cause.Bounds name
 of_invalidity (of_length name) = document.Invalid cause.Length name
-
--- what was read, or its fault as another
-abbrev pub lifted : {A E F : Type 0} → (E → F) → Result A E → Result A F
-lifted fault (Ok x) = Ok x
-lifted fault (Err e) = Err (fault e)
-
--- nothing, where the test holds, or that refusal
-abbrev pub demand : Bool → Refusal → Result ⊤ Fault
-demand b r = if b then Ok tt else Err (Refused r)

@@ -6,7 +6,5 @@ pub mod Queries
 pub mod Lines
 pub mod Meaning
 pub mod Shown
-pub mod Stops
 pub mod Opening
-pub mod Holds
 pub mod Engine

@@ -1,15 +1,15 @@
 -- What a line does, by what it asks.
-use Rattle.std.specs.Prelude.{ℕ, ◌+◌, List, Result, Ok}
-use Rattle.rx_value.specs.Due.{◌>>◌}
+use Rattle.std.specs.Prelude.{◌≡◌, ℕ, ◌+◌, List, Result, Ok}
+use Rattle.rx_value.specs.Due.{◌>>◌, lifted}
 use Rattle.rx_reply.specs.Answer.{tick, restart}
 use Rattle.rx_script.specs.Asked.{Asked, Collection, Insert, Bulk, Upsert, Patch, Remove, Get, Find, Count, Observe, Unobserve, Explain, Tick, Restart}
 use Rattle.rx_script.specs.Line.{line_of}
-use Rattle.rx_session.specs.Doing.{set_clock, restart as open_again}
+use Rattle.rx_session.specs.Doing.{nothing, set_clock, restart as open_again}
 use Rattle.rx_session.specs.Session.{Session}
-use Rattle.rx_engine.specs.Faults.{of_line, lifted}
-use Rattle.rx_engine.specs.Outcome.{Outcome, outcome_of}
+use Rattle.rx_engine.specs.Faults.{of_line}
+use Rattle.rx_engine.specs.Outcome.{Outcome, outcome_or_refusal}
 use Rattle.rx_engine.specs.Queries.{get_line, find_line, count_line, observe_line, unobserve_line, explain_line}
-use Rattle.rx_engine.specs.Writes.{make, insert_line, upsert_line, patch_line, remove_line, bulk_line}
+use Rattle.rx_engine.specs.Writes.{collection_line, insert_line, upsert_line, patch_line, remove_line, bulk_line}
 use Rattle.rx_engine.specs.declared.fault.Fault.{Fault}
 
 -- the present moment is set, and may go back
@@ -23,25 +23,33 @@ restart_line s = Ok (record {
   answer = restart (s.world.epoch + 1);
 })
 
-abbrev pub perform : Asked → Session → Result Outcome Fault
-perform (Collection name schema) s = make name schema s
-perform (Insert coll doc) s = insert_line coll doc s
-perform (Bulk coll docs) s = bulk_line coll docs s
-perform (Upsert coll doc) s = upsert_line coll doc s
-perform (Patch coll key set rev) s = patch_line coll key set rev s
-perform (Remove coll key rev) s = remove_line coll key rev s
-perform (Get coll key) s = get_line coll key s
-perform (Find coll query) s = find_line coll query s
-perform (Count coll query) s = count_line coll query s
-perform (Observe name coll query) s = observe_line name coll query s
-perform (Unobserve name) s = unobserve_line name s
-perform (Explain name) s = explain_line name s
-perform (Tick at) s = tick_line at
-perform Restart s = restart_line s
+abbrev pub asked_outcome : Asked → Session → Result Outcome Fault
+asked_outcome (Collection name schema) s = collection_line name schema s
+asked_outcome (Insert coll doc) s = insert_line coll doc s
+asked_outcome (Bulk coll docs) s = bulk_line coll docs s
+asked_outcome (Upsert coll doc) s = upsert_line coll doc s
+asked_outcome (Patch coll key set rev) s = patch_line coll key set rev s
+asked_outcome (Remove coll key rev) s = remove_line coll key rev s
+asked_outcome (Get coll key) s = get_line coll key s
+asked_outcome (Find coll query) s = find_line coll query s
+asked_outcome (Count coll query) s = count_line coll query s
+asked_outcome (Observe name coll query) s = observe_line name coll query s
+asked_outcome (Unobserve name) s = unobserve_line name s
+asked_outcome (Explain name) s = explain_line name s
+asked_outcome (Tick at) s = tick_line at
+asked_outcome Restart s = restart_line s
 
 -- what a line does, or why it is refused
-abbrev pub performed : List ℕ → Session → Result Outcome Fault
-performed line s = lifted of_line (line_of line) >> λ ask. perform ask s
+abbrev pub line_outcome : List ℕ → Session → Result Outcome Fault
+line_outcome line s = lifted of_line (line_of line) >> λ ask. asked_outcome ask s
 
 abbrev pub outcome : List ℕ → Session → Outcome
-outcome line s = outcome_of (performed line s)
+outcome line s = outcome_or_refusal (line_outcome line s)
+
+-- the line changes nothing: it is refused, or tells what there is
+abbrev pub IsIdle : List ℕ → Session → Type 0
+IsIdle line s = (outcome line s).doing ≡ nothing
+
+-- the line is a restart
+abbrev pub IsRestart : List ℕ → Type 0
+IsRestart line = line_of line ≡ Ok Restart

@@ -1,9 +1,12 @@
 -- What a line means.
 use Rattle.std.specs.Prelude.{ℕ, List, [], ◌∷◌, ◌++◌, map, Bool}
+use Rattle.std.specs.List.{flat_map}
 use Rattle.rx_record.specs.Content.{Content, epoch, content_bytes}
+use Rattle.rx_observe.specs.declared.emission.Emission.{Emission}
+use Rattle.rx_reply.specs.Emission.{emission_line, rows_fields}
 use Rattle.rx_reply.specs.Reply.{answer_line, is_refusal}
 use Rattle.rx_session.specs.Doing.{Doing, write, restart, after}
-use Rattle.rx_session.specs.Emissions.{emissions, settled}
+use Rattle.rx_session.specs.Emissions.{emissions, settled_session}
 use Rattle.rx_session.specs.Session.{Session}
 use Rattle.rx_engine.specs.Lines.{outcome}
 use Rattle.rx_engine.specs.Outcome.{Outcome}
@@ -25,12 +28,16 @@ records_of (write content) = content ∷ []
 records_of (restart number) = epoch number ∷ []
 records_of _ = []
 
+-- the lines of emissions, one after another
+abbrev pub lines_of : List Emission → List ℕ
+lines_of es = flat_map (λ e. emission_line e.name (rows_fields e.rows)) es
+
 abbrev pub meaning_of : ℕ → Outcome → Session → Meaning
 meaning_of number o s = record {
   records = records_of o.doing;
-  reply = answer_line number o.answer ++ emissions (after o.doing s);
+  reply = answer_line number o.answer ++ lines_of (emissions (after o.doing s));
   refused = is_refusal o.answer;
-  session = settled (after o.doing s);
+  session = settled_session (after o.doing s);
 }
 
 -- what a line of that number means

@@ -18,24 +18,24 @@ pub record Outcome : Type 0 where
   pub answer : Answer
 
 -- an answer that changes nothing
-abbrev pub say : Answer → Outcome
-say answer = record { doing = nothing; answer = answer }
+abbrev pub answer_alone : Answer → Outcome
+answer_alone answer = record { doing = nothing; answer = answer }
 
 -- what a line does, or the refusal of it. Want of memory is no outcome.
-abbrev pub outcome_of : Result Outcome Fault → Outcome
-outcome_of (Ok o) = o
-outcome_of (Err (Refused r)) = say (refused r)
-outcome_of (Err Memory) = say (refused Clock)
+abbrev pub outcome_or_refusal : Result Outcome Fault → Outcome
+outcome_or_refusal (Ok o) = o
+outcome_or_refusal (Err (Refused r)) = answer_alone (refused r)
+outcome_or_refusal (Err Memory) = answer_alone (refused Clock)
 
 -- the collection of a name, which is to be held
 abbrev pub collection_at : List ℕ → Session → Result Held Fault
 collection_at coll s = or_fault (Refused (NoCollection coll)) (named s.world.collections coll)
 
 -- a record and an answer; none where no write time is left
-abbrev pub written : Answer → Option Content → Result Outcome Fault
-written answer None = Err (Refused Clock)
-written answer (Some content) = Ok (record { doing = write content; answer = answer })
+abbrev pub write_outcome : Answer → Option Content → Result Outcome Fault
+write_outcome answer None = Err (Refused Clock)
+write_outcome answer (Some content) = Ok (record { doing = write content; answer = answer })
 
 -- states are written to a collection at the present moment
 abbrev pub commit : List ℕ → List State → Answer → Held → Session → Result Outcome Fault
-commit coll states answer c s = written answer (commit_to coll states s.moment c)
+commit coll states answer c s = write_outcome answer (commit_to coll states s.moment c)

@@ -1,20 +1,20 @@
--- What a line is to do.
+-- What a line does, as the code has it.
 use Rattle.std.specs.Prelude.{⊤}
 use Rattle.rx_record.specs.Writable.{IsOrdered}
-use Rattle.rx_reply.specs.Answer.{said}
+use Rattle.rx_reply.specs.Answer.{answer_of}
 use Rattle.rx_session.specs.Doing.{Doing, write, restart}
 use Rattle.rx_session.specs.Shown.{done_by}
 use Rattle.rx_engine.specs.Outcome.{Outcome}
-use Rattle.rx_engine.specs.declared.plan.Plan.{Plan}
-use Rattle.rx_engine.specs.declared.plan.Todo.{Todo}
-use Rattle.rx_engine.specs.declared.plan.Todo.TheVariants.{Change, Restart}
+use Rattle.rx_engine.specs.declared.outcome.Outcome.{Outcome as Planned}
+use Rattle.rx_engine.specs.declared.outcome.LineDoing.{LineDoing}
+use Rattle.rx_engine.specs.declared.outcome.LineDoing.TheVariants.{InSession, Restart}
 
-abbrev pub doing_of : Todo → Doing
-doing_of (Change change) = done_by change
+abbrev pub doing_of : LineDoing → Doing
+doing_of (InSession doing) = done_by doing
 doing_of (Restart number) = restart number
 
-abbrev pub planned : Plan → Outcome
-planned p = record { doing = doing_of p.todo; answer = said p.reply }
+abbrev pub outcome_of : Planned → Outcome
+outcome_of p = record { doing = doing_of p.doing; answer = answer_of p.reply }
 
 -- the rows of what is to be written rise
 abbrev pub HasOrder : Doing → Type 0

@@ -2,7 +2,7 @@
 use Rattle.std.specs.Prelude.{⊤, ℕ, ◌+◌, List, [], ◌∷◌, map, length, true, false, not, nat_lt, Option, Some, None, is_some, Result, Ok}
 use Rattle.std.specs.Str.{bytes_eq}
 use Rattle.serde_json.specs.Data.{Data}
-use Rattle.rx_value.specs.Due.{◌>>◌}
+use Rattle.rx_value.specs.Due.{◌>>◌, demand, lifted}
 use Rattle.rx_value.specs.Named.{named, put_in_order}
 use Rattle.rx_value.specs.Reading.{fields_of}
 use Rattle.rx_value.specs.declared.state.State.{State}
@@ -19,52 +19,52 @@ use Rattle.rx_world.specs.World.{World, max_collections}
 use Rattle.rx_session.specs.Doing.{write}
 use Rattle.rx_session.specs.Session.{Session}
 use Rattle.rx_engine.specs.Documents.{state_of, valid_by, with_fields, keeps_key, document_at, has_revision, is_free, next_revision}
-use Rattle.rx_engine.specs.Faults.{of_schema, of_value, lifted, demand}
-use Rattle.rx_engine.specs.Outcome.{Outcome, say, collection_at, commit}
+use Rattle.rx_engine.specs.Faults.{of_schema, of_value}
+use Rattle.rx_engine.specs.Outcome.{Outcome, answer_alone, collection_at, commit}
 use Rattle.rx_engine.specs.declared.fault.Fault.{Fault}
 use Rattle.rx_engine.specs.declared.fault.Fault.TheVariants.{Refused}
 
 -- ---- a collection
 
 -- a collection of that schema: it is there with the same one, or there is room for it
-abbrev pub made : List ℕ → Shape → Option Held → World → Result Outcome Fault
-made name shape (Some held) w =
-    demand (bytes_eq (canonical_text held.schema) (canonical_text shape)) SchemaDiffers >> λ _.
-    Ok (say (collection false))
-made name shape None w =
-    demand (nat_lt (length w.collections) max_collections) TooMany >> λ _.
+abbrev pub collection_with : List ℕ → Shape → Option Held → World → Result Outcome Fault
+collection_with name shape (Some held) w =
+    demand (bytes_eq (canonical_text held.schema) (canonical_text shape)) (Refused SchemaDiffers) >> λ _.
+    Ok (answer_alone (collection false))
+collection_with name shape None w =
+    demand (nat_lt (length w.collections) max_collections) (Refused TooMany) >> λ _.
     Ok (record {
       doing = write (collection_record name (canonical_text shape));
       answer = collection true;
     })
 
-abbrev pub make : List ℕ → Data → Session → Result Outcome Fault
-make name schema s =
+abbrev pub collection_line : List ℕ → Data → Session → Result Outcome Fault
+collection_line name schema s =
     lifted of_schema (schema_of schema) >> λ shape.
-    made name shape (named s.world.collections name) s.world
+    collection_with name shape (named s.world.collections name) s.world
 
 -- ---- the states that one document gives
 
-abbrev pub upserted : Held → Data → Result State Fault
-upserted c d =
+abbrev pub upsert_state : Held → Data → Result State Fault
+upsert_state c d =
     state_of c.schema.primary d >> λ state.
     valid_by c.schema state.fields >> λ _.
     Ok state
 
-abbrev pub inserted : Held → Data → Result State Fault
-inserted c d = upserted c d >> λ state. is_free c state.key >> λ _. Ok state
+abbrev pub insert_state : Held → Data → Result State Fault
+insert_state c d = upsert_state c d >> λ state. is_free c state.key >> λ _. Ok state
 
-abbrev pub patched : Held → List ℕ → Data → Option (List ℕ) → Result State Fault
-patched c key set rev =
+abbrev pub patch_state : Held → List ℕ → Data → Option (List ℕ) → Result State Fault
+patch_state c key set rev =
     document_at c key >> λ d.
     has_revision rev d >> λ _.
     lifted of_value (fields_of set) >> λ more.
-    demand (keeps_key c.schema.primary key more) (Document Key None) >> λ _.
+    demand (keeps_key c.schema.primary key more) (Refused (Document Key None)) >> λ _.
     valid_by c.schema (with_fields d.state.fields more) >> λ _.
     Ok (record { key = key; fields = with_fields d.state.fields more; deleted = false })
 
-abbrev pub removed : Held → List ℕ → Option (List ℕ) → Result State Fault
-removed c key rev =
+abbrev pub remove_state : Held → List ℕ → Option (List ℕ) → Result State Fault
+remove_state c key rev =
     document_at c key >> λ d.
     has_revision rev d >> λ _.
     Ok (record { key = key; fields = d.state.fields; deleted = true })
@@ -76,19 +76,19 @@ commit_one coll answer c state s =
 
 abbrev pub insert_line : List ℕ → Data → Session → Result Outcome Fault
 insert_line coll d s =
-    collection_at coll s >> λ c. inserted c d >> λ state. commit_one coll insert c state s
+    collection_at coll s >> λ c. insert_state c d >> λ state. commit_one coll insert c state s
 
 abbrev pub upsert_line : List ℕ → Data → Session → Result Outcome Fault
 upsert_line coll d s =
-    collection_at coll s >> λ c. upserted c d >> λ state. commit_one coll upsert c state s
+    collection_at coll s >> λ c. upsert_state c d >> λ state. commit_one coll upsert c state s
 
 abbrev pub patch_line : List ℕ → List ℕ → Data → Option (List ℕ) → Session → Result Outcome Fault
 patch_line coll key set rev s =
-    collection_at coll s >> λ c. patched c key set rev >> λ state. commit_one coll patch c state s
+    collection_at coll s >> λ c. patch_state c key set rev >> λ state. commit_one coll patch c state s
 
 abbrev pub remove_line : List ℕ → List ℕ → Option (List ℕ) → Session → Result Outcome Fault
 remove_line coll key rev s =
-    collection_at coll s >> λ c. removed c key rev >> λ state. commit_one coll remove c state s
+    collection_at coll s >> λ c. remove_state c key rev >> λ state. commit_one coll remove c state s
 
 -- ---- many documents
 
@@ -108,7 +108,7 @@ Keys = List (List ℕ × ⊤)
 abbrev pub row_state : Held → ℕ → Keys → Data → Result State Fault
 row_state c row seen d =
     in_row row (state_of c.schema.primary d) >> λ state.
-    demand (not (is_some (named seen state.key))) (Twice row) >> λ _.
+    demand (not (is_some (named seen state.key))) (Refused (Twice row)) >> λ _.
     in_row row (valid_by c.schema state.fields) >> λ _.
     in_row row (is_free c state.key) >> λ _.
     Ok state
@@ -124,7 +124,7 @@ rows_states c row seen (d ∷ ds) =
 -- states are written at once; where there are none, nothing is, but a write time is to be left
 abbrev pub commit_all : List ℕ → Held → List State → Session → Result Outcome Fault
 commit_all coll c [] s =
-    demand (is_some (stamp c.documents s.moment)) Clock >> λ _. Ok (say (bulk []))
+    demand (is_some (stamp c.documents s.moment)) (Refused Clock) >> λ _. Ok (answer_alone (bulk []))
 commit_all coll c (state ∷ states) s =
     commit coll (state ∷ states) (bulk (map (λ s. next_revision c s.key) (state ∷ states))) c s
 

@@ -4,19 +4,21 @@ ghost use Rattle.rx_value.specs.Due.{DueBy};
 ghost use Rattle.rx_reply.specs.Answer as answer;
 ghost use Rattle.rx_script.specs.Asked.{asked, IsLawful};
 ghost use Rattle.rx_session.specs.Doing.{set_clock, MayDo};
-ghost use Rattle.rx_engine.specs.Lines.{performed, perform, restart_line, outcome};
-ghost use Rattle.rx_engine.specs.Shown.{doing_of, planned};
+ghost use Rattle.rx_engine.specs.Lines.{line_outcome, asked_outcome, restart_line, outcome};
+ghost use Rattle.rx_engine.specs.Shown.{doing_of, outcome_of};
 ghost use Rattle.rx_engine.specs.declared.fault.Fault.TheVariants.{Memory};
 
 use crate::fault::Fault;
-use crate::plan::{Plan, Todo};
+use crate::outcome::{LineDoing, Outcome};
 use crate::queries::{
-    count_line, explain_line, find_line, get_line, observe_line, say, unobserve_line,
+    answer_alone, count_line, explain_line, find_line, get_line, observe_line, unobserve_line,
 };
-use crate::writes::{bulk_line, insert_line, make, patch_line, remove_line, upsert_line};
+use crate::writes::{
+    bulk_line, collection_line, insert_line, patch_line, remove_line, upsert_line,
+};
 use rx_reply::Reply;
 use rx_script::Line;
-use rx_session::{Change, Session};
+use rx_session::{Doing, Session};
 use std::alloc::{AllocError, Global};
 
 /// What a line that isn't blank is to do.
@@ -24,34 +26,34 @@ pub(crate) fn plan<'a>(
     alloc: Global,
     session: &'a Session,
     text: &[u8],
-) -> Result<Plan<'a>, AllocError>
-    ensures exact { IfOk result (λ p. planned p ≡ outcome text.now session.now) }
-    ensures may { IfOk result (λ p. MayDo (doing_of p.todo) session.now) }
+) -> Result<Outcome<'a>, AllocError>
+    ensures exact { IfOk result (λ p. outcome_of p ≡ outcome text.now session.now) }
+    ensures may { IfOk result (λ p. MayDo (doing_of p.doing) session.now) }
 {
-    match performed(alloc, session, text) {
+    match plan_text(alloc, session, text) {
         Ok(plan) => Ok(plan),
-        Err(Fault::Refused(refusal)) => Ok(say(Reply::Refused(refusal))),
+        Err(Fault::Refused(refusal)) => Ok(answer_alone(Reply::Refused(refusal))),
         Err(Fault::Memory) => Err(AllocError),
     }
 }
 
 // What the text does, or why it is refused.
-fn performed<'a>(alloc: Global, session: &'a Session, text: &[u8]) -> Result<Plan<'a>, Fault>
-    ensures exact { DueBy Memory planned result (performed text.now session.now) }
-    ensures may { IfOk result (λ p. MayDo (doing_of p.todo) session.now) }
+fn plan_text<'a>(alloc: Global, session: &'a Session, text: &[u8]) -> Result<Outcome<'a>, Fault>
+    ensures exact { DueBy Memory outcome_of result (line_outcome text.now session.now) }
+    ensures may { IfOk result (λ p. MayDo (doing_of p.doing) session.now) }
 {
     let line = Line::read(alloc, text)?;
-    perform(alloc, session, line)
+    plan_line(alloc, session, line)
 }
 
 // What a line that was read does, or why it is refused.
-fn perform<'a>(alloc: Global, session: &'a Session, line: Line) -> Result<Plan<'a>, Fault>
+fn plan_line<'a>(alloc: Global, session: &'a Session, line: Line) -> Result<Outcome<'a>, Fault>
     requires { IsLawful (asked line) }
-    ensures exact { DueBy Memory planned result (perform (asked line) session.now) }
-    ensures may { IfOk result (λ p. MayDo (doing_of p.todo) session.now) }
+    ensures exact { DueBy Memory outcome_of result (asked_outcome (asked line) session.now) }
+    ensures may { IfOk result (λ p. MayDo (doing_of p.doing) session.now) }
 {
     match line {
-        Line::Collection { name, schema } => make(alloc, session, name, &schema),
+        Line::Collection { name, schema } => collection_line(alloc, session, name, &schema),
         Line::Insert { coll, doc } => insert_line(alloc, session, &coll, &doc),
         Line::Bulk { coll, docs } => bulk_line(alloc, session, &coll, docs.as_slice()),
         Line::Upsert { coll, doc } => upsert_line(alloc, session, &coll, &doc),
@@ -73,26 +75,26 @@ fn perform<'a>(alloc: Global, session: &'a Session, line: Line) -> Result<Plan<'
     }
 }
 
-fn tick<'a>(at: u64) -> Plan<'a>
-    ensures exact { planned result ≡ record { doing = set_clock at; answer = answer.tick } }
-    ensures may { doing_of result.todo ≡ set_clock at }
+fn tick<'a>(at: u64) -> Outcome<'a>
+    ensures exact { outcome_of result ≡ record { doing = set_clock at; answer = answer.tick } }
+    ensures may { doing_of result.doing ≡ set_clock at }
 {
-    Plan {
-        todo: Todo::Change(Change::Tick(at)),
+    Outcome {
+        doing: LineDoing::InSession(Doing::SetClock(at)),
         reply: Reply::Tick,
     }
 }
 
-fn restart_line<'a>(session: &Session) -> Result<Plan<'a>, Fault>
-    ensures exact { DueBy Memory planned result (restart_line session.now) }
-    ensures may { IfOk result (λ p. MayDo (doing_of p.todo) session.now) }
+fn restart_line<'a>(session: &Session) -> Result<Outcome<'a>, Fault>
+    ensures exact { DueBy Memory outcome_of result (restart_line session.now) }
+    ensures may { IfOk result (λ p. MayDo (doing_of p.doing) session.now) }
 {
     // Each epoch has a record, and a journal holds fewer than 2^32 bytes.
     let Some(epoch) = session.epoch().checked_add(1) else {
         return Err(Fault::Memory);
     };
-    Ok(Plan {
-        todo: Todo::Restart(epoch),
+    Ok(Outcome {
+        doing: LineDoing::Restart(epoch),
         reply: Reply::Restart { epoch },
     })
 }

@@ -5,7 +5,7 @@ ghost use Rattle.std.specs.Str.{bytes_eq};
 ghost use Rattle.serde_json.specs.View.{view};
 ghost use Rattle.rx_value.specs.Due.{Due, DueBy};
 ghost use Rattle.rx_value.specs.Named.{named, by_bytes, put_in_order};
-ghost use Rattle.rx_world.specs.Commit.{IsValidState};
+ghost use Rattle.rx_world.specs.Step.{IsValidState};
 ghost use Rattle.rx_engine.specs.Documents.{next_revision};
 ghost use Rattle.rx_engine.specs.Writes.{at_row, in_row, row_state, rows_states};
 ghost use Rattle.rx_engine.specs.declared.fault.Fault.TheVariants.{Memory};
@@ -35,7 +35,7 @@ pub(crate) fn read_rows(
     let mut states = Vec::with_capacity(alloc, docs.len())?;
     for (row, doc) in docs.iter().enumerate() {
         let state = read_row(alloc, collection, row as u64, &seen, doc)?;
-        see(alloc, &mut seen, &state.key)?;
+        add_key(alloc, &mut seen, &state.key)?;
         states.push(state)?;
     }
     Ok(states)
@@ -69,7 +69,7 @@ fn is_seen(seen: &BTreeMap<String, ()>, key: &RxText) -> bool
 }
 
 // Adds the key of a row.
-fn see(alloc: Global, seen: &mut BTreeMap<String, ()>, key: &RxText) -> Result<(), AllocError>
+fn add_key(alloc: Global, seen: &mut BTreeMap<String, ()>, key: &RxText) -> Result<(), AllocError>
     ensures { OnOk result (by_bytes seen.new.entries
         ≡ put_in_order (by_bytes seen.old.entries) key.now tt) }
 {

@@ -7,8 +7,7 @@ ghost use Rattle.rx_value.specs.Named.{named};
 ghost use Rattle.rx_value.specs.declared.value.Value.TheVariants.{Text};
 ghost use Rattle.rx_schema.specs.Validity.{first_fault, fault_seen};
 ghost use Rattle.rx_collection.specs.Lawful.{IsLawful};
-ghost use Rattle.rx_world.specs.Step.{is_text};
-ghost use Rattle.rx_engine.specs.Documents.{key_in, state_of, valid_by, with_fields, keeps_key, live_at, document_at, has_revision, is_free, next_revision};
+ghost use Rattle.rx_engine.specs.Documents.{key_in, state_of, valid_by, with_fields, keeps_key, live_document, document_at, has_revision, is_free, next_revision};
 ghost use Rattle.rx_engine.specs.Faults.{of_invalidity};
 ghost use Rattle.rx_engine.specs.declared.fault.Fault.TheVariants.{Memory};
 
@@ -17,7 +16,7 @@ use rx_collection::Collection;
 use rx_document::{Revision, Stored};
 use rx_reply::{Cause, DocumentFault, Refusal};
 use rx_schema::{Invalid, Schema};
-use rx_value::{Fields, RxText, State, Value, read_fields};
+use rx_value::{Fields, RxText, State, is_text, read_fields, text_of};
 use serde_json::Value as Json;
 use std::alloc::{AllocError, Global};
 
@@ -39,9 +38,9 @@ fn key_in(alloc: Global, primary: &str, fields: &Fields) -> Result<RxText, Fault
     ensures exact { Due Memory result (key_in primary.now fields.now) }
     ensures carries { IfOk result (λ key. named fields.now primary.now ≡ Some (Text key)) }
 {
-    match fields.get(primary) {
-        Some(Value::Text(key)) => Ok(key.copy(alloc)?),
-        _ => Err(of_document(DocumentFault::Key)),
+    match text_of(fields.get(primary)) {
+        Some(key) => Ok(key.copy(alloc)?),
+        None => Err(of_document(DocumentFault::Key)),
     }
 }
 
@@ -91,25 +90,16 @@ pub(crate) fn keeps_key(primary: &str, key: &str, fields: &Fields) -> bool
 {
     for i in 0..fields.len() {
         let (name, value) = fields.at(i);
-        if name.as_str() == primary && !is_text(value, key) {
+        if name.as_str() == primary && !is_text(Some(value), key) {
             return false;
         }
     }
     true
 }
 
-fn is_text(value: &Value, text: &str) -> bool
-    ensures { result ≡ is_text text.now (Some value.now) }
-{
-    match value {
-        Value::Text(held) => held.as_str() == text,
-        _ => false,
-    }
-}
-
 /// The document of a key, if it is live.
-pub(crate) fn live_at<'a>(collection: &'a Collection, key: &str) -> Option<&'a Stored>
-    ensures value { option_map (λ d. d.now) result ≡ live_at collection.now key.now }
+pub(crate) fn find_live_document<'a>(collection: &'a Collection, key: &str) -> Option<&'a Stored>
+    ensures value { option_map (λ d. d.now) result ≡ live_document collection.now key.now }
     ensures lawful { IsLawful collection.now }
 {
     match collection.get(key) {
@@ -119,12 +109,12 @@ pub(crate) fn live_at<'a>(collection: &'a Collection, key: &str) -> Option<&'a S
 }
 
 /// The document of a key, which is to be live.
-pub(crate) fn document_at<'a>(collection: &'a Collection, key: &str) -> Result<&'a Stored, Fault>
+pub(crate) fn find_document<'a>(collection: &'a Collection, key: &str) -> Result<&'a Stored, Fault>
     ensures exact { DueBy Memory (λ d. d.now) result (document_at collection.now key.now) }
     ensures carries { IfOk result (λ d. named d.now.state.fields collection.now.schema.primary
         ≡ Some (Text key.now)) }
 {
-    match live_at(collection, key) {
+    match find_live_document(collection, key) {
         Some(doc) => Ok(doc),
         None => Err(Fault::Refused(Refusal::NoDocument)),
     }
@@ -153,7 +143,7 @@ pub(crate) fn check_revision(
 pub(crate) fn check_free(alloc: Global, collection: &Collection, key: &str) -> Result<(), Fault>
     ensures { Due Memory result (is_free collection.now key.now) }
 {
-    match live_at(collection, key) {
+    match find_live_document(collection, key) {
         None => Ok(()),
         Some(doc) => {
             let rev = doc.rev.text(alloc)?;

@@ -1,28 +1,32 @@
-ghost use Rattle.std.specs.Prelude.{◌≡◌, ◌≤◌, ◌<◌, ◌^◌, ◌⊎◌, ℕ, List, [], ◌∷◌, ◌++◌, IfOk, OnOk, IsErrOf, string_bytes};
-ghost use Rattle.rx_disk.specs.Disk.{Rose};
-ghost use Rattle.rx_frame.specs.File.{StandsFor, end_of};
+ghost use Rattle.std.specs.Prelude.{◌≡◌, ◌≤◌, ◌<◌, ◌^◌, ℕ, List, [], ◌∷◌, ◌++◌, true, IfOk, OnOk, IsErrOf, string_bytes};
+ghost use Rattle.rx_journal.specs.Reading.{IsUntouched};
 ghost use Rattle.rx_outside.specs.declared.stop.Stop.TheVariants as Stop;
 ghost use Rattle.rx_reply.specs.Reply.{answer_line, is_refusal};
-ghost use Rattle.rx_session.specs.Doing.{restart, after, MayDo};
-ghost use Rattle.rx_session.specs.Emissions.{emissions, settled};
+ghost use Rattle.rx_session.specs.Doing.{nothing, restart, after, MayDo};
+ghost use Rattle.rx_session.specs.Emissions.{emissions, settled_session};
 ghost use Rattle.rx_session.specs.Shown.{done_by};
 ghost use Rattle.rx_world.specs.World.{World};
-ghost use Rattle.rx_engine.specs.Engine.{IsAt, Answers, IsFull, session_of, limit_of};
-ghost use Rattle.rx_engine.specs.Holds.{GrowsLegally, IsLegalFile};
-ghost use Rattle.rx_engine.specs.Lines.{outcome};
+ghost use Rattle.rx_store.specs.Holds.{IsIllegalFile, IsJournalOfSome, IsLegalFile};
+ghost use Rattle.rx_store.specs.Safe.{HasDiskCause, IsCrashSafe};
+ghost use Rattle.rx_engine.specs.Engine.{IsAt, Answers, LeavesSession, session_of, limit_of};
+ghost use Rattle.rx_engine.specs.Lines.{outcome, IsIdle, IsRestart};
 ghost use Rattle.rx_engine.specs.Meaning.{meaning, bodies_of, records_of};
 ghost use Rattle.rx_engine.specs.Opening.{epoch_body, opened};
 ghost use Rattle.rx_engine.specs.Shown.{doing_of};
 
 use crate::asking::plan;
-use crate::keep::keep_change;
-use crate::opening::{Opened, goes_on, open};
-use crate::plan::Todo;
+use crate::emitting::add_lines;
+use crate::keep::keep_doing;
+use crate::opening::{Opened, is_next, open};
+use crate::outcome::{LineDoing, Outcome};
+use rx_diagram::Diagram;
 use rx_disk::Disk;
 use rx_journal::Journal;
+use rx_observe::Emission;
 use rx_outside::Stop;
-use rx_session::{Change, Session};
+use rx_session::{Doing, Session};
 use std::alloc::{AllocError, Global};
+use std::rc::Rc;
 
 /// What a line is answered: its reply and the emissions after it, each ended by a line feed.
 #[derive(Debug, Drop)]
@@ -36,6 +40,8 @@ pub struct Output {
 pub struct Engine {
     journal: Journal,
     session: Session,
+    /// Built once, for the journal opened again too.
+    diagram: Rc<Diagram>,
 }
 
 impl Engine {
@@ -44,40 +50,37 @@ impl Engine {
         requires low { 9 ≤ limit }
         requires high { limit < 2 ^ 32 }
 
-        // A file that is opened is legal.
-        ensures stood { D.tells → IfOk result (λ _. (bodies : List (List ℕ)) × (w : World)
-            × IsLegalFile (D.content disk.old) bodies w) }
+        // A file that is opened, or that has no room for the new epoch's record, is legal.
+        ensures stood { D.tells → IfOk result (λ _. IsJournalOfSome (D.content disk.old)) }
+        ensures full_stood { D.tells → (would most : ℕ) → IsErrOf result (Stop.Full would most)
+            → IsJournalOfSome (D.content disk.old) }
         ensures opened { D.tells → (bodies : List (List ℕ)) (w : World)
-            → IsLegalFile (D.content disk.old) bodies w → IfOk result (λ engine.
-            (session_of engine ≡ opened w) × IsAt D.Disk disk.new engine (bodies ++ epoch_body w ∷ [])) }
+            → IsLegalFile (D.content disk.old) bodies w
+            → IfOk result (λ engine. session_of engine ≡ opened w) }
+        ensures begun { IfOk result (λ engine. (w : World) × (session_of engine ≡ opened w)) }
         ensures limit { IfOk result (λ engine. limit_of engine ≡ limit) }
 
-        // At each moment of the call each image is a legal file of the old records, with that of
-        // the new epoch or without it.
-        ensures moments { D.tells → (bodies : List (List ℕ)) (w : World)
+        // Over a legal file: what holds at each moment, at `Ok`, and at `Full`.
+        ensures safe { D.tells → (bodies : List (List ℕ)) (w : World)
             → IsLegalFile (D.content disk.old) bodies w
-            → ((c : List ℕ) → D.image disk.old c → StandsFor c bodies)
-            → GrowsLegally D.Disk disk.old disk.new bodies (epoch_body w ∷ []) }
+            → IsCrashSafe D.Disk disk.old disk.new bodies (epoch_body w ∷ []) limit
+            (IsAt D.Disk disk.new) result }
 
-        // A legal file is never refused, and a file that is refused stays as it was.
-        ensures not_journal { D.tells → IsErrOf result Stop.NotJournal → (bodies : List (List ℕ)) (w : World)
-            → IsLegalFile (D.content disk.old) bodies w → ⊥ }
-        ensures not_journal_kept { D.tells → IsErrOf result Stop.NotJournal
-            → D.content disk.new ≡ D.content disk.old }
-
-        ensures full { D.tells → (bodies : List (List ℕ)) (w : World)
-            → IsLegalFile (D.content disk.old) bodies w
-            → (would most : ℕ) → IsErrOf result (Stop.Full would most)
-            → (most ≡ limit) × IsFull bodies (epoch_body w ∷ []) would most }
-        ensures fits { D.tells → (bodies : List (List ℕ)) (w : World)
-            → IsLegalFile (D.content disk.old) bodies w
-            → IfOk result (λ _. end_of (bodies ++ epoch_body w ∷ []) ≤ limit) }
-        ensures disk_only { IsErrOf result Stop.Disk → Rose (D.faults disk.old) (D.faults disk.new) }
-        ensures faults { D.faults disk.old ≤ D.faults disk.new }
+        // A file that isn't legal stays as it was, and nothing that a crash leaves is new.
+        ensures illegal { D.tells → IsIllegalFile (D.content disk.old)
+            → IsUntouched D.Disk disk.old disk.new }
+        ensures cause { HasDiskCause (D.faults disk.old) (D.faults disk.new) result }
     {
-        let Opened { journal, world } = open(alloc, disk, limit)?;
-        let session = Session::new(alloc, world);
-        Ok(Engine { journal, session })
+        let built = Diagram::build(alloc)?;
+        let diagram = Rc::new(alloc, built)?;
+        let share = diagram.clone()?;
+        let Opened { journal, world } = open(alloc, disk, limit, &diagram)?;
+        let session = Session::new(alloc, world, share);
+        Ok(Engine {
+            journal,
+            session,
+            diagram,
+        })
     }
 
     /// Plays a line that isn't blank. Its records are on the disk before its output exists. The
@@ -92,172 +95,158 @@ impl Engine {
         requires { D.tells → (bodies : List (List ℕ)) × IsAt D.Disk disk.old self bodies }
         ensures answers { IfOk result (λ p.
             Answers (meaning number text.now (session_of self)) p.0 p.1) }
-
-        // At each moment of the call each image is a legal file of the records so far and a front
-        // of those of the line, and at `Ok` the disk holds all of them.
-        ensures moments { D.tells → (bodies : List (List ℕ)) → IsAt D.Disk disk.old self bodies
-            → GrowsLegally D.Disk disk.old disk.new bodies
-            (bodies_of (meaning number text.now (session_of self)).records) }
-        ensures at { D.tells → (bodies : List (List ℕ)) → IsAt D.Disk disk.old self bodies
-            → IfOk result (λ p. IsAt D.Disk disk.new p.0
-            (bodies ++ bodies_of (meaning number text.now (session_of self)).records)) }
         ensures limit { IfOk result (λ p. limit_of p.0 ≡ limit_of self) }
 
-        ensures full { D.tells → (bodies : List (List ℕ)) → IsAt D.Disk disk.old self bodies
-            → (would limit : ℕ) → IsErrOf result (Stop.Full would limit)
-            → (limit ≡ limit_of self) × IsFull bodies
-            (bodies_of (meaning number text.now (session_of self)).records) would limit }
-        ensures fits { D.tells → (bodies : List (List ℕ)) → IsAt D.Disk disk.old self bodies
-            → IfOk result (λ _. (bodies_of (meaning number text.now (session_of self)).records ≡ [])
-            ⊎ (end_of (bodies ++ bodies_of (meaning number text.now (session_of self)).records)
-            ≤ limit_of self)) }
-        ensures disk_only { IsErrOf result Stop.Disk → Rose (D.faults disk.old) (D.faults disk.new) }
-        ensures not_journal { D.tells → IsErrOf result Stop.NotJournal → ⊥ }
-        ensures faults { D.faults disk.old ≤ D.faults disk.new }
+        // The line's records: what holds at each moment, at `Ok`, and at `Full`.
+        ensures safe { D.tells → (bodies : List (List ℕ)) → IsAt D.Disk disk.old self bodies
+            → IsCrashSafe D.Disk disk.old disk.new bodies
+            (bodies_of (meaning number text.now (session_of self)).records) (limit_of self)
+            (λ p. IsAt D.Disk disk.new p.0) result }
+
+        // A refused line leaves the session and the disk, and so does one that tells what there is.
+        ensures refused { IfOk result (λ p. p.1.refused ≡ true → (disk.new ≡ disk.old)
+            × LeavesSession number text.now (session_of self) p.0 p.1) }
+        ensures idle { IsIdle text.now (session_of self) → (disk.new ≡ disk.old)
+            × IfOk result (λ p. LeavesSession number text.now (session_of self) p.0 p.1) }
+
+        // Only where a journal is opened again, it may be none any more.
+        ensures not_journal { IsErrOf result Stop.NotJournal → IsRestart text.now }
+        ensures cause { HasDiskCause (D.faults disk.old) (D.faults disk.new) result }
     {
-        let Planned {
-            todo,
-            text,
+        let Printed {
+            doing,
+            mut text,
             refused,
-        } = plan_line(alloc, &self.session, text, number)?;
-        let (engine, text) = self.done(alloc, disk, todo, text)?;
+        } = print_reply(alloc, &self.session, text, number)?;
+        let (engine, emissions) = self.carry_out(alloc, disk, doing)?;
+        add_lines(alloc, emissions.as_slice(), &mut text)?;
         Ok((engine, Output { text, refused }))
     }
 
-    // The engine after what a line is to do, and the text with the emissions that are due then.
-    fn done<D: Disk>(
+    // The engine after what a line does, and the emissions that are due then.
+    fn carry_out<D: Disk>(
         self,
         alloc: Global,
         disk: &mut D,
-        todo: Todo,
-        text: String,
-    ) -> Result<(Engine, String), Stop>
+        doing: LineDoing,
+    ) -> Result<(Engine, Vec<Emission>), Stop>
         requires at { D.tells → (bodies : List (List ℕ)) × IsAt D.Disk disk.old self bodies }
-        requires may { MayDo (doing_of todo) (session_of self) }
+        requires may { MayDo (doing_of doing) (session_of self) }
         ensures session { IfOk result (λ p. session_of p.0
-            ≡ settled (after (doing_of todo) (session_of self))) }
-        ensures text { IfOk result (λ p. string_bytes p.1
-            ≡ string_bytes text ++ emissions (after (doing_of todo) (session_of self))) }
-        ensures moments { D.tells → (bodies : List (List ℕ)) → IsAt D.Disk disk.old self bodies
-            → GrowsLegally D.Disk disk.old disk.new bodies (bodies_of (records_of (doing_of todo))) }
-        ensures at { D.tells → (bodies : List (List ℕ)) → IsAt D.Disk disk.old self bodies
-            → IfOk result (λ p. IsAt D.Disk disk.new p.0
-            (bodies ++ bodies_of (records_of (doing_of todo)))) }
+            ≡ settled_session (after (doing_of doing) (session_of self))) }
+        ensures emissions { IfOk result (λ p. p.1.items
+            ≡ emissions (after (doing_of doing) (session_of self))) }
         ensures limit { IfOk result (λ p. limit_of p.0 ≡ limit_of self) }
-        ensures full { D.tells → (bodies : List (List ℕ)) → IsAt D.Disk disk.old self bodies
-            → (would limit : ℕ) → IsErrOf result (Stop.Full would limit)
-            → (limit ≡ limit_of self)
-            × IsFull bodies (bodies_of (records_of (doing_of todo))) would limit }
-        ensures fits { D.tells → (bodies : List (List ℕ)) → IsAt D.Disk disk.old self bodies
-            → IfOk result (λ _. (bodies_of (records_of (doing_of todo)) ≡ [])
-            ⊎ (end_of (bodies ++ bodies_of (records_of (doing_of todo))) ≤ limit_of self)) }
-        ensures disk_only { IsErrOf result Stop.Disk → Rose (D.faults disk.old) (D.faults disk.new) }
-        ensures not_journal { D.tells → IsErrOf result Stop.NotJournal → ⊥ }
-        ensures faults { D.faults disk.old ≤ D.faults disk.new }
+        ensures safe { D.tells → (bodies : List (List ℕ)) → IsAt D.Disk disk.old self bodies
+            → IsCrashSafe D.Disk disk.old disk.new bodies (bodies_of (records_of (doing_of doing)))
+            (limit_of self) (λ p. IsAt D.Disk disk.new p.0) result }
+        ensures idle_disk { doing_of doing ≡ nothing → disk.new ≡ disk.old }
+        ensures idle { doing_of doing ≡ nothing → IfOk result (λ p.
+            (session_of p.0 ≡ session_of self) × (p.1.items ≡ [])) }
+        ensures not_journal { IsErrOf result Stop.NotJournal
+            → (number : ℕ) × (doing_of doing ≡ restart number) }
+        ensures cause { HasDiskCause (D.faults disk.old) (D.faults disk.new) result }
     {
-        match todo {
-            Todo::Change(change) => self.changed(alloc, disk, change, text),
-            Todo::Restart(epoch) => Ok((self.reopened(alloc, disk, epoch)?, text)),
+        match doing {
+            LineDoing::InSession(doing) => self.change_session(alloc, disk, doing),
+            LineDoing::Restart(epoch) => { Ok((self.reopen(alloc, disk, epoch)?, Vec::new(alloc))) }
         }
     }
 
-    // The engine after a change, and the text with the emissions that are due then.
-    fn changed<D: Disk>(
+    // The engine after something was done to its session, and the emissions that are due then.
+    fn change_session<D: Disk>(
         self,
         alloc: Global,
         disk: &mut D,
-        change: Change,
-        text: String,
-    ) -> Result<(Engine, String), Stop>
+        doing: Doing,
+    ) -> Result<(Engine, Vec<Emission>), Stop>
         requires at { D.tells → (bodies : List (List ℕ)) × IsAt D.Disk disk.old self bodies }
-        requires may { MayDo (done_by change) (session_of self) }
+        requires may { MayDo (done_by doing) (session_of self) }
         ensures session { IfOk result (λ p. session_of p.0
-            ≡ settled (after (done_by change) (session_of self))) }
-        ensures text { IfOk result (λ p. string_bytes p.1
-            ≡ string_bytes text ++ emissions (after (done_by change) (session_of self))) }
-        ensures moments { D.tells → (bodies : List (List ℕ)) → IsAt D.Disk disk.old self bodies
-            → GrowsLegally D.Disk disk.old disk.new bodies (bodies_of (records_of (done_by change))) }
-        ensures at { D.tells → (bodies : List (List ℕ)) → IsAt D.Disk disk.old self bodies
-            → IfOk result (λ p. IsAt D.Disk disk.new p.0
-            (bodies ++ bodies_of (records_of (done_by change)))) }
+            ≡ settled_session (after (done_by doing) (session_of self))) }
+        ensures emissions { IfOk result (λ p. p.1.items
+            ≡ emissions (after (done_by doing) (session_of self))) }
         ensures limit { IfOk result (λ p. limit_of p.0 ≡ limit_of self) }
-        ensures full { D.tells → (bodies : List (List ℕ)) → IsAt D.Disk disk.old self bodies
-            → (would limit : ℕ) → IsErrOf result (Stop.Full would limit)
-            → (limit ≡ limit_of self)
-            × IsFull bodies (bodies_of (records_of (done_by change))) would limit }
-        ensures fits { D.tells → (bodies : List (List ℕ)) → IsAt D.Disk disk.old self bodies
-            → IfOk result (λ _. (bodies_of (records_of (done_by change)) ≡ [])
-            ⊎ (end_of (bodies ++ bodies_of (records_of (done_by change))) ≤ limit_of self)) }
-        ensures disk_only { IsErrOf result Stop.Disk → Rose (D.faults disk.old) (D.faults disk.new) }
+        ensures safe { D.tells → (bodies : List (List ℕ)) → IsAt D.Disk disk.old self bodies
+            → IsCrashSafe D.Disk disk.old disk.new bodies (bodies_of (records_of (done_by doing)))
+            (limit_of self) (λ p. IsAt D.Disk disk.new p.0) result }
+        ensures idle_disk { done_by doing ≡ nothing → disk.new ≡ disk.old }
+        ensures idle { done_by doing ≡ nothing → IfOk result (λ p.
+            (session_of p.0 ≡ session_of self) × (p.1.items ≡ [])) }
         ensures not_journal { IsErrOf result Stop.NotJournal → ⊥ }
-        ensures faults { D.faults disk.old ≤ D.faults disk.new }
+        ensures cause { HasDiskCause (D.faults disk.old) (D.faults disk.new) result }
     {
-        let mut text = text;
-        let Engine { journal, session } = self;
-        let journal = keep_change(alloc, journal, disk, &change)?;
-        let session = session.next(alloc, change, &mut text)?;
-        Ok((Engine { journal, session }, text))
+        let Engine {
+            journal,
+            session,
+            diagram,
+        } = self;
+        let journal = keep_doing(alloc, journal, disk, &doing)?;
+        let (session, emissions) = session.next(alloc, doing)?;
+        let engine = Engine {
+            journal,
+            session,
+            diagram,
+        };
+        Ok((engine, emissions))
     }
 
     // The engine on the journal opened again, which is to give the collections that there are.
-    fn reopened<D: Disk>(self, alloc: Global, disk: &mut D, epoch: u64) -> Result<Engine, Stop>
+    fn reopen<D: Disk>(self, alloc: Global, disk: &mut D, epoch: u64) -> Result<Engine, Stop>
         requires at { D.tells → (bodies : List (List ℕ)) × IsAt D.Disk disk.old self bodies }
         requires next { MayDo (restart epoch) (session_of self) }
         ensures session { IfOk result (λ e. session_of e
-            ≡ settled (after (restart epoch) (session_of self))) }
+            ≡ settled_session (after (restart epoch) (session_of self))) }
         ensures quiet { OnOk result (emissions (after (restart epoch) (session_of self)) ≡ []) }
-        ensures moments { D.tells → (bodies : List (List ℕ)) → IsAt D.Disk disk.old self bodies
-            → GrowsLegally D.Disk disk.old disk.new bodies (bodies_of (records_of (restart epoch))) }
-        ensures at { D.tells → (bodies : List (List ℕ)) → IsAt D.Disk disk.old self bodies
-            → IfOk result (λ e. IsAt D.Disk disk.new e
-            (bodies ++ bodies_of (records_of (restart epoch)))) }
         ensures limit { IfOk result (λ e. limit_of e ≡ limit_of self) }
-        ensures full { D.tells → (bodies : List (List ℕ)) → IsAt D.Disk disk.old self bodies
-            → (would limit : ℕ) → IsErrOf result (Stop.Full would limit)
-            → (limit ≡ limit_of self)
-            × IsFull bodies (bodies_of (records_of (restart epoch))) would limit }
-        ensures fits { D.tells → (bodies : List (List ℕ)) → IsAt D.Disk disk.old self bodies
-            → IfOk result (λ _. end_of (bodies ++ bodies_of (records_of (restart epoch)))
-            ≤ limit_of self) }
-        ensures disk_only { IsErrOf result Stop.Disk → Rose (D.faults disk.old) (D.faults disk.new) }
-        ensures not_journal { D.tells → IsErrOf result Stop.NotJournal → ⊥ }
-        ensures faults { D.faults disk.old ≤ D.faults disk.new }
+        ensures safe { D.tells → (bodies : List (List ℕ)) → IsAt D.Disk disk.old self bodies
+            → IsCrashSafe D.Disk disk.old disk.new bodies (bodies_of (records_of (restart epoch)))
+            (limit_of self) (IsAt D.Disk disk.new) result }
+        ensures cause { HasDiskCause (D.faults disk.old) (D.faults disk.new) result }
     {
-        let Engine { journal, session } = self;
-        let Opened { journal, world } = open(alloc, disk, journal.limit)?;
-        if !goes_on(&session, &world, epoch) {
+        let Engine {
+            journal,
+            session,
+            diagram,
+        } = self;
+        let Opened { journal, world } = open(alloc, disk, journal.limit, &diagram)?;
+        if !is_next(&session, &world, epoch) {
             return Err(Stop::NotJournal);
         }
-        let session = session.reopened(alloc, world)?;
-        Ok(Engine { journal, session })
+        let session = session.reopen(alloc, world)?;
+        Ok(Engine {
+            journal,
+            session,
+            diagram,
+        })
     }
 }
 
-// What a line is to do, and what it is answered then.
+// What a line does, and the line of its reply.
 #[derive(Drop)]
-struct Planned {
-    todo: Todo,
+struct Printed {
+    doing: LineDoing,
     text: String,
     refused: bool,
 }
 
-fn plan_line(
+fn print_reply(
     alloc: Global,
     session: &Session,
     text: &[u8],
     number: u64,
-) -> Result<Planned, AllocError>
-    ensures doing { IfOk result (λ p. doing_of p.todo ≡ (outcome text.now session.now).doing) }
-    ensures may { IfOk result (λ p. MayDo (doing_of p.todo) session.now) }
+) -> Result<Printed, AllocError>
+    ensures doing { IfOk result (λ p. doing_of p.doing ≡ (outcome text.now session.now).doing) }
+    ensures may { IfOk result (λ p. MayDo (doing_of p.doing) session.now) }
     ensures reply { IfOk result (λ p. string_bytes p.text
         ≡ answer_line number (outcome text.now session.now).answer) }
     ensures refused { IfOk result (λ p. p.refused
         ≡ is_refusal (outcome text.now session.now).answer) }
 {
-    let plan = plan(alloc, session, text)?;
-    Ok(Planned {
-        text: plan.reply.line(alloc, number)?,
-        refused: plan.reply.is_refusal(),
-        todo: plan.todo,
+    let Outcome { doing, reply } = plan(alloc, session, text)?;
+    Ok(Printed {
+        doing,
+        text: reply.line(alloc, number)?,
+        refused: reply.is_refusal(),
     })
 }

@@ -1,18 +1,18 @@
-//! A line of a script is its meaning, and its records are on the disk before its reply exists.
+//! A line of a script is its meaning, and its records are on the disk before its reply exists. What
+//! a journal is, and what holds of it at each moment, is rx_store's.
 #![tactic(auto)]
 
 mod asking;
 mod bulk;
 mod documents;
+mod emitting;
 mod engine;
 mod fault;
 mod keep;
 mod lookup;
 mod opening;
-mod plan;
+mod outcome;
 mod queries;
-mod replay;
-mod stopping;
 mod writes;
 
 pub use engine::{Engine, Output};

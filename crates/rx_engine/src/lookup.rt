@@ -15,7 +15,7 @@ use rx_value::RxText;
 use std::alloc::Global;
 
 /// The collection of a name, which is to be held, with its observed queries.
-pub(crate) fn live_at<'a>(
+pub(crate) fn find_live<'a>(
     alloc: Global,
     session: &'a Session,
     coll: &RxText,
@@ -36,7 +36,7 @@ pub(crate) fn live_at<'a>(
 }
 
 /// The collection of a name, which is to be held.
-pub(crate) fn collection_at<'a>(
+pub(crate) fn find_collection<'a>(
     alloc: Global,
     session: &'a Session,
     coll: &RxText,
@@ -47,5 +47,5 @@ pub(crate) fn collection_at<'a>(
     ensures called { IfOk result (λ c. c.now.name ≡ coll.now) }
     ensures valid { IfOk result (λ c. AreValid c.now) }
 {
-    Ok(live_at(alloc, session, coll)?.collection())
+    Ok(find_live(alloc, session, coll)?.collection())
 }

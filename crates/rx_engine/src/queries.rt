@@ -3,21 +3,21 @@ ghost use Rattle.std.specs.Prelude.{◌≡◌, IfOk};
 ghost use Rattle.serde_json.specs.View.{view};
 ghost use Rattle.rx_value.specs.Due.{DueBy};
 ghost use Rattle.rx_query.specs.Asked.{asked};
-ghost use Rattle.rx_reply.specs.Answer.{said};
+ghost use Rattle.rx_reply.specs.Answer.{answer_of};
 ghost use Rattle.rx_session.specs.Doing.{MayDo};
-ghost use Rattle.rx_engine.specs.Outcome.{say};
+ghost use Rattle.rx_engine.specs.Outcome.{answer_alone};
 ghost use Rattle.rx_engine.specs.Queries.{get_line, find_line, count_line, observe_line, unobserve_line, explain_line, query_on};
-ghost use Rattle.rx_engine.specs.Shown.{doing_of, planned};
+ghost use Rattle.rx_engine.specs.Shown.{doing_of, outcome_of};
 ghost use Rattle.rx_engine.specs.declared.fault.Fault.TheVariants.{Memory};
 
-use crate::documents::document_at;
+use crate::documents::find_document;
 use crate::fault::Fault;
-use crate::lookup::{collection_at, live_at};
-use crate::plan::{Plan, Todo};
+use crate::lookup::{find_collection, find_live};
+use crate::outcome::{LineDoing, Outcome};
 use rx_collection::{Collection, Holder};
 use rx_query::Query;
 use rx_reply::{Refusal, Reply};
-use rx_session::{Change, Session, Watch};
+use rx_session::{Doing, Session, Watch};
 use rx_value::RxText;
 use serde_json::Value as Json;
 use std::alloc::Global;
@@ -30,13 +30,13 @@ pub(crate) fn get_line<'a>(
     session: &'a Session,
     coll: &RxText,
     key: &RxText,
-) -> Result<Plan<'a>, Fault>
-    ensures exact { DueBy Memory planned result (get_line coll.now key.now session.now) }
-    ensures may { IfOk result (λ p. MayDo (doing_of p.todo) session.now) }
+) -> Result<Outcome<'a>, Fault>
+    ensures exact { DueBy Memory outcome_of result (get_line coll.now key.now session.now) }
+    ensures may { IfOk result (λ p. MayDo (doing_of p.doing) session.now) }
 {
-    let collection = collection_at(alloc, session, coll)?;
-    let doc = document_at(collection, key.as_str())?;
-    Ok(say(Reply::Get { doc }))
+    let collection = find_collection(alloc, session, coll)?;
+    let doc = find_document(collection, key.as_str())?;
+    Ok(answer_alone(Reply::Get { doc }))
 }
 
 pub(crate) fn find_line<'a>(
@@ -44,15 +44,15 @@ pub(crate) fn find_line<'a>(
     session: &'a Session,
     coll: &RxText,
     query: &Json,
-) -> Result<Plan<'a>, Fault>
-    ensures exact { DueBy Memory planned result
+) -> Result<Outcome<'a>, Fault>
+    ensures exact { DueBy Memory outcome_of result
         (find_line coll.now (view query.now) session.now) }
-    ensures may { IfOk result (λ p. MayDo (doing_of p.todo) session.now) }
+    ensures may { IfOk result (λ p. MayDo (doing_of p.doing) session.now) }
 {
-    let live = live_at(alloc, session, coll)?;
+    let live = find_live(alloc, session, coll)?;
     let query = read_query(alloc, live.collection(), query)?;
     let rows = live.find(alloc, &query)?;
-    Ok(say(Reply::Find { rows }))
+    Ok(answer_alone(Reply::Find { rows }))
 }
 
 pub(crate) fn count_line<'a>(
@@ -60,15 +60,15 @@ pub(crate) fn count_line<'a>(
     session: &'a Session,
     coll: &RxText,
     query: &Json,
-) -> Result<Plan<'a>, Fault>
-    ensures exact { DueBy Memory planned result
+) -> Result<Outcome<'a>, Fault>
+    ensures exact { DueBy Memory outcome_of result
         (count_line coll.now (view query.now) session.now) }
-    ensures may { IfOk result (λ p. MayDo (doing_of p.todo) session.now) }
+    ensures may { IfOk result (λ p. MayDo (doing_of p.doing) session.now) }
 {
-    let live = live_at(alloc, session, coll)?;
+    let live = find_live(alloc, session, coll)?;
     let query = read_query(alloc, live.collection(), query)?;
     let count = live.find(alloc, &query)?.len() as u64;
-    Ok(say(Reply::Count { count }))
+    Ok(answer_alone(Reply::Count { count }))
 }
 
 pub(crate) fn observe_line<'a>(
@@ -77,12 +77,12 @@ pub(crate) fn observe_line<'a>(
     name: RxText,
     coll: RxText,
     query: &Json,
-) -> Result<Plan<'a>, Fault>
-    ensures exact { DueBy Memory planned result
+) -> Result<Outcome<'a>, Fault>
+    ensures exact { DueBy Memory outcome_of result
         (observe_line name coll (view query.now) session.now) }
-    ensures may { IfOk result (λ p. MayDo (doing_of p.todo) session.now) }
+    ensures may { IfOk result (λ p. MayDo (doing_of p.doing) session.now) }
 {
-    let collection = collection_at(alloc, session, &coll)?;
+    let collection = find_collection(alloc, session, &coll)?;
     if session.is_observed(&name) {
         return Err(Fault::Refused(Refusal::Exists));
     }
@@ -91,41 +91,41 @@ pub(crate) fn observe_line<'a>(
         return Err(Fault::Refused(Refusal::TooMany));
     }
     let watch = Watch { name, coll, query };
-    Ok(Plan {
-        todo: Todo::Change(Change::Watch(watch)),
+    Ok(Outcome {
+        doing: LineDoing::InSession(Doing::Watch(watch)),
         reply: Reply::Observe,
     })
 }
 
-pub(crate) fn unobserve_line<'a>(session: &'a Session, name: RxText) -> Result<Plan<'a>, Fault>
-    ensures exact { DueBy Memory planned result (unobserve_line name session.now) }
-    ensures may { IfOk result (λ p. MayDo (doing_of p.todo) session.now) }
+pub(crate) fn unobserve_line<'a>(session: &'a Session, name: RxText) -> Result<Outcome<'a>, Fault>
+    ensures exact { DueBy Memory outcome_of result (unobserve_line name session.now) }
+    ensures may { IfOk result (λ p. MayDo (doing_of p.doing) session.now) }
 {
     if !session.is_observed(&name) {
         return Err(Fault::Refused(Refusal::NoQuery));
     }
-    Ok(Plan {
-        todo: Todo::Change(Change::Unwatch(name)),
+    Ok(Outcome {
+        doing: LineDoing::InSession(Doing::Unwatch(name)),
         reply: Reply::Unobserve,
     })
 }
 
-pub(crate) fn explain_line<'a>(session: &'a Session, name: &RxText) -> Result<Plan<'a>, Fault>
-    ensures exact { DueBy Memory planned result (explain_line name.now session.now) }
-    ensures may { IfOk result (λ p. MayDo (doing_of p.todo) session.now) }
+pub(crate) fn explain_line<'a>(session: &'a Session, name: &RxText) -> Result<Outcome<'a>, Fault>
+    ensures exact { DueBy Memory outcome_of result (explain_line name.now session.now) }
+    ensures may { IfOk result (λ p. MayDo (doing_of p.doing) session.now) }
 {
     match session.counts(name) {
-        Some(counts) => Ok(say(Reply::Explain { counts })),
+        Some(counts) => Ok(answer_alone(Reply::Explain { counts })),
         None => Err(Fault::Refused(Refusal::NoQuery)),
     }
 }
 
 /// A reply that changes nothing.
-pub(crate) fn say(reply: Reply<'_>) -> Plan<'_>
-    ensures { planned result ≡ say (said reply.entry) }
+pub(crate) fn answer_alone(reply: Reply<'_>) -> Outcome<'_>
+    ensures { outcome_of result ≡ answer_alone (answer_of reply.entry) }
 {
-    Plan {
-        todo: Todo::Change(Change::Nothing),
+    Outcome {
+        doing: LineDoing::InSession(Doing::Nothing),
         reply,
     }
 }

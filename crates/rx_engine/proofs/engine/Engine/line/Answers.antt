@@ -1,73 +1,116 @@
-use Rattle.std.proofs.Common.{◌≡◌, ◌≤◌, ◌⊎◌, ℕ, List, [], ◌++◌, ◌∙◌, ap, subst, rules}
-use Rattle.rx_frame.specs.File.{end_of}
+use Rattle.std.proofs.Common.{◌≡◌, ℕ, List, ◌++◌, string_bytes, Err, ◌∙◌, ap, sym, subst, rules}
+use Rattle.rx_observe.specs.declared.emission.Emission.{Emission}
 use Rattle.rx_reply.specs.Reply.{answer_line}
+use Rattle.rx_outside.specs.declared.stop.Stop.TheVariants.{Memory}
 use Rattle.rx_session.specs.Doing.{Doing, after}
-use Rattle.rx_session.specs.Emissions.{emissions, settled}
-use Rattle.rx_engine.specs.Engine.{IsAt, IsFull, session_of, limit_of}
-use Rattle.rx_engine.specs.Holds.{GrowsLegally}
+use Rattle.rx_session.specs.Emissions.{emissions, settled_session}
+use Rattle.rx_store.proofs.Crashes.{answered, ran_out, same_stop}
+use Rattle.rx_store.proofs.Growing.{stays}
+use Rattle.rx_engine.specs.Engine.{session_of, limit_of}
 use Rattle.rx_engine.specs.Lines.{outcome}
-use Rattle.rx_engine.specs.Meaning.{meaning, bodies_of, records_of}
+use Rattle.rx_engine.specs.Meaning.{meaning, lines_of}
 use Rattle.rx_engine.specs.Shown.{doing_of}
-use Rattle.rx_engine.proofs.Growing.{stays}
+use Rattle.rx_engine.proofs.Idle.{alone, leaves, no_answer}
+use Rattle.rx_engine.proofs.Keeping.{by_doing}
+use Rattle.rx_engine.proofs.Outcomes.{refused_idle, restarts_only}
 use Rattle.rx_engine.proofs.engine.Engine.line.Goals as goal
 
-pub returns-in_err-todo-clause-moments : goal.returns-in_err-todo-clause-moments
-returns-in_err-todo-clause-moments g c told bodies at =
-    stays g.D.Disk c.args.disk.now c.args.self.journal bodies _ (session_of c.args.self).world at
-    (λ left e. g.met.D.Disk.only_now c.args.disk.now left told e)
+pub returns-in_err-doing-clause-safe : goal.returns-in_err-doing-clause-safe
+returns-in_err-doing-clause-safe g c told bodies at =
+    ran_out g.D.Disk c.args.disk.now c.args.disk.now bodies _ (limit_of c.args.self) _
+    c.from_residual.result (search rules)
+    (λ alike. stays g.D.Disk c.args.disk.now c.args.self.journal bodies _ (session_of c.args.self).world at
+    (λ left e. g.met.D.Disk.only_now c.args.disk.now left told e))
 
-pub done-requires-clause-may : goal.done-requires-clause-may
+pub carry_out-requires-clause-may : goal.carry_out-requires-clause-may
 unfolding session_of
-done-requires-clause-may g c = c.in_ok-todo.ensures.may
+carry_out-requires-clause-may g c = c.in_ok-doing.ensures.may
 
-pub returns-in_err-engine-clause-moments : goal.returns-in_err-engine-clause-moments
+pub returns-in_err-engine-clause-safe : goal.returns-in_err-engine-clause-safe
 unfolding meaning session_of
-returns-in_err-engine-clause-moments g c told bodies at =
-    let old = c.args.disk.now in
-    subst (λ (d : Doing). GrowsLegally g.D.Disk old c.done.new.disk bodies (bodies_of (records_of d)))
-    c.in_ok-todo.ensures.doing (c.done.ensures.moments told bodies at)
+returns-in_err-engine-clause-safe g c told bodies at =
+    same_stop g.D.Disk c.args.disk.now c.carry_out.new.disk bodies _ (limit_of c.args.self) _ _
+    c.in_err-engine.field-0.0 c.from_residual-in_err-engine.result (search rules)
+    (by_doing g.D.Disk c.args.disk.now c.carry_out.new.disk bodies (limit_of c.args.self) _ _ _ _
+    c.in_ok-doing.ensures.doing (c.in_err-engine.ensures.safe told bodies at))
 
-pub returns-in_err-engine-clause-full : goal.returns-in_err-engine-clause-full
+pub returns-in_err-engine-clause-not_journal : goal.returns-in_err-engine-clause-not_journal
+unfolding session_of
+returns-in_err-engine-clause-not_journal g c err =
+    let again = c.in_err-engine.ensures.not_journal (search rules) in
+    restarts_only c.args.text.now c.args.self.session again.0 (sym c.in_ok-doing.ensures.doing ∙ again.1)
+
+pub returns-in_err-engine-clause-idle : goal.returns-in_err-engine-clause-idle
+unfolding session_of
+returns-in_err-engine-clause-idle g c idle = (
+  c.carry_out.ensures.idle_disk (c.in_ok-doing.ensures.doing ∙ idle),
+  no_answer c.from_residual-in_err-engine.result c.in_err-engine.field-0.0 _ (search rules),
+)
+
+pub returns-in_err-add_lines-clause-safe : goal.returns-in_err-add_lines-clause-safe
 unfolding meaning session_of
-returns-in_err-engine-clause-full g c told bodies at would limit err =
-    let full = c.in_err-engine.ensures.full told bodies at would limit (search rules) in (
-      full.0,
-      subst (λ (d : Doing). IsFull bodies (bodies_of (records_of d)) would limit)
-          c.in_ok-todo.ensures.doing full.1,
-    )
+returns-in_err-add_lines-clause-safe g c told bodies at =
+    let safe = by_doing g.D.Disk c.args.disk.now c.carry_out.new.disk bodies (limit_of c.args.self) _ _ _ _
+    c.in_ok-doing.ensures.doing (c.in_ok-engine.ensures.safe told bodies at) in
+    ran_out g.D.Disk c.args.disk.now c.carry_out.new.disk bodies _ (limit_of c.args.self) _
+    c.from_residual-in_err-add_lines.result (search rules) safe.moments
+
+pub returns-in_err-add_lines-clause-idle : goal.returns-in_err-add_lines-clause-idle
+unfolding session_of
+returns-in_err-add_lines-clause-idle g c idle = (
+  c.carry_out.ensures.idle_disk (c.in_ok-doing.ensures.doing ∙ idle),
+  no_answer c.from_residual-in_err-add_lines.result Memory _ (search rules),
+)
 
 pub returns-clause-answers : goal.returns-clause-answers
 unfolding meaning session_of
 returns-clause-answers g c =
     let s = c.args.self.session in
     let o = outcome c.args.text.now s in
-    let todo = c.in_ok-todo.field-0.todo in
-    let does : doing_of todo ≡ o.doing = c.in_ok-todo.ensures.doing in
+    let doing = c.in_ok-doing.field-0.doing in
+    let text = c.in_ok-doing.field-0.text in
+    let does : doing_of doing ≡ o.doing = c.in_ok-doing.ensures.doing in
     record {
-      session = c.in_ok-engine.ensures.session ∙ ap (λ (d : Doing). settled (after d s)) does;
-      reply = c.in_ok-engine.ensures.text
-          ∙ ap (λ (t : List ℕ). t ++ emissions (after (doing_of todo) s)) c.in_ok-todo.ensures.reply
-          ∙ ap (λ (d : Doing). answer_line c.args.number o.answer ++ emissions (after d s)) does;
-      refused = c.in_ok-todo.ensures.refused;
+      session = c.in_ok-engine.ensures.session ∙ ap (λ (d : Doing). settled_session (after d s)) does;
+      reply = c.in_ok-add_lines.ensures
+          ∙ ap (λ (es : List Emission). string_bytes text ++ lines_of es)
+          (c.as_slice.ensures.value ∙ c.in_ok-engine.ensures.emissions)
+          ∙ ap (λ (t : List ℕ). t ++ lines_of (emissions (after (doing_of doing) s))) c.in_ok-doing.ensures.reply
+          ∙ ap (λ (d : Doing). answer_line c.args.number o.answer ++ lines_of (emissions (after d s))) does;
+      refused = c.in_ok-doing.ensures.refused;
     }
 
-pub returns-clause-moments : goal.returns-clause-moments
+pub returns-clause-safe : goal.returns-clause-safe
 unfolding meaning session_of
-returns-clause-moments g c told bodies at =
-    let old = c.args.disk.now in
-    subst (λ (d : Doing). GrowsLegally g.D.Disk old c.done.new.disk bodies (bodies_of (records_of d)))
-    c.in_ok-todo.ensures.doing (c.done.ensures.moments told bodies at)
+returns-clause-safe g c told bodies at =
+    let safe = by_doing g.D.Disk c.args.disk.now c.carry_out.new.disk bodies (limit_of c.args.self) _ _ _ _
+    c.in_ok-doing.ensures.doing (c.in_ok-engine.ensures.safe told bodies at) in
+    answered g.D.Disk c.args.disk.now c.carry_out.new.disk bodies _ (limit_of c.args.self) _
+    _ _ _ safe (λ holds. holds)
 
-pub returns-clause-at : goal.returns-clause-at
-unfolding meaning session_of
-returns-clause-at g c told bodies at =
-    let e = c.in_ok-engine.engine in
-    subst (λ (d : Doing). IsAt g.D.Disk c.done.new.disk e (bodies ++ bodies_of (records_of d)))
-    c.in_ok-todo.ensures.doing (c.in_ok-engine.ensures.at told bodies at)
+pub returns-clause-refused : goal.returns-clause-refused
+unfolding session_of
+returns-clause-refused g c refused =
+    let s = c.args.self.session in
+    let idle = refused_idle c.args.text.now s (sym c.in_ok-doing.ensures.refused ∙ refused) in
+    let nothing = c.in_ok-doing.ensures.doing ∙ idle in
+    let left = c.in_ok-engine.ensures.idle nothing in (
+      c.carry_out.ensures.idle_disk nothing,
+      leaves c.args.number c.args.text.now s c.in_ok-engine.engine _ idle left.0
+          (c.in_ok-add_lines.ensures
+          ∙ alone (string_bytes c.in_ok-doing.field-0.text) _ (c.as_slice.ensures.value ∙ left.1)
+          ∙ c.in_ok-doing.ensures.reply),
+    )
 
-pub returns-clause-fits : goal.returns-clause-fits
-unfolding meaning session_of
-returns-clause-fits g c told bodies at =
-    subst (λ (d : Doing). (bodies_of (records_of d) ≡ [])
-    ⊎ (end_of (bodies ++ bodies_of (records_of d)) ≤ limit_of c.args.self))
-    c.in_ok-todo.ensures.doing (c.in_ok-engine.ensures.fits told bodies at)
+pub returns-clause-idle : goal.returns-clause-idle
+unfolding session_of
+returns-clause-idle g c idle =
+    let s = c.args.self.session in
+    let nothing = c.in_ok-doing.ensures.doing ∙ idle in
+    let left = c.in_ok-engine.ensures.idle nothing in (
+      c.carry_out.ensures.idle_disk nothing,
+      leaves c.args.number c.args.text.now s c.in_ok-engine.engine _ idle left.0
+          (c.in_ok-add_lines.ensures
+          ∙ alone (string_bytes c.in_ok-doing.field-0.text) _ (c.as_slice.ensures.value ∙ left.1)
+          ∙ c.in_ok-doing.ensures.reply),
+    )

@@ -1,24 +1,61 @@
-use Rattle.std.proofs.Common.{◌++◌, ◌∷◌, [], ◌∙◌, ap, sym, subst, rules}
+use Rattle.std.proofs.Common.{◌++◌, ◌∷◌, [], Ok, Err, ◌∙◌, ap, sym, subst, rules}
 use Rattle.rx_session.specs.Session.{Session}
-use Rattle.rx_engine.specs.Engine.{session_of}
-use Rattle.rx_engine.specs.Holds.{Holds}
+use Rattle.rx_store.specs.Holds.{Holds}
+use Rattle.rx_store.proofs.Crashes.{answered, same_stop}
+use Rattle.rx_engine.specs.Engine.{IsAt, session_of}
 use Rattle.rx_engine.specs.Opening.{epoch_body, session_on, opened}
+use Rattle.rx_engine.proofs.Opened.{not_begun, untouched}
 use Rattle.rx_engine.proofs.engine.Engine.open.Goals as goal
 
-pub returns-in_err-journal-clause-not_journal : goal.returns-in_err-journal-clause-not_journal
-returns-in_err-journal-clause-not_journal g c told err bodies w lawful =
-    c.in_err-journal.ensures.not_journal told (search rules) bodies w lawful
-
-pub returns-in_err-journal-clause-full : goal.returns-in_err-journal-clause-full
-returns-in_err-journal-clause-full g c told bodies w lawful would most err =
-    c.in_err-journal.ensures.full told bodies w lawful would most (search rules)
+pub returns-in_err-journal-clause-safe : goal.returns-in_err-journal-clause-safe
+returns-in_err-journal-clause-safe g c told bodies w lawful =
+    same_stop g.D.Disk c.args.disk.now c.open.new.disk bodies (epoch_body w ∷ []) c.args.limit _ _
+    c.in_err-journal.field-0.0 c.from_residual-in_err-journal.result (search rules)
+    (c.in_err-journal.ensures.safe told bodies w lawful)
 
 pub returns-clause-opened : goal.returns-clause-opened
 unfolding session_of opened
 returns-clause-opened g c told bodies w lawful =
-    let o = c.in_ok-journal.ensures.opened told bodies w lawful in
-    let session = c.new-session.ensures ∙ ap session_on o.0 in (
-      session,
-      subst (λ (s : Session). Holds g.D.Disk c.open.new.disk c.in_ok-journal.field-0.journal
-          (bodies ++ epoch_body w ∷ []) s.world) (sym session) o.1,
-    )
+    c.new-session.ensures ∙ ap session_on (c.in_ok-journal.ensures.opened told bodies w lawful)
+
+pub returns-clause-begun : goal.returns-clause-begun
+unfolding session_of opened
+returns-clause-begun g c =
+    let begun = c.in_ok-journal.ensures.begun in
+    (begun.0, c.new-session.ensures ∙ ap session_on begun.1)
+
+pub returns-clause-safe : goal.returns-clause-safe
+unfolding session_of opened
+returns-clause-safe g c told bodies w lawful =
+    let session = c.new-session.ensures ∙ ap session_on (c.in_ok-journal.ensures.opened told bodies w lawful) in
+    answered g.D.Disk c.args.disk.now c.open.new.disk bodies (epoch_body w ∷ []) c.args.limit _
+    (IsAt g.D.Disk c.open.new.disk) _ _ (c.in_ok-journal.ensures.safe told bodies w lawful)
+    (λ holds. subst (λ (s : Session). Holds g.D.Disk c.open.new.disk c.in_ok-journal.field-0.journal
+    (bodies ++ epoch_body w ∷ []) s.world) (sym session) holds)
+
+pub returns-in_err-built-clause-safe : goal.returns-in_err-built-clause-safe
+returns-in_err-built-clause-safe g c told bodies w lawful =
+    not_begun g.D.Disk c.args.disk.now (λ left e. g.met.D.Disk.only_now c.args.disk.now left told e)
+    bodies (epoch_body w ∷ []) w c.args.limit _ c.from_residual.result (search rules) lawful
+
+pub returns-in_err-built-clause-illegal : goal.returns-in_err-built-clause-illegal
+returns-in_err-built-clause-illegal g c told illegal =
+    untouched g.D.Disk c.args.disk.now (λ left e. g.met.D.Disk.only_now c.args.disk.now left told e)
+
+pub returns-in_err-diagram-clause-safe : goal.returns-in_err-diagram-clause-safe
+returns-in_err-diagram-clause-safe g c told bodies w lawful =
+    not_begun g.D.Disk c.args.disk.now (λ left e. g.met.D.Disk.only_now c.args.disk.now left told e)
+    bodies (epoch_body w ∷ []) w c.args.limit _ c.from_residual-in_err-diagram.result (search rules) lawful
+
+pub returns-in_err-diagram-clause-illegal : goal.returns-in_err-diagram-clause-illegal
+returns-in_err-diagram-clause-illegal g c told illegal =
+    untouched g.D.Disk c.args.disk.now (λ left e. g.met.D.Disk.only_now c.args.disk.now left told e)
+
+pub returns-in_err-share-clause-safe : goal.returns-in_err-share-clause-safe
+returns-in_err-share-clause-safe g c told bodies w lawful =
+    not_begun g.D.Disk c.args.disk.now (λ left e. g.met.D.Disk.only_now c.args.disk.now left told e)
+    bodies (epoch_body w ∷ []) w c.args.limit _ c.from_residual-in_err-share.result (search rules) lawful
+
+pub returns-in_err-share-clause-illegal : goal.returns-in_err-share-clause-illegal
+returns-in_err-share-clause-illegal g c told illegal =
+    untouched g.D.Disk c.args.disk.now (λ left e. g.met.D.Disk.only_now c.args.disk.now left told e)

@@ -1,0 +1,65 @@
+use Rattle.std.proofs.Common.{◌++◌, Ok, Err, sym, ap, ◌∙◌, subst, rules}
+use Rattle.rx_session.specs.Doing.{Doing, after}
+use Rattle.rx_session.specs.Emissions.{emissions, settled_session}
+use Rattle.rx_session.specs.Session.{Session}
+use Rattle.rx_session.specs.Shown.{done_by}
+use Rattle.rx_store.specs.Holds.{Holds}
+use Rattle.rx_store.proofs.Crashes.{answered, ran_out, same_stop}
+use Rattle.rx_engine.specs.Engine.{IsAt, session_of}
+use Rattle.rx_engine.specs.Meaning.{bodies_of, records_of}
+use Rattle.rx_engine.proofs.Keeping.{has_order}
+use Rattle.rx_engine.proofs.engine.Engine.change_session.Goals as goal
+
+pub keep_doing-requires-clause-holds : goal.keep_doing-requires-clause-holds
+unfolding session_of
+keep_doing-requires-clause-holds g c told =
+    let at = c.requires.at told in (at.0, (session_of c.args.self).world, at.1)
+
+pub keep_doing-requires-clause-ordered : goal.keep_doing-requires-clause-ordered
+keep_doing-requires-clause-ordered g c =
+    has_order (done_by c.args.doing) (session_of c.args.self) c.requires.may
+
+pub returns-in_err-journal-clause-safe : goal.returns-in_err-journal-clause-safe
+returns-in_err-journal-clause-safe g c told bodies at =
+    same_stop g.D.Disk c.args.disk.now c.keep_doing.new.disk bodies (bodies_of (records_of (done_by c.args.doing)))
+    c.args.self.journal.limit _ _ c.in_err-journal.field-0.0 c.from_residual.result (search rules)
+    (c.in_err-journal.ensures.safe told bodies (session_of c.args.self) at c.requires.may)
+
+pub next-requires : goal.next-requires
+unfolding session_of
+next-requires g c = c.requires.may
+
+pub returns-in_err-session-clause-safe : goal.returns-in_err-session-clause-safe
+returns-in_err-session-clause-safe g c told bodies at =
+    ran_out g.D.Disk c.args.disk.now c.keep_doing.new.disk bodies (bodies_of (records_of (done_by c.args.doing)))
+    c.args.self.journal.limit _ c.from_residual-in_err-session.result (search rules)
+    (c.in_ok-journal.ensures.safe told bodies (session_of c.args.self) at c.requires.may).moments
+
+pub returns-clause-session : goal.returns-clause-session
+unfolding session_of
+returns-clause-session g c = c.in_ok-session.ensures.session
+
+pub returns-clause-emissions : goal.returns-clause-emissions
+unfolding session_of
+returns-clause-emissions g c = c.in_ok-session.ensures.emissions
+
+pub returns-clause-safe : goal.returns-clause-safe
+unfolding session_of
+returns-clause-safe g c told bodies at =
+    let more = bodies_of (records_of (done_by c.args.doing)) in
+    answered g.D.Disk c.args.disk.now c.keep_doing.new.disk bodies more c.args.self.journal.limit _
+    (λ p. IsAt g.D.Disk c.keep_doing.new.disk p.0) _ _
+    (c.in_ok-journal.ensures.safe told bodies c.args.self.session at c.requires.may)
+    (λ holds. subst (λ (x : Session). Holds g.D.Disk c.keep_doing.new.disk c.in_ok-journal.journal
+    (bodies ++ more) x.world) (sym c.in_ok-session.ensures.session) holds)
+
+-- nothing was to be emitted before, so nothing is
+pub returns-clause-idle : goal.returns-clause-idle
+unfolding session_of
+returns-clause-idle g c is =
+    let s = c.args.self.session in (
+      c.in_ok-session.ensures.session ∙ ap (λ (d : Doing). settled_session (after d s)) is
+          ∙ c.next.ensures.before.same,
+      c.in_ok-session.ensures.emissions ∙ ap (λ (d : Doing). emissions (after d s)) is
+          ∙ c.next.ensures.before.quiet,
+    )

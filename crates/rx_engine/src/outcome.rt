@@ -1,0 +1,16 @@
+use rx_reply::Reply;
+use rx_session::Doing;
+
+/// What a line does: something to the session, or it opens the journal again, in that epoch.
+#[derive(Drop)]
+pub(crate) enum LineDoing {
+    InSession(Doing),
+    Restart(u64),
+}
+
+/// What a line does, and what it is answered then.
+#[derive(Drop)]
+pub(crate) struct Outcome<'a> {
+    pub doing: LineDoing,
+    pub reply: Reply<'a>,
+}
