@@ -99,16 +99,18 @@ def run(command, lines):
 
 
 def explained(count, queries):
-    """The counts of all queries after the stream, by action."""
+    """The counts of all queries after the stream, by action, and how many questions were asked."""
     lines = [*made(count), *observed(queries), *ours(count, LINES[queries])]
     lines += [compact({"do": "explain", "name": f"q{q}"}) for q in range(queries)]
     with tempfile.TemporaryDirectory(dir=STORAGE) as folder:
         text = "".join(line + "\n" for line in lines).encode()
         done = subprocess.run([program(), "run", os.path.join(folder, "file")], input=text, capture_output=True)
-    actions = Counter()
+    actions, asked = Counter(), 0
     for line in done.stdout.decode().splitlines()[-queries:]:
-        actions.update(json.loads(line)["actions"])
-    return actions
+        reply = json.loads(line)
+        actions.update(reply["actions"])
+        asked += reply["asked"]
+    return actions, asked
 
 
 def asked_again(count, queries, index, lines):
@@ -134,9 +136,9 @@ def compare(count, queries):
 
 
 def shares(count, queries):
-    actions = explained(count, queries)
+    actions, asked = explained(count, queries)
     total = sum(actions.values())
-    print(f"{count:,} documents, {queries} queries: of {total:,} changes heard", end="")
+    print(f"{count:,} documents, {queries} queries: {asked / total:.1f} questions a change; of {total:,} changes heard", end="")
     print("".join(f", {name} {n / total:.4%}" for name, n in actions.most_common()), flush=True)
 
 
