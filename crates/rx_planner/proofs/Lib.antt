@@ -1,0 +1,7 @@
+pub mod Lists
+pub mod Best
+pub mod Selected
+pub mod Ordered
+pub mod Members
+pub mod Rising
+pub mod Runs

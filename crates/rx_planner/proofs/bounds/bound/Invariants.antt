@@ -1,0 +1,11 @@
+use Rattle.std.proofs.Common.{◌≡◌, map, drop}
+use Rattle.rx_query.specs.Asked.{asked}
+use Rattle.rx_planner.specs.Onto.{onto}
+use Rattle.rx_planner.specs.Plan.{bound_at, bound_of}
+use Rattle.rx_planner.proofs.bounds.bound.Given as goal
+
+-- the values so far, and the bound of what is left
+abbrev pub invariant-loop-field : goal.invariant-loop-field
+invariant-loop-field l =
+    onto l.values.items (bound_at (asked l.query) l.up (map (λ f. f.now) (drop l.field-index l.path)))
+    ≡ bound_of (asked l.query) l.up (map (λ f. f.now) l.path)

@@ -1,0 +1,64 @@
+use Rattle.std.proofs.Common.{Bor, map, drop, take, length, sym, ap, ◌∙◌, subst}
+use Rattle.std.proofs.lemmas.List.{length-map}
+use Rattle.rx_document.specs.declared.stored.Stored.{Stored}
+use Rattle.rx_query.proofs.Rows.{map-drop}
+use Rattle.rx_query.specs.Asked.{asked}
+use Rattle.rx_query.specs.Result.{stored_before}
+use Rattle.rx_planner.specs.Rows.{due_among, all_placed, IsFull, IsRising}
+use Rattle.rx_planner.proofs.Rising.{rising_sorted}
+use Rattle.rx_planner.proofs.Runs.{first_distinct, ordered_result, placed_result}
+use Rattle.rx_planner.proofs.planned.Plan.run.Goals as goal
+use Rattle.rx_planner.proofs.planned.Plan.run.Goals.{then-not-self+in_ok-improve, else-not-self}
+
+pub put_in_order-requires : goal.put_in_order-requires
+put_in_order-requires g c =
+    let i = c.index-indexes-self in
+    first_distinct (asked c.args.query.now) (g.T.Lookup.documents c.args.docs.now) c.args.indexes.now
+    c.args.self.now i.result i.is c.requires.planned c.requires.keyed c.requires.held
+    c.range-ids.ensures.rising (map (λ (r : Bor Stored). r.now) c.in_ok-rows.rows.items)
+    c.first_due.new.ids c.range-ids.result c.in_ok-rows.ensures.split c.range-ids.ensures.ids
+
+pub improve-requires : goal.improve-requires
+improve-requires g c =
+    let q = asked c.args.query.now in
+    let i = c.index-indexes-self in
+    let rows = map (λ (r : Bor Stored). r.now) c.in_ok-rows.rows.items in
+    subst (IsRising (stored_before q)) (sym c.put_in_order.ensures)
+    (rising_sorted q rows
+    (first_distinct q (g.T.Lookup.documents c.args.docs.now) c.args.indexes.now
+    c.args.self.now i.result i.is c.requires.planned c.requires.keyed c.requires.held
+    c.range-ids.ensures.rising rows c.first_due.new.ids c.range-ids.result c.in_ok-rows.ensures.split
+    c.range-ids.ensures.ids))
+
+pub returns : goal.returns
+returns g c =
+    let q = asked c.args.query.now in
+    let documents = g.T.Lookup.documents c.args.docs.now in
+    let i = c.index-indexes-self in
+    let now : Bor Stored → Stored = λ r. r.now in
+    let rows = map now c.in_ok-rows.rows.items in
+    let ids = c.first_due.new.ids in
+    let most = c.most_rows.result in
+    let full : IsFull most (length rows) ids =
+    subst (λ n. IsFull most n ids) (sym (length-map c.in_ok-rows.rows.items now)) c.in_ok-rows.ensures.full in
+    ap (map now) c.skip_rows.ensures
+    ∙ map-drop now c.skip.result c.if-not-self.rows.items
+    ∙ ap (λ n. drop n (map now c.if-not-self.rows.items)) c.skip.ensures
+    ∙ (elim c.if-not-self.branch [
+      | then-not-self+in_ok-improve w ↦
+          let first = map now w.put_in_order.new.rows.items in
+          ap (λ v. drop q.skip (map now v.items)) w.rows-is
+          ∙ placed_result q documents c.args.indexes.now c.args.self.now i.result i.is
+          c.requires.planned c.requires.keyed c.requires.held c.range-ids.ensures.rising rows ids
+          c.range-ids.result c.in_ok-rows.ensures.split c.range-ids.ensures.ids most c.most_rows.ensures
+          full first (map now w.improve.new.rows.items) w.put_in_order.ensures
+          (w.in_ok-improve.ensures
+          ∙ ap (λ n. take n (all_placed q first (due_among q documents ids)))
+          (sym (length-map w.put_in_order.new.rows.items now)))
+      | else-not-self w ↦
+          ap (λ v. drop q.skip (map now v.items)) w.rows-is
+          ∙ ordered_result q documents c.args.indexes.now c.args.self.now i.result i.is
+          c.requires.planned c.requires.keyed c.requires.held c.range-ids.ensures.rising rows ids
+          c.range-ids.result c.in_ok-rows.ensures.split c.range-ids.ensures.ids most c.most_rows.ensures
+          full w.if-not-self.false
+    ])

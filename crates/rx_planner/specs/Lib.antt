@@ -1,0 +1,4 @@
+pub mod Plan
+pub mod Rows
+pub mod Onto
+pub mod Choice

@@ -1,0 +1,14 @@
+//! Full runs of queries: by which index, between which of its bounds, and their rows.
+#![tactic(auto)]
+
+mod bounds;
+mod choice;
+mod order;
+mod path;
+mod planned;
+mod planning;
+mod rows;
+mod run;
+
+pub use planned::Plan;
+pub use planning::plan;

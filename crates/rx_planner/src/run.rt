@@ -1,0 +1,76 @@
+ghost use Rattle.std.specs.Prelude.{◌≡◌, ◌<◌, length, map, drop, slice_get, IfOk, IfSome, option_map};
+ghost use Rattle.std.specs.Map.{values_of};
+ghost use Rattle.rx_index.specs.Index.{HoldsWhere, is_between, ids_between};
+ghost use Rattle.rx_query.specs.Asked.{asked};
+ghost use Rattle.rx_query.specs.Result.{IsCollection, result_of};
+ghost use Rattle.rx_planner.specs.Plan.{IsPlan};
+ghost use Rattle.rx_planner.specs.Rows.{most_rows};
+
+use crate::planned::Plan;
+use crate::rows::{first_due, improve, put_in_order};
+use rx_document::{Lookup, Stored};
+use rx_index::Index;
+use rx_query::Query;
+use std::alloc::{AllocError, Global};
+
+impl Plan {
+    /// The query's result over these documents, lent. Of its index it looks at what stands between
+    /// its bounds alone.
+    pub fn run<'a, T: Lookup>(
+        &self,
+        alloc: Global,
+        query: &Query,
+        indexes: &[Index],
+        docs: &'a T,
+    ) -> Result<Vec<&'a Stored>, AllocError>
+        requires planned { IsPlan (asked query.now) (map (λ i. i.fields) indexes.now) self.now }
+        requires keyed { IsCollection (asked query.now).primary (T.documents docs.now) }
+        requires held { IfSome (slice_get indexes.now self.now.index)
+            (λ i. HoldsWhere (is_between self.now.low self.now.high) i (T.documents docs.now)) }
+        ensures { IfOk result (λ rows. map (λ r. r.now) rows.items
+            ≡ result_of (asked query.now) (values_of (T.documents docs.now))) }
+    {
+        let mut ids = indexes[self.index].range(&self.low, &self.high);
+        let mut rows = first_due(alloc, query, docs, &mut ids, most_rows(query))?;
+        if !self.ordered {
+            put_in_order(query, &mut rows);
+            improve(query, docs, ids, &mut rows)?;
+        }
+        skip_rows(&mut rows, query.skip() as usize);
+        Ok(rows)
+    }
+
+    /// How many keys of its index stand between its bounds.
+    pub fn span(&self, indexes: &[Index]) -> usize
+        requires { self.now.index < length indexes.now }
+        ensures { IfSome (slice_get indexes.now self.now.index)
+            (λ i. result ≡ length (ids_between self.now.low self.now.high i.keys)) }
+    {
+        let mut span = 0;
+        for _id in indexes[self.index].range(&self.low, &self.high) {
+            span += 1;
+        }
+        span
+    }
+}
+
+// How many rows are skipped or left at most.
+fn most_rows(query: &Query) -> Option<u128>
+    ensures { result ≡ most_rows (asked query.now) }
+{
+    match query.limit() {
+        Some(limit) => Some(query.skip() as u128 + limit as u128),
+        None => None,
+    }
+}
+
+fn skip_rows<T: Drop>(rows: &mut Vec<T>, skip: usize)
+    ensures { rows.new.items ≡ drop skip rows.old.items }
+{
+    if rows.len() <= skip {
+        rows.clear();
+    } else {
+        rows.rotate_left(skip);
+        rows.truncate(rows.len() - skip);
+    }
+}
