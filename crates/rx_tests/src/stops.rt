@@ -79,25 +79,37 @@ fn replies(alloc: Global, ran: &Ran) -> Result<usize, Fail> {
     Err(Fail::new(format_args!("status {} with other lines", ran.status)))
 }
 
+// What is answered where a document isn't held, and where the collection isn't.
+const NO_DOCUMENT: &str = r#"{"code":15,"line":L,"refused":"no_document"}"#;
+
+const NO_COLLECTION: &str = r#"{"code":10,"line":L,"name":"c","refused":"no_collection"}"#;
+
+// The output of a second run that finds so many documents, from the first on, and no others.
+fn finds(alloc: Global, count: usize, missing: &str) -> Result<String, AllocError> {
+    let mut due = String::new(alloc);
+    let mut number = 0u64;
+    for (place, reply) in HELD.iter().enumerate() {
+        number = number.saturating_add(1);
+        let line = due_line(alloc, if place < count { *reply } else { missing }, number)?;
+        due.push_str(line.as_str())?;
+        due.push('\n')?;
+    }
+    Ok(due)
+}
+
 // How many documents a second run over these bytes finds, from the first on. There are no others.
 fn held(alloc: Global, journal: &[u8]) -> Result<usize, Fail> {
     let looked = run(alloc, &Setting::PLAIN, RUN, LOOKS.as_bytes(), journal)?;
-    if looked.status > 1 {
-        return Err(Fail::new(format_args!("status {} over what is left", looked.status)));
+    let output = looked.output.as_slice();
+    if output == finds(alloc, 0, NO_COLLECTION)?.as_str().as_bytes() {
+        return Ok(0);
     }
-    let found = str::from_utf8(looked.output.as_slice())?.lines();
-    let mut count = 0usize;
-    let mut missing = false;
-    for (line, due) in found.zip(HELD) {
-        if line == due && !missing {
-            count = count.saturating_add(1);
-        } else if line.contains("\"refused\":") {
-            missing = true;
-        } else {
-            return Err(Fail::new(format_args!("{line} in the place of {due}")));
+    for count in 0..=HELD.len() {
+        if output == finds(alloc, count, NO_DOCUMENT)?.as_str().as_bytes() {
+            return Ok(count);
         }
     }
-    Ok(count)
+    Err(Fail::new(format_args!("status {} with other lines", looked.status)))
 }
 
 // Each call of the disk fails in turn, until a run needs no more of them.

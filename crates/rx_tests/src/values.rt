@@ -62,7 +62,9 @@ fn fields_and_states_are_texts_and_read_back(rt: HostRuntime) -> Result<(), Fail
         let mut line = String::from_str(alloc, "[")?;
         write_fields(&mut line, &fields)?;
         write_fields(&mut line, &fields)?;
-        let twice = format!(in alloc; "[{of_fields}{of_fields}")?;
+        let mut twice = String::from_str(alloc, "[")?;
+        twice.push_str(of_fields)?;
+        twice.push_str(of_fields)?;
         assert_eq!(&rt; line.as_str(), twice.as_str());
         let state = State {
             key: RxText::new(alloc, "k")?,
