@@ -3,6 +3,7 @@ use Rattle.std.proofs.Common.{◌≡◌, ℕ, zero, suc, ◌<◌, ◌≤◌, tru
 use Rattle.std.proofs.lemmas.Bool.{cases_lt}
 use Rattle.std.proofs.lemmas.Cmp.{tied_back, alike_right}
 use Rattle.std.proofs.lemmas.Map.Text.{is_eq-slice_cmp}
+use Rattle.std.proofs.lemmas.Slice.Eq.{bytes_eq-Decides}
 use Rattle.std.specs.List.{AllByRecursion}
 use Rattle.std.specs.List.Sorted.{IsStrictlySortedBy, IsBinarySearchResult, IsSearchInRange, IsNonDecreasingBy}
 use Rattle.std.specs.Map.{keys_of}
@@ -22,6 +23,10 @@ turned a b o is = text_total.antisymm b a ∙ ap ordering_reverse is
 -- a name that comes before or after another isn't it
 other : (a b : List ℕ) (o : Ordering) → text_cmp a b ≡ o → is_eq o ≡ false → bytes_eq a b ≡ false
 other a b o is differs = sym (is_eq-slice_cmp a b) ∙ ap is_eq is ∙ differs
+
+-- names that tie are the same
+same_name : (a b : List ℕ) → text_cmp a b ≡ Equal → a ≡ b
+same_name a b is = (bytes_eq-Decides a b).0 (sym (is_eq-slice_cmp a b) ∙ ap is_eq is)
 
 -- there are three answers
 at_most_two : (o : Ordering) → ordering_index o ≤ 2
@@ -77,7 +82,12 @@ module _ {X : Type 0} where
   stands (e ∷ es) name zero lt rising tie =
       let is = tied_back text_total e.0 name (tie e) in
       let same : bytes_eq name e.0 ≡ true = sym (is_eq-slice_cmp name e.0) ∙ ap is_eq is in
-      record { within = omega arith; is_named = λ d. rw same refl; puts = λ d x. rw is refl }
+      record {
+        within = omega arith;
+        is_there = λ d. same_name e.0 name (tie d);
+        is_named = λ d. rw same refl;
+        puts = λ d x. rw is refl;
+      }
   stands (e ∷ es) name (suc i) lt rising tie =
       let at = name_at (λ k. text_cmp e.0 k ≡ Less) es i e (omega arith) rising.0 in
       let below : text_cmp e.0 name ≡ Less =
@@ -87,6 +97,7 @@ module _ {X : Type 0} where
       let rest = stands es name i (omega arith) rising.1 tie in
       record {
         within = omega (arith, rest.within);
+        is_there = rest.is_there;
         is_named = λ d. rw not_here (rest.is_named d);
         puts = λ d x. rw above (ap (λ l. e ∷ l) (rest.puts d x));
       }

@@ -1,16 +1,18 @@
-ghost use Rattle.std.specs.Prelude.{◌≡◌, ◌≤◌, ◌++◌, ℕ, List, IfOk, OnOk, Some, None, Ok, false, string_bytes};
+ghost use Rattle.std.specs.Prelude.{◌≡◌, ◌≤◌, ◌∷◌, ◌++◌, ℕ, Bool, List, IfOk, OnOk, Some, None, Ok, false, string_bytes};
 ghost use Rattle.json.specs.Tree.{json_tokens};
 ghost use Rattle.serde_json.specs.Data.{Data, depth};
 ghost use Rattle.serde_json.specs.Read.{read, max_depth};
 ghost use Rattle.serde_json.specs.View.{view, members_view};
 ghost use Rattle.serde_json.specs.Written.{compact_text, has_float, outline};
 ghost use Rattle.rx_value.specs.Fields.{AreFields};
-ghost use Rattle.rx_value.specs.Named.{named};
+ghost use Rattle.rx_value.specs.Named.{named, put_in_order};
 ghost use Rattle.rx_value.specs.Reading.{fields_of};
 ghost use Rattle.rx_value.specs.State.{mark, state_data, ReadsAsState};
-ghost use Rattle.rx_value.specs.Writing.{value_data, pairs_members, fields_data};
+ghost use Rattle.rx_value.specs.Writing.{value_data, pairs_members, fields_data, pairs_tokens};
+ghost use Rattle.rx_value.specs.declared.value.Value.TheVariants.{Flag};
 
 use crate::fields::Fields;
+use crate::place::place;
 use crate::rx_text::RxText;
 use crate::state::{MARK, State};
 use crate::value::Value;
@@ -33,6 +35,20 @@ pub fn write_fields(text: &mut String, fields: &Fields) -> Result<(), AllocError
     written
 }
 
+/// Appends the compact JSON object of the state, which `text` gives as a text of its own.
+pub fn write_state(text: &mut String, state: &State) -> Result<(), AllocError>
+    ensures ok { OnOk result (string_bytes text.new
+        ≡ string_bytes text.old ++ compact_text (state_data state.now)) }
+    ensures front { (more : List ℕ) × (string_bytes text.new ≡ string_bytes text.old ++ more) }
+{
+    let empty = String::new(*text.allocator());
+    let mut writer = Writer::new(mem::replace(text, empty).into_bytes());
+    let written = put_state(&mut writer, state);
+    // A writer gives UTF-8 after what it was given.
+    *text = unsafe { String::from_utf8_unchecked(writer.into_inner()) };
+    written
+}
+
 /// The tokens of the JSON object of the fields, after those that the writer has.
 pub fn put_fields(writer: &mut Writer, fields: &Fields) -> Result<(), AllocError>
     ensures tokens { OnOk result (writer.new.tokens
@@ -40,11 +56,47 @@ pub fn put_fields(writer: &mut Writer, fields: &Fields) -> Result<(), AllocError
     ensures before { writer.new.before ≡ writer.old.before }
 {
     writer.begin_object()?;
-    for (name, value) in &fields.pairs {
+    put_pairs(writer, fields.pairs.as_slice())?;
+    writer.end_object()
+}
+
+/// The tokens of the JSON object of the state, after those that the writer has.
+pub fn put_state(writer: &mut Writer, state: &State) -> Result<(), AllocError>
+    ensures tokens { OnOk result (writer.new.tokens
+        ≡ writer.old.tokens ++ json_tokens (outline (state_data state.now))) }
+    ensures before { writer.new.before ≡ writer.old.before }
+{
+    let (before, after) = around_mark(&state.fields);
+    writer.begin_object()?;
+    put_pairs(writer, before)?;
+    writer.key(MARK)?;
+    writer.boolean(state.deleted)?;
+    put_pairs(writer, after)?;
+    writer.end_object()
+}
+
+// The pairs that stand before the deletion mark, and those behind it.
+fn around_mark(fields: &Fields) -> (&[(RxText, Value)], &[(RxText, Value)])
+    ensures { (deleted : Bool) → put_in_order fields.now mark (Flag deleted)
+        ≡ result.0.now ++ (mark, Flag deleted) ∷ result.1.now }
+{
+    let pairs = fields.pairs.as_slice();
+    match place(pairs, MARK) {
+        Ok(i) => (&pairs[..i], &pairs[i + 1..]),
+        Err(i) => (&pairs[..i], &pairs[i..]),
+    }
+}
+
+// The tokens of the members of the pairs.
+fn put_pairs(writer: &mut Writer, pairs: &[(RxText, Value)]) -> Result<(), AllocError>
+    ensures tokens { OnOk result (writer.new.tokens ≡ writer.old.tokens ++ pairs_tokens pairs.now) }
+    ensures before { writer.new.before ≡ writer.old.before }
+{
+    for (name, value) in pairs {
         writer.key(name.as_str())?;
         put_value(writer, value)?;
     }
-    writer.end_object()
+    Ok(())
 }
 
 fn put_value(writer: &mut Writer, value: &Value) -> Result<(), AllocError>
