@@ -1,7 +1,14 @@
 pub mod Failed
 pub mod Source
 pub mod Sink
+pub mod Talk
+pub mod Clock
 pub mod Calls
 pub mod MemorySource
 pub mod MemorySink
+pub mod MemoryWire
+pub mod Wires
+pub mod MemoryDoor
+pub mod MemoryDial
+pub mod MemoryClock
 pub mod Standard

@@ -1,25 +1,52 @@
-//! Sources and sinks of bytes: as traits, in memory, and as the standard streams; and why work over
-//! a journal ends early.
+//! Sources, sinks, wires, doors, dials and clocks: as traits, in memory, and as the system has
+//! them; and why work over a journal ends early.
 #![tactic(auto)]
 
 mod calls;
+mod clock;
+mod dial;
 mod failed;
+mod listen;
+mod memory_clock;
+mod memory_dial;
+mod memory_door;
 mod memory_sink;
 mod memory_source;
+mod memory_wire;
+mod sending;
 mod sink;
 mod source;
 mod standard;
 mod stop;
+mod system_clock;
+mod tcp_dial;
+mod tcp_door;
+mod tcp_wire;
 #[cfg(test)]
 mod tests;
+mod wire;
+mod wires;
 mod writing;
 
 pub use calls::Calls;
+pub use clock::Clock;
+pub use dial::Dial;
 pub use failed::Failed;
+pub use listen::Listen;
+pub use memory_clock::MemoryClock;
+pub use memory_dial::MemoryDial;
+pub use memory_door::MemoryDoor;
 pub use memory_sink::MemorySink;
 pub use memory_source::MemorySource;
+pub use memory_wire::MemoryWire;
+pub use sending::send_all;
 pub use sink::Sink;
 pub use source::Source;
 pub use standard::{StdSink, StdSource};
 pub use stop::Stop;
+pub use system_clock::SystemClock;
+pub use tcp_dial::TcpDial;
+pub use tcp_door::TcpDoor;
+pub use tcp_wire::{TcpWire, WIRE_SECONDS};
+pub use wire::Wire;
 pub use writing::write_all;

@@ -90,7 +90,7 @@ impl Source for MemorySource {
 }
 
 // Copies bytes from the front, at most `most` of them, and answers how many.
-fn copy_front(from: &[u8], into: &mut [u8], most: usize) -> usize
+pub(crate) fn copy_front(from: &[u8], into: &mut [u8], most: usize) -> usize
     ensures count { result ≡ min most (min (length into.new) (length from.now)) }
     ensures copied { take result into.new ≡ take result from.now }
 {

@@ -6,7 +6,7 @@ use crate::source::Source;
 use std::io::{ErrorKind, Read};
 
 // How often a call that a signal interrupted is tried.
-const TRIES: usize = 64;
+pub(crate) const TRIES: usize = 64;
 
 /// Standard input.
 #[derive(Drop)]
