@@ -15,17 +15,15 @@ use Rattle.rx_value.specs.declared.value.Value.TheVariants.{Flag, Int, Text}
 use Rattle.rx_record.specs.Reading.{Reading}
 use Rattle.rx_record.specs.Parts.{number_bytes, number_of, flag_bytes, flag_of, text_bytes, text_of, is_above, text_above}
 use Rattle.rx_record.specs.Fields.{value_of, pair_bytes, pair_of, rising_of, fields_of}
-use Rattle.rx_record.specs.Rows.{state_of, row_bytes, row_of, key_of, rows_of}
-use Rattle.rx_record.specs.Content.{Content, collection, rows, epoch, collection_of, written_of, epoch_of, content_of}
-use Rattle.rx_record.specs.Writable.{ValueFits, PairFits, AreWritableFields, IsWritableState, AreWritableRows, IsWritable}
+use Rattle.rx_record.specs.Rows.{state_bytes, state_of, state_key, states_of, row_bytes, row_of, key_of, rows_of}
+use Rattle.rx_record.specs.Writable.{ValueFits, PairFits, AreWritableFields, IsWritableState, AreWritableStates, AreWritableRows}
 use Rattle.rx_record.specs.declared.record.RowOut.{RowOut}
 use Rattle.rx_record.proofs.Steps.{parted, tested, same_parts, AreBytes, bytes_behind}
 use Rattle.rx_record.proofs.Numbers.{digits_64, number_is_read, number_below_32, behind_count}
-use Rattle.rx_record.proofs.Texts.{text_is_read, above_is_read, text_fits, above_fits}
+use Rattle.rx_record.proofs.Texts.{above_is_read, text_fits, above_fits}
 use Rattle.rx_record.proofs.Lists.{PartIsRead, rising_are_read}
 use Rattle.rx_record.proofs.Values.{flag_is_read, value_foreign, pair_is_read}
-use Rattle.rx_record.proofs.Contents.{foreign}
-use Rattle.rx_record.proofs.States.{row_is_read}
+use Rattle.rx_record.proofs.States.{state_is_read, row_is_read}
 
 less_of : (o : Ordering) → is_lt o ≡ true → o ≡ Less
 less_of Less h = refl
@@ -153,7 +151,7 @@ row_keeps last bs r rest small h =
     (state_keeps last a.more b.part b.more behind b.first)
 
 -- rows that were read
-rows_writable : (bs : List ℕ) (rs : List RowOut) (rest : List ℕ) → AreBytes bs → rows_of bs ≡ Ok (rs, rest) → AreWritableRows rs
+pub rows_writable : (bs : List ℕ) (rs : List RowOut) (rest : List ℕ) → AreBytes bs → rows_of bs ≡ Ok (rs, rest) → AreWritableRows rs
 rows_writable bs rs rest small h =
     let p = parted (number_of w32 bs) _ (rs, rest) h in
     let behind = behind_count bs p.part p.more small p.first in
@@ -165,33 +163,15 @@ rows_writable bs rs rest small h =
       states = chain_keeps row_bytes key_of row_of (λ row. IsWritableState row.state) None rs chain;
     }
 
-collection_writable : (bs : List ℕ) (c : Content) (rest : List ℕ) → AreBytes bs → collection_of bs ≡ Ok (c, rest) → IsWritable c
-collection_writable bs c rest small h =
-    let a = parted (text_of bs) _ (c, rest) h in
-    let b = parted (text_of a.more) _ (c, rest) a.second in
-    let behind = bytes_behind (text_bytes a.part) a.more bs (text_is_read bs a.part a.more small a.first).spelled small in
-    subst IsWritable (same_parts (collection a.part b.part) c b.more rest b.second).0
-    (text_fits bs a.part a.more small a.first, text_fits a.more b.part b.more behind b.first)
-
-written_writable : (bs : List ℕ) (c : Content) (rest : List ℕ) → AreBytes bs → written_of bs ≡ Ok (c, rest) → IsWritable c
-written_writable bs c rest small h =
-    let a = parted (text_of bs) _ (c, rest) h in
-    let b = parted (number_of w64 a.more) _ (c, rest) a.second in
-    let d = parted (rows_of b.more) _ (c, rest) b.second in
-    let small_a = bytes_behind (text_bytes a.part) a.more bs (text_is_read bs a.part a.more small a.first).spelled small in
-    let small_b = bytes_behind (number_bytes w64 b.part) b.more a.more (number_is_read w64 digits_64 a.more b.part b.more small_a b.first).spelled small_a in
-    subst IsWritable (same_parts (rows a.part b.part d.part) c d.more rest d.second).0
-    (text_fits bs a.part a.more small a.first, rows_writable b.more d.part d.more small_b d.first)
-
-epoch_writable : (bs : List ℕ) (c : Content) (rest : List ℕ) → epoch_of bs ≡ Ok (c, rest) → IsWritable c
-epoch_writable bs c rest h =
-    let a = parted (number_of w64 bs) _ (c, rest) h in
-    subst IsWritable (same_parts (epoch a.part) c a.more rest a.second).0 tt
-
--- a record that was read
-pub content_writable : (bs : List ℕ) (c : Content) (rest : List ℕ) → AreBytes bs → content_of bs ≡ Ok (c, rest) → IsWritable c
-content_writable [] c rest small h = cc
-content_writable (suc zero ∷ bs) c rest small h = collection_writable bs c rest (λ i. small (suc i)) h
-content_writable (suc (suc zero) ∷ bs) c rest small h = written_writable bs c rest (λ i. small (suc i)) h
-content_writable (suc (suc (suc (suc (suc zero)))) ∷ bs) c rest small h = epoch_writable bs c rest h
-content_writable (k ∷ bs) c rest small h = cc (foreign k bs (omega arith) (omega arith) (omega arith), h)
+-- states that were read
+pub states_writable : (bs : List ℕ) (ss : List State) (rest : List ℕ) → AreBytes bs → states_of bs ≡ Ok (ss, rest) → AreWritableStates ss
+states_writable bs ss rest small h =
+    let p = parted (number_of w32 bs) _ (ss, rest) h in
+    let behind = behind_count bs p.part p.more small p.first in
+    let read = rising_are_read state_bytes state_key state_of state_is_read p.part None p.more ss rest behind p.second in
+    let chain = chained state_bytes state_key state_of IsWritableState state_is_read state_keeps p.part None p.more ss rest behind p.second in
+    record {
+      count = let fits = number_below_32 bs p.part p.more small p.first in let many = read.many in omega arith;
+      rising = chain_rises state_bytes state_key state_of IsWritableState None ss chain;
+      states = chain_keeps state_bytes state_key state_of IsWritableState None ss chain;
+    }

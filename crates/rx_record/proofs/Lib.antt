@@ -6,7 +6,8 @@ pub mod Values
 pub mod States
 pub mod Skipped
 pub mod Within
-pub mod Contents
 pub mod Kept
+pub mod Formats
+pub mod Contents
 pub mod AtEnd
 pub mod Written

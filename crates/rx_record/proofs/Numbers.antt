@@ -1,9 +1,9 @@
 -- Numbers in so many bytes.
-use Rattle.std.proofs.Common.{◌≡◌, ℕ, ◌<◌, ◌≤◌, ◌^◌, List, ◌++◌, length, take, drop, Ok, Err, refl, ap, sym, ◌∙◌, arith, le-leb, w32, w64, inl, inr, length-append, ap₂, subst}
+use Rattle.std.proofs.Common.{◌≡◌, ℕ, ◌<◌, ◌≤◌, ◌^◌, List, ◌++◌, length, take, drop, Ok, Err, refl, ap, sym, ◌∙◌, arith, le-leb, w16, w32, w64, inl, inr, length-append, ap₂, subst}
 use Rattle.std.proofs.lemmas.Bool.Decides.{leb_tells}
 use Rattle.std.proofs.Math.Seq.{take-append_seam, drop-append_seam}
 use Rattle.std.proofs.lemmas.List.{length-take-le, take-append-drop}
-use Rattle.std.proofs.lemmas.Nat.{be_bytes_4, be_bytes_8, from_be_bytes-to_be_bytes_4, from_be_bytes-to_be_bytes_8}
+use Rattle.std.proofs.lemmas.Nat.{be_bytes_2, be_bytes_4, be_bytes_8, from_be_bytes-to_be_bytes_2, from_be_bytes-to_be_bytes_4, from_be_bytes-to_be_bytes_8}
 use Rattle.std.specs.Int.{Width, byte_len, from_be_bytes}
 use mir.Val.{bits}
 use Rattle.rx_record.specs.Parts.{number_bytes, number_of}
@@ -25,6 +25,14 @@ pub record AreDigits (w : Width) : Type 0 where
   pub value : (n : ℕ) → n < 2 ^ bits w → from_be_bytes w (number_bytes w n) ≡ n
   pub digits : (bs : List ℕ) (n : ℕ) → length bs ≡ byte_len w → AreBytes bs → n ≡ from_be_bytes w bs
       → number_bytes w n ≡ bs
+
+pub digits_16 : AreDigits w16
+unfolding number_bytes
+digits_16 = record {
+  long = λ n. refl;
+  value = from_be_bytes-to_be_bytes_2;
+  digits = λ bs n long small is. be_bytes_2 bs n long small is;
+}
 
 pub digits_32 : AreDigits w32
 unfolding number_bytes

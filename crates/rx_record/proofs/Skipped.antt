@@ -3,10 +3,10 @@ use Rattle.std.proofs.Common.{◌≡◌, ℕ, ◌-◌, ◌≤◌, List, [], leng
 use Rattle.rx_record.specs.Reading.{Reading, after, read_or, is_whole}
 use Rattle.rx_record.specs.Parts.{number_of}
 use Rattle.rx_record.specs.Fields.{pairs_of, fields_of, fields_bytes, all_bytes}
-use Rattle.rx_record.specs.Rows.{row_bytes, row_of, key_of, rows_from}
+use Rattle.rx_record.specs.Rows.{state_bytes, state_of, state_key, states_from, row_bytes, row_of, key_of, rows_from}
 use Rattle.rx_record.proofs.Lists.{rising_are_read}
 use Rattle.rx_record.proofs.Steps.{done, IsRead, AreBytes, rest_within, read_alone}
-use Rattle.rx_record.proofs.States.{fields_are_read, row_is_read}
+use Rattle.rx_record.proofs.States.{fields_are_read, state_is_read, row_is_read}
 
 -- what was passed over was read
 passed : {A : Type 0} (none : A) (m : Reading A) (rest : List ℕ) → after m ≡ Ok rest
@@ -45,3 +45,10 @@ pub rows_lent : (bs rest : List ℕ) (n : ℕ) → AreBytes bs → after (rows_f
 rows_lent bs rest n small h =
     lent [] (all_bytes row_bytes) (rows_from n None) bs rest
     (λ rows read. (rising_are_read row_bytes key_of row_of row_is_read n None bs rows rest small read).read) h
+
+-- and states
+pub states_lent : (bs rest : List ℕ) (n : ℕ) → AreBytes bs → after (states_from n None bs) ≡ Ok rest
+    → IsLent [] (states_from n None) bs rest
+states_lent bs rest n small h =
+    lent [] (all_bytes state_bytes) (states_from n None) bs rest
+    (λ states read. (rising_are_read state_bytes state_key state_of state_is_read n None bs states rest small read).read) h

@@ -8,8 +8,7 @@ use Rattle.rx_value.specs.declared.value.Value.TheVariants.{Flag, Int, Text}
 use Rattle.rx_record.specs.Reading.{Reading, ◌▸◌}
 use Rattle.rx_record.specs.Parts.{byte_of, flag_of, number_of, text_of, is_above, text_above}
 use Rattle.rx_record.specs.Fields.{integer_of, value_of, pair_of, rising_of, list_of}
-use Rattle.rx_record.specs.Rows.{state_of, key_of, row_of}
-use Rattle.rx_record.specs.Content.{collection_of, written_of, epoch_of, content_of}
+use Rattle.rx_record.specs.Rows.{state_of, states_of, state_key, key_of, row_of, rows_of}
 use Rattle.rx_record.proofs.Numbers.{number_read, number_short}
 
 -- no more than so many bytes are left
@@ -21,12 +20,12 @@ IsWithin (Err left) n = left ≤ n
 abbrev pub Bounded : {A : Type 0} → (List ℕ → Reading A) → Type 0
 Bounded of = (bs : List ℕ) → IsWithin (of bs) (length bs)
 
-grows : {A : Type 0} (m : Reading A) (k n : ℕ) → k ≤ n → IsWithin m k → IsWithin m n
+pub grows : {A : Type 0} (m : Reading A) (k n : ℕ) → k ≤ n → IsWithin m k → IsWithin m n
 grows (Ok p) k n less h = omega arith
 grows (Err left) k n less h = omega arith
 
 -- one part after another
-onward : {A B : Type 0} (m : Reading A) (f : A → List ℕ → Reading B) (n : ℕ) → IsWithin m n
+pub onward : {A B : Type 0} (m : Reading A) (f : A → List ℕ → Reading B) (n : ℕ) → IsWithin m n
     → ((x : A) (more : List ℕ) → length more ≤ n → IsWithin (f x more) n) → IsWithin (m ▸ f) n
 onward (Ok p) f n h g = g p.0 p.1 h
 onward (Err left) f n h g = h
@@ -36,7 +35,7 @@ behind : {A : Type 0} (of : List ℕ → Reading A) → Bounded of → (more : L
     → IsWithin (of more) n
 behind of b more n less = grows (of more) (length more) n less (b more)
 
-either : {A : Type 0} (b : Bool) (m o : Reading A) (n : ℕ) → IsWithin m n → IsWithin o n
+pub either : {A : Type 0} (b : Bool) (m o : Reading A) (n : ℕ) → IsWithin m n → IsWithin o n
     → IsWithin (if b then m else o) n
 either true m o n h g = h
 either false m o n h g = g
@@ -45,21 +44,21 @@ byte_within : Bounded byte_of
 byte_within [] = omega arith
 byte_within (b ∷ bs) = omega arith
 
-flag_within : Bounded flag_of
+pub flag_within : Bounded flag_of
 flag_within bs = onward (byte_of bs) (λ b more.
     if b == 0 then Ok (false, more) else if b == 1 then Ok (true, more) else Err (length bs)) (length bs)
     (byte_within bs)
     (λ b more less. either (b == 0) (Ok (false, more)) (if b == 1 then Ok (true, more) else Err (length bs)) (length bs)
     less (either (b == 1) (Ok (true, more)) (Err (length bs)) (length bs) less (omega arith)))
 
-number_within : (w : Width) → Bounded (number_of w)
+pub number_within : (w : Width) → Bounded (number_of w)
 number_within w bs =
     elim (leb_tells (byte_len w) (length bs)) as (λ _. IsWithin (number_of w bs) (length bs)) [
       | inl t ↦ rw (number_read w bs t.1) (omega (arith, length-drop (byte_len w) bs))
       | inr t ↦ rw (number_short w bs t.1) (omega arith)
     ]
 
-text_within : Bounded text_of
+pub text_within : Bounded text_of
 text_within bs = onward (number_of w32 bs) (λ n more.
     if leb n (length more) && is_utf8 (take n more) then Ok (take n more, drop n more) else Err (length bs)) (length bs)
     (number_within w32 bs)
@@ -131,27 +130,8 @@ row_within last bs = onward (number_of w64 bs) _ (length bs)
     (λ height more less. onward (state_of last more) _ (length bs)
     (behind (state_of last) (state_within last) more (length bs) less) (λ state rest left. left))
 
-collection_within : Bounded collection_of
-collection_within bs = onward (text_of bs) _ (length bs) (text_within bs)
-    (λ name more less. onward (text_of more) _ (length bs) (behind text_of text_within more (length bs) less)
-    (λ schema rest left. left))
+pub states_within : Bounded states_of
+states_within = list_within state_key state_of state_within
 
-written_within : Bounded written_of
-written_within bs = onward (text_of bs) _ (length bs) (text_within bs)
-    (λ name more less. onward (number_of w64 more) _ (length bs)
-    (behind (number_of w64) (number_within w64) more (length bs) less)
-    (λ lwt more fewer. onward (list_of key_of row_of more) _ (length bs)
-    (behind (list_of key_of row_of) (list_within key_of row_of row_within) more (length bs) fewer)
-    (λ written rest left. left)))
-
-epoch_within : Bounded epoch_of
-epoch_within bs = onward (number_of w64 bs) _ (length bs) (number_within w64 bs) (λ number rest less. less)
-
--- so it is of a record
-pub content_within : Bounded content_of
-content_within bs = onward (byte_of bs) _ (length bs) (byte_within bs)
-    (λ kind more less.
-    either (kind == 1) (collection_of more) _ (length bs) (behind collection_of collection_within more (length bs) less)
-    (either (kind == 2) (written_of more) _ (length bs) (behind written_of written_within more (length bs) less)
-    (either (kind == 5) (epoch_of more) (Err (length bs)) (length bs) (behind epoch_of epoch_within more (length bs) less)
-    (omega arith))))
+pub rows_within : Bounded rows_of
+rows_within = list_within key_of row_of row_within

@@ -1,5 +1,5 @@
 -- What is written is read back.
-use Rattle.std.proofs.Common.{◌≡◌, ℕ, zero, suc, ◌+◌, ◌<◌, ◌≤◌, List, [], ◌∷◌, ◌++◌, length, take, map, slice_get, Option, Some, None, true, is_lt, Ok, Err, Result, IfOk, IsUtf8, refl, ap, sym, ◌∙◌, subst, arith, length-append, append_assoc, append-nil, w32, w64}
+use Rattle.std.proofs.Common.{◌≡◌, ℕ, zero, suc, ◌+◌, ◌<◌, ◌≤◌, List, [], ◌∷◌, ◌++◌, length, take, map, slice_get, Option, Some, None, true, false, is_lt, Ok, Err, Result, IfOk, IsUtf8, refl, ap, sym, ◌∙◌, subst, arith, length-append, append_assoc, append-nil, w16, w32, w64}
 use Rattle.std.proofs.lemmas.List.{take_all}
 use Rattle.std.proofs.lemmas.Str.{is_utf8-from_IsUtf8}
 use Rattle.std.specs.List.{AllByRecursion}
@@ -8,13 +8,19 @@ use Rattle.std.specs.declared.cmp.Ordering.TheVariants.{Less}
 use Rattle.rx_value.specs.Fields.{Pair, Pairs}
 use Rattle.rx_value.specs.Named.{AreRising}
 use Rattle.rx_value.specs.Order.{text_cmp}
-use Rattle.rx_record.specs.Reading.{Reading}
-use Rattle.rx_record.specs.Parts.{number_bytes, number_of, text_bytes, text_of, is_above}
+use Rattle.rx_value.specs.declared.state.State.{State}
+use Rattle.rx_document.specs.declared.place.Place.{Place}
+use Rattle.rx_record.specs.Reading.{Reading, ◌▸◌}
+use Rattle.rx_record.specs.Parts.{flag_bytes, option_bytes, option_of, number_bytes, number_of, text_bytes, text_of, is_above}
 use Rattle.rx_record.specs.Fields.{value_bytes, value_of, pair_bytes, pair_of, all_bytes, rising_of, list_bytes, list_of, fields_bytes, fields_of}
-use Rattle.rx_record.specs.Rows.{row_bytes, row_of, key_of, rows_bytes, rows_of, state_bytes, state_of}
-use Rattle.rx_record.specs.Content.{rows, rows_kind, content_bytes, content_of}
+use Rattle.rx_record.specs.Rows.{row_bytes, row_of, key_of, rows_bytes, rows_of, state_bytes, state_of, state_key, states_bytes, states_of}
+use Rattle.rx_record.specs.Places.{place_bytes, place_of}
+use Rattle.rx_record.specs.Masters.{master_bytes, master_of}
+use Rattle.rx_record.specs.Content.{Content, collection, rows, replication, exchange, epoch, collection_kind, rows_kind, replication_kind, exchange_kind, epoch_kind, content_bytes, content_of}
+use Rattle.rx_record.specs.declared.record.MasterName.{MasterName}
+use Rattle.rx_record.specs.declared.record.MasterName.TheVariants.{Local, Port}
 use Rattle.rx_record.specs.declared.record.RowOut.{RowOut}
-use Rattle.rx_record.specs.Writable.{Fits, KeysRise, ReadsBack, ShortReadsBack}
+use Rattle.rx_record.specs.Writable.{Fits, HasTime, StatesRise, KeysRise, ReadsBack, ShortReadsBack}
 use Rattle.rx_record.proofs.Numbers.{digits_32, digits_64, number_back}
 use Rattle.rx_record.proofs.Texts.{text_back, above_back}
 use Rattle.rx_record.proofs.Values.{pair_back}
@@ -61,6 +67,37 @@ pub row_reads_back : (r : RowOut) → ReadsBack (number_bytes w64) (number_of w6
 row_reads_back r height state last above fits more =
     row_back last r more (height (state_bytes r.state ++ more))
     (state last above (second_fits (number_bytes w64 r.height) (state_bytes r.state) fits) more)
+
+-- a state is, where its key is above the last
+abbrev pub StateReadsBack : State → Type 0
+StateReadsBack s = (last : Option (List ℕ)) → is_above last s.key ≡ true → ShortReadsBack state_bytes (state_of last) s
+
+-- one that there is
+pub some_reads_back : {A : Type 0} (bytes : A → List ℕ) (of : List ℕ → Reading A) (x : A) → ShortReadsBack bytes of x
+    → ShortReadsBack (option_bytes bytes) (option_of of) (Some x)
+some_reads_back bytes of x back fits more =
+    ap (λ m. m ▸ λ z rest. Ok (Some z, rest)) (back (second_fits (flag_bytes true) (bytes x) fits) more)
+
+-- and none
+pub none_reads_back : {A : Type 0} (bytes : A → List ℕ) (of : List ℕ → Reading A)
+    → ShortReadsBack (option_bytes bytes) (option_of of) None
+none_reads_back bytes of fits more = refl
+
+-- a place that has a write time
+pub place_reads_back : (p : Place) → HasTime p → ReadsBack (number_bytes w64) (number_of w64) p.lwt
+    → ShortReadsBack text_bytes text_of p.id → ShortReadsBack place_bytes place_of p
+place_reads_back p time lwt id fits more =
+    let id_read = id (second_fits (number_bytes w64 p.lwt) (text_bytes p.id) fits) more in
+    ap place_of (append_assoc (number_bytes w64 p.lwt) (text_bytes p.id) more)
+    ∙ rw (lwt (text_bytes p.id ++ more), time, id_read) refl
+
+-- a master in this journal, and one at a port
+pub local_reads_back : (name : List ℕ) → ShortReadsBack text_bytes text_of name → ShortReadsBack master_bytes master_of (Local name)
+local_reads_back name back fits more =
+    ap (λ m. m ▸ λ t rest. Ok (Local t, rest)) (back (second_fits (flag_bytes false) (text_bytes name) fits) more)
+
+pub port_reads_back : (port : ℕ) → ReadsBack (number_bytes w16) (number_of w16) port → ShortReadsBack master_bytes master_of (Port port)
+port_reads_back port back fits more = ap (λ m. m ▸ λ n rest. Ok (Port n, rest)) (back more)
 
 module _ {A : Type 0} (bytes name : A → List ℕ) (part : Option (List ℕ) → List ℕ → Reading A) where
   -- a thing is, where its name is above the last
@@ -147,17 +184,91 @@ rows_read_back rs i long rising back =
     (λ r. omega (arith, digits_64.long r.height, length-append (number_bytes w64 r.height) (state_bytes r.state)))
     rs rising (subst (AllByRecursion RowReadsBack) (take_all i rs long) back)
 
--- a record of rows
+-- states
+pub states_read_back : (ss : List State) (i : ℕ) → length ss ≤ i → StatesRise ss
+    → AllByRecursion StateReadsBack (take i ss) → ShortReadsBack states_bytes states_of ss
+states_read_back ss i long rising back =
+    list_reads_back state_bytes state_key state_of
+    (λ s. omega (arith, digits_32.long (length s.key), length-append (number_bytes w32 (length s.key)) s.key, length-append (text_bytes s.key) (flag_bytes s.deleted ++ fields_bytes s.fields)))
+    ss rising (subst (AllByRecursion StateReadsBack) (take_all i ss long) back)
+
+-- ---- parts one after another
+
+-- these bytes, if they fit, are read as this
+abbrev pub AreReadAs : {B : Type 0} → (List ℕ → Reading B) → List ℕ → B → Type 0
+AreReadAs of tail y = Fits tail → (more : List ℕ) → of (tail ++ more) ≡ Ok (y, more)
+
+-- a part, and the others behind it
+pub then : {A B : Type 0} (bytes : A → List ℕ) (of : List ℕ → Reading A) (x : A) (f : A → List ℕ → Reading B) (tail : List ℕ) (y : B)
+    → ShortReadsBack bytes of x → AreReadAs (f x) tail y → AreReadAs (λ bs. of bs ▸ f) (bytes x ++ tail) y
+then bytes of x f tail y part others fits more =
+    ap (λ l. of l ▸ f) (append_assoc (bytes x) tail more)
+    ∙ ap (λ m. m ▸ f) (part (first_fits (bytes x) tail fits) (tail ++ more))
+    ∙ others (second_fits (bytes x) tail fits) more
+
+-- the last part
+pub lastly : {A B : Type 0} (bytes : A → List ℕ) (of : List ℕ → Reading A) (x : A) (made : A → B)
+    → ShortReadsBack bytes of x → AreReadAs (λ bs. of bs ▸ λ z rest. Ok (made z, rest)) (bytes x) (made x)
+lastly bytes of x made part fits more = ap (λ m. m ▸ λ z rest. Ok (made z, rest)) (part fits more)
+
+-- behind the byte of a kind
+behind_byte : (byte : ℕ) (tail : List ℕ) → Fits (byte ∷ tail) → Fits tail
+behind_byte byte tail fits = omega arith
+
+-- what always reads back does if it is short
+abbrev long_back : (n : ℕ) → ReadsBack (number_bytes w64) (number_of w64) n → ShortReadsBack (number_bytes w64) (number_of w64) n
+long_back n back fits = back
+
+-- ---- records
+
+pub collection_reads_back : (name schema : List ℕ) → ShortReadsBack text_bytes text_of name → ShortReadsBack text_bytes text_of schema
+    → ShortReadsBack content_bytes content_of (collection name schema)
+collection_reads_back name schema name_back schema_back fits =
+    then text_bytes text_of name _ (text_bytes schema) (collection name schema) name_back
+    (lastly text_bytes text_of schema (collection name) schema_back)
+    (behind_byte collection_kind (text_bytes name ++ text_bytes schema) fits)
+
 pub written_reads_back : (name : List ℕ) (lwt : ℕ) (written : List RowOut) → ShortReadsBack text_bytes text_of name
     → ReadsBack (number_bytes w64) (number_of w64) lwt → ShortReadsBack rows_bytes rows_of written
     → ShortReadsBack content_bytes content_of (rows name lwt written)
-written_reads_back name lwt written name_back lwt_back written_back fits more =
-    let behind : List ℕ = number_bytes w64 lwt ++ rows_bytes written in
-    let short : Fits (text_bytes name ++ behind) = omega arith in
-    let split : (text_bytes name ++ behind) ++ more ≡ text_bytes name ++ (number_bytes w64 lwt ++ (rows_bytes written ++ more)) =
-    append_assoc (text_bytes name) behind more
-    ∙ ap (λ l. text_bytes name ++ l) (append_assoc (number_bytes w64 lwt) (rows_bytes written) more) in
-    let name_read = name_back (first_fits (text_bytes name) behind short) (number_bytes w64 lwt ++ (rows_bytes written ++ more)) in
-    let lwt_read = lwt_back (rows_bytes written ++ more) in
-    let rows_read = written_back (second_fits (number_bytes w64 lwt) (rows_bytes written) (second_fits (text_bytes name) behind short)) more in
-    ap (λ l. content_of (rows_kind ∷ l)) split ∙ rw (name_read, lwt_read, rows_read) refl
+written_reads_back name lwt written name_back lwt_back written_back fits =
+    let c : Content = rows name lwt written in
+    then text_bytes text_of name _ (number_bytes w64 lwt ++ rows_bytes written) c name_back
+    (then (number_bytes w64) (number_of w64) lwt _ (rows_bytes written) c (long_back lwt lwt_back)
+    (lastly rows_bytes rows_of written (rows name lwt) written_back))
+    (behind_byte rows_kind (text_bytes name ++ (number_bytes w64 lwt ++ rows_bytes written)) fits)
+
+pub replication_reads_back : (name fork : List ℕ) (master : MasterName) (handler : List ℕ) (field : Option (List ℕ))
+    → ShortReadsBack text_bytes text_of name → ShortReadsBack text_bytes text_of fork → ShortReadsBack master_bytes master_of master
+    → ShortReadsBack text_bytes text_of handler → ShortReadsBack (option_bytes text_bytes) (option_of text_of) field
+    → ShortReadsBack content_bytes content_of (replication name fork master handler field)
+replication_reads_back name fork master handler field name_back fork_back master_back handler_back field_back fits =
+    let c : Content = replication name fork master handler field in
+    let last_bytes : List ℕ = text_bytes handler ++ option_bytes text_bytes field in
+    then text_bytes text_of name _ (text_bytes fork ++ (master_bytes master ++ last_bytes)) c name_back
+    (then text_bytes text_of fork _ (master_bytes master ++ last_bytes) c fork_back
+    (then master_bytes master_of master _ last_bytes c master_back
+    (then text_bytes text_of handler _ (option_bytes text_bytes field) c handler_back
+    (lastly (option_bytes text_bytes) (option_of text_of) field (replication name fork master handler) field_back))))
+    (behind_byte replication_kind (text_bytes name ++ (text_bytes fork ++ (master_bytes master ++ last_bytes))) fits)
+
+pub exchange_reads_back : (name : List ℕ) (lwt : ℕ) (written : List RowOut) (known : List State) (up down : Option Place)
+    → ShortReadsBack text_bytes text_of name → ReadsBack (number_bytes w64) (number_of w64) lwt
+    → ShortReadsBack rows_bytes rows_of written → ShortReadsBack states_bytes states_of known
+    → ShortReadsBack (option_bytes place_bytes) (option_of place_of) up → ShortReadsBack (option_bytes place_bytes) (option_of place_of) down
+    → ShortReadsBack content_bytes content_of (exchange name lwt written known up down)
+exchange_reads_back name lwt written known up down name_back lwt_back written_back known_back up_back down_back fits =
+    let c : Content = exchange name lwt written known up down in
+    let places : List ℕ = option_bytes place_bytes up ++ option_bytes place_bytes down in
+    then text_bytes text_of name _ (number_bytes w64 lwt ++ (rows_bytes written ++ (states_bytes known ++ places))) c name_back
+    (then (number_bytes w64) (number_of w64) lwt _ (rows_bytes written ++ (states_bytes known ++ places)) c (long_back lwt lwt_back)
+    (then rows_bytes rows_of written _ (states_bytes known ++ places) c written_back
+    (then states_bytes states_of known _ places c known_back
+    (then (option_bytes place_bytes) (option_of place_of) up _ (option_bytes place_bytes down) c up_back
+    (lastly (option_bytes place_bytes) (option_of place_of) down (exchange name lwt written known up) down_back)))))
+    (behind_byte exchange_kind (text_bytes name ++ (number_bytes w64 lwt ++ (rows_bytes written ++ (states_bytes known ++ places)))) fits)
+
+pub epoch_reads_back : (number : ℕ) → ReadsBack (number_bytes w64) (number_of w64) number
+    → ShortReadsBack content_bytes content_of (epoch number)
+epoch_reads_back number back fits =
+    lastly (number_bytes w64) (number_of w64) number epoch (long_back number back) (behind_byte epoch_kind (number_bytes w64 number) fits)

@@ -1,16 +1,25 @@
 -- What a record says, and its bytes.
-use Rattle.std.specs.Prelude.{ℕ, List, [], ◌∷◌, ◌++◌, ◌-◌, length, ◌==◌, if◌then◌else◌, Result, Ok, Err}
+use Rattle.std.specs.Prelude.{ℕ, List, [], ◌∷◌, ◌++◌, ◌-◌, length, ◌==◌, if◌then◌else◌, Option, Result, Ok, Err}
 use Rattle.std.specs.Int.{w64}
+use Rattle.rx_value.specs.declared.state.State.{State}
+use Rattle.rx_document.specs.declared.place.Place.{Place}
 use Rattle.rx_record.specs.Reading.{Reading, ◌▸◌}
-use Rattle.rx_record.specs.Parts.{byte_of, number_bytes, number_of, text_bytes, text_of}
-use Rattle.rx_record.specs.Rows.{rows_bytes, rows_of}
+use Rattle.rx_record.specs.Parts.{byte_of, number_bytes, number_of, text_bytes, text_of, option_bytes, option_of}
+use Rattle.rx_record.specs.Rows.{rows_bytes, rows_of, states_bytes, states_of}
+use Rattle.rx_record.specs.Places.{place_bytes, place_of}
+use Rattle.rx_record.specs.Masters.{master_bytes, master_of}
 use Rattle.rx_record.specs.declared.at.At.{At}
+use Rattle.rx_record.specs.declared.record.MasterName.{MasterName}
 use Rattle.rx_record.specs.declared.record.RowOut.{RowOut}
 
--- a collection's name and schema; a collection's name, the write time and the rows; or an epoch
+-- a collection's name and schema; a collection's name, the write time and the rows; a replication's
+-- name, fork, master, handler and field; a replication's name, the write time and rows of its fork,
+-- the states that became known, and the checkpoints up and down; or an epoch
 pub data Content : Type 0 where
   collection : List ℕ → List ℕ → Content
   rows : List ℕ → ℕ → List RowOut → Content
+  replication : List ℕ → List ℕ → MasterName → List ℕ → Option (List ℕ) → Content
+  exchange : List ℕ → ℕ → List RowOut → List State → Option Place → Option Place → Content
   epoch : ℕ → Content
 
 -- the byte of a record's kind
@@ -20,6 +29,12 @@ collection_kind = 1
 abbrev pub rows_kind : ℕ
 rows_kind = 2
 
+abbrev pub replication_kind : ℕ
+replication_kind = 3
+
+abbrev pub exchange_kind : ℕ
+exchange_kind = 4
+
 abbrev pub epoch_kind : ℕ
 epoch_kind = 5
 
@@ -28,6 +43,12 @@ abbrev pub content_bytes : Content → List ℕ
 content_bytes (collection name schema) = collection_kind ∷ (text_bytes name ++ text_bytes schema)
 content_bytes (rows name lwt written) =
     rows_kind ∷ (text_bytes name ++ (number_bytes w64 lwt ++ rows_bytes written))
+content_bytes (replication name fork master handler field) =
+    replication_kind ∷ (text_bytes name ++ (text_bytes fork ++ (master_bytes master
+    ++ (text_bytes handler ++ option_bytes text_bytes field))))
+content_bytes (exchange name lwt written known up down) =
+    exchange_kind ∷ (text_bytes name ++ (number_bytes w64 lwt ++ (rows_bytes written
+    ++ (states_bytes known ++ (option_bytes place_bytes up ++ option_bytes place_bytes down)))))
 content_bytes (epoch number) = epoch_kind ∷ number_bytes w64 number
 
 -- what stands behind the byte of each kind
@@ -44,16 +65,45 @@ written_of bs =
     rows_of more ▸ λ written rest.
     Ok (rows name lwt written, rest)
 
+abbrev pub replication_of : List ℕ → Reading Content
+replication_of bs =
+    text_of bs ▸ λ name more.
+    text_of more ▸ λ fork more.
+    master_of more ▸ λ master more.
+    text_of more ▸ λ handler more.
+    option_of text_of more ▸ λ field rest.
+    Ok (replication name fork master handler field, rest)
+
+abbrev pub exchange_of : List ℕ → Reading Content
+exchange_of bs =
+    text_of bs ▸ λ name more.
+    number_of w64 more ▸ λ lwt more.
+    rows_of more ▸ λ written more.
+    states_of more ▸ λ known more.
+    option_of place_of more ▸ λ up more.
+    option_of place_of more ▸ λ down rest.
+    Ok (exchange name lwt written known up down, rest)
+
 abbrev pub epoch_of : List ℕ → Reading Content
 epoch_of bs = number_of w64 bs ▸ λ number rest. Ok (epoch number, rest)
 
+-- the kinds: the byte of each, and what reads the bytes behind it
+abbrev pub Kind : Type 0
+Kind = ℕ × (List ℕ → Reading Content)
+
+abbrev pub kinds : List Kind
+kinds =
+    (collection_kind, collection_of) ∷ (rows_kind, written_of) ∷ (replication_kind, replication_of)
+    ∷ (exchange_kind, exchange_of) ∷ (epoch_kind, epoch_of) ∷ []
+
+-- what stands behind a kind's byte, with which so many bytes are left
+abbrev pub behind_kind : List Kind → ℕ → ℕ → List ℕ → Reading Content
+behind_kind [] left byte bs = Err left
+behind_kind (k ∷ ks) left byte bs = if byte == k.0 then k.1 bs else behind_kind ks left byte bs
+
 -- what stands at the front of bytes
 abbrev pub content_of : List ℕ → Reading Content
-content_of bs = byte_of bs ▸ λ kind more.
-    if kind == collection_kind then collection_of more
-    else if kind == rows_kind then written_of more
-    else if kind == epoch_kind then epoch_of more
-    else Err (length bs)
+content_of bs = byte_of bs ▸ λ byte more. behind_kind kinds (length bs) byte more
 
 -- nothing stands behind it
 abbrev pub ended : {A : Type 0} → Reading A → Result A ℕ

@@ -2,6 +2,8 @@ pub mod Reading
 pub mod Parts
 pub mod Fields
 pub mod Rows
+pub mod Places
+pub mod Masters
 pub mod Views
 pub mod Content
 pub mod Shown

@@ -1,4 +1,4 @@
--- Bytes, flags, numbers and texts.
+-- Bytes, flags, options, numbers and texts.
 use Rattle.std.specs.Prelude.{ℕ, List, [], ◌∷◌, ◌++◌, length, take, drop, Bool, true, false, ◌&&◌, ◌==◌, nat_le, if◌then◌else◌, Option, Some, None, Ok, Err}
 use Rattle.std.specs.Int.{Width, w32, byte_len, to_be_bytes, from_be_bytes}
 use Rattle.std.specs.Ordering.{is_lt}
@@ -18,6 +18,15 @@ flag_bytes b = (if b then 1 else 0) ∷ []
 abbrev pub flag_of : List ℕ → Reading Bool
 flag_of bs = byte_of bs ▸ λ b more.
     if b == 0 then Ok (false, more) else if b == 1 then Ok (true, more) else Err (length bs)
+
+-- none, or one: a flag, and the thing where there is one
+abbrev pub option_bytes : {A : Type 0} → (A → List ℕ) → Option A → List ℕ
+option_bytes bytes None = flag_bytes false
+option_bytes bytes (Some x) = flag_bytes true ++ bytes x
+
+abbrev pub option_of : {A : Type 0} → (List ℕ → Reading A) → List ℕ → Reading (Option A)
+option_of part bs = flag_of bs ▸ λ there more.
+    if there then (part more ▸ λ x rest. Ok (Some x, rest)) else Ok (None, more)
 
 -- a number in so many bytes, the high one first
 unfoldable pub number_bytes : Width → ℕ → List ℕ

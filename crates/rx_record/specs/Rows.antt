@@ -1,4 +1,4 @@
--- States and rows.
+-- States, lists of them, and rows.
 use Rattle.std.specs.Prelude.{ℕ, List, ◌++◌, Option, Ok}
 use Rattle.std.specs.Int.{w64}
 use Rattle.rx_value.specs.declared.state.State.{State}
@@ -17,6 +17,19 @@ state_of last bs =
     flag_of more ▸ λ deleted more.
     fields_of more ▸ λ fields rest.
     Ok (record { key = key; fields = fields; deleted = deleted }, rest)
+
+-- states: a list by rising key
+abbrev pub states_bytes : List State → List ℕ
+states_bytes = list_bytes state_bytes
+
+abbrev pub state_key : State → List ℕ
+state_key s = s.key
+
+abbrev pub states_from : ℕ → Option (List ℕ) → List ℕ → Reading (List State)
+states_from = rising_of state_key state_of
+
+abbrev pub states_of : List ℕ → Reading (List State)
+states_of = list_of state_key state_of
 
 -- a row: its height in eight bytes, and the state
 abbrev pub row_bytes : RowOut → List ℕ

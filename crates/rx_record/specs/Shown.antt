@@ -1,7 +1,7 @@
 -- What a record and its view say.
-use Rattle.std.specs.Prelude.{◌≡◌, Result, Ok, Err}
-use Rattle.rx_record.specs.Content.{Content, collection, rows, epoch}
-use Rattle.rx_record.specs.Views.{rows_left}
+use Rattle.std.specs.Prelude.{◌≡◌, option_map, Result, Ok, Err}
+use Rattle.rx_record.specs.Content.{Content, collection, rows, replication, exchange, epoch}
+use Rattle.rx_record.specs.Views.{rows_left, states_left, place_in, master_in}
 use Rattle.rx_record.specs.declared.at.At.{At}
 use Rattle.rx_record.specs.declared.record.Record.{Record}
 use Rattle.rx_record.specs.declared.record.Record.TheVariants as owned
@@ -12,12 +12,20 @@ use Rattle.rx_record.specs.declared.record_view.RecordView.TheVariants as lent
 abbrev pub content : Record → Content
 content (owned.Collection name schema) = collection name schema
 content (owned.Rows name lwt written) = rows name lwt written.items
+content (owned.Replication name fork master handler field) = replication name fork master handler field
+content (owned.Exchange name lwt written known up down) =
+    exchange name lwt written.items known.items up down
 content (owned.Epoch number) = epoch number
 
 -- what a view says
 abbrev pub content_in : RecordView → Content
 content_in (lent.Collection name schema) = collection name.now schema.now
 content_in (lent.Rows name lwt written) = rows name.now lwt (rows_left written)
+content_in (lent.Replication name fork master handler field) =
+    replication name.now fork.now (master_in master) handler.now (option_map (λ t. t.now) field)
+content_in (lent.Exchange name lwt written known up down) =
+    exchange name.now lwt (rows_left written) (states_left known)
+    (option_map place_in up) (option_map place_in down)
 content_in (lent.Epoch number) = epoch number
 
 -- the answer is what is due

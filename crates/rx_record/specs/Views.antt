@@ -4,15 +4,22 @@ use Rattle.rx_value.specs.Fields.{Pair, Pairs}
 use Rattle.rx_value.specs.declared.state.State.{State}
 use Rattle.rx_value.specs.declared.value.Value.{Value}
 use Rattle.rx_value.specs.declared.value.Value.TheVariants.{Flag, Int, Text}
+use Rattle.rx_document.specs.declared.place.Place.{Place}
 use Rattle.rx_record.specs.Reading.{read_or}
 use Rattle.rx_record.specs.Fields.{pairs_of, fields_of}
-use Rattle.rx_record.specs.Rows.{rows_from}
+use Rattle.rx_record.specs.Rows.{states_from, rows_from}
+use Rattle.rx_record.specs.declared.record.MasterName.{MasterName}
+use Rattle.rx_record.specs.declared.record.MasterName.TheVariants.{Local, Port}
 use Rattle.rx_record.specs.declared.record.RowOut.{RowOut}
+use Rattle.rx_record.specs.declared.master_view.MasterView.{MasterView}
+use Rattle.rx_record.specs.declared.master_view.MasterView.TheVariants as lent_master
 use Rattle.rx_record.specs.declared.pair_view.PairView.{PairView}
 use Rattle.rx_record.specs.declared.pair_views.PairViews.{PairViews}
+use Rattle.rx_record.specs.declared.place_view.PlaceView.{PlaceView}
 use Rattle.rx_record.specs.declared.row_view.RowView.{RowView}
 use Rattle.rx_record.specs.declared.row_views.RowViews.{RowViews}
 use Rattle.rx_record.specs.declared.state_view.StateView.{StateView}
+use Rattle.rx_record.specs.declared.state_views.StateViews.{StateViews}
 use Rattle.rx_record.specs.declared.value_view.ValueView.{ValueView}
 use Rattle.rx_record.specs.declared.value_view.ValueView.TheVariants as lent
 
@@ -38,6 +45,10 @@ pairs_left p = read_or [] (pairs_of p.left (option_map (λ t. t.now) p.last) p.b
 abbrev pub state_in : StateView → State
 state_in s = record { key = s.key.now; fields = fields_in s.fields.now; deleted = s.deleted }
 
+-- the states that are still to come
+abbrev pub states_left : StateViews → List State
+states_left s = read_or [] (states_from s.left (option_map (λ t. t.now) s.last) s.bytes.now)
+
 -- the row
 abbrev pub row_in : RowView → RowOut
 row_in r = record { height = r.height; state = state_in r.state }
@@ -45,3 +56,12 @@ row_in r = record { height = r.height; state = state_in r.state }
 -- the rows that are still to come
 abbrev pub rows_left : RowViews → List RowOut
 rows_left r = read_or [] (rows_from r.left (option_map (λ t. t.now) r.last) r.bytes.now)
+
+-- the place
+abbrev pub place_in : PlaceView → Place
+place_in p = record { lwt = p.lwt; id = p.id.now }
+
+-- the name, or the port
+abbrev pub master_in : MasterView → MasterName
+master_in (lent_master.Local name) = Local name.now
+master_in (lent_master.Port port) = Port port

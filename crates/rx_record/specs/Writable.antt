@@ -1,5 +1,5 @@
 -- What reads back as it was written: the lengths fit, and the orders are those of the format.
-use Rattle.std.specs.Prelude.{◌≡◌, ℕ, ◌<◌, ◌^◌, List, ◌++◌, length, map, Ok}
+use Rattle.std.specs.Prelude.{◌≡◌, ℕ, ◌<◌, ◌^◌, List, ◌++◌, length, map, true, Option, IfSome, Ok}
 use Rattle.std.specs.List.{AllByRecursion}
 use Rattle.std.specs.List.Sorted.{IsStrictlySortedBy}
 use Rattle.rx_value.specs.Fields.{Pair, Pairs, AreFields}
@@ -7,9 +7,13 @@ use Rattle.rx_value.specs.Order.{text_cmp}
 use Rattle.rx_value.specs.declared.state.State.{State}
 use Rattle.rx_value.specs.declared.value.Value.{Value}
 use Rattle.rx_value.specs.declared.value.Value.TheVariants.{Flag, Int, Text}
-use Rattle.rx_record.specs.Content.{Content, collection, rows, epoch}
+use Rattle.rx_document.specs.declared.place.Place.{Place}
+use Rattle.rx_record.specs.Content.{Content, collection, rows, replication, exchange, epoch}
+use Rattle.rx_record.specs.Places.{is_time}
 use Rattle.rx_record.specs.Reading.{Reading}
-use Rattle.rx_record.specs.Rows.{key_of}
+use Rattle.rx_record.specs.Rows.{state_key, key_of}
+use Rattle.rx_record.specs.declared.record.MasterName.{MasterName}
+use Rattle.rx_record.specs.declared.record.MasterName.TheVariants.{Local, Port}
 use Rattle.rx_record.specs.declared.record.RowOut.{RowOut}
 
 -- the length of a text or a list has four bytes
@@ -36,14 +40,40 @@ pub record IsWritableState (s : State) : Type 0 where
   pub key : Fits s.key
   pub fields : AreWritableFields s.fields
 
+pub record IsWritablePlace (p : Place) : Type 0 where
+  pub time : is_time p.lwt ≡ true
+  pub id : Fits p.id
+
+abbrev pub MasterFits : MasterName → Type 0
+MasterFits (Local name) = Fits name
+MasterFits (Port port) = Unit {0}
+
+-- the keys of states rise
+abbrev pub StatesRise : List State → Type 0
+StatesRise known = IsStrictlySortedBy text_cmp (map state_key known)
+
 -- the keys of rows rise
 abbrev pub KeysRise : List RowOut → Type 0
 KeysRise written = IsStrictlySortedBy text_cmp (map key_of written)
 
--- a record whose rows are in order
+-- the place has a write time
+abbrev pub HasTime : Place → Type 0
+HasTime p = is_time p.lwt ≡ true
+
+-- an exchange whose rows and known states are in order, and whose checkpoints have write times
+pub record IsOrderedExchange (written : List RowOut) (known : List State) (up down : Option Place)
+    : Type 0 where
+  pub rows_rise : KeysRise written
+  pub states_rise : StatesRise known
+  pub up_has_time : IfSome up HasTime
+  pub down_has_time : IfSome down HasTime
+
+-- a record whose rows and states are in order, and whose places have write times
 abbrev pub IsOrdered : Content → Type 0
 IsOrdered (collection name schema) = Unit {0}
 IsOrdered (rows name lwt written) = KeysRise written
+IsOrdered (replication name fork master handler field) = Unit {0}
+IsOrdered (exchange name lwt written known up down) = IsOrderedExchange written known up down
 IsOrdered (epoch number) = Unit {0}
 
 -- rows whose keys rise
@@ -52,10 +82,35 @@ pub record AreWritableRows (written : List RowOut) : Type 0 where
   pub rising : KeysRise written
   pub states : AllByRecursion (λ row. IsWritableState row.state) written
 
+-- states whose keys rise
+pub record AreWritableStates (known : List State) : Type 0 where
+  pub count : Fits known
+  pub rising : StatesRise known
+  pub states : AllByRecursion IsWritableState known
+
+pub record IsWritableReplication (name fork : List ℕ) (master : MasterName) (handler : List ℕ)
+    (field : Option (List ℕ)) : Type 0 where
+  pub name_fits : Fits name
+  pub fork_fits : Fits fork
+  pub master_fits : MasterFits master
+  pub handler_fits : Fits handler
+  pub field_fits : IfSome field Fits
+
+pub record IsWritableExchange (name : List ℕ) (written : List RowOut) (known : List State)
+    (up down : Option Place) : Type 0 where
+  pub name_fits : Fits name
+  pub written_rows : AreWritableRows written
+  pub known_states : AreWritableStates known
+  pub up_place : IfSome up IsWritablePlace
+  pub down_place : IfSome down IsWritablePlace
+
 -- a record
 abbrev pub IsWritable : Content → Type 0
 IsWritable (collection name schema) = Fits name × Fits schema
 IsWritable (rows name lwt written) = Fits name × AreWritableRows written
+IsWritable (replication name fork master handler field) =
+    IsWritableReplication name fork master handler field
+IsWritable (exchange name lwt written known up down) = IsWritableExchange name written known up down
 IsWritable (epoch number) = Unit {0}
 
 -- what is written of it is read as itself, whatever stands behind

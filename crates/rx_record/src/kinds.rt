@@ -1,15 +1,21 @@
 ghost use Rattle.rx_record.specs.Reading.{Reads};
-ghost use Rattle.rx_record.specs.Content.{content_of, collection_of, written_of, epoch_of};
+ghost use Rattle.rx_record.specs.Content.{content_of, collection_of, written_of, replication_of, exchange_of, epoch_of};
 ghost use Rattle.rx_record.specs.Shown.{content_in};
 ghost use Rattle.std.specs.Prelude.{◌≡◌};
 
-use crate::reading::{Read, read_byte, read_long, read_text};
+use crate::master_view::read_master;
+use crate::place_view::read_place_if_there;
+use crate::reading::{Read, read_byte, read_long, read_text, read_text_if_there};
 use crate::record_view::RecordView;
-use crate::rows::read_rows;
+use crate::rows::{read_rows, read_states};
 
 pub(crate) const COLLECTION: u8 = 1;
 
 pub(crate) const ROWS: u8 = 2;
+
+pub(crate) const REPLICATION: u8 = 3;
+
+pub(crate) const EXCHANGE: u8 = 4;
 
 pub(crate) const EPOCH: u8 = 5;
 
@@ -20,6 +26,8 @@ pub(crate) fn read_record(body: &[u8]) -> Read<'_, RecordView<'_>>
     match kind {
         COLLECTION => read_collection(rest),
         ROWS => read_written(rest),
+        REPLICATION => read_replication(rest),
+        EXCHANGE => read_exchange(rest),
         EPOCH => read_epoch(rest),
         _ => Err(body.len()),
     }
@@ -40,6 +48,44 @@ fn read_written(bytes: &[u8]) -> Read<'_, RecordView<'_>>
     let (lwt, rest) = read_long(rest)?;
     let (rows, rest) = read_rows(rest)?;
     Ok((RecordView::Rows { name, lwt, rows }, rest))
+}
+
+fn read_replication(bytes: &[u8]) -> Read<'_, RecordView<'_>>
+    ensures { Reads content_in result (replication_of bytes.now) }
+{
+    let (name, rest) = read_text(bytes)?;
+    let (fork, rest) = read_text(rest)?;
+    let (master, rest) = read_master(rest)?;
+    let (handler, rest) = read_text(rest)?;
+    let (field, rest) = read_text_if_there(rest)?;
+    let view = RecordView::Replication {
+        name,
+        fork,
+        master,
+        handler,
+        field,
+    };
+    Ok((view, rest))
+}
+
+fn read_exchange(bytes: &[u8]) -> Read<'_, RecordView<'_>>
+    ensures { Reads content_in result (exchange_of bytes.now) }
+{
+    let (name, rest) = read_text(bytes)?;
+    let (lwt, rest) = read_long(rest)?;
+    let (rows, rest) = read_rows(rest)?;
+    let (known, rest) = read_states(rest)?;
+    let (up, rest) = read_place_if_there(rest)?;
+    let (down, rest) = read_place_if_there(rest)?;
+    let view = RecordView::Exchange {
+        name,
+        lwt,
+        rows,
+        known,
+        up,
+        down,
+    };
+    Ok((view, rest))
 }
 
 fn read_epoch(bytes: &[u8]) -> Read<'_, RecordView<'_>>

@@ -1,7 +1,7 @@
 ghost use Rattle.std.specs.Prelude.{◌≡◌, option_map};
-ghost use Rattle.std.specs.Int.{w32, w64};
+ghost use Rattle.std.specs.Int.{w16, w32, w64};
 ghost use Rattle.rx_record.specs.Reading.{Reads};
-ghost use Rattle.rx_record.specs.Parts.{byte_of, flag_of, number_of, text_of, text_above};
+ghost use Rattle.rx_record.specs.Parts.{byte_of, flag_of, option_of, number_of, text_of, text_above};
 
 // A part and the bytes after it; or how many bytes stand from the faulty part on.
 pub(crate) type Read<'a, T> = Result<(T, &'a [u8]), usize>;
@@ -23,6 +23,16 @@ pub(crate) fn read_flag(bytes: &[u8]) -> Read<'_, bool>
         (0, rest) => Ok((false, rest)),
         (1, rest) => Ok((true, rest)),
         _ => Err(bytes.len()),
+    }
+}
+
+// Two bytes, the high one first.
+pub(crate) fn read_short(bytes: &[u8]) -> Read<'_, u16>
+    ensures { Reads (λ n. n) result (number_of w16 bytes.now) }
+{
+    match bytes.split_first_chunk::<2>() {
+        Some((digits, rest)) => Ok((u16::from_be_bytes(*digits), rest)),
+        None => Err(bytes.len()),
     }
 }
 
@@ -58,6 +68,18 @@ pub(crate) fn read_text(bytes: &[u8]) -> Read<'_, &str>
         Ok(text) => Ok((text, rest)),
         Err(_) => Err(bytes.len()),
     }
+}
+
+// A text, if there is one.
+pub(crate) fn read_text_if_there(bytes: &[u8]) -> Read<'_, Option<&str>>
+    ensures { Reads (option_map (λ t. t.now)) result (option_of text_of bytes.now) }
+{
+    let (there, rest) = read_flag(bytes)?;
+    if !there {
+        return Ok((None, rest));
+    }
+    let (text, rest) = read_text(rest)?;
+    Ok((Some(text), rest))
 }
 
 // A text above the one before it.

@@ -1,4 +1,5 @@
 use crate::writing::put_record;
+use rx_document::Place;
 use rx_value::{RxText, State};
 use std::alloc::{AllocError, Global};
 
@@ -18,6 +19,24 @@ pub enum Record {
         name: RxText,
         lwt: u64,
         rows: Vec<RowOut>,
+    },
+    /// A collection comes to be the fork of a master.
+    Replication {
+        name: RxText,
+        fork: RxText,
+        master: MasterName,
+        handler: RxText,
+        field: Option<RxText>,
+    },
+    /// A fork takes a reply: documents of it are written as by `Rows`, the write time being 0 where
+    /// there is none; states become known, by rising key; and the checkpoints are set.
+    Exchange {
+        name: RxText,
+        lwt: u64,
+        rows: Vec<RowOut>,
+        known: Vec<State>,
+        up: Option<Place>,
+        down: Option<Place>,
     },
     /// The program starts anew.
     Epoch {
@@ -43,6 +62,15 @@ impl Record {
         put_record(&mut body, self)?;
         Ok(body)
     }
+}
+
+/// Where the master of a replication is.
+#[derive(Debug, Drop)]
+pub enum MasterName {
+    /// A collection of the same journal.
+    Local(RxText),
+    /// A port at which another program serves a collection.
+    Port(u16),
 }
 
 /// One document as it was written.

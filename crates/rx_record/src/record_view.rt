@@ -1,8 +1,11 @@
 use crate::at::At;
 use crate::kinds::read_record;
-use crate::owning::own_rows;
+use crate::master_view::MasterView;
+use crate::owning::{own_place_if_there, own_rows, own_states, own_text_if_there};
+use crate::place_view::PlaceView;
 use crate::record::Record;
 use crate::row_views::RowViews;
+use crate::state_views::StateViews;
 use rx_value::RxText;
 use std::alloc::{AllocError, Global};
 
@@ -17,6 +20,21 @@ pub enum RecordView<'a> {
         name: &'a str,
         lwt: u64,
         rows: RowViews<'a>,
+    },
+    Replication {
+        name: &'a str,
+        fork: &'a str,
+        master: MasterView<'a>,
+        handler: &'a str,
+        field: Option<&'a str>,
+    },
+    Exchange {
+        name: &'a str,
+        lwt: u64,
+        rows: RowViews<'a>,
+        known: StateViews<'a>,
+        up: Option<PlaceView<'a>>,
+        down: Option<PlaceView<'a>>,
     },
     Epoch {
         number: u64,
@@ -55,6 +73,34 @@ impl<'a> RecordView<'a> {
                 name: RxText::new(alloc, name)?,
                 lwt: *lwt,
                 rows: own_rows(alloc, rows)?,
+            }),
+            RecordView::Replication {
+                name,
+                fork,
+                master,
+                handler,
+                field,
+            } => Ok(Record::Replication {
+                name: RxText::new(alloc, name)?,
+                fork: RxText::new(alloc, fork)?,
+                master: master.own(alloc)?,
+                handler: RxText::new(alloc, handler)?,
+                field: own_text_if_there(alloc, *field)?,
+            }),
+            RecordView::Exchange {
+                name,
+                lwt,
+                rows,
+                known,
+                up,
+                down,
+            } => Ok(Record::Exchange {
+                name: RxText::new(alloc, name)?,
+                lwt: *lwt,
+                rows: own_rows(alloc, rows)?,
+                known: own_states(alloc, known)?,
+                up: own_place_if_there(alloc, up)?,
+                down: own_place_if_there(alloc, down)?,
             }),
             RecordView::Epoch { number } => Ok(Record::Epoch { number: *number }),
         }

@@ -1,15 +1,16 @@
 ghost use Rattle.std.specs.Prelude.{◌≡◌, None, option_map};
 ghost use Rattle.rx_record.specs.Reading.{Reads, Skips};
-ghost use Rattle.rx_record.specs.Rows.{state_of, row_of, rows_from, rows_of};
-ghost use Rattle.rx_record.specs.Views.{state_in, row_in, rows_left};
+ghost use Rattle.rx_record.specs.Rows.{state_of, states_from, states_of, row_of, rows_from, rows_of};
+ghost use Rattle.rx_record.specs.Views.{state_in, states_left, row_in, rows_left};
 
 use crate::pairs::read_fields;
 use crate::reading::{Read, read_count, read_flag, read_long, read_text_above};
 use crate::row_view::RowView;
 use crate::row_views::RowViews;
 use crate::state_view::StateView;
+use crate::state_views::StateViews;
 
-fn read_state<'a>(last: Option<&str>, bytes: &'a [u8]) -> Read<'a, StateView<'a>>
+pub(crate) fn read_state<'a>(last: Option<&str>, bytes: &'a [u8]) -> Read<'a, StateView<'a>>
     ensures { Reads state_in result (state_of (option_map (λ t. t.now) last.entry) bytes.now) }
 {
     let (key, rest) = read_text_above(last, bytes)?;
@@ -21,6 +22,35 @@ fn read_state<'a>(last: Option<&str>, bytes: &'a [u8]) -> Read<'a, StateView<'a>
         fields,
     };
     Ok((state, rest))
+}
+
+// The bytes after so many states.
+fn skip_states(count: u32, bytes: &[u8]) -> Result<&[u8], usize>
+    ensures { Skips result (states_from count None bytes.now) }
+{
+    let mut left = count;
+    let mut last = None;
+    let mut rest = bytes;
+    while left > 0 {
+        let (state, behind) = read_state(last, rest)?;
+        left -= 1;
+        last = Some(state.key);
+        rest = behind;
+    }
+    Ok(rest)
+}
+
+pub(crate) fn read_states(bytes: &[u8]) -> Read<'_, StateViews<'_>>
+    ensures { Reads states_left result (states_of bytes.now) }
+{
+    let (count, states) = read_count(bytes)?;
+    let rest = skip_states(count, states)?;
+    let lent = StateViews {
+        left: count,
+        last: None,
+        bytes: &states[..states.len() - rest.len()],
+    };
+    Ok((lent, rest))
 }
 
 pub(crate) fn read_row<'a>(last: Option<&str>, bytes: &'a [u8]) -> Read<'a, RowView<'a>>

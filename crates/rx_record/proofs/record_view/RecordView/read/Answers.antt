@@ -1,18 +1,19 @@
 use Rattle.std.proofs.Common.{◌≡◌, ℕ, ◌<◌, length, subst, List, [], ◌∷◌, ◌++◌, refl, sym, ap, ◌∙◌, append-nil, arith}
 use Rattle.rx_record.specs.Content.{content_bytes}
 use Rattle.rx_record.specs.Shown.{content_in}
-use Rattle.rx_record.proofs.Contents.{content_is_read}
-use Rattle.rx_record.proofs.Kept.{content_writable}
-use Rattle.rx_record.proofs.Within.{IsWithin, content_within}
+use Rattle.rx_record.proofs.Contents.{content_is_read, content_writable, content_within}
+use Rattle.rx_record.proofs.Within.{IsWithin}
 use Rattle.rx_record.proofs.record_view.RecordView.read.Goals as goal
 
 pub overflow_sub-result : goal.overflow_sub-result
 overflow_sub-result c =
-    subst (λ m. IsWithin m (length c.args.body.now)) c.in-Ok.ensures (content_within c.args.body.now)
+    subst (λ m. IsWithin m (length c.args.body.now)) c.in-Ok.ensures (content_within c.args.body.now
+    (λ i. let small = c.type_inv.body i in omega (arith, small)))
 
 pub overflow_sub-result-in-Err : goal.overflow_sub-result-in-Err
 overflow_sub-result-in-Err c =
-    subst (λ m. IsWithin m (length c.args.body.now)) c.in-Err.ensures (content_within c.args.body.now)
+    subst (λ m. IsWithin m (length c.args.body.now)) c.in-Err.ensures (content_within c.args.body.now
+    (λ i. let small = c.type_inv.body i in omega (arith, small)))
 
 -- nothing is left
 empty : (bs : List ℕ) → length bs < 1 → bs ≡ []
