@@ -23,6 +23,12 @@ module _ {D : Type 0} (d : Ghosts D) where
     front = refl;
   }
 
+  -- what a run of reads keeps of each run before it holds of the run itself
+  pub untouched_so_far : (old new : D)
+      → ((c : List ℕ) → d.image_since old (d.moment old) c → d.image old c)
+      → ((first : D) → IsUntouched d first old → IsUntouched d first new) → IsUntouched d old new
+  untouched_so_far old new only_now on = on old (begun old only_now).untouched
+
   -- one more read, whatever it gave
   pub read_more : (old mid new : D) → IsUntouched d old mid
       → d.content new ≡ d.content mid → ((c : List ℕ) → d.image new c → d.image mid c)

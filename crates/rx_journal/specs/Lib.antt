@@ -1,6 +1,9 @@
 pub mod Growing
+pub mod Hold
 pub mod Image
 pub mod Laws
 pub mod Opening
 pub mod Reading
 pub mod Ready
+pub mod Window
+pub mod Windows

@@ -3,16 +3,21 @@
 #![tactic(auto)]
 
 mod durable;
+mod first;
 mod image;
 mod journal;
 mod laws;
 mod open;
 mod reading;
+mod record;
+mod window;
+mod windows;
 
 pub use image::Image;
 pub use journal::{AppendFault, Journal, LONGEST, SHORTEST};
 pub use laws::grows_on;
 pub use open::OpenFault;
+pub use windows::Windows;
 
 #[cfg(test)]
 mod tests;

@@ -44,7 +44,7 @@ impl From<Failed> for OpenFault {
 }
 
 // A header and a closed gate.
-const NO_RECORDS: [u8; 9] = *b"RXJOURN1\0";
+pub(crate) const NO_RECORDS: [u8; 9] = *b"RXJOURN1\0";
 
 impl Journal {
     ghost use Rattle.rx_journal.specs.Opening.{IsJournal, Opens, Shows, IsNoWorse};

@@ -6,12 +6,10 @@ ghost use Rattle.rx_outside.specs.Failed.{Rises};
 
 use crate::journal::LONGEST;
 use crate::open::OpenFault;
+use crate::window::WINDOW;
 use rx_disk::Disk;
 use rx_frame::{Frames, HEADER, Rest};
 use std::alloc::{AllocError, Global};
-
-// How many bytes are read at once.
-const WINDOW: usize = 65_536;
 
 fn new_window(alloc: Global) -> Result<Vec<u8>, AllocError>
     ensures { IfOk result (λ window. vec_len window ≡ WINDOW) }

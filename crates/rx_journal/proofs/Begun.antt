@@ -1,0 +1,191 @@
+-- What windows are to lend when an opening begins.
+use Rattle.std.proofs.Common.{◌≡◌, inl, inr, ℕ, ◌+◌, ◌<◌, ◌≤◌, ◌^◌, List, [], ◌∷◌, ◌++◌, length, get_or, take, drop, sym, ◌∙◌, ap, subst, arith, append_assoc, zero-add, length-drop, take-append-drop}
+use Rattle.std.proofs.lemmas.List.{append_cancel_left, drop_all, drop_more, take-append-le}
+use Rattle.rx_disk.specs.declared.disk.Disk.{Ghosts}
+use Rattle.rx_disk.specs.Disk.{Only}
+use Rattle.rx_frame.specs.File.{header, end_of, records, IsWhole, StandsFor, no_records}
+use Rattle.rx_frame.specs.Gate.{IsClosed}
+use Rattle.rx_frame.proofs.Records.{short_none}
+use Rattle.rx_journal.specs.Hold.{Hold}
+use Rattle.rx_journal.specs.Windows.{place_of, left, LendAll, Begin}
+use Rattle.rx_journal.specs.declared.windows.Windows.{Windows}
+use Rattle.rx_journal.proofs.Holding.{none_held}
+
+-- a file with a header holds its bodies behind it
+pub held_whole : (content bytes : List ℕ) (bodies : List (List ℕ)) → content ≡ header ++ bytes
+    → IsWhole content bodies → end_of bodies < 2 ^ 32 → Hold 8 bytes bodies
+held_whole content bytes bodies split whole short = record {
+  gate = whole.gate;
+  rest = whole.rest;
+  closed = whole.closed;
+  fit = whole.fit;
+  split = append_cancel_left header bytes (records bodies ++ whole.gate ∷ whole.rest) (sym split ∙ whole.split);
+  short = omega (arith, short);
+}
+
+pub whole_held : (content bytes : List ℕ) (bodies : List (List ℕ)) → content ≡ header ++ bytes
+    → Hold 8 bytes bodies → IsWhole content bodies × (end_of bodies < 2 ^ 32)
+whole_held content bytes bodies split h = (
+  record {
+    gate = h.gate;
+    rest = h.rest;
+    closed = h.closed;
+    fit = h.fit;
+    split = split ∙ ap (λ (l : List ℕ). header ++ l) h.split;
+  },
+  omega (arith, h.short),
+)
+
+-- ---- a file with a header
+
+module _ (content bytes : List ℕ) (split : content ≡ header ++ bytes)
+    (begun : length content ≤ 9 → IsWhole content []) where
+  pub stands_held : (bodies : List (List ℕ)) → StandsFor content bodies → end_of bodies < 2 ^ 32
+      → Hold 8 bytes bodies
+  stands_held bodies (inr whole) short = held_whole content bytes bodies split whole short
+  stands_held bodies (inl brief) short =
+      held_whole content bytes bodies split
+      (subst (λ (bs : List (List ℕ)). IsWhole content bs) (sym brief.1) (begun brief.0)) short
+
+  pub held_stands : (bodies : List (List ℕ)) → Hold 8 bytes bodies
+      → StandsFor content bodies × (end_of bodies < 2 ^ 32)
+  held_stands bodies h =
+      let whole = whole_held content bytes bodies split h in
+      (inr whole.0, whole.1)
+
+pub found_all : (content : List ℕ) (w : Windows) → place_of w ≡ 8 → content ≡ header ++ left w content
+    → (length content ≤ 9 → IsWhole content []) → LendAll content content w
+found_all content w at split begun = record {
+  to_come = λ bodies stands short.
+      subst (λ (n : ℕ). Hold n (left w content) bodies) (sym at)
+      (stands_held content (left w content) split begun bodies stands short);
+  stood = λ bodies h.
+      held_stands content (left w content) split begun bodies
+      (subst (λ (n : ℕ). Hold n (left w content) bodies) at h);
+}
+
+module _ {D : Type 0} (d : Ghosts D) (old new : D) (w : Windows) (at : place_of w ≡ 8)
+    (same : d.content new ≡ d.content old) (split : d.content old ≡ header ++ left w (d.content old))
+    (begun : length (d.content old) ≤ 9 → IsWhole (d.content old) [])
+    (durable : Only (d.content old) (d.image new)) where
+  pub begins_found : Begin d old new w
+  begins_found = record {
+    all = subst (λ (l : List ℕ). LendAll (d.content old) l w) (sym same)
+        (found_all (d.content old) w at split begun);
+    none_yet = record {
+      fit = tt;
+      split = subst (λ (l : List ℕ). l ≡ header ++ left w l) (sym same) split;
+      at = at;
+      durable = λ c now. durable c now ∙ sym same;
+    };
+    stood = λ bodies whole. inr (subst (λ (l : List ℕ). IsWhole l bodies) same whole);
+    long = λ long. same;
+    begun = λ whole. same;
+    made = λ short none. absurd (none (begun short));
+  }
+
+-- ---- a file that isn't begun
+
+-- a closed gate is left, and nothing else
+pub gate_left : (held content : List ℕ) → held ≡ 0 ∷ [] → length content ≤ 9
+    → held ++ drop (8 + length held) content ≡ 0 ∷ []
+gate_left held content is short =
+    ap (λ (l : List ℕ). l ++ drop (8 + length l) content) is
+    ∙ ap (λ (l : List ℕ). 0 ∷ l) (drop_all 9 content short)
+
+gate_closed : (bytes : List ℕ) → bytes ≡ 0 ∷ [] → IsClosed bytes
+gate_closed bytes is = (0, [], λ e. absurd (omega (arith, e)), is)
+
+none_stands : (file : List ℕ) (bodies : List (List ℕ)) → length file ≤ 9 → (IsWhole file [] → ⊥)
+    → StandsFor file bodies → bodies ≡ []
+none_stands file bodies short none (inl brief) = brief.1
+none_stands file bodies short none (inr whole) = short_none file bodies short whole
+
+pub made_all : (file content : List ℕ) (w : Windows) → place_of w ≡ 8 → left w content ≡ 0 ∷ []
+    → length file ≤ 9 → (IsWhole file [] → ⊥) → LendAll file content w
+made_all file content w at is short none = record {
+  to_come = λ bodies stands fits.
+      let empty = none_stands file bodies short none stands in
+      subst (λ (bs : List (List ℕ)). Hold (place_of w) (left w content) bs) (sym empty)
+      (record {
+        gate = 0;
+        rest = [];
+        closed = λ e. absurd (omega (arith, e));
+        fit = tt;
+        split = is;
+        short = omega (arith, at);
+      });
+  stood = λ bodies h.
+      let empty = none_held (place_of w) (left w content) bodies (gate_closed (left w content) is) h in (
+        inl (short, empty),
+        subst (λ (bs : List (List ℕ)). end_of bs < 2 ^ 32) (sym empty) (omega arith),
+      );
+}
+
+module _ {D : Type 0} (d : Ghosts D) (old new : D) (w : Windows) (at : place_of w ≡ 8)
+    (short : length (d.content old) ≤ 9) (none : IsWhole (d.content old) [] → ⊥)
+    (is : d.content new ≡ no_records) (gate : left w (d.content new) ≡ 0 ∷ [])
+    (durable : Only (d.content new) (d.image new)) where
+  pub begins_made : Begin d old new w
+  begins_made = record {
+    all = made_all (d.content old) (d.content new) w at gate short none;
+    none_yet = record {
+      fit = tt;
+      split = is ∙ ap (λ (l : List ℕ). header ++ l) (sym gate);
+      at = at;
+      durable = durable;
+    };
+    stood = λ bodies whole. inl (short, short_none (d.content new) bodies (omega (arith, ap length is)) whole);
+    long = λ long. absurd (omega (arith, long, short));
+    begun = λ whole. absurd (none whole);
+    made = λ _ _. is;
+  }
+
+-- ---- the first bytes of a file
+
+-- what begins with a header and a closed gate
+pub closed_whole : (bytes : List ℕ) → take 8 bytes ≡ header → 8 < length bytes
+    → (get_or bytes 8 0 ≡ 1 → ⊥) → IsWhole bytes []
+closed_whole bytes starts long shut = record {
+  gate = get_or bytes 8 0;
+  rest = drop 9 bytes;
+  closed = shut;
+  fit = tt;
+  split = sym (take-append-drop 8 bytes) ∙ ap (λ (l : List ℕ). l ++ drop 8 bytes) starts
+      ∙ ap (λ (l : List ℕ). header ++ l) (drop_more bytes 8 0 long);
+}
+
+pub whole_begins : (bytes : List ℕ) (bodies : List (List ℕ)) → IsWhole bytes bodies → take 8 bytes ≡ header
+whole_begins bytes bodies whole = ap (λ (l : List ℕ). take 8 l) whole.split
+
+pub whole_long : (bytes : List ℕ) → IsWhole bytes [] → 8 < length bytes
+whole_long bytes whole = omega (arith, ap length whole.split)
+
+pub whole_closed : (bytes : List ℕ) → IsWhole bytes [] → get_or bytes 8 0 ≡ 1 → ⊥
+whole_closed bytes whole is = whole.closed (sym (ap (λ (l : List ℕ). get_or l 8 0) whole.split) ∙ is)
+
+-- the front of a file of which more than a header was read
+pub front_of : (content held behind : List ℕ) → held ++ behind ≡ content → 8 ≤ length held
+    → take 8 held ≡ take 8 content
+front_of content held behind is long = sym (take-append-le 8 held behind long) ∙ ap (λ (l : List ℕ). take 8 l) is
+
+-- a file that a window begins, and goes on behind the header
+pub behind_header : (content held : List ℕ) → held ++ drop (length held) content ≡ content → 8 ≤ length held
+    → take 8 held ≡ header → content ≡ header ++ (drop 8 held ++ drop (8 + length (drop 8 held)) content)
+behind_header content held is long starts =
+    sym is ∙ ap (λ (l : List ℕ). l ++ drop (length held) content) (sym (take-append-drop 8 held))
+    ∙ append_assoc (take 8 held) (drop 8 held) (drop (length held) content)
+    ∙ (λ i. starts i ++ (drop 8 held ++ drop (same i) content))
+  where
+    same : length held ≡ 8 + length (drop 8 held)
+    same = omega (arith, long, length-drop 8 held)
+
+-- what is ahead of an empty window at the start is the file
+pub whole_ahead : (content old : List ℕ) → old ≡ [] → old ++ drop (0 + length old) content ≡ content
+whole_ahead content old none = ap (λ (l : List ℕ). l ++ drop (0 + length l) content) none
+
+pub from_start : (content old held : List ℕ) → old ≡ []
+    → held ++ drop (0 + length held) content ≡ old ++ drop (0 + length old) content
+    → held ++ drop (length held) content ≡ content
+from_start content old held none ahead =
+    ap (λ (n : ℕ). held ++ drop n content) (sym (zero-add (length held))) ∙ ahead ∙ whole_ahead content old none
