@@ -10,7 +10,7 @@ use Rattle.rx_schema.specs.declared.shape.Shape.{Shape}
 use Rattle.rx_collection.specs.Commit.{next_height, with_row, with_rows}
 use Rattle.rx_collection.specs.Held.{Held, held_with}
 use Rattle.rx_collection.proofs.Named.{at_name, all_put}
-use Rattle.rx_record.specs.Content.{Content, collection, rows, epoch}
+use Rattle.rx_record.specs.Content.{Content, collection, rows, replication, exchange, epoch}
 use Rattle.rx_record.specs.declared.record.RowOut.{RowOut}
 use Rattle.rx_world.specs.Schema.{schema_in}
 use Rattle.rx_world.specs.Step.{is_valid_state, is_due, takes, legal, step, collections_after, stored_of, stored_rows, written_to}
@@ -82,6 +82,8 @@ valid_step (rows name lwt written) w is valid =
     let to = rows_go name lwt written w is in
     let same : to.held ≡ c = let there = to.named in cc in
     valid_taken lwt written c (subst (λ x. takes lwt written x ≡ true) same to.taken) here) valid
+valid_step (replication name fork master handler field) w is valid = valid
+valid_step (exchange name lwt written known up down) w is valid = valid
 valid_step (epoch number) w is valid = valid
 
 -- ---- names
@@ -100,4 +102,6 @@ distinct_step (collection name schema) w distinct =
     ]
 distinct_step (rows name lwt written) w distinct =
     subst (IsDistinct bytes_eq) (sym (rows_names name lwt written w)) distinct
+distinct_step (replication name fork master handler field) w distinct = distinct
+distinct_step (exchange name lwt written known up down) w distinct = distinct
 distinct_step (epoch number) w distinct = distinct

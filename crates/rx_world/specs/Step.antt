@@ -12,7 +12,7 @@ use Rattle.rx_document.specs.declared.stored.Stored.{Stored}
 use Rattle.rx_collection.specs.Commit.{next_height, with_rows}
 use Rattle.rx_collection.specs.Held.{Held, held_with}
 use Rattle.rx_collection.specs.Time.{last_lwt, most_lwt}
-use Rattle.rx_record.specs.Content.{Content, collection, rows, epoch}
+use Rattle.rx_record.specs.Content.{Content, collection, rows, replication, exchange, epoch}
 use Rattle.rx_record.specs.declared.record.RowOut.{RowOut}
 use Rattle.rx_world.specs.Schema.{schema_in}
 use Rattle.rx_world.specs.Touch.{Touch, no_collection, new_collection, new_rows, touch}
@@ -42,6 +42,8 @@ collections_after (new_rows name lwt written) cs = change_named cs name (written
 abbrev pub epoch_after : Content → ℕ → ℕ
 epoch_after (collection name schema) last = last
 epoch_after (rows name lwt written) last = last
+epoch_after (replication name fork master handler field) last = last
+epoch_after (exchange name lwt written known up down) last = last
 epoch_after (epoch number) last = number
 
 -- the world after a record, field by field
@@ -75,13 +77,16 @@ takes lwt written c =
     && list_all (is_due c) written
 
 -- A collection is legal where its name is a name and isn't held, its schema's text is canonical, and
--- there is room for it. Rows are legal where the collection is held and takes them. An epoch is
--- legal where it is the one after the last.
+-- there is room for it. Rows are legal where the collection is held and takes them. A world has no
+-- replications yet, so neither one nor an exchange is legal. An epoch is legal where it is the one
+-- after the last.
 abbrev pub legal : Content → World → Bool
 legal (collection name schema) w =
     is_name name && is_none (named w.collections name)
     && nat_lt (length w.collections) max_collections && is_some (schema_in schema)
 legal (rows name lwt written) w = option_map_or (takes lwt written) (named w.collections name) false
+legal (replication name fork master handler field) w = false
+legal (exchange name lwt written known up down) w = false
 legal (epoch number) w = number == w.epoch + 1
 
 -- the world after a record, where it is legal

@@ -1,7 +1,7 @@
 -- What a record touches of the collections.
 use Rattle.std.specs.Prelude.{ℕ, List, Option, Some, None}
 use Rattle.rx_schema.specs.declared.shape.Shape.{Shape}
-use Rattle.rx_record.specs.Content.{Content, collection, rows, epoch}
+use Rattle.rx_record.specs.Content.{Content, collection, rows, replication, exchange, epoch}
 use Rattle.rx_record.specs.declared.record.RowOut.{RowOut}
 use Rattle.rx_world.specs.Schema.{schema_in}
 
@@ -20,4 +20,6 @@ new_where name (Some s) = new_collection name s
 abbrev pub touch : Content → Touch
 touch (collection name schema) = new_where name (schema_in schema)
 touch (rows name lwt written) = new_rows name lwt written
+touch (replication name fork master handler field) = no_collection
+touch (exchange name lwt written known up down) = no_collection
 touch (epoch number) = no_collection

@@ -44,6 +44,7 @@ pub(crate) fn change<H: Holder + Drop, F: Fn(Collection) -> Result<H, AllocError
         Record::Rows { name, lwt, rows } => {
             write(&mut parts.holders, alloc, name.as_str(), lwt, rows)
         }
+        Record::Replication { .. } | Record::Exchange { .. } => Ok(()),
         Record::Epoch { number } => {
             parts.epoch = number;
             Ok(())

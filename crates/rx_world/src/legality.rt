@@ -1,7 +1,9 @@
 ghost use Rattle.std.specs.Prelude.{◌≡◌, ◌+◌, ◌==◌, IfOk};
 ghost use Rattle.std.specs.List.{list_all};
 ghost use Rattle.rx_value.specs.Named.{named};
-ghost use Rattle.rx_record.specs.Shown.{content};
+ghost use Rattle.rx_record.specs.Content.{collection};
+ghost use Rattle.rx_record.specs.Shown.{content, content_in};
+ghost use Rattle.rx_record.specs.Views.{row_in, rows_left};
 ghost use Rattle.rx_world.specs.Holders.{AreWhole, holders_of, world_in};
 ghost use Rattle.rx_world.specs.Step.{is_valid_state, is_due, takes, legal};
 
@@ -9,7 +11,7 @@ use crate::names::find;
 use crate::parts::{MAX_COLLECTIONS, Parts};
 use crate::schema_text::schema_in;
 use rx_collection::{Collection, Holder, MOST_LWT};
-use rx_record::{Record, RowOut};
+use rx_record::{Record, RecordView, RowOut, RowView, RowViews};
 use rx_schema::Schema;
 use rx_value::{State, is_name, is_text};
 use std::alloc::{AllocError, Global};
@@ -25,21 +27,56 @@ pub(crate) fn is_legal<H: Holder>(
 {
     match entry {
         Record::Collection { name, schema } => {
-            let name = name.as_str();
-            if !is_name(name) || find(&parts.holders, name).is_some() {
-                return Ok(false);
-            }
-            if parts.holders.len() >= MAX_COLLECTIONS {
-                return Ok(false);
-            }
-            Ok(schema_in(alloc, schema.as_str())?.is_some())
+            is_new(parts, alloc, name.as_str(), schema.as_str())
         }
         Record::Rows { name, lwt, rows } => match find(&parts.holders, name.as_str()) {
             Some(holder) => Ok(takes(holder.collection(), *lwt, rows.as_slice())),
             None => Ok(false),
         },
+        Record::Replication { .. } | Record::Exchange { .. } => Ok(false),
         Record::Epoch { number } => Ok(is_next(*number, parts.epoch)),
     }
+}
+
+/// The same of a record that is only lent. A schema or one state at a time is owned.
+pub(crate) fn is_legal_view<H: Holder>(
+    parts: &Parts<H>,
+    alloc: Global,
+    view: &RecordView<'_>,
+) -> Result<bool, AllocError>
+    requires { AreWhole H.held H.is_broken parts.now.holders.entries }
+    ensures { IfOk result
+        (λ b. b ≡ legal (content_in view.now) (world_in H.held (holders_of parts.now))) }
+{
+    match view {
+        RecordView::Collection { name, schema } => is_new(parts, alloc, name, schema),
+        RecordView::Rows { name, lwt, rows } => match find(&parts.holders, name) {
+            Some(holder) => takes_views(alloc, holder.collection(), *lwt, rows),
+            None => Ok(false),
+        },
+        RecordView::Replication { .. } | RecordView::Exchange { .. } => Ok(false),
+        RecordView::Epoch { number } => Ok(is_next(*number, parts.epoch)),
+    }
+}
+
+// Whether there is room for a collection of that name, and the text is a schema's.
+fn is_new<H: Holder>(
+    parts: &Parts<H>,
+    alloc: Global,
+    name: &str,
+    schema: &str,
+) -> Result<bool, AllocError>
+    requires { AreWhole H.held H.is_broken parts.now.holders.entries }
+    ensures { IfOk result (λ b. b
+        ≡ legal (collection name.now schema.now) (world_in H.held (holders_of parts.now))) }
+{
+    if !is_name(name) || find(&parts.holders, name).is_some() {
+        return Ok(false);
+    }
+    if parts.holders.len() >= MAX_COLLECTIONS {
+        return Ok(false);
+    }
+    Ok(schema_in(alloc, schema)?.is_some())
 }
 
 // Whether a collection takes the rows at that write time.
@@ -47,6 +84,57 @@ fn takes(collection: &Collection, lwt: u64, rows: &[RowOut]) -> bool
     ensures { result ≡ takes lwt rows.now collection.now }
 {
     !rows.is_empty() && collection.last_lwt() < lwt && lwt <= MOST_LWT && are_due(collection, rows)
+}
+
+fn takes_views(
+    alloc: Global,
+    collection: &Collection,
+    lwt: u64,
+    rows: &RowViews<'_>,
+) -> Result<bool, AllocError>
+    ensures { IfOk result (λ b. b ≡ takes lwt (rows_left rows.now) collection.now) }
+{
+    let mut rows = *rows;
+    let Some(first) = rows.next() else {
+        return Ok(false);
+    };
+    if lwt <= collection.last_lwt() || MOST_LWT < lwt {
+        return Ok(false);
+    }
+    if !is_due_view(alloc, collection, &first)? {
+        return Ok(false);
+    }
+    are_due_views(alloc, collection, &rows)
+}
+
+fn are_due_views(
+    alloc: Global,
+    collection: &Collection,
+    rows: &RowViews<'_>,
+) -> Result<bool, AllocError>
+    ensures { IfOk result (λ b. b ≡ list_all (is_due collection.now) (rows_left rows.now)) }
+{
+    let mut rows = *rows;
+    while let Some(row) = rows.next() {
+        if !is_due_view(alloc, collection, &row)? {
+            return Ok(false);
+        }
+    }
+    Ok(true)
+}
+
+fn is_due_view(
+    alloc: Global,
+    collection: &Collection,
+    row: &RowView<'_>,
+) -> Result<bool, AllocError>
+    ensures { IfOk result (λ b. b ≡ is_due collection.now (row_in row.now)) }
+{
+    let row = RowOut {
+        height: row.height,
+        state: row.state.own(alloc)?,
+    };
+    Ok(is_due(collection, &row))
 }
 
 fn are_due(collection: &Collection, rows: &[RowOut]) -> bool

@@ -6,7 +6,7 @@ ghost use Rattle.std.specs.Option.{ForSome};
 ghost use Rattle.std.specs.Str.{bytes_eq};
 ghost use Rattle.rx_value.specs.Named.{named};
 ghost use Rattle.rx_collection.specs.Lawful.{IsLawful};
-ghost use Rattle.rx_record.specs.Shown.{content};
+ghost use Rattle.rx_record.specs.Shown.{content, content_in};
 ghost use Rattle.rx_record.specs.Writable.{IsOrdered};
 ghost use Rattle.rx_world.specs.Commit.{commit};
 ghost use Rattle.rx_world.specs.Edit.{Edited, Leaves, LeavesWhole};
@@ -19,14 +19,14 @@ ghost use Rattle.rx_world.specs.World.{empty};
 
 use crate::change::change;
 use crate::fault::{ApplyFault, StepFault};
-use crate::legality::is_legal;
+use crate::legality::{is_legal, is_legal_view};
 use crate::names::{edit, find};
 use crate::parts::Parts;
 use crate::rows::commit;
 use crate::same::hold_same;
 use indexmap::IndexMap;
 use rx_collection::{Collection, Holder};
-use rx_record::Record;
+use rx_record::{Record, RecordView};
 use rx_value::State;
 use std::alloc::{AllocError, Global};
 use std::marker::Model;
@@ -112,6 +112,15 @@ impl<H: Holder + Drop> World<H> {
         ensures { IfOk result (λ b. b ≡ legal (content entry.now) (world_in H.held self.now)) }
     {
         is_legal(&self.parts, alloc, entry)
+    }
+
+    /// Whether the record of a view may come next, from its lent parts. A schema, or one state at a
+    /// time, is owned for the test.
+    pub fn legal_view(&self, alloc: Global, view: &RecordView<'_>) -> Result<bool, AllocError>
+        ensures { IfOk result
+            (λ b. b ≡ legal (content_in view.now) (world_in H.held self.now)) }
+    {
+        is_legal_view(&self.parts, alloc, view)
     }
 
     /// The world after a record. It is spent on a refusal.
