@@ -1,9 +1,9 @@
 -- Crash-safe calls, one after another, and their stops.
-use Rattle.std.proofs.Common.{◌≡◌, ◌⊎◌, inl, inr, ℕ, ◌≤◌, ◌<◌, List, [], ◌∷◌, ◌++◌, Result, Ok, Err, IfOk, IsErrOf, refl, sym, ◌∙◌, ap, subst, append_assoc, append-nil}
+use Rattle.std.proofs.Common.{◌≡◌, ◌⊎◌, inl, inr, ℕ, ◌≤◌, List, [], ◌∷◌, ◌++◌, Result, Ok, Err, IfOk, IsErrOf, refl, sym, ◌∙◌, ap, subst, append_assoc, append-nil}
 use Rattle.rx_disk.specs.declared.disk.Disk.{Ghosts}
 use Rattle.rx_frame.specs.File.{StandsFor, end_of}
 use Rattle.rx_outside.specs.declared.stop.Stop.{Stop}
-use Rattle.rx_outside.specs.declared.stop.Stop.TheVariants.{Disk, NotJournal, Full, Memory}
+use Rattle.rx_outside.specs.declared.stop.Stop.TheVariants.{NotJournal, Full, Memory}
 use Rattle.rx_store.specs.Holds.{GrowsLegally, ImagesStandFor}
 use Rattle.rx_store.specs.Safe.{IsCrashSafe, IsFull}
 use Rattle.rx_store.proofs.Growing.{grows_on, grows_longer}

@@ -1,20 +1,20 @@
 -- Opening a journal that is a legal file.
-use Rattle.std.proofs.Common.{◌≡◌, ◌≤◌, ◌<◌, ◌^◌, inl, inr, ℕ, true, false, true≢false, List, [], ◌++◌, length, Option, Some, None, is_some, Result, Ok, Err, IsErrOf, refl, sym, ◌∙◌, ap, subst, arith, append-nil}
+use Rattle.std.proofs.Common.{◌≡◌, ◌≤◌, ◌<◌, inl, inr, ℕ, true, false, true≢false, List, [], length, Option, Some, None, is_some, Result, Ok, Err, IsErrOf, refl, sym, ◌∙◌, ap, subst, arith, append-nil}
 use Rattle.std.proofs.Math.Dec.{leb}
 use Rattle.std.proofs.lemmas.Bool.{leb-true, leb-false}
 use Rattle.rx_disk.specs.declared.disk.Disk.{Ghosts}
 use Rattle.rx_disk.specs.Moments.{LeavesOnly}
-use Rattle.rx_disk.proofs.Moments.{weaker}
-use Rattle.rx_frame.specs.File.{StandsFor, IsWhole, end_of, shortest}
+use Rattle.rx_disk.proofs.Moments.{weaker, joined, leaves_now}
+use Rattle.rx_frame.specs.File.{StandsFor, IsWhole, shortest}
 use Rattle.rx_frame.proofs.Records.{stands_for_one}
-use Rattle.rx_journal.specs.Image.{image_bytes}
-use Rattle.rx_journal.specs.Opening.{IsJournal, IsNoWorse, Opens}
+use Rattle.rx_journal.specs.Opening.{IsJournal, IsNoWorse}
 use Rattle.rx_journal.specs.Reading.{IsUntouched}
 use Rattle.rx_journal.specs.Ready.{IsReady}
-use Rattle.rx_journal.specs.declared.image.Image.{Image}
+use Rattle.rx_journal.specs.Windows.{Begin}
 use Rattle.rx_journal.specs.declared.journal.Journal.{Journal}
 use Rattle.rx_journal.specs.declared.open.OpenFault.{OpenFault}
 use Rattle.rx_journal.specs.declared.open.OpenFault.TheVariants as opening
+use Rattle.rx_journal.specs.declared.windows.Windows.{Windows}
 use Rattle.rx_outside.specs.declared.stop.Stop.{Stop}
 use Rattle.rx_outside.specs.declared.stop.Stop.TheVariants.{NotJournal, Full}
 use Rattle.rx_world.specs.Replay.{replay}
@@ -36,42 +36,39 @@ some_is a b e = ap (or_else a) e
 pub some_is_not_none : (o : Option World) (w : World) → o ≡ Some w → o ≡ None → ⊥
 some_is_not_none o w is none = true≢false (ap is_some (sym is ∙ none))
 
--- a journal was opened, and its image makes this world
-module _ {D : Type 0} (d : Ghosts D) (old mid : D) (journal : Journal) (image : Image) (v : World)
-    (o : Opens d old mid journal image)
-    (plays : (bodies : List (List ℕ)) → IsWhole (image_bytes image) bodies → replay bodies ≡ Some v) where
-  pub holds_its_own : Holds d mid journal o.shows.bodies v
-  holds_its_own = record { ready = o.ready; played = plays o.shows.bodies o.shows.whole }
-
-  pub is_legal : IsLegalFile (d.content old) o.shows.bodies v
+-- a journal was opened, its records were read to their end, and they make this world
+module _ {D : Type 0} (d : Ghosts D) (old mid new : D) (windows : Windows) (begin : Begin d old mid windows)
+    (same : d.content new ≡ d.content mid) (journal : Journal) (lent : List (List ℕ)) (v : World)
+    (ready : IsReady d new journal lent) (plays : replay lent ≡ Some v) where
+  pub is_legal : IsLegalFile (d.content old) lent v
   is_legal = record {
-    stands = o.shows.stood;
-    short = o.shows.short;
-    plays = plays o.shows.bodies o.shows.whole;
+    stands = begin.stood lent (subst (λ (l : List ℕ). IsWhole l lent) same ready.whole);
+    short = omega (arith, ready.ends, journal.short);
+    plays = plays;
   }
 
--- it was opened, and the file was a legal one of these bodies
-module _ {D : Type 0} (d : Ghosts D) (old mid : D) (journal : Journal) (image : Image)
-    (o : Opens d old mid journal image) (bodies : List (List ℕ)) (w : World)
-    (lawful : IsLegalFile (d.content old) bodies w) where
-  pub same_bodies : o.shows.bodies ≡ bodies
-  same_bodies = stands_for_one (d.content old) o.shows.bodies bodies o.shows.stood lawful.stands
+  -- where the file was a legal one of these bodies, they are those
+  module _ (bodies : List (List ℕ)) (w : World) (lawful : IsLegalFile (d.content old) bodies w) where
+    same_bodies : lent ≡ bodies
+    same_bodies = stands_for_one (d.content old) lent bodies is_legal.stands lawful.stands
 
-  pub holds_these : Holds d mid journal bodies w
-  holds_these = record {
-    ready = subst (λ (bs : List (List ℕ)). IsReady d mid journal bs) same_bodies o.ready;
-    played = lawful.plays;
-  }
+    pub holds_these : Holds d new journal bodies w
+    holds_these = record {
+      ready = subst (λ (bs : List (List ℕ)). IsReady d new journal bs) same_bodies ready;
+      played = lawful.plays;
+    }
 
-  pub same_world : (v : World)
-      → ((bodies : List (List ℕ)) → IsWhole (image_bytes image) bodies → replay bodies ≡ Some v) → v ≡ w
-  same_world v plays =
-      some_is v w (sym (plays o.shows.bodies o.shows.whole) ∙ ap replay same_bodies ∙ lawful.plays)
+    pub same_world : v ≡ w
+    same_world = some_is v w (sym plays ∙ ap replay same_bodies ∙ lawful.plays)
 
-  pub never_refused : ((bodies : List (List ℕ)) → IsWhole (image_bytes image) bodies → replay bodies ≡ None) → ⊥
-  never_refused none =
-      some_is_not_none (replay bodies) w lawful.plays
-      (ap replay (sym same_bodies) ∙ none o.shows.bodies o.shows.whole)
+-- it was opened, and then read
+module _ {D : Type 0} (d : Ghosts D) (old mid new : D) (run : LeavesOnly d old mid (IsNoWorse d old))
+    (read : IsUntouched d mid new)
+    (counts : (t : ℕ) (c : List ℕ) → t ≤ d.moment mid → d.image mid c → d.image_since mid t c) where
+  pub read_no_worse : LeavesOnly d old new (IsNoWorse d old)
+  read_no_worse =
+      joined d old mid new (IsNoWorse d old) (d.image mid) (IsNoWorse d old) run read.moments (λ c is. is)
+      (leaves_now d old mid (IsNoWorse d old) run counts)
 
 -- ---- a legal file
 
@@ -174,12 +171,3 @@ module _ {D : Type 0} (d : Ghosts D) (old mid : D) (long : shortest < length (d.
   untouched_by opening.NotJournal refused ran_out failed = refused refl
   untouched_by opening.Memory refused ran_out failed = ran_out refl
   untouched_by opening.Disk refused ran_out failed = failed refl long
-
-  -- where it was opened as a journal, it was one already
-  pub stood_whole : (journal : Journal) (image : Image) (o : Opens d old mid journal image)
-      → d.content mid ≡ d.content old
-  stood_whole journal image o = by_standing o.shows.stood
-    where
-      by_standing : StandsFor (d.content old) o.shows.bodies → d.content mid ≡ d.content old
-      by_standing (inr whole) = o.kept whole
-      by_standing (inl brief) = absurd (omega (arith, long, brief.0))

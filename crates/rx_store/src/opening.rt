@@ -12,7 +12,7 @@ use crate::replaying::replay;
 use crate::stopping::of_open;
 use rx_collection::{Collection, Holder};
 use rx_disk::Disk;
-use rx_journal::Journal;
+use rx_journal::{Journal, Windows};
 use rx_outside::Stop;
 use rx_world::World;
 use std::alloc::{AllocError, Global};
@@ -52,10 +52,10 @@ pub fn open<H: Holder + Drop, D: Disk, F: Fn(Collection) -> Result<H, AllocError
     ensures no_full { (would most : ℕ) → IsErrOf result (Stop.Full would most) → ⊥ }
     ensures cause { HasDiskCause (D.faults disk.old) (D.faults disk.new) result }
 {
-    let (journal, image) = match Journal::open(alloc, disk, limit) {
-        Ok(pair) => pair,
+    let mut windows = match Windows::open(alloc, disk, limit) {
+        Ok(windows) => windows,
         Err(fault) => return Err(of_open(fault)),
     };
-    let world = replay(alloc, &image, make)?;
-    Ok((journal, world))
+    let world = replay(alloc, disk, &mut windows, make)?;
+    Ok((windows.done(), world))
 }

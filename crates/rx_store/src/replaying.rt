@@ -1,7 +1,8 @@
-// Plays the records of a journal.
-ghost use Rattle.std.specs.Prelude.{◌≡◌, ◌≤◌, ◌+◌, ℕ, List, length, false, Ok, IfOk, IsErrOf, Some, None};
-ghost use Rattle.rx_frame.specs.File.{IsWhole};
-ghost use Rattle.rx_journal.specs.Image.{image_bytes};
+// Plays the records of a journal, one after another as they are read.
+ghost use Rattle.std.specs.Prelude.{◌≡◌, ◌<◌, ◌≤◌, ◌+◌, ◌^◌, ℕ, List, [], false, Ok, IfOk, IsErrOf, Some, None};
+ghost use Rattle.rx_journal.specs.Reading.{IsUntouched};
+ghost use Rattle.rx_journal.specs.Windows.{HaveLent, IsAtEnd, MayGoOn, WillLend, limit_of};
+ghost use Rattle.rx_outside.specs.Failed.{Rises};
 ghost use Rattle.rx_outside.specs.declared.stop.Stop.TheVariants as Stop;
 ghost use Rattle.rx_record.specs.Content.{record_of};
 ghost use Rattle.rx_world.specs.Holders.{holders_in, world_in};
@@ -9,40 +10,57 @@ ghost use Rattle.rx_world.specs.Replay as replays;
 ghost use Rattle.rx_world.specs.Replay.{played};
 ghost use Rattle.rx_store.specs.Made.{AreMade};
 
+use crate::stopping::of_open;
 use rx_collection::{Collection, Holder};
-use rx_journal::Image;
+use rx_disk::Disk;
+use rx_journal::Windows;
 use rx_outside::Stop;
 use rx_record::RecordView;
-use rx_world::{ApplyFault, World};
+use rx_world::World;
 use std::alloc::{AllocError, Global};
 
-/// The world that the records of a journal make.
-pub(crate) fn replay<H: Holder + Drop, F: Fn(Collection) -> Result<H, AllocError>>(
+/// The world that the records of a journal make. They are read to the closed gate.
+pub(crate) fn replay<H: Holder + Drop, D: Disk, F: Fn(Collection) -> Result<H, AllocError>>(
     alloc: Global,
-    image: &Image,
+    disk: &mut D,
+    windows: &mut Windows,
     make: &F,
 ) -> Result<World<H>, Stop>
     requires callable { F.IsAlwaysCallable make.now }
     requires makes { (c : _) (r : _) → F.post make.now c r
         → IfOk r (λ h. (H.held h ≡ c) × (H.is_broken h ≡ false)) }
-    ensures ok { IfOk result (λ w. (bodies : List (List ℕ)) → IsWhole (image_bytes image.now) bodies
-        → replays.replay bodies ≡ Some (world_in H.held w)) }
-    ensures not_journal { IsErrOf result Stop.NotJournal → (bodies : List (List ℕ))
-        → IsWhole (image_bytes image.now) bodies → replays.replay bodies ≡ None }
+
+    // All that were lent make the world, and the journal may go on from them.
+    ensures ok { D.tells → HaveLent D.Disk disk.old windows.old [] → IfOk result (λ w.
+        (bodies : List (List ℕ)) × MayGoOn D.Disk disk.new windows.new bodies
+        × (replays.replay bodies ≡ Some (world_in H.held w))) }
+    ensures ended { IfOk result (λ _. IsAtEnd windows.new) }
+    ensures limit { limit_of windows.new ≡ limit_of windows.old }
+
+    // The bodies to come are refused only where they make no world.
+    ensures not_journal { D.tells → IsErrOf result Stop.NotJournal → (bodies : List (List ℕ))
+        → WillLend (D.content disk.old) windows.old bodies → replays.replay bodies ≡ None }
+
     ensures made { IfOk result (λ w.
         AreMade (λ c h. F.post make.now c (Ok h)) H.written (holders_in w)) }
-    ensures epochs { IfOk result (λ w. w.epoch ≤ length (image_bytes image.now)) }
-    ensures no_disk { IsErrOf result Stop.Disk → ⊥ }
+    ensures epochs { IfOk result (λ w. w.epoch < 2 ^ 32) }
+    ensures untouched { D.tells → IsUntouched D.Disk disk.old disk.new }
+    ensures disk_only { IsErrOf result Stop.Disk → Rises (D.faults disk.old) (D.faults disk.new) }
+    ensures faults { D.faults disk.old ≤ D.faults disk.new }
     ensures no_full { (would limit : ℕ) → IsErrOf result (Stop.Full would limit) → ⊥ }
 {
     let mut world = World::new(alloc);
-    let mut frames = image.records();
-    while let Some(body) = frames.next() {
+    loop {
+        let body = match windows.next(disk) {
+            Ok(Some(body)) => body,
+            Ok(None) => return Ok(world),
+            Err(fault) => return Err(of_open(fault)),
+        };
         world = replay_one(alloc, world, body, make)?;
     }
-    Ok(world)
 }
 
+// A record is owned once it is known to be legal, and not before.
 fn replay_one<H: Holder + Drop, F: Fn(Collection) -> Result<H, AllocError>>(
     alloc: Global,
     world: World<H>,
@@ -63,13 +81,12 @@ fn replay_one<H: Holder + Drop, F: Fn(Collection) -> Result<H, AllocError>>(
     ensures no_disk { IsErrOf result Stop.Disk → ⊥ }
     ensures no_full { (would limit : ℕ) → IsErrOf result (Stop.Full would limit) → ⊥ }
 {
-    let entry = match RecordView::read(body) {
-        Ok(view) => view.own(alloc)?,
-        Err(_) => return Err(Stop::NotJournal),
+    let Ok(view) = RecordView::read(body) else {
+        return Err(Stop::NotJournal);
     };
-    match world.apply(alloc, entry, make) {
-        Ok(world) => Ok(world),
-        Err(ApplyFault::Illegal) => Err(Stop::NotJournal),
-        Err(ApplyFault::Memory) => Err(Stop::Memory),
+    if !world.legal_view(alloc, &view)? {
+        return Err(Stop::NotJournal);
     }
+    let entry = view.own(alloc)?;
+    Ok(world.apply_legal(alloc, entry, make)?)
 }

@@ -1,5 +1,4 @@
 use Rattle.std.proofs.Common.{◌≡◌, ◌≤◌, inr, ℕ, ◌<◌, ◌^◌, List, [], ◌∷◌, ◌++◌, length, Ok, Err, sym, ◌∙◌, ap, subst, arith, rules}
-use Rattle.rx_frame.specs.File.{end_of}
 use Rattle.rx_journal.specs.Ready.{IsReady, grown_end}
 use Rattle.rx_record.specs.Content.{content_bytes, record_of}
 use Rattle.rx_record.specs.Shown.{content}

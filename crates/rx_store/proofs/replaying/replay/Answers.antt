@@ -1,31 +1,88 @@
-use Rattle.std.proofs.Common.{arith, rules}
-use Rattle.rx_frame.specs.Frames.{bytes_left}
-use Rattle.rx_journal.specs.Image.{image_bytes}
+use Rattle.std.proofs.Common.{ℕ, List, Option, Some, Ok, Result, refl, sym, ◌∙◌, ap, subst, arith, rules}
+use Rattle.std.specs.Borrow.{Bor}
+use Rattle.rx_journal.specs.Windows.{Move, WillLend}
+use Rattle.rx_journal.specs.declared.open.OpenFault.{OpenFault}
 use Rattle.rx_world.specs.Holders.{world_in}
-use Rattle.rx_store.proofs.Playing.{goes_on, refused, done, shorter}
+use Rattle.rx_world.specs.World.{World}
+use Rattle.rx_store.proofs.Playing.{Lends, begun, goes_on, none_made, not_read, not_yet, played_none, played_one, read_on, refused, stop_is}
 use Rattle.rx_store.proofs.replaying.replay.Goals as goal
 
+pub loop-body-init : goal.loop-body-init
+loop-body-init g c =
+    let is = c.new-world.ensures in
+    record {
+      untouched = λ told. not_yet g.D.Disk c.args.disk.now (λ f. g.met.D.Disk.only_now c.args.disk.now f told);
+      playing = λ told.
+          begun (g.D.Disk.content c.args.disk.now) c.args.windows.now
+          (world_in g.H.Holder.held c.new-world.result) is;
+      lent = λ told lent.
+          played_none g.D.Disk c.args.disk.now c.args.windows.now
+          (world_in g.H.Holder.held c.new-world.result) is lent;
+      epoch = omega (arith, ap (λ (w : World). w.epoch) is);
+      made = none_made (λ held h. g.F.Fn.post c.args.make.now (held, tt) (Ok h)) g.H.Holder.held g.H.Holder.written
+          c.new-world.result is;
+      limit = refl;
+      faults = omega arith;
+    }
+
+pub returns-in-Ok-None-clause-epochs : goal.returns-in-Ok-None-clause-epochs
+returns-in-Ok-None-clause-epochs g c =
+    omega (arith, c.loop-body.invariant.epoch, c.loop-body.windows.short)
+
+pub returns-in-Err-clause-not_journal : goal.returns-in-Err-clause-not_journal
+returns-in-Err-clause-not_journal g c = λ told is.
+    let content = g.D.Disk.content c.args.disk.now in
+    let same = (c.loop-body.invariant.untouched told).same in
+    not_read content c.args.windows.now c.loop-body.windows (world_in g.H.Holder.held c.loop-body.world)
+    (c.loop-body.invariant.playing told)
+    (λ bodies will.
+    c.in-Err.ensures.not_journal told
+    (stop_is c.in-Err.fault c.of_open.result c.of_open.ensures is) bodies
+    (subst (λ (l : List ℕ). WillLend l c.loop-body.windows bodies) (sym same) will))
+
 pub returns-in_err-world-clause-not_journal : goal.returns-in_err-world-clause-not_journal
-returns-in_err-world-clause-not_journal g c is =
-    refused (image_bytes c.args.image.now) c.loop-body.frames c.next.new.self c.in-Some.body.now
-    (world_in g.H.Holder.held c.loop-body.world) c.loop-body.invariant.0 c.in-Some.ensures.lends
+returns-in_err-world-clause-not_journal g c = λ told is.
+    let content = g.D.Disk.content c.args.disk.now in
+    let same = (c.loop-body.invariant.untouched told).same in
+    let now = c.next.follows.lender-at-none in
+    let body = c.in-Ok-Some.body in
+    let move : Move g.D.Disk c.loop-body.disk c.next.new.disk c.loop-body.windows now
+    (λ (b : Bor (List ℕ)). b.now) (Ok (Some body)) =
+    subst (λ (r : Result (Option (Bor (List ℕ))) OpenFault). Move g.D.Disk c.loop-body.disk c.next.new.disk
+    c.loop-body.windows now (λ (b : Bor (List ℕ)). b.now) r)
+    (c.in-Ok-Some.is ∙ ap (λ o. Ok o) c.in-Ok-Some.field-0-is) c.next.follows.holds-at-none in
+    let lends : Lends content c.loop-body.windows body.now now =
+    subst (λ (l : List ℕ). Lends l c.loop-body.windows body.now now) same (move.lends told) in
+    refused content c.args.windows.now c.loop-body.windows now body.now
+    (world_in g.H.Holder.held c.loop-body.world) (c.loop-body.invariant.playing told) lends
     (c.in_err-world.ensures.not_journal (search rules))
 
 pub loop-body-preserved : goal.loop-body-preserved
-loop-body-preserved g c = (
-  goes_on (image_bytes c.args.image.now) c.loop-body.frames c.next.new.self c.in-Some.body.now
-      (world_in g.H.Holder.held c.loop-body.world) (world_in g.H.Holder.held c.in_ok-world.world)
-      c.loop-body.invariant.0 c.in-Some.ensures.lends c.in_ok-world.ensures.ok,
-  omega (
-    arith,
-    c.loop-body.invariant.1,
-    c.in_ok-world.ensures.epoch,
-    shorter (bytes_left c.loop-body.frames) c.in-Some.body.now (bytes_left c.next.new.self) c.in-Some.ensures.some,
-  ),
-  c.in_ok-world.ensures.made,
-)
-
-pub returns-clause-ok : goal.returns-clause-ok
-returns-clause-ok g c =
-    done (image_bytes c.args.image.now) c.loop-body.frames (world_in g.H.Holder.held c.loop-body.world)
-    c.loop-body.invariant.0 c.in_default.ensures.lends
+loop-body-preserved g c =
+    let content = g.D.Disk.content c.args.disk.now in
+    let inv = c.loop-body.invariant in
+    let now = c.next.follows.lender-at-none in
+    let body = c.in-Ok-Some.body in
+    let w = world_in g.H.Holder.held c.loop-body.world in
+    let w' = world_in g.H.Holder.held c.in_ok-world.world in
+    let move : Move g.D.Disk c.loop-body.disk c.next.new.disk c.loop-body.windows now
+    (λ (b : Bor (List ℕ)). b.now) (Ok (Some body)) =
+    subst (λ (r : Result (Option (Bor (List ℕ))) OpenFault). Move g.D.Disk c.loop-body.disk c.next.new.disk
+    c.loop-body.windows now (λ (b : Bor (List ℕ)). b.now) r)
+    (c.in-Ok-Some.is ∙ ap (λ o. Ok o) c.in-Ok-Some.field-0-is) c.next.follows.holds-at-none in
+    record {
+      untouched = λ told.
+          read_on g.D.Disk c.args.disk.now c.loop-body.disk c.next.new.disk (inv.untouched told)
+          (c.in-Ok-Some.ensures.untouched told);
+      playing = λ told.
+          goes_on content c.args.windows.now c.loop-body.windows now body.now w w' (inv.playing told)
+          (subst (λ (l : List ℕ). Lends l c.loop-body.windows body.now now) (inv.untouched told).same
+          (move.lends told)) c.in_ok-world.ensures.ok;
+      lent = λ told first.
+          played_one g.D.Disk c.loop-body.disk c.next.new.disk c.loop-body.windows now body.now w w'
+          (move.lent told) c.in_ok-world.ensures.ok (inv.lent told first);
+      epoch = omega (arith, inv.epoch, c.in_ok-world.ensures.epoch, move.place);
+      made = c.in_ok-world.ensures.made;
+      limit = move.limit ∙ inv.limit;
+      faults = omega (arith, inv.faults, c.in-Ok-Some.ensures.faults);
+    }
