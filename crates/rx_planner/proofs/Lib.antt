@@ -5,3 +5,4 @@ pub mod Ordered
 pub mod Members
 pub mod Rising
 pub mod Runs
+pub mod Standing

@@ -1,16 +1,14 @@
 -- Rows in order, and placing one among them.
-use Rattle.std.proofs.Common.{◌≡◌, ℕ, zero, suc, ◌<◌, ◌≤◌, Bool, true, false, not, cond, List, [], ◌∷◌, ◌++◌, map, take, length, get_or, Bor, Some, None, Ordering, Less, Equal, Greater, refl, sym, ap, ◌∙◌, arith}
-use Rattle.std.proofs.Math.ListN.{get_or-map}
+use Rattle.std.proofs.Common.{◌≡◌, ℕ, zero, suc, ◌<◌, ◌≤◌, Bool, true, false, List, [], ◌∷◌, ◌++◌, map, take, length, get_or, Bor, Ordering, Less, Equal, Greater, refl, sym, ap, ◌∙◌, arith}
 use Rattle.std.proofs.lemmas.Bool.{false≢true}
 use Rattle.std.proofs.lemmas.Cmp.{on_total}
-use Rattle.std.proofs.lemmas.List.{append-nil, length-map, take-take}
+use Rattle.std.proofs.lemmas.List.{append-nil, take-take}
 use Rattle.std.proofs.lemmas.List.Sorted.{IsPermutation-refl, IsPermutation-sym, IsPermutation-map, IsPermutation-trans, IsPermutation-middle}
+use Rattle.std.proofs.lemmas.Map.Keys.{IsDistinct-IsPermutation}
 use Rattle.std.specs.Cmp.{IsTotalOrder}
-use Rattle.std.specs.List.{AllByRecursion, IsDistinct, insert, cons_option}
-use Rattle.std.specs.List.Sorted.{IsPermutation, IsSortedBy, IsStrictlySortedBy, IsPartitionedBy, IsPartitionPoint}
-use Rattle.std.specs.Ordering.{is_lt, eq_by_cmp, ordering_reverse}
-use Rattle.rx_value.specs.Named.{named}
-use Rattle.rx_document.specs.Documents.{Documents}
+use Rattle.std.specs.List.{AllByRecursion, IsDistinct}
+use Rattle.std.specs.List.Sorted.{IsPermutation, IsSortedBy, IsStrictlySortedBy}
+use Rattle.std.specs.Ordering.{is_eq, is_lt, eq_by_cmp, ordering_reverse}
 use Rattle.rx_document.specs.declared.stored.Stored.{Stored}
 use Rattle.rx_query.proofs.Orders.{query_total}
 use Rattle.rx_query.proofs.Rows.{lent_cmp}
@@ -18,8 +16,12 @@ use Rattle.rx_query.proofs.Sorting.{sorted-permutes, one_order, ordered-sorted, 
 use Rattle.rx_query.specs.Asked.{Asked}
 use Rattle.rx_query.specs.Lists.{placed, sorted}
 use Rattle.rx_query.specs.Result.{stored_cmp, stored_before}
-use Rattle.rx_planner.specs.Rows.{if_due, due_among, all_placed, IsRising}
-use Rattle.rx_planner.proofs.Lists.{placed_at, take_placed}
+use Rattle.rx_planner.proofs.Lists.{take_placed}
+
+-- none precedes an earlier one
+abbrev pub IsRising : {X : Type 0} → (X → X → Bool) → List X → Type 0
+IsRising precedes [] = Unit {0}
+IsRising precedes (x ∷ xs) = AllByRecursion (λ y. precedes y x ≡ false) xs × IsRising precedes xs
 
 module _ {X : Type 0} (cmp : X → X → Ordering) (o : IsTotalOrder cmp) where
   abbrev before : X → X → Bool
@@ -45,42 +47,6 @@ module _ {X : Type 0} (cmp : X → X → Ordering) (o : IsTotalOrder cmp) where
         | Greater ↦ (λ e. absurd (false≢true (sym k
             ∙ ap is_lt (o.antisymm z y ∙ ap ordering_reverse e))))
       ]) refl
-
-  all-placed : (P : X → Type 0) (x : X) (xs : List X) → P x → AllByRecursion P xs
-      → AllByRecursion P (placed before x xs)
-  all-placed P x [] h hs = (h, tt)
-  all-placed P x (y ∷ ys) h hs =
-      elim (before x y) as (λ b. AllByRecursion P (cond b (x ∷ y ∷ ys) (y ∷ placed before x ys)))
-      [ true ↦ (h, hs) | false ↦ (hs.0, all-placed P x ys h hs.1) ]
-
-  -- all that don't precede one don't precede a lower one
-  none_lower : (x y : X) (ys : List X) → cmp x y ≡ Less
-      → AllByRecursion (λ z. before z y ≡ false) ys → AllByRecursion (λ z. before z x ≡ false) ys
-  none_lower x y [] h hs = tt
-  none_lower x y (z ∷ zs) h hs = (
-    not_after x z (less x z (far x y z (ap is_lt h) hs.0)),
-    none_lower x y zs h hs.1,
-  )
-
-  pub rising_placed : (x : X) (xs : List X) → IsRising before xs → IsRising before (placed before x xs)
-  rising_placed x [] up = (tt, tt)
-  rising_placed x (y ∷ ys) up =
-      (elim (before x y) as (λ b. before x y ≡ b
-      → IsRising before (cond b (x ∷ y ∷ ys) (y ∷ placed before x ys))) [
-        | true ↦ (λ e. ((not_after x y (less x y e), none_lower x y ys (less x y e) up.0), up))
-        | false ↦ (λ e. (all-placed (λ z. before z y ≡ false) x ys e up.0, rising_placed x ys up.1))
-      ]) refl
-
-  all_taken : (P : X → Type 0) (n : ℕ) (xs : List X) → AllByRecursion P xs → AllByRecursion P (take n xs)
-  all_taken P zero xs h = tt
-  all_taken P (suc n) [] h = tt
-  all_taken P (suc n) (x ∷ xs) h = (h.0, all_taken P n xs h.1)
-
-  pub rising_take : (n : ℕ) (xs : List X) → IsRising before xs → IsRising before (take n xs)
-  rising_take zero xs up = tt
-  rising_take (suc n) [] up = tt
-  rising_take (suc n) (x ∷ xs) up =
-      (all_taken (λ z. before z x ≡ false) n xs up.0, rising_take n xs up.1)
 
   not_after_all : (x : X) (xs : List X) → AllByRecursion (λ z. cmp x z ≡ Less) xs
       → AllByRecursion (λ z. before z x ≡ false) xs
@@ -113,47 +79,12 @@ module _ {X : Type 0} (cmp : X → X → Ordering) (o : IsTotalOrder cmp) where
 pub stored_total : (q : Asked) → IsTotalOrder (stored_cmp q)
 stored_total q = on_total (λ (d : Stored). d.state.fields) (query_total q)
 
--- lent rows in order are parted by what they don't come after
-pub parted : (q : Asked) (x : Stored) (rows : List (Bor Stored))
-    → IsRising (stored_before q) (map (λ r. r.now) rows)
-    → IsPartitionedBy (λ (r : Bor Stored). not (stored_before q x r.now)) rows
-parted q x rows up i j d le l h =
-    let at : (k : ℕ) → get_or (map (λ (r : Bor Stored). r.now) rows) k d.now ≡ (get_or rows k d).now =
-    λ k. get_or-map (λ (r : Bor Stored). r.now) rows k d in
-    let long = length-map rows (λ (r : Bor Stored). r.now) in
-    (elim (stored_before q x (get_or rows i d).now) as (λ b.
-    stored_before q x (get_or rows i d).now ≡ b → not b ≡ true) [
-      | false ↦ (λ _. refl)
-      | true ↦ (λ e.
-          let up_there = upward (stored_cmp q) (stored_total q) x (map (λ (r : Bor Stored). r.now) rows) i j d.now up le
-          (omega (arith, l, long)) (ap (stored_before q x) (at i) ∙ e) in
-          absurd (false≢true (ap not (sym (sym (ap (stored_before q x) (at j)) ∙ up_there)) ∙ h)))
-    ]) refl
-
--- and so is one placed among them
-pub partition_places : (q : Asked) (x : Bor Stored) (rows : List (Bor Stored)) (i : ℕ)
-    → i ≤ length rows
-    → IsPartitionPoint (λ (r : Bor Stored). not (stored_before q x.now r.now) ≡ true)
-    (λ r. not (stored_before q x.now r.now) ≡ false) rows i
-    → placed (stored_before q) x.now (map (λ r. r.now) rows) ≡ insert (map (λ r. r.now) rows) i x.now
-partition_places q x rows i h point =
-    let at : (k : ℕ) → get_or (map (λ (r : Bor Stored). r.now) rows) k x.now ≡ (get_or rows k x).now =
-    λ k. get_or-map (λ (r : Bor Stored). r.now) rows k x in
-    let long = length-map rows (λ (r : Bor Stored). r.now) in
-    placed_at (stored_before q) x.now (map (λ r. r.now) rows) i (omega (arith, h, long))
-    (λ k l. ap (stored_before q x.now) (at k)
-    ∙ flipped (stored_before q x.now (get_or rows k x).now) false (point.0 k x (omega arith) l))
-    (λ l. ap (stored_before q x.now) (at i)
-    ∙ flipped (stored_before q x.now (get_or rows i x).now) true
-    (point.1 i x (omega arith) (omega (arith, l, long))))
-  where
-    flipped : (b c : Bool) → not b ≡ not c → b ≡ c
-    flipped true true e = refl
-    flipped false false e = refl
-    flipped true false e = absurd (false≢true e)
-    flipped false true e = absurd (false≢true (sym e))
-
 -- ---- one document after another
+
+-- each placed in turn among rows in order
+abbrev pub all_placed : Asked → List Stored → List Stored → List Stored
+all_placed q rows [] = rows
+all_placed q rows (d ∷ ds) = all_placed q (placed (stored_before q) d rows) ds
 
 -- the first n don't depend on rows behind them
 pub take_all_placed : (q : Asked) (n : ℕ) (rows ds : List Stored)
@@ -163,21 +94,6 @@ take_all_placed q n rows (d ∷ ds) =
     sym (take_all_placed q n (placed (stored_before q) d (take n rows)) ds)
     ∙ ap (λ xs. take n (all_placed q xs ds)) (take_placed (stored_before q) n d rows)
     ∙ take_all_placed q n (placed (stored_before q) d rows) ds
-
-pub improve_some : (q : Asked) (documents : Documents) (rows : List Stored) (n : ℕ) (id : List ℕ)
-    (rest : List (List ℕ)) (d : Stored) → if_due q (named documents id) ≡ Some d
-    → take n (all_placed q (take n (placed (stored_before q) d rows)) (due_among q documents rest))
-    ≡ take n (all_placed q rows (due_among q documents (id ∷ rest)))
-improve_some q documents rows n id rest d is =
-    take_all_placed q n (placed (stored_before q) d rows) (due_among q documents rest)
-    ∙ ap (λ o. take n (all_placed q rows (cons_option o (due_among q documents rest)))) (sym is)
-
-pub improve_none : (q : Asked) (documents : Documents) (rows : List Stored) (n : ℕ) (id : List ℕ)
-    (rest : List (List ℕ)) → if_due q (named documents id) ≡ None
-    → take n (all_placed q rows (due_among q documents rest))
-    ≡ take n (all_placed q rows (due_among q documents (id ∷ rest)))
-improve_none q documents rows n id rest is =
-    ap (λ o. take n (all_placed q rows (cons_option o (due_among q documents rest)))) (sym is)
 
 -- ---- placed one by one, or sorted
 
@@ -195,6 +111,51 @@ turned_permutes [] xs = rw (append-nil xs) (IsPermutation-refl xs)
 turned_permutes (d ∷ ds) xs =
     IsPermutation-trans (xs ++ d ∷ ds) (d ∷ (xs ++ ds)) (turned_onto ds (d ∷ xs))
     (IsPermutation-middle xs d ds) (turned_permutes ds (d ∷ xs))
+
+-- ---- sorted alike
+
+abbrev pub differ : Asked → List Stored → Type 0
+differ q = IsDistinct (eq_by_cmp (stored_cmp q))
+
+-- a tie is one either way round
+pub flips : (q : Asked) (x y : Stored)
+    → eq_by_cmp (stored_cmp q) x y ≡ eq_by_cmp (stored_cmp q) y x
+flips q x y =
+    ap is_eq ((stored_total q).antisymm x y)
+    ∙ (elim (stored_cmp q y x) as (λ r. is_eq (ordering_reverse r) ≡ is_eq r)
+    [ Less ↦ refl | Equal ↦ refl | Greater ↦ refl ])
+
+pub differ_moved : (q : Asked) (xs ys : List Stored) → IsPermutation xs ys → differ q xs
+    → differ q ys
+differ_moved q xs ys moved h =
+    IsDistinct-IsPermutation (eq_by_cmp (stored_cmp q)) (flips q) xs ys moved h
+
+-- rows that don't tie are sorted alike, however they stand
+pub sorted_alike : (q : Asked) (xs ys : List Stored) → IsPermutation xs ys → differ q xs
+    → sorted (stored_before q) xs ≡ sorted (stored_before q) ys
+sorted_alike q xs ys moved h =
+    let before = stored_before q in
+    one_order (stored_cmp q) (stored_total q) (sorted before xs) (sorted before ys)
+    (ordered-sorted (stored_cmp q) (stored_total q) xs h)
+    (ordered-sorted (stored_cmp q) (stored_total q) ys (differ_moved q xs ys moved h))
+    (IsPermutation-trans (sorted before xs) xs (sorted before ys)
+    (IsPermutation-sym xs (sorted before xs) (sorted-permutes before xs))
+    (IsPermutation-trans xs ys (sorted before ys) moved (sorted-permutes before ys)))
+
+-- rows in order are sorted
+pub sorted_already : (q : Asked) (xs : List Stored) → IsStrictlySortedBy (stored_cmp q) xs
+    → differ q xs → sorted (stored_before q) xs ≡ xs
+sorted_already q xs up h =
+    one_order (stored_cmp q) (stored_total q) (sorted (stored_before q) xs) xs
+    (ordered-sorted (stored_cmp q) (stored_total q) xs h) up
+    (IsPermutation-sym xs (sorted (stored_before q) xs) (sorted-permutes (stored_before q) xs))
+
+-- to place some among others sorted is to sort all
+pub placed_sorted : (q : Asked) (xs ds : List Stored) → differ q (xs ++ ds)
+    → all_placed q (sorted (stored_before q) xs) ds ≡ sorted (stored_before q) (xs ++ ds)
+placed_sorted q xs ds h =
+    all_placed-sorted q xs ds
+    ∙ sym (sorted_alike q (xs ++ ds) (turned_onto ds xs) (turned_permutes ds xs) h)
 
 -- ---- a sort
 
@@ -237,10 +198,3 @@ sort_is q rows all differ moved up =
     (IsPermutation-trans (map now all) seen (sorted (stored_before q) seen)
     (IsPermutation-sym seen (map now all) (IsPermutation-map now rows all moved))
     (sorted-permutes (stored_before q) seen))
-
--- rows that don't tie are in order once they are sorted
-pub rising_sorted : (q : Asked) (rows : List Stored) → IsDistinct (eq_by_cmp (stored_cmp q)) rows
-    → IsRising (stored_before q) (sorted (stored_before q) rows)
-rising_sorted q rows differ =
-    rising_strict (stored_cmp q) (stored_total q) (sorted (stored_before q) rows)
-    (ordered-sorted (stored_cmp q) (stored_total q) rows differ)

@@ -1,18 +1,17 @@
 -- A walk along an index gives the query's result.
-use Rattle.std.proofs.Common.{◌≡◌, inl, inr, ℕ, ◌+◌, ◌<◌, ◌≤◌, IfSome, get_or, slice_get, true, false, cond, ◌||◌, List, [], ◌∷◌, ◌++◌, map, filter, take, drop, length, Option, Some, None, option_map, Less, Equal, Greater, refl, sym, ap, ◌∙◌, subst, arith}
+use Rattle.std.proofs.Common.{◌≡◌, inl, inr, ℕ, ◌+◌, ◌<◌, ◌≤◌, IfSome, get_or, slice_get, true, false, cond, ◌||◌, List, [], ◌∷◌, ◌++◌, map, filter, take, drop, length, Option, Some, None, option_map, Less, Equal, refl, sym, ap, ◌∙◌, subst, arith}
 use Rattle.std.proofs.lemmas.Bool.{false≢true}
 use Rattle.std.proofs.lemmas.Cmp.{nat_list_eq_equiv}
-use Rattle.std.proofs.lemmas.List.{drop-take, take_all, length-map}
+use Rattle.std.proofs.lemmas.List.{append-nil, drop-take, take_all, length-map}
 use Rattle.std.proofs.lemmas.Option.{slice_get_read}
 use Rattle.std.proofs.lemmas.List.Kept.{IsStrictlySortedBy-filter}
-use Rattle.std.proofs.lemmas.List.Sorted.{IsPermutation-sym, length_permutation}
-use Rattle.std.proofs.lemmas.Map.Keys.{IsDistinct-IsPermutation}
+use Rattle.std.proofs.lemmas.List.Sorted.{IsPermutation-sym, IsPermutation-append_left, length_permutation}
 use Rattle.std.proofs.lemmas.Slice.Eq.{bytes_eq-Decides}
 use Rattle.std.specs.Cmp.{Equal-is}
 use Rattle.std.specs.List.{AllByRecursion, IsDistinct, filter_map}
 use Rattle.std.specs.List.Sorted.{IsStrictlySortedBy, IsPermutation}
 use Rattle.std.specs.Map.{keys_of, values_of}
-use Rattle.std.specs.Ordering.{is_eq, eq_by_cmp, ordering_reverse}
+use Rattle.std.specs.Ordering.{is_eq, eq_by_cmp}
 use Rattle.std.specs.Str.{bytes_eq}
 use Rattle.rx_value.specs.Named.{named, AreRising}
 use Rattle.rx_value.specs.Order.{text_cmp}
@@ -29,13 +28,13 @@ use Rattle.rx_index.proofs.Positions.{position_eq-Decides, id_of-key_of, itself}
 use Rattle.rx_index.specs.Index.{Indexed, indexed_by, has_key, is_key_of, HoldsWhere, is_between, ids_between}
 use Rattle.rx_index.specs.Position.{Position, position_cmp, key_of, id_of}
 use Rattle.rx_planner.specs.Plan.{Names, path_of, path_at, bound_of, is_ordered, IsPlan}
-use Rattle.rx_planner.specs.Rows.{if_due, due_among, all_placed, most_rows, IsFull}
+use Rattle.rx_planner.specs.Rows.{if_due, due_among, most_rows, IsFull}
 use Rattle.rx_planner.specs.declared.planned.Plan.{Plan}
 use Rattle.rx_planner.proofs.Best.{path_read}
 use Rattle.rx_planner.proofs.Lists.{cut_front}
 use Rattle.rx_planner.proofs.Members.{distinct_front, in_filter, from_filter, in_filter_map, from_filter_map, filter_map-map, Pairwise, pairwise_strict, strict_pairwise, distinct_pairwise, becomes, same_members}
 use Rattle.rx_planner.proofs.Ordered.{keys_in_order}
-use Rattle.rx_planner.proofs.Rising.{stored_total, turned_onto, all_placed-sorted, turned_permutes}
+use Rattle.rx_planner.proofs.Rising.{stored_total, differ, differ_moved, sorted_alike}
 use Rattle.rx_planner.proofs.Selected.{due_between}
 
 -- ---- documents by their keys
@@ -257,31 +256,15 @@ module _ (q : Asked) (documents : Documents) (fields : Names) (keys : List Posit
       keys_up)))
       strict_order (λ z i. due_order z (met_due z i)) (λ z i. due_met z (order_due z i))
 
-  -- else they are placed so, one after another
-  pub met_placed : (front back : List Stored) → front ++ back ≡ met
-      → all_placed q (sorted (stored_before q) front) back ≡ in_order
-  met_placed front back parts =
-      let turned = turned_onto back front in
-      let moved : IsPermutation met turned =
-      subst (λ xs. IsPermutation xs turned) parts (turned_permutes back front) in
-      let differ : IsDistinct (eq_by_cmp (stored_cmp q)) turned =
-      IsDistinct-IsPermutation (eq_by_cmp (stored_cmp q)) flips met turned moved met_distinct in
-      let sorted_so = sorted-permutes (stored_before q) turned in
-      all_placed-sorted q front back
-      ∙ same_members (stored_cmp q) (stored_total q) (sorted (stored_before q) turned) in_order
-      (ordered-sorted (stored_cmp q) (stored_total q) turned differ) strict_order
-      (λ z i. due_order z (met_due z
-      (in-permutation turned met z (IsPermutation-sym met turned moved)
-      (in-permutation (sorted (stored_before q) turned) turned z
-      (IsPermutation-sym turned (sorted (stored_before q) turned) sorted_so) i))))
-      (λ z i. in-permutation turned (sorted (stored_before q) turned) z sorted_so
-      (in-permutation met turned z moved (due_met z (order_due z i))))
-    where
-      flips : (x y : Stored) → eq_by_cmp (stored_cmp q) x y ≡ eq_by_cmp (stored_cmp q) y x
-      flips x y =
-          ap is_eq ((stored_total q).antisymm x y)
-          ∙ (elim (stored_cmp q y x) as (λ r. is_eq (ordering_reverse r) ≡ is_eq r)
-          [ Less ↦ refl | Equal ↦ refl | Greater ↦ refl ])
+  -- else they are so once they are sorted
+  pub met_sorted : sorted (stored_before q) met ≡ in_order
+  met_sorted =
+      let all = sorted (stored_before q) met in
+      let moved = sorted-permutes (stored_before q) met in
+      same_members (stored_cmp q) (stored_total q) all in_order
+      (ordered-sorted (stored_cmp q) (stored_total q) met met_distinct) strict_order
+      (λ z i. due_order z (met_due z (in-permutation all met z (IsPermutation-sym met all moved) i)))
+      (λ z i. in-permutation met all z moved (due_met z (order_due z i)))
 
 -- ---- the window
 
@@ -322,26 +305,51 @@ module _ (q : Asked) (documents : Documents) (fields : Names) (keys : List Posit
       low_is high_is ordered))
       ∙ window q (sorted (stored_before q) (filter (is_due q) (values_of documents)))
 
-  -- else the first ones in order, among which the others are placed
-  pub run_placed : (rows first last : List Stored) (ids : List (List ℕ))
+  -- some in order, and the others
+  pub apart_so : (rows first : List Stored) (ids : List (List ℕ))
+      → rows ++ due_among q documents ids ≡ due_among q documents (ids_between low high keys)
+      → first ≡ sorted (stored_before q) rows → differ q (first ++ due_among q documents ids)
+  apart_so rows first ids parts first_is =
+      let back = due_among q documents ids in
+      subst (λ xs. differ q (xs ++ back)) (sym first_is)
+      (differ_moved q (rows ++ back) (sorted (stored_before q) rows ++ back)
+      (IsPermutation-append_left back rows (sorted (stored_before q) rows)
+      (sorted-permutes (stored_before q) rows))
+      (subst (differ q) (sym parts)
+      (met_distinct q documents fields keys low high collection up held low_is high_is)))
+
+  -- else of some in order and the others as many first ones
+  pub run_sorted : (rows first last : List Stored) (ids : List (List ℕ))
       → rows ++ due_among q documents ids ≡ due_among q documents (ids_between low high keys)
       → IsFull (most_rows q) (length rows) ids → first ≡ sorted (stored_before q) rows
-      → last ≡ take (length first) (all_placed q first (due_among q documents ids))
+      → last ≡ take (length first) (sorted (stored_before q) (first ++ due_among q documents ids))
       → drop q.skip last ≡ result_of q (values_of documents)
-  run_placed rows first last ids parts full first_is last_is =
+  run_sorted rows first last ids parts full first_is last_is =
       let all = sorted (stored_before q) (filter (is_due q) (values_of documents)) in
       let back = due_among q documents ids in
+      let moved : IsPermutation (rows ++ back) (sorted (stored_before q) rows ++ back) =
+      IsPermutation-append_left back rows (sorted (stored_before q) rows)
+      (sorted-permutes (stored_before q) rows) in
+      let apart : differ q (rows ++ back) =
+      subst (differ q) (sym parts)
+      (met_distinct q documents fields keys low high collection up held low_is high_is) in
       let as_many : length first ≡ length rows =
       ap length first_is ∙ length_permutation rows (sorted (stored_before q) rows)
       (sorted-permutes (stored_before q) rows) in
-      let whole : all_placed q (sorted (stored_before q) rows) back ≡ all =
-      met_placed q documents fields keys low high collection up held low_is high_is rows back parts in
+      let together : sorted (stored_before q) (rows ++ back) ≡ all =
+      ap (sorted (stored_before q)) parts
+      ∙ met_sorted q documents fields keys low high collection up held low_is high_is in
+      let whole : sorted (stored_before q) (first ++ back) ≡ all =
+      ap (λ xs. sorted (stored_before q) (xs ++ back)) first_is
+      ∙ sym (sorted_alike q (rows ++ back) (sorted (stored_before q) rows ++ back) moved apart)
+      ∙ together in
       let long : ids ≡ [] → length all ≡ length rows =
-      λ e. ap length (sym whole ∙ ap (λ xs. all_placed q (sorted (stored_before q) rows) (due_among q documents xs)) e)
-      ∙ length_permutation rows (sorted (stored_before q) rows) (sorted-permutes (stored_before q) rows) in
+      λ e. ap length (sym together)
+      ∙ length_permutation (rows ++ back) (sorted (stored_before q) (rows ++ back))
+      (sorted-permutes (stored_before q) (rows ++ back))
+      ∙ ap (λ xs. length (rows ++ due_among q documents xs)) e ∙ ap length (append-nil rows) in
       ap (drop q.skip)
-      (last_is ∙ ap (λ n. take n (all_placed q first back)) as_many
-      ∙ ap (λ xs. take (length rows) (all_placed q xs back)) first_is
+      (last_is ∙ ap (λ n. take n (sorted (stored_before q) (first ++ back))) as_many
       ∙ ap (take (length rows)) whole
       ∙ wanted (most_rows q) (length rows) ids all full long)
       ∙ window q all
@@ -387,6 +395,20 @@ module _ (q : Asked) (documents : Documents) (indexes : List Indexed) (plan : Pl
         (met_distinct q documents i.fields i.keys plan.low plan.high collection up held_there low_is
         high_is))
 
+    -- in order they are so strictly
+    pub first_strict : (first : List Stored) → first ≡ sorted (stored_before q) rows
+        → IsStrictlySortedBy (stored_cmp q) first
+    first_strict first first_is =
+        subst (IsStrictlySortedBy (stored_cmp q)) (sym first_is)
+        (ordered-sorted (stored_cmp q) (stored_total q) rows first_distinct)
+
+    -- and don't tie with the others
+    pub first_apart : (first : List Stored) → first ≡ sorted (stored_before q) rows
+        → differ q (first ++ due_among q documents ids)
+    first_apart first first_is =
+        apart_so q documents i.fields i.keys plan.low plan.high collection up held_there low_is
+        high_is rows first ids all_parts first_is
+
     module _ (most : Option ℕ) (wanted_so : most ≡ most_rows q)
         (full : IsFull most (length rows) ids) where
       -- where the plan is ordered they are the result
@@ -396,10 +418,11 @@ module _ (q : Asked) (documents : Documents) (indexes : List Indexed) (plan : Pl
           high_is rows ids all_parts (subst (λ m. IsFull m (length rows) ids) wanted_so full)
           (ap (is_ordered q) (sym path) ∙ sym planned.ordered ∙ ordered)
 
-      -- else those among which the others are placed
-      pub placed_result : (first last : List Stored) → first ≡ sorted (stored_before q) rows
-          → last ≡ take (length first) (all_placed q first (due_among q documents ids))
+      -- else as many first ones of those in order and of the others
+      pub sorted_result : (first last : List Stored) → first ≡ sorted (stored_before q) rows
+          → last
+          ≡ take (length first) (sorted (stored_before q) (first ++ due_among q documents ids))
           → drop q.skip last ≡ result_of q (values_of documents)
-      placed_result first last =
-          run_placed q documents i.fields i.keys plan.low plan.high collection up held_there low_is
+      sorted_result first last =
+          run_sorted q documents i.fields i.keys plan.low plan.high collection up held_there low_is
           high_is rows first last ids all_parts (subst (λ m. IsFull m (length rows) ids) wanted_so full)

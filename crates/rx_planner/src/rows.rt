@@ -1,11 +1,13 @@
-ghost use Rattle.std.specs.Prelude.{◌≡◌, ◌≤◌, ◌++◌, length, map, take, IfOk, OnOk, option_map, insert, nat_le};
+ghost use Rattle.std.specs.Prelude.{◌≡◌, ◌++◌, ◌∷◌, List, length, map, take, IfOk, OnOk, option_map, nat_le};
 ghost use Rattle.std.specs.List.{IsDistinct};
+ghost use Rattle.std.specs.List.Sorted.{IsStrictlySortedBy};
 ghost use Rattle.std.specs.Ordering.{eq_by_cmp};
 ghost use Rattle.rx_value.specs.Named.{named};
+ghost use Rattle.rx_document.specs.declared.stored.Stored.{Stored};
 ghost use Rattle.rx_query.specs.Asked.{asked};
-ghost use Rattle.rx_query.specs.Lists.{placed, sorted, some_passes};
+ghost use Rattle.rx_query.specs.Lists.{sorted, some_passes};
 ghost use Rattle.rx_query.specs.Result.{stored_before, stored_cmp};
-ghost use Rattle.rx_planner.specs.Rows.{if_due, due_among, all_placed, IsFull, IsRising};
+ghost use Rattle.rx_planner.specs.Rows.{if_due, due_among, IsFull, StandsFor};
 
 use rx_document::{Lookup, Stored};
 use rx_index::Range;
@@ -68,53 +70,78 @@ pub(crate) fn put_in_order(query: &Query, rows: &mut Vec<&Stored>)
     rows.sort_unstable_by(|a, b| query.before(&a.state.fields, &b.state.fields));
 }
 
-// Among as many rows, the first ones of these and of the due documents that are left.
+// Of these rows and of the due documents that are left, as many first ones as there are rows.
 pub(crate) fn improve<'a, T: Lookup>(
     query: &Query,
     docs: &'a T,
     ids: Range<'_>,
     rows: &mut Vec<&'a Stored>,
 ) -> Result<(), AllocError>
-    requires { IsRising (stored_before (asked query.now)) (map (λ r. r.now) rows.old.items) }
-    ensures { OnOk result (map (λ r. r.now) rows.new.items
-        ≡ take (length rows.old.items) (all_placed (asked query.now)
-        (map (λ r. r.now) rows.old.items)
-        (due_among (asked query.now) (T.documents docs.now) ids.entry))) }
+    requires in_order { IsStrictlySortedBy (stored_cmp (asked query.now))
+        (map (λ r. r.now) rows.old.items) }
+    requires apart { IsDistinct (eq_by_cmp (stored_cmp (asked query.now)))
+        (map (λ r. r.now) rows.old.items
+        ++ due_among (asked query.now) (T.documents docs.now) ids) }
+    ensures { OnOk result (map (λ r. r.now) rows.new.items ≡ take (length rows.old.items)
+        (sorted (stored_before (asked query.now)) (map (λ r. r.now) rows.old.items
+        ++ due_among (asked query.now) (T.documents docs.now) ids.entry))) }
 {
+    let wanted = rows.len();
     for id in ids {
         if let Some(document) = due(query, docs, id) {
-            place(query, rows, document)?;
+            consider(query, rows, wanted, document)?;
         }
     }
+    settle(query, rows, wanted);
     Ok(())
 }
 
-// Puts a document in its place among rows in order, of which the last one goes.
-fn place<'a>(
+// Adds a document behind rows of which the first ones are in order, unless it comes after those.
+// Where as many wait behind them all are put in order, so that a row costs its part of a sort and
+// moves no others.
+fn consider<'a>(
     query: &Query,
     rows: &mut Vec<&'a Stored>,
+    wanted: usize,
     document: &'a Stored,
 ) -> Result<(), AllocError>
-    requires { IsRising (stored_before (asked query.now)) (map (λ r. r.now) rows.old.items) }
-    ensures { OnOk result (map (λ r. r.now) rows.new.items
-        ≡ take (length rows.old.items) (placed (stored_before (asked query.now)) document.now
-        (map (λ r. r.now) rows.old.items))) }
+    requires { (all : List Stored) × ((rest : List Stored) × StandsFor (asked query.now) wanted all
+        (map (λ r. r.now) rows.old.items) (document.now ∷ rest)) }
+    ensures { OnOk result ((all rest : List Stored)
+        → StandsFor (asked query.now) wanted all (map (λ r. r.now) rows.old.items)
+        (document.now ∷ rest)
+        → StandsFor (asked query.now) wanted all (map (λ r. r.now) rows.new.items) rest) }
 {
-    let place = place_for(query, rows.as_slice(), document);
-    if place < rows.len() {
-        rows.pop();
-        rows.insert(place, document)?;
+    if wanted == 0 {
+        return Ok(());
     }
+    let last = rows[wanted - 1];
+    if !precedes(query, document, last) {
+        return Ok(());
+    }
+    rows.push(document)?;
+    if rows.len() - wanted < wanted {
+        return Ok(());
+    }
+    settle(query, rows, wanted);
     Ok(())
 }
 
-fn place_for(query: &Query, rows: &[&Stored], document: &Stored) -> usize
-    requires { IsRising (stored_before (asked query.now)) (map (λ r. r.now) rows.now) }
-    ensures within { result ≤ length rows.now }
-    ensures place { placed (stored_before (asked query.now)) document.now (map (λ r. r.now) rows.now)
-        ≡ insert (map (λ r. r.now) rows.now) result document.now }
+fn precedes(query: &Query, document: &Stored, other: &Stored) -> bool
+    ensures { result ≡ stored_before (asked query.now) document.now other.now }
 {
-    rows.partition_point(|row| !query
-        .before(&document.state.fields, &row.state.fields)
-        .is_lt())
+    query
+        .before(&document.state.fields, &other.state.fields)
+        .is_lt()
+}
+
+// Puts rows, of which none tie, in order, and keeps the first ones.
+fn settle(query: &Query, rows: &mut Vec<&Stored>, wanted: usize)
+    requires { IsDistinct (eq_by_cmp (stored_cmp (asked query.now)))
+        (map (λ r. r.now) rows.old.items) }
+    ensures { map (λ r. r.now) rows.new.items
+        ≡ take wanted (sorted (stored_before (asked query.now)) (map (λ r. r.now) rows.old.items)) }
+{
+    put_in_order(query, rows);
+    rows.truncate(wanted);
 }

@@ -1,12 +1,8 @@
-use Rattle.std.proofs.Common.{◌≡◌, Bor, map, take, length, rules, sym, ap, ◌∙◌, subst}
-use Rattle.std.proofs.lemmas.List.{length-map}
+use Rattle.std.proofs.Common.{◌≡◌, List, Bor, ◌∷◌, ◌++◌, map, length, rules, sym, subst}
 use Rattle.rx_document.specs.declared.stored.Stored.{Stored}
 use Rattle.rx_query.specs.Asked.{asked}
-use Rattle.rx_query.specs.Lists.{placed}
-use Rattle.rx_query.specs.Result.{stored_before, stored_cmp}
-use Rattle.rx_planner.specs.Rows.{due_among, all_placed, IsRising}
-use Rattle.rx_planner.proofs.Lists.{length_shifted}
-use Rattle.rx_planner.proofs.Rising.{stored_total, rising_placed, rising_take, improve_some}
+use Rattle.rx_planner.specs.Rows.{due_among, StandsFor}
+use Rattle.rx_planner.proofs.Standing.{next_some}
 use Rattle.rx_planner.proofs.rows.improve.Goals as goal
 
 pub loop-id-preserved-in-Continue-1 : goal.loop-id-preserved-in-Continue-1
@@ -14,31 +10,20 @@ loop-id-preserved-in-Continue-1 g c =
     let now : Bor Stored → Stored = λ r. r.now in
     let q = asked c.args.query.now in
     let documents = g.T.Lookup.documents c.args.docs.now in
-    let rows = c.loop-id.rows.items in
-    let seen = map now rows in
     let n = length c.args.rows.now.items in
+    let all : List Stored = map now c.args.rows.now.items ++ due_among q documents c.args.ids in
+    let seen = map now c.loop-id.rows.items in
     let d = c.in-Some-due.document.now in
-    let before = stored_before q in
-    let rest = c.next.new.self in
-    let is : map now c.place.new.rows.items ≡ take (length rows) (placed before d seen) =
-    c.in_ok-place.ensures in
-    let many : length rows ≡ length seen = sym (length-map rows now) in
+    let left = c.next.new.self in
+    let rest = due_among q documents left in
+    let many : c.len-wanted.result ≡ n = search rules in
+    let before = next_some q documents n all seen c.loop-id.id-iterator c.in-Some.id.now left
+    c.in-Some.ensures.steps c.loop-id.invariant.stand d (sym c.in-Some-due.ensures) in
     record {
-      rising =
-          subst (IsRising before) (sym is)
-          (rising_take (stored_cmp q) (stored_total q) (length rows) (placed before d seen)
-          (rising_placed (stored_cmp q) (stored_total q) d seen c.loop-id.invariant.rising));
-      as_many =
-          sym (length-map c.place.new.rows.items now) ∙ ap length is
-          ∙ ap (λ k. length (take k (placed before d seen))) many
-          ∙ length_shifted before d seen ∙ sym many ∙ c.loop-id.invariant.as_many;
-      goes_on =
-          ap (λ xs. take n (all_placed q xs (due_among q documents rest)))
-          (is ∙ ap (λ k. take k (placed before d seen)) c.loop-id.invariant.as_many)
-          ∙ improve_some q documents seen n c.in-Some.id.now rest d (sym c.in-Some-due.ensures)
-          ∙ ap (λ ids. take n (all_placed q seen (due_among q documents ids)))
-          (sym c.in-Some.ensures.steps)
-          ∙ c.loop-id.invariant.goes_on;
+      stand =
+          subst (λ k. StandsFor q k all (map now c.consider.new.rows.items) rest) many
+          (c.in_ok-consider.ensures all rest
+          (subst (λ k. StandsFor q k all seen (d ∷ rest)) (sym many) before));
       can_next = search rules;
       finite = search rules;
     }

@@ -1,12 +1,12 @@
-use Rattle.std.proofs.Common.{Bor, map, drop, take, length, sym, ap, ◌∙◌, subst}
+use Rattle.std.proofs.Common.{◌++◌, Bor, map, drop, take, length, sym, ap, ◌∙◌, subst}
 use Rattle.std.proofs.lemmas.List.{length-map}
 use Rattle.rx_document.specs.declared.stored.Stored.{Stored}
 use Rattle.rx_query.proofs.Rows.{map-drop}
 use Rattle.rx_query.specs.Asked.{asked}
+use Rattle.rx_query.specs.Lists.{sorted}
 use Rattle.rx_query.specs.Result.{stored_before}
-use Rattle.rx_planner.specs.Rows.{due_among, all_placed, IsFull, IsRising}
-use Rattle.rx_planner.proofs.Rising.{rising_sorted}
-use Rattle.rx_planner.proofs.Runs.{first_distinct, ordered_result, placed_result}
+use Rattle.rx_planner.specs.Rows.{due_among, IsFull}
+use Rattle.rx_planner.proofs.Runs.{first_distinct, first_strict, first_apart, ordered_result, sorted_result}
 use Rattle.rx_planner.proofs.planned.Plan.run.Goals as goal
 use Rattle.rx_planner.proofs.planned.Plan.run.Goals.{then-not-self+in_ok-improve, else-not-self}
 
@@ -18,17 +18,25 @@ put_in_order-requires g c =
     c.range-ids.ensures.rising (map (λ (r : Bor Stored). r.now) c.in_ok-rows.rows.items)
     c.first_due.new.ids c.range-ids.result c.in_ok-rows.ensures.split c.range-ids.ensures.ids
 
-pub improve-requires : goal.improve-requires
-improve-requires g c =
-    let q = asked c.args.query.now in
+pub improve-requires-clause-in_order : goal.improve-requires-clause-in_order
+improve-requires-clause-in_order g c =
     let i = c.index-indexes-self in
-    let rows = map (λ (r : Bor Stored). r.now) c.in_ok-rows.rows.items in
-    subst (IsRising (stored_before q)) (sym c.put_in_order.ensures)
-    (rising_sorted q rows
-    (first_distinct q (g.T.Lookup.documents c.args.docs.now) c.args.indexes.now
+    let now : Bor Stored → Stored = λ r. r.now in
+    first_strict (asked c.args.query.now) (g.T.Lookup.documents c.args.docs.now) c.args.indexes.now
     c.args.self.now i.result i.is c.requires.planned c.requires.keyed c.requires.held
-    c.range-ids.ensures.rising rows c.first_due.new.ids c.range-ids.result c.in_ok-rows.ensures.split
-    c.range-ids.ensures.ids))
+    c.range-ids.ensures.rising (map now c.in_ok-rows.rows.items)
+    c.first_due.new.ids c.range-ids.result c.in_ok-rows.ensures.split c.range-ids.ensures.ids
+    (map now c.put_in_order.new.rows.items) c.put_in_order.ensures
+
+pub improve-requires-clause-apart : goal.improve-requires-clause-apart
+improve-requires-clause-apart g c =
+    let i = c.index-indexes-self in
+    let now : Bor Stored → Stored = λ r. r.now in
+    first_apart (asked c.args.query.now) (g.T.Lookup.documents c.args.docs.now) c.args.indexes.now
+    c.args.self.now i.result i.is c.requires.planned c.requires.keyed c.requires.held
+    c.range-ids.ensures.rising (map now c.in_ok-rows.rows.items)
+    c.first_due.new.ids c.range-ids.result c.in_ok-rows.ensures.split c.range-ids.ensures.ids
+    (map now c.put_in_order.new.rows.items) c.put_in_order.ensures
 
 pub returns : goal.returns
 returns g c =
@@ -48,12 +56,12 @@ returns g c =
       | then-not-self+in_ok-improve w ↦
           let first = map now w.put_in_order.new.rows.items in
           ap (λ v. drop q.skip (map now v.items)) w.rows-is
-          ∙ placed_result q documents c.args.indexes.now c.args.self.now i.result i.is
+          ∙ sorted_result q documents c.args.indexes.now c.args.self.now i.result i.is
           c.requires.planned c.requires.keyed c.requires.held c.range-ids.ensures.rising rows ids
           c.range-ids.result c.in_ok-rows.ensures.split c.range-ids.ensures.ids most c.most_rows.ensures
           full first (map now w.improve.new.rows.items) w.put_in_order.ensures
           (w.in_ok-improve.ensures
-          ∙ ap (λ n. take n (all_placed q first (due_among q documents ids)))
+          ∙ ap (λ n. take n (sorted (stored_before q) (first ++ due_among q documents ids)))
           (sym (length-map w.put_in_order.new.rows.items now)))
       | else-not-self w ↦
           ap (λ v. drop q.skip (map now v.items)) w.rows-is
