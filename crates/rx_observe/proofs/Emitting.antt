@@ -7,7 +7,9 @@ use Rattle.rx_value.specs.Named.{named}
 use Rattle.rx_query.specs.declared.results.Row.{Row}
 use Rattle.rx_collection.specs.Held.{Held}
 use Rattle.rx_query.specs.Result.{fresh_rows}
-use Rattle.rx_observe.specs.Lived.{AreObserved}
+use Rattle.rx_index.specs.Index.{Indexed}
+use Rattle.rx_observe.specs.Indexes.{AreIndexesOf}
+use Rattle.rx_observe.specs.Lived.{IsWhole}
 use Rattle.rx_observe.specs.Observing.{Queries, AllRight, AllCold, HaveDistinctNames, each, and_query, without, settled, cooled}
 use Rattle.rx_observe.specs.Rows.{unseen, emitted, with_emission, emissions_of, emissions_due}
 use Rattle.rx_observe.specs.Watched.{Watched, kept, IsRight}
@@ -225,6 +227,7 @@ pub all_cold : (qs now : Queries) → now ≡ each cooled qs → AllCold now
 all_cold qs now is = subst AllCold (sym is) (cold_cooled qs)
 
 -- where no query is observed all is well
-pub none_observed : (c : Held) → AreObserved c []
+pub none_observed : (c : Held) (indexes : List Indexed) → AreIndexesOf c indexes
+    → IsWhole c [] indexes
 unfolding IsDistinct
-none_observed c = record { names = tt; right = tt }
+none_observed c indexes indexed = record { names = tt; right = tt; indexed = indexed }

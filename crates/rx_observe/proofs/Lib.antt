@@ -5,3 +5,5 @@ pub mod Done
 pub mod Steps
 pub mod Emitting
 pub mod Putting
+pub mod Making
+pub mod Indexing

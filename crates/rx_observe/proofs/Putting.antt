@@ -3,7 +3,9 @@ use Rattle.std.proofs.Common.{◌≡◌, false, List, [], ◌∷◌, refl, sym, 
 use Rattle.rx_document.specs.declared.stored.Stored.{Stored}
 use Rattle.rx_collection.specs.Commit.{with_row}
 use Rattle.rx_collection.specs.Held.{Held}
-use Rattle.rx_observe.specs.Lived.{AreObserved}
+use Rattle.rx_index.specs.Index.{Indexed}
+use Rattle.rx_observe.specs.Indexes.{AreIndexesOf}
+use Rattle.rx_observe.specs.Lived.{IsWhole}
 use Rattle.rx_observe.specs.Observing.{Observing, Queries, AllRight, each, queries_after, change_by, watch_after, put_all}
 use Rattle.rx_observe.specs.Watched.{Watched, stepped}
 use Rattle.rx_observe.proofs.Emitting.{distinct_each}
@@ -41,11 +43,13 @@ module _ (c new : Held) (row : Stored) (qs now : Queries) (new_is : new ≡ with
       (subst (AllRight (with_row c row)) (sym now_is)
       (right_after c (with_row c row) (change_by c row) qs refl all))
 
-  pub observed_put : AreObserved c qs → AreObserved new now
-  observed_put kept = record {
+  pub whole_put : (before after : List Indexed) → IsWhole c qs before → AreIndexesOf new after
+      → IsWhole new now after
+  whole_put before after kept indexed = record {
     names = distinct_each (stepped (with_row c row).documents (change_by c row)) qs now now_is
         kept.names;
     right = right_put kept.right;
+    indexed = indexed;
   }
 
   -- the other rows make of that what all make of what was before

@@ -7,4 +7,5 @@ pub mod Observing
 pub mod Laws
 pub mod Inside
 pub mod Following
+pub mod Indexes
 pub mod Lived

@@ -1,6 +1,8 @@
 -- How the fields of a collection with its observed queries are seen.
-use Rattle.std.specs.Prelude.{◌≡◌, false}
+use Rattle.std.specs.Prelude.{◌≡◌, false, List}
 use Rattle.rx_collection.specs.Held.{Held}
+use Rattle.rx_index.specs.Index.{Indexed}
+use Rattle.rx_observe.specs.Indexes.{AreIndexesOf}
 use Rattle.rx_observe.specs.Observing.{Observing, Queries, HaveDistinctNames, AllRight}
 use Rattle.rx_observe.specs.declared.live.Live.TheInside.{Inside}
 
@@ -9,11 +11,14 @@ abbrev pub observing : Inside → Observing
 observing l =
     record { collection = l.collection; queries = l.queries.items; broken = l.broken }
 
--- while it isn't broken, no name stands twice, and each query is right
-pub record AreObserved (c : Held) (qs : Queries) : Type 0 where
+-- while it isn't broken, no name stands twice, each query is right, and the indexes are those of
+-- the collection
+pub record IsWhole (c : Held) (qs : Queries) (indexes : List Indexed) : Type 0 where
   pub names : HaveDistinctNames qs
   pub right : AllRight c qs
+  pub indexed : AreIndexesOf c indexes
 
 -- so it is of the fields
-abbrev pub IsRightUnlessBroken : Inside → Type 0
-IsRightUnlessBroken l = l.broken ≡ false → AreObserved l.collection l.queries.items
+abbrev pub IsWholeUnlessBroken : Inside → Type 0
+IsWholeUnlessBroken l =
+    l.broken ≡ false → IsWhole l.collection l.queries.items l.indexes.items

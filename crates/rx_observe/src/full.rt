@@ -2,13 +2,41 @@ ghost use Rattle.std.specs.Prelude.{◌≡◌, map, IfOk};
 ghost use Rattle.std.specs.Map.{values_of};
 ghost use Rattle.rx_query.specs.Asked.{asked};
 ghost use Rattle.rx_query.specs.Result.{result_of, row_of, fresh_rows};
+ghost use Rattle.rx_observe.specs.Indexes.{AreIndexesOf};
 
 use rx_collection::Collection;
 use rx_document::Stored;
+use rx_index::Index;
+use rx_planner::{Plan, plan};
 use rx_query::{Query, Results, Row};
 use std::alloc::{AllocError, Global};
 
-// The documents of a query's result, lent.
+// The documents of a query's result, by the index of its plan, lent.
+pub(crate) fn find_by<'a>(
+    alloc: Global,
+    collection: &'a Collection,
+    indexes: &[Index],
+    query: &Query,
+) -> Result<Vec<&'a Stored>, AllocError>
+    requires keyed { (asked query.now).primary ≡ collection.now.schema.primary }
+    requires indexed { AreIndexesOf collection.now indexes.now }
+    ensures { IfOk result (λ documents. map (λ d. d.now) documents.items
+        ≡ result_of (asked query.now) (values_of collection.now.documents)) }
+{
+    let plan = plan(alloc, query, indexes)?;
+    if query.limit().is_none() && spans_all(&plan) {
+        return find_in(alloc, collection, query);
+    }
+    plan.run(alloc, query, indexes, collection)
+}
+
+// Whether all live documents stand between its bounds, so that a walk along an index would look up
+// one by one what lies side by side.
+fn spans_all(plan: &Plan) -> bool {
+    plan.low.values().len() == 1 && plan.high.values().len() == 1
+}
+
+// The same without an index.
 pub(crate) fn find_in<'a>(
     alloc: Global,
     collection: &'a Collection,
@@ -26,12 +54,14 @@ pub(crate) fn find_in<'a>(
 pub(crate) fn run_in_full(
     alloc: Global,
     collection: &Collection,
+    indexes: &[Index],
     query: &Query,
 ) -> Result<Results, AllocError>
     requires keyed { (asked query.now).primary ≡ collection.now.schema.primary }
+    requires indexed { AreIndexesOf collection.now indexes.now }
     ensures { IfOk result (λ rows. rows ≡ fresh_rows (asked query.now) collection.now.documents) }
 {
-    let found = find_in(alloc, collection, query)?;
+    let found = find_by(alloc, collection, indexes, query)?;
     copy_rows(alloc, found.as_slice())
 }
 

@@ -3,6 +3,7 @@
 
 mod emission;
 mod full;
+mod indexes;
 mod laws;
 mod live;
 mod observed;

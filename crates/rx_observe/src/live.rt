@@ -9,24 +9,28 @@ ghost use Rattle.rx_observe.specs.Rows.{emissions_due};
 ghost use Rattle.rx_observe.specs.Watched.{IsRight};
 
 use crate::emission::{Emission, Unseen, emit_all, look_all};
-use crate::full::{find_in, run_in_full};
+use crate::full::{find_by, find_in, run_in_full};
+use crate::indexes::indexes_of;
 use crate::observed::Observed;
 use crate::step::put_row;
 use rx_collection::{Collection, Holder};
 use rx_diagram::Diagram;
 use rx_document::Stored;
+use rx_index::Index;
 use rx_query::Query;
 use rx_value::RxText;
 use std::alloc::{AllocError, Global};
 use std::marker::Model;
 use std::rc::Rc;
 
-/// A collection with its observed queries, by name, in the order of observing. Where memory ran out
-/// in the midst of a commit it is broken: nothing more may be asked of it.
+/// A collection with its indexes, and its observed queries by name, in the order of observing.
+/// Where memory ran out in the midst of a commit it is broken: nothing more may be asked of it.
 #[derive(Drop)]
 pub struct Live {
     alloc: Global,
     collection: Collection,
+    /// One for the primary key, and then one for each of the schema's.
+    indexes: Vec<Index>,
     queries: Vec<(RxText, Observed)>,
     /// A share of the one diagram.
     diagram: Rc<Diagram>,
@@ -41,24 +45,31 @@ impl Model for Live {
 
     ghost coded = { observing_code };
 
-    ghost use Rattle.rx_observe.specs.Lived.{observing, IsRightUnlessBroken};
+    ghost use Rattle.rx_observe.specs.Lived.{observing, IsWholeUnlessBroken};
 
     ghost view = { observing };
 
-    ghost invariant = { IsRightUnlessBroken };
+    ghost invariant = { IsWholeUnlessBroken };
 }
 
 impl Live {
-    pub fn new(alloc: Global, collection: Collection, diagram: Rc<Diagram>) -> Live
-        ensures { result ≡ record { collection = collection; queries = []; broken = false } }
+    pub fn new(
+        alloc: Global,
+        collection: Collection,
+        diagram: Rc<Diagram>,
+    ) -> Result<Live, AllocError>
+        ensures { IfOk result
+            (λ l. l ≡ record { collection = collection; queries = []; broken = false }) }
     {
-        Live {
+        let indexes = indexes_of(alloc, &collection)?;
+        Ok(Live {
             alloc,
             collection,
+            indexes,
             queries: Vec::new(alloc),
             diagram,
             broken: false,
-        }
+        })
     }
 
     /// Observes a query after all others. It runs once, which isn't counted.
@@ -70,7 +81,8 @@ impl Live {
             (and_query self.old.queries name (new_watch (asked query) self.old.collection.documents))) }
         ensures err { OnErr result (self.new ≡ self.old) }
     {
-        let rows = run_in_full(self.alloc, &self.collection, &query)?;
+        let indexes = self.indexes.as_slice();
+        let rows = run_in_full(self.alloc, &self.collection, indexes, &query)?;
         let mut observed = Observed::new(self.alloc, query);
         observed.fill(rows);
         self.queries.push((name, observed))?;
@@ -116,7 +128,11 @@ impl Live {
         ensures { IfOk result (λ documents. map (λ d. d.now) documents.items
             ≡ result_of (asked query.now) (values_of self.now.collection.documents)) }
     {
-        find_in(alloc, &self.collection, query)
+        // The indexes of one that is broken hold nothing to go by.
+        if self.broken {
+            return find_in(alloc, &self.collection, query);
+        }
+        find_by(alloc, &self.collection, self.indexes.as_slice(), query)
     }
 
     /// What is to be shown: the rows of each query that differ from those emitted last. They are
@@ -208,6 +224,7 @@ impl Holder for Live {
                 self.alloc,
                 &self.diagram,
                 &mut self.collection,
+                &mut self.indexes,
                 &mut self.queries,
                 row,
             )?;

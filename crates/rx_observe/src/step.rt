@@ -1,52 +1,72 @@
 ghost use Rattle.std.specs.Prelude.{◌≡◌, Some, IfSome, IfOk, OnOk, option_map};
+ghost use Rattle.rx_value.specs.Named.{named};
 ghost use Rattle.rx_document.specs.Change.{before_of};
 ghost use Rattle.rx_document.specs.Documents.{live};
 ghost use Rattle.rx_collection.specs.Commit.{IsNext, with_row};
-ghost use Rattle.rx_collection.specs.Lawful.{IsLawful};
 ghost use Rattle.rx_query.specs.Asked.{asked};
 ghost use Rattle.rx_observe.specs.Applied.{answer_for};
 ghost use Rattle.rx_observe.specs.Following.{Follows, AllFollow};
+ghost use Rattle.rx_observe.specs.Indexes.{AreIndexesOf};
 ghost use Rattle.rx_observe.specs.Observing.{AllRight, each, change_by, queries_after};
 ghost use Rattle.rx_observe.specs.Watched.{unknown, action_at, applied, IsReady, stepped};
 
 use crate::full::run_in_full;
+use crate::indexes::put_in_each;
 use crate::observed::{Applied, Observed};
 use rx_collection::Collection;
 use rx_diagram::Diagram;
 use rx_document::{Before, Change, Stored};
+use rx_index::Index;
 use rx_value::{Fields, RxText};
 use std::alloc::{AllocError, Global};
 
-// Writes a row, and brings each query up to date.
+// Writes a row, and brings each index and each query up to date.
 pub(crate) fn put_row(
     alloc: Global,
     diagram: &Diagram,
     collection: &mut Collection,
+    indexes: &mut Vec<Index>,
     queries: &mut Vec<(RxText, Observed)>,
     row: Stored,
 ) -> Result<(), AllocError>
     requires next { IsNext collection.old row }
+    requires indexed { AreIndexesOf collection.old indexes.old.items }
     requires right { AllRight collection.old queries.old.items }
     ensures collection { OnOk result (collection.new ≡ with_row collection.old row) }
+    ensures indexed { OnOk result (AreIndexesOf collection.new indexes.new.items) }
     ensures queries { OnOk result
         (queries.new.items ≡ queries_after collection.old row queries.old.items) }
 {
+    let old = collection.get(row.state.key.as_str());
+    put_in_each(collection, indexes, old, &row)?;
     if queries.is_empty() {
         return collection.put(row);
     }
-    let change = change_by(alloc, collection, &row)?;
+    let change = change_by(alloc, collection, old, &row)?;
     collection.put(row)?;
-    step_all(alloc, diagram, queries, collection, &change)
+    step_all(
+        alloc,
+        diagram,
+        queries,
+        collection,
+        indexes.as_slice(),
+        &change,
+    )
 }
 
-// The change that a row is about to make.
-fn change_by(alloc: Global, collection: &Collection, row: &Stored) -> Result<Change, AllocError>
-    ensures change { IfOk result (λ c. c ≡ change_by collection.now row.now) }
-    ensures lawful { OnOk result (IsLawful collection.now) }
+// The change that a row is about to make, in the place of its key's document.
+fn change_by(
+    alloc: Global,
+    collection: &Collection,
+    old: Option<&Stored>,
+    row: &Stored,
+) -> Result<Change, AllocError>
+    requires { option_map (λ d. d.now) old ≡ named collection.now.documents row.now.state.key }
+    ensures { IfOk result (λ c. c ≡ change_by collection.now row.now) }
 {
     Ok(Change {
         id: row.state.key.copy(alloc)?,
-        before: before(alloc, collection.get(row.state.key.as_str()))?,
+        before: before(alloc, old)?,
         after: live(alloc, row)?,
     })
 }
@@ -77,15 +97,17 @@ fn step_all(
     diagram: &Diagram,
     queries: &mut Vec<(RxText, Observed)>,
     collection: &Collection,
+    indexes: &[Index],
     change: &Change,
 ) -> Result<(), AllocError>
-    requires { AllFollow change.now queries.old.items collection.now }
+    requires follow { AllFollow change.now queries.old.items collection.now }
+    requires indexed { AreIndexesOf collection.now indexes.now }
     ensures { OnOk result (queries.new.items
         ≡ each (stepped collection.now.documents change.now) queries.old.items) }
 {
     for i in 0..queries.len() {
         let query = &mut queries[i];
-        step(alloc, diagram, &mut query.1, collection, change)?;
+        step(alloc, diagram, &mut query.1, collection, indexes, change)?;
     }
     Ok(())
 }
@@ -96,16 +118,18 @@ fn step(
     diagram: &Diagram,
     observed: &mut Observed,
     collection: &Collection,
+    indexes: &[Index],
     change: &Change,
 ) -> Result<(), AllocError>
-    requires { Follows change.now observed.old collection.now }
+    requires follows { Follows change.now observed.old collection.now }
+    requires indexed { AreIndexesOf collection.now indexes.now }
     ensures { OnOk result
         (observed.new ≡ stepped collection.now.documents change.now observed.old) }
 {
     match apply(alloc, diagram, observed, change)? {
         Applied::Patched => Ok(()),
         Applied::NeedsFull => {
-            let rows = run_in_full(alloc, collection, observed.query())?;
+            let rows = run_in_full(alloc, collection, indexes, observed.query())?;
             observed.fill(rows);
             Ok(())
         }

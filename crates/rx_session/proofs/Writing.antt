@@ -8,7 +8,7 @@ use Rattle.std.specs.Map.{keys_of}
 use Rattle.std.specs.Str.{bytes_eq}
 use Rattle.rx_value.specs.Named.{named, change_named, put_named}
 use Rattle.rx_collection.specs.Held.{Held}
-use Rattle.rx_record.specs.Content.{Content, collection, rows, epoch}
+use Rattle.rx_record.specs.Content.{Content, collection, rows, replication, exchange, epoch}
 use Rattle.rx_record.specs.declared.record.RowOut.{RowOut}
 use Rattle.rx_observe.specs.Observing.{Observing, watch_after}
 use Rattle.rx_observe.specs.Rows.{emissions_due}
@@ -52,6 +52,8 @@ legal_unheld (collection name schema) w allowed =
       | Some s ↦ none_is (named w.collections name) is
     ]
 legal_unheld (rows name lwt written) w allowed = tt
+legal_unheld (replication name fork master handler field) w allowed = cc
+legal_unheld (exchange name lwt written known up down) w allowed = cc
 legal_unheld (epoch number) w allowed = tt
 
 -- so no collection with queries has it

@@ -55,7 +55,7 @@ fn change(
     world.apply(
         alloc,
         entry,
-        &|collection| { Ok(Live::new(alloc, collection, diagram.clone()?)) },
+        &|collection| { Live::new(alloc, collection, diagram.clone()?) },
     )
 }
 
@@ -75,7 +75,7 @@ pub(crate) fn apply_legal(
     world.apply_legal(
         alloc,
         entry,
-        &|collection| { Ok(Live::new(alloc, collection, diagram.clone()?)) },
+        &|collection| { Live::new(alloc, collection, diagram.clone()?) },
     )
 }
 

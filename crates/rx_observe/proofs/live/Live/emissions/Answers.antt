@@ -14,6 +14,7 @@ invariant_of-self c =
       names = distinct_each emitted i.queries.items now c.emit_all.ensures kept.names;
       right = all_right_settled i.collection i.queries.items now
           (c.emit_all.ensures ∙ emitted_settled i.collection i.queries.items kept.right) kept.right;
+      indexed = kept.indexed;
     }
 
 pub returns-clause-due : goal.returns-clause-due

@@ -1,7 +1,7 @@
 use Rattle.std.proofs.Common.{◌≡◌, Some, refl, sym, ap, ◌∙◌, subst}
 use Rattle.rx_query.specs.Asked.{asked}
 use Rattle.rx_value.specs.Named.{named}
-use Rattle.rx_observe.specs.Lived.{AreObserved}
+use Rattle.rx_observe.specs.Lived.{IsWhole}
 use Rattle.rx_observe.specs.Observing.{Observing, new_watch}
 use Rattle.rx_observe.specs.Watched.{IsRight}
 use Rattle.rx_observe.proofs.Emitting.{right_more, distinct_more}
@@ -23,7 +23,7 @@ invariant_of-self-2 c =
     ∙ ap (λ (o : Observing). o.collection.schema.primary) (sym c.self.view_is) in
     let new = c.requires.new in
     λ whole. let kept = c.self.invariant whole in
-    subst (AreObserved i.collection) (sym c.in_ok-push.ensures.items) (record {
+    subst (λ qs. IsWhole i.collection qs i.indexes.items) (sym c.in_ok-push.ensures.items) (record {
       names = distinct_more i.queries.items c.args.name w kept.names
           (ap (λ (o : Observing). named o.queries c.args.name) c.self.view_is ∙ new);
       right = right_more i.collection i.queries.items c.args.name w kept.right
@@ -32,4 +32,5 @@ invariant_of-self-2 c =
             keyed = keyed;
             from_scratch = refl;
           }));
+      indexed = kept.indexed;
     })

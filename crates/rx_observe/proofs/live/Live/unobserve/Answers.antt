@@ -1,6 +1,6 @@
 use Rattle.std.proofs.Common.{sym, ap, ◌∙◌, subst}
 use Rattle.rx_value.specs.Named.{named}
-use Rattle.rx_observe.specs.Lived.{observing, AreObserved}
+use Rattle.rx_observe.specs.Lived.{observing, IsWhole}
 use Rattle.rx_observe.specs.Observing.{Observing, without, with_queries}
 use Rattle.rx_observe.proofs.Emitting.{distinct_without, right_without, none_named}
 use Rattle.rx_observe.proofs.live.Live.unobserve.Goals as goal
@@ -9,9 +9,10 @@ pub invariant_of-self : goal.invariant_of-self
 invariant_of-self c =
     let i = c.self.inside in
     λ whole. let kept = c.self.invariant whole in
-    subst (AreObserved i.collection) (sym c.remove_query.ensures) (record {
+    subst (λ qs. IsWhole i.collection qs i.indexes.items) (sym c.remove_query.ensures) (record {
       names = distinct_without i.queries.items c.args.name.now kept.names;
       right = right_without i.collection c.args.name.now i.queries.items kept.right;
+      indexed = kept.indexed;
     })
 
 pub returns-clause-value : goal.returns-clause-value

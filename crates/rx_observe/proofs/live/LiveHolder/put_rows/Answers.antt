@@ -4,7 +4,7 @@ use Rattle.rx_collection.specs.Commit.{AreNext}
 use Rattle.rx_collection.specs.Held.{Held}
 use Rattle.rx_observe.specs.Observing.{Observing, put_all}
 use Rattle.rx_observe.proofs.Done.{empty_is}
-use Rattle.rx_observe.proofs.Putting.{whole, observed_put, put_on, put_none}
+use Rattle.rx_observe.proofs.Putting.{whole, whole_put, put_on, put_none}
 use Rattle.rx_observe.proofs.live.LiveHolder.put_rows.Goals as goal
 
 pub loop-row-init : goal.loop-row-init
@@ -37,8 +37,8 @@ loop-row-preserved c =
     let step : into_iter_items c.loop-row.row-iterator ≡ row ∷ rest = c.in-Some.ensures.steps.0 in
     let next : AreNext i.collection (row ∷ rest) =
     subst (AreNext i.collection) step c.loop-row.invariant.2 in (
-      observed_put i.collection now row i.queries.items queries put.collection put.queries
-          c.loop-row.invariant.0,
+      whole_put i.collection now row i.queries.items queries put.collection put.queries
+          i.indexes.items c.put_row.new.indexes.items c.loop-row.invariant.0 put.indexed,
       put_on i.collection now row i.queries.items queries put.collection put.queries rest
           ∙ ap (put_all (whole i.collection i.queries.items)) (sym step)
           ∙ c.loop-row.invariant.1,
