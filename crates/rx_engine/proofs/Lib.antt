@@ -4,6 +4,7 @@ pub mod Keeping
 pub mod Opened
 pub mod Outcomes
 pub mod Setting
+pub mod LastPlace
 pub mod Live
 pub mod EachRow
 pub mod Reading

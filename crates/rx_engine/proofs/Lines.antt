@@ -1,12 +1,18 @@
--- What a line that finds or counts documents says.
-use Rattle.std.proofs.Common.{◌≡◌, ℕ, List, length, Result, Ok, sym, ap, ◌∙◌}
+-- What a line that finds, counts or lists documents says.
+use Rattle.std.proofs.Common.{◌≡◌, Bor, ℕ, List, [], ◌∷◌, length, map, Option, option_map, Result, Ok, refl, sym, ap, ◌∙◌}
 use Rattle.serde_json.specs.Data.{Data}
 use Rattle.rx_value.specs.Due.{◌>>◌}
 use Rattle.rx_value.specs.Fields.{Pairs}
+use Rattle.rx_value.specs.declared.state.State.{State}
+use Rattle.rx_document.specs.declared.place.Place.{Place}
+use Rattle.rx_document.specs.declared.stored.Stored.{Stored}
 use Rattle.rx_collection.specs.Held.{Held}
+use Rattle.rx_collection.specs.Since.{since}
 use Rattle.rx_query.specs.Asked.{Asked}
-use Rattle.rx_reply.specs.Answer.{find, count}
+use Rattle.rx_reply.specs.Answer.{changes, find, count, states_of}
+use Rattle.rx_script.specs.declared.since.Since.{Since}
 use Rattle.rx_session.specs.Session.{Session}
+use Rattle.rx_engine.specs.Listing.{changes_answer, changes_line, place_after, place_named}
 use Rattle.rx_engine.specs.Outcome.{Outcome, answer_alone, collection_at}
 use Rattle.rx_engine.specs.Queries.{find_line, count_line, query_on, rows_found}
 use Rattle.rx_engine.specs.declared.fault.Fault.{Fault}
@@ -37,3 +43,27 @@ module _ (coll : List ℕ) (d : Data) (s : Session) (c : Held) (q : Asked) (o : 
       let does : Outcome → Result Outcome Fault = λ o. Ok o in
       read_line (λ c q. Ok (answer_alone (count (length (rows_found q c.documents)))))
       (ap says (sym are) ∙ ap does (sym is))
+
+-- the states of lent documents
+lent_states : (docs : List (Bor Stored))
+    → map (λ d. d.state) (map (λ b. b.now) docs) ≡ states_of docs
+lent_states [] = refl
+lent_states (d ∷ ds) = ap (λ ss. d.now.state ∷ ss) (lent_states ds)
+
+-- a page is listed, and the place that it goes up to
+pub listed_line : (coll : List ℕ) (asked : Option Since) (batch : ℕ) (s : Session) (c : Held)
+    (o : Outcome) (docs : List (Bor Stored)) (place : Option Place)
+    → collection_at coll s ≡ Ok c
+    → map (λ b. b.now) docs ≡ since c.documents (option_map place_named asked) batch
+    → place ≡ place_after (option_map place_named asked) (map (λ b. b.now) docs)
+    → o ≡ answer_alone (changes (states_of docs) place) → changes_line coll asked batch s ≡ Ok o
+listed_line coll asked batch s c o docs place at are up is =
+    let from : Option Place = option_map place_named asked in
+    let lists : List Stored → Result Outcome Fault = λ page. Ok (answer_alone (changes_answer from page)) in
+    let says : List State → Option Place → Result Outcome Fault = λ ss p. Ok (answer_alone (changes ss p)) in
+    let does : Outcome → Result Outcome Fault = λ o. Ok o in
+    ap (λ (r : Result Held Fault). r >> λ c. lists (since c.documents from batch)) at
+    ∙ ap lists (sym are)
+    ∙ ap (says (map (λ d. d.state) (map (λ b. b.now) docs))) (sym up)
+    ∙ ap (λ (ss : List State). says ss place) (lent_states docs)
+    ∙ ap does (sym is)

@@ -1,5 +1,5 @@
 -- What no line does but the one that is asked for it.
-use Rattle.std.proofs.Common.{◌≡◌, ◌⊎◌, inl, inr, ℕ, length, not, nat_lt, List, ◌∷◌, [], Bool, true, false, true≢false, cond, Option, Some, None, Result, Ok, Err, refl, sym, ◌∙◌, ap, subst}
+use Rattle.std.proofs.Common.{◌≡◌, ◌⊎◌, inl, inr, ℕ, length, not, nat_lt, List, ◌∷◌, [], Bool, true, false, true≢false, cond, Option, Some, None, option_map, Result, Ok, Err, refl, sym, ◌∙◌, ap, subst}
 use Rattle.serde_json.specs.Data.{Data}
 use Rattle.rx_value.specs.Due.{◌>>◌, demand, lifted, or_fault}
 use Rattle.rx_value.specs.Named.{named}
@@ -7,11 +7,13 @@ use Rattle.rx_value.specs.declared.state.State.{State}
 use Rattle.rx_schema.specs.Reading.{schema_of}
 use Rattle.rx_schema.specs.declared.shape.Shape.{Shape}
 use Rattle.rx_collection.specs.Held.{Held}
+use Rattle.rx_collection.specs.Since.{since}
+use Rattle.rx_digest.specs.Digest.{digest_of}
 use Rattle.rx_record.specs.Content.{Content}
-use Rattle.rx_reply.specs.Answer.{Answer, insert, upsert, patch, remove, bulk, get, find, count, observe, unobserve, explain, tick}
+use Rattle.rx_reply.specs.Answer.{Answer, insert, upsert, patch, remove, bulk, get, find, count, observe, unobserve, explain, tick, digest}
 use Rattle.rx_reply.specs.declared.refusal.Refusal.TheVariants.{Exists, NoQuery, TooMany}
 use Rattle.rx_reply.specs.Reply.{is_refusal}
-use Rattle.rx_script.specs.Asked.{Asked, Collection, Insert, Bulk, Upsert, Patch, Remove, Get, Find, Count, Observe, Unobserve, Explain, Tick, Restart}
+use Rattle.rx_script.specs.Asked.{Asked, Collection, Insert, Bulk, Upsert, Patch, Remove, Get, Find, Count, Observe, Unobserve, Explain, Changes, Tick, Restart, Digest}
 use Rattle.rx_script.specs.Line.{line_of}
 use Rattle.rx_script.specs.declared.fault.LineFault.{LineFault}
 use Rattle.rx_session.specs.Doing.{Doing, nothing, restart, set_clock, unwatch, watch}
@@ -21,6 +23,7 @@ use Rattle.rx_world.specs.Commit.{commit_to}
 use Rattle.rx_engine.specs.Documents.{document_at, next_revision}
 use Rattle.rx_engine.specs.Faults.{of_line, of_schema}
 use Rattle.rx_engine.specs.Lines.{IsIdle, IsRestart, outcome, asked_outcome, line_outcome}
+use Rattle.rx_engine.specs.Listing.{changes_answer, place_named}
 use Rattle.rx_engine.specs.Outcome.{Outcome, answer_alone, collection_at, outcome_or_refusal, write_outcome}
 use Rattle.rx_engine.specs.Queries.{max_queries, query_on, rows_found}
 use Rattle.rx_engine.specs.Writes.{collection_with, commit_all, commit_one, insert_state, patch_state, remove_state, rows_states, upsert_state}
@@ -143,6 +146,15 @@ plain_but (Unobserve name) s =
 plain_but (Explain name) s =
     inr (after (or_fault (Refused NoQuery) (counts_of name s)) (λ counts. Ok (answer_alone (explain counts)))
     (λ counts. alone_plain (explain counts) refl))
+plain_but (Changes coll asked batch) s =
+    let from = option_map place_named asked in
+    inr (after (collection_at coll s)
+    (λ c. Ok (answer_alone (changes_answer from (since c.documents from batch))))
+    (λ c. alone_plain (changes_answer from (since c.documents from batch)) refl))
+plain_but (Digest coll) s =
+    inr (after (collection_at coll s)
+    (λ c. Ok (answer_alone (digest (length c.documents) (digest_of c.documents))))
+    (λ c. alone_plain (digest (length c.documents) (digest_of c.documents)) refl))
 plain_but (Tick at) s = inr (just (record { doing = set_clock at; answer = tick }) refl refl)
 plain_but Restart s = inl refl
 

@@ -3,6 +3,7 @@ pub mod Documents
 pub mod Outcome
 pub mod Writes
 pub mod Queries
+pub mod Listing
 pub mod Lines
 pub mod Meaning
 pub mod Shown

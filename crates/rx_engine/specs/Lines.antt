@@ -2,11 +2,12 @@
 use Rattle.std.specs.Prelude.{◌≡◌, ℕ, ◌+◌, List, Result, Ok}
 use Rattle.rx_value.specs.Due.{◌>>◌, lifted}
 use Rattle.rx_reply.specs.Answer.{tick, restart}
-use Rattle.rx_script.specs.Asked.{Asked, Collection, Insert, Bulk, Upsert, Patch, Remove, Get, Find, Count, Observe, Unobserve, Explain, Tick, Restart}
+use Rattle.rx_script.specs.Asked.{Asked, Collection, Insert, Bulk, Upsert, Patch, Remove, Get, Find, Count, Observe, Unobserve, Explain, Changes, Tick, Restart, Digest}
 use Rattle.rx_script.specs.Line.{line_of}
 use Rattle.rx_session.specs.Doing.{nothing, set_clock, restart as open_again}
 use Rattle.rx_session.specs.Session.{Session}
 use Rattle.rx_engine.specs.Faults.{of_line}
+use Rattle.rx_engine.specs.Listing.{changes_line, digest_line}
 use Rattle.rx_engine.specs.Outcome.{Outcome, outcome_or_refusal}
 use Rattle.rx_engine.specs.Queries.{get_line, find_line, count_line, observe_line, unobserve_line, explain_line}
 use Rattle.rx_engine.specs.Writes.{collection_line, insert_line, upsert_line, patch_line, remove_line, bulk_line}
@@ -36,8 +37,10 @@ asked_outcome (Count coll query) s = count_line coll query s
 asked_outcome (Observe name coll query) s = observe_line name coll query s
 asked_outcome (Unobserve name) s = unobserve_line name s
 asked_outcome (Explain name) s = explain_line name s
+asked_outcome (Changes coll since batch) s = changes_line coll since batch s
 asked_outcome (Tick at) s = tick_line at
 asked_outcome Restart s = restart_line s
+asked_outcome (Digest coll) s = digest_line coll s
 
 -- what a line does, or why it is refused
 abbrev pub line_outcome : List ℕ → Session → Result Outcome Fault

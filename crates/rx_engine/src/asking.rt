@@ -9,6 +9,7 @@ ghost use Rattle.rx_engine.specs.Shown.{doing_of, outcome_of};
 ghost use Rattle.rx_engine.specs.declared.fault.Fault.TheVariants.{Memory};
 
 use crate::fault::Fault;
+use crate::listing::{changes_line, digest_line};
 use crate::outcome::{LineDoing, Outcome};
 use crate::queries::{
     answer_alone, count_line, explain_line, find_line, get_line, observe_line, unobserve_line,
@@ -70,8 +71,10 @@ fn plan_line<'a>(alloc: Global, session: &'a Session, line: Line) -> Result<Outc
         Line::Observe { name, coll, query } => observe_line(alloc, session, name, coll, &query),
         Line::Unobserve { name } => unobserve_line(session, name),
         Line::Explain { name } => explain_line(session, &name),
+        Line::Changes { coll, since, batch } => changes_line(alloc, session, &coll, since, batch),
         Line::Tick { at } => Ok(tick(at)),
         Line::Restart => restart_line(session),
+        Line::Digest { coll } => digest_line(alloc, session, &coll),
     }
 }
 

@@ -1,10 +1,12 @@
-ghost use Rattle.std.specs.Prelude.{◌≡◌, ◌≤◌, ◌<◌, ◌^◌, ℕ, List, [], ◌∷◌, ◌++◌, true, IfOk, OnOk, IsErrOf, string_bytes};
+ghost use Rattle.std.specs.Prelude.{◌≡◌, ◌≤◌, ◌<◌, ◌^◌, ℕ, List, [], ◌∷◌, ◌++◌, true, IfOk, OnOk, IsErrOf, option_map, string_bytes};
+ghost use Rattle.rx_digest.specs.Digest.{digest_of};
 ghost use Rattle.rx_journal.specs.Reading.{IsUntouched};
 ghost use Rattle.rx_outside.specs.declared.stop.Stop.TheVariants as Stop;
 ghost use Rattle.rx_reply.specs.Reply.{answer_line, is_refusal};
 ghost use Rattle.rx_session.specs.Doing.{nothing, restart, after, MayDo};
 ghost use Rattle.rx_session.specs.Emissions.{emissions, settled_session};
 ghost use Rattle.rx_session.specs.Shown.{done_by};
+ghost use Rattle.rx_value.specs.Named.{named};
 ghost use Rattle.rx_world.specs.World.{World};
 ghost use Rattle.rx_store.specs.Holds.{IsIllegalFile, IsJournalOfSome, IsLegalFile};
 ghost use Rattle.rx_store.specs.Safe.{HasDiskCause, IsCrashSafe};
@@ -19,12 +21,15 @@ use crate::emitting::add_lines;
 use crate::keep::keep_doing;
 use crate::opening::{Opened, is_next, open};
 use crate::outcome::{LineDoing, Outcome};
+use rx_collection::Holder;
 use rx_diagram::Diagram;
+use rx_digest::digest;
 use rx_disk::Disk;
 use rx_journal::Journal;
 use rx_observe::Emission;
 use rx_outside::Stop;
 use rx_session::{Doing, Session};
+use rx_value::RxText;
 use std::alloc::{AllocError, Global};
 use std::rc::Rc;
 
@@ -121,6 +126,18 @@ impl Engine {
         let (engine, emissions) = self.carry_out(alloc, disk, doing)?;
         add_lines(alloc, emissions.as_slice(), &mut text)?;
         Ok((engine, Output { text, refused }))
+    }
+
+    /// The digest of a collection's states, where the collection is held.
+    #[tactic(auto, unfolding(crate::specs::Engine::session_of))]
+    pub fn digest(&self, alloc: Global, name: &str) -> Result<Option<RxText>, AllocError>
+        ensures { IfOk result (λ found. found ≡ option_map (λ c. digest_of c.documents)
+            (named (session_of self.now).world.collections name.now)) }
+    {
+        match self.session.holder(name) {
+            Some(live) => Ok(Some(digest(alloc, live.collection())?)),
+            None => Ok(None),
+        }
     }
 
     // The engine after what a line does, and the emissions that are due then.

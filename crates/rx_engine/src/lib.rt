@@ -9,6 +9,7 @@ mod emitting;
 mod engine;
 mod fault;
 mod keep;
+mod listing;
 mod lookup;
 mod opening;
 mod outcome;

@@ -64,7 +64,7 @@ pub(crate) fn open<D: Disk>(
         alloc,
         disk,
         limit,
-        &|collection| { Ok(Live::new(alloc, collection, diagram.clone()?)) },
+        &|collection| { Live::new(alloc, collection, diagram.clone()?) },
     )?;
     let (journal, world) = opened;
     let entry = Record::Epoch {

@@ -12,7 +12,7 @@ use Rattle.rx_query.specs.declared.fault.QueryFault.TheVariants as query
 use Rattle.rx_script.specs.declared.fault.LineFault.TheVariants as line
 use Rattle.rx_table.specs.declared.action.Action.TheVariants.{InsertFirst, InsertAtSortPositionRemoveLast, RunFullQueryAgain}
 use Rattle.rx_table.specs.Counts.{no_counts, counted}
-use Rattle.rx_reply.specs.Answer.{collection, insert, bulk, get, find, count, unobserve, explain, tick, restart, refused}
+use Rattle.rx_reply.specs.Answer.{collection, insert, bulk, get, find, count, unobserve, explain, changes, tick, restart, digest, refused}
 use Rattle.rx_reply.specs.Emission.{emission_line}
 use Rattle.rx_reply.specs.Explain.{named_actions}
 use Rattle.rx_reply.specs.Reply.{answer_line}
@@ -90,6 +90,22 @@ nothing_counted : answer_line 9 (explain no_counts)
 unfolding serde_json_on_literals digits named_actions
 nothing_counted = refl
 
+changes_listed : answer_line 3 (changes (document.state ∷ []) (Some (record { lwt = 42; id = codes "a" })))
+    ≡ ended (codes "{\"docs\":[{\"_deleted\":true,\"id\":\"a\",\"n\":7}],\"line\":3,\"ok\":\"changes\","
+    ++ codes "\"place\":{\"id\":\"a\",\"lwt\":42}}")
+unfolding serde_json_on_literals digits
+changes_listed = refl
+
+no_changes : answer_line 4 (changes [] None)
+    ≡ ended (codes "{\"docs\":[],\"line\":4,\"ok\":\"changes\"}")
+unfolding serde_json_on_literals digits
+no_changes = refl
+
+states_hashed : answer_line 2 (digest 0 (codes "e3b0"))
+    ≡ ended (codes "{\"count\":0,\"digest\":\"e3b0\",\"line\":2,\"ok\":\"digest\"}")
+unfolding serde_json_on_literals digits
+states_hashed = refl
+
 epoch_begun : answer_line 10 (restart 2)
     ≡ ended (codes "{\"epoch\":2,\"line\":10,\"ok\":\"restart\"}")
 unfolding serde_json_on_literals digits
@@ -99,6 +115,11 @@ no_json : answer_line 1 (refused (Line line.NotJson))
     ≡ ended (codes "{\"code\":2,\"line\":1,\"refused\":\"not_json\"}")
 unfolding serde_json_on_literals digits
 no_json = refl
+
+batch_too_great : answer_line 2 (refused (Line (line.Batch (codes "batch"))))
+    ≡ ended (codes "{\"code\":20,\"line\":2,\"name\":\"batch\",\"refused\":\"batch\"}")
+unfolding serde_json_on_literals digits
+batch_too_great = refl
 
 unknown_do : answer_line 2 (refused (Line (line.UnknownDo (codes "fly"))))
     ≡ ended (codes "{\"code\":4,\"line\":2,\"name\":\"fly\",\"refused\":\"unknown_do\"}")

@@ -1,3 +1,2 @@
-mod Counted
 mod Examples
-pub mod Floats
+pub mod Tokens

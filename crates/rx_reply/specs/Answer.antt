@@ -1,16 +1,18 @@
 -- What a line is answered, by what it says.
-use Rattle.std.specs.Prelude.{ℕ, List, map, Bool}
+use Rattle.std.specs.Prelude.{ℕ, List, map, Bool, Option}
 use Rattle.std.specs.Borrow.{Bor}
 use Rattle.rx_value.specs.Fields.{Pairs}
+use Rattle.rx_value.specs.declared.state.State.{State}
+use Rattle.rx_document.specs.declared.place.Place.{Place}
 use Rattle.rx_document.specs.declared.stored.Stored.{Stored}
 use Rattle.rx_table.specs.declared.counts.Counts.{Counts}
 use Rattle.rx_reply.specs.declared.refusal.Refusal.{Refusal}
 use Rattle.rx_reply.specs.declared.reply.Reply.{Reply}
-use Rattle.rx_reply.specs.declared.reply.Reply.TheVariants.{Collection, Insert, Upsert, Patch, Remove, Bulk, Get, Find, Count, Observe, Unobserve, Explain, Tick, Restart, Refused}
+use Rattle.rx_reply.specs.declared.reply.Reply.TheVariants.{Collection, Insert, Upsert, Patch, Remove, Bulk, Get, Find, Count, Observe, Unobserve, Explain, Changes, Tick, Restart, Digest, Refused}
 
 -- a collection is there, new or not; a document is written; documents are written, read, found,
--- counted; a query is observed, no more observed, explained; the clock is set; an epoch begins; or
--- the line is refused
+-- counted; a query is observed, no more observed, explained; states are listed up to a place; the
+-- clock is set; an epoch begins; states are counted and have that digest; or the line is refused
 pub data Answer : Type 0 where
   collection : Bool → Answer
   insert : List ℕ → Answer
@@ -24,13 +26,19 @@ pub data Answer : Type 0 where
   observe : Answer
   unobserve : Answer
   explain : Counts → Answer
+  changes : List State → Option Place → Answer
   tick : Answer
   restart : ℕ → Answer
+  digest : ℕ → List ℕ → Answer
   refused : Refusal → Answer
 
 -- the fields of lent documents
 abbrev pub rows_of : List (Bor Stored) → List Pairs
 rows_of = map (λ d. d.now.state.fields)
+
+-- their states
+abbrev pub states_of : List (Bor Stored) → List State
+states_of = map (λ d. d.now.state)
 
 -- the answer of a reply, which lends documents and counts
 abbrev pub answer_of : Reply → Answer
@@ -46,6 +54,8 @@ answer_of (Count n) = count n
 answer_of Observe = observe
 answer_of Unobserve = unobserve
 answer_of (Explain counts) = explain counts.now
+answer_of (Changes docs place) = changes (states_of docs.items) place
 answer_of Tick = tick
 answer_of (Restart epoch) = restart epoch
+answer_of (Digest n text) = digest n text
 answer_of (Refused refusal) = refused refusal

@@ -82,6 +82,7 @@ line_form (line.Missing name) = named_form 5 (codes "missing") name
 line_form (line.Unexpected name) = named_form 6 (codes "unexpected") name
 line_form (line.WrongType name) = named_form 7 (codes "wrong_type") name
 line_form (line.Name name) = named_form 8 (codes "name") name
+line_form (line.Batch name) = named_form 20 (codes "batch") name
 line_form line.NotYet = plain_form 27 (codes "not_yet")
 line_form line.Memory = plain_form 0 (codes "memory")
 

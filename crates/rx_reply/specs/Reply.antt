@@ -1,12 +1,13 @@
 -- The line of output of an answer.
-use Rattle.std.specs.Prelude.{ℕ, List, codes, Bool, true, false}
+use Rattle.std.specs.Prelude.{ℕ, List, codes, Bool, true, false, option_map}
 use Rattle.serde_json.specs.Data.{Data, boolean, string, object, Members, no_members, member}
+use Rattle.rx_value.specs.State.{state_data}
 use Rattle.rx_value.specs.Writing.{fields_data}
 use Rattle.rx_document.specs.Revision.{revision_text}
-use Rattle.rx_reply.specs.Answer.{Answer, collection, insert, upsert, patch, remove, bulk, get, find, count, observe, unobserve, explain, tick, restart, refused}
+use Rattle.rx_reply.specs.Answer.{Answer, collection, insert, upsert, patch, remove, bulk, get, find, count, observe, unobserve, explain, changes, tick, restart, digest, refused}
 use Rattle.rx_reply.specs.Explain.{explain_data}
 use Rattle.rx_reply.specs.Form.{form_of, form_data}
-use Rattle.rx_reply.specs.Writing.{number_data, list_data, output_line}
+use Rattle.rx_reply.specs.Writing.{number_data, list_data, place_data, optional_member, output_line}
 
 -- the members that begin with what was done
 abbrev pub ok_members : List ℕ → Members → Members
@@ -44,10 +45,19 @@ answer_data line (count n) = object
 answer_data line observe = line_object line (ok_members (codes "observe") no_members)
 answer_data line unobserve = line_object line (ok_members (codes "unobserve") no_members)
 answer_data line (explain counts) = explain_data line counts
+answer_data line (changes states place) = object
+    (member (codes "docs") (list_data state_data states)
+    (member (codes "line") (number_data line)
+    (ok_members (codes "changes")
+    (optional_member (codes "place") (option_map place_data place) no_members))))
 answer_data line tick = line_object line (ok_members (codes "tick") no_members)
 answer_data line (restart epoch) = object
     (member (codes "epoch") (number_data epoch)
     (member (codes "line") (number_data line) (ok_members (codes "restart") no_members)))
+answer_data line (digest n text) = object
+    (member (codes "count") (number_data n)
+    (member (codes "digest") (string text)
+    (member (codes "line") (number_data line) (ok_members (codes "digest") no_members))))
 answer_data line (refused refusal) = form_data line (form_of refusal)
 
 abbrev pub answer_line : ℕ → Answer → List ℕ

@@ -1,8 +1,11 @@
 -- What the lines of output have in common.
-use Rattle.std.specs.Prelude.{ℕ, List, [], ◌∷◌, ◌++◌, map, Option, Some, None}
-use Rattle.serde_json.specs.Data.{Data, number, unsigned, string, array, Members, member, put}
+use Rattle.std.specs.Prelude.{ℕ, List, [], ◌∷◌, ◌++◌, map, codes, Option, Some, None}
+use Rattle.json.specs.Token.{Token, key}
+use Rattle.json.specs.Tree.{json_tokens}
+use Rattle.serde_json.specs.Data.{Data, number, unsigned, string, array, object, Members, no_members, member}
 use Rattle.serde_json.specs.View.{items_of}
-use Rattle.serde_json.specs.Written.{compact_text}
+use Rattle.serde_json.specs.Written.{compact_text, outline}
+use Rattle.rx_document.specs.declared.place.Place.{Place}
 
 abbrev pub number_data : ℕ → Data
 number_data n = number (unsigned n)
@@ -16,15 +19,16 @@ abbrev pub optional_member : List ℕ → Option Data → Members → Members
 optional_member name None more = more
 optional_member name (Some d) more = member name d more
 
--- the members with these data at a name, where there are any
-abbrev pub with_data : List ℕ → Option Data → Members → Members
-with_data name None ms = ms
-with_data name (Some d) ms = put name d ms
+-- the tokens of a member, where there is one
+abbrev pub member_tokens : List ℕ → Option Data → List Token
+member_tokens name None = []
+member_tokens name (Some d) = key name ∷ json_tokens (outline d)
 
--- the members with a text at a name, where there is one
-abbrev pub with_text : List ℕ → Option (List ℕ) → Members → Members
-with_text name None ms = ms
-with_text name (Some t) ms = put name (string t) ms
+-- where a document stands in the order of writing
+abbrev pub place_data : Place → Data
+place_data p = object
+    (member (codes "id") (string p.id)
+    (member (codes "lwt") (number_data p.lwt) no_members))
 
 -- the compact text of an object, and a line feed
 abbrev pub output_line : Data → List ℕ

@@ -1,15 +1,15 @@
-ghost use Rattle.std.specs.Prelude.{◌≡◌, IfOk, OnOk, map};
-ghost use Rattle.std.specs.Cmp.Lexicographic.{slice_cmp};
-ghost use Rattle.std.specs.List.Sorted.{IsStrictlySortedBy};
-ghost use Rattle.std.specs.Ordering.{nat_cmp};
-ghost use Rattle.serde_json.specs.View.{view, members_view};
+// The counts of an observed query's actions.
+ghost use Rattle.std.specs.Prelude.{◌≡◌, ◌++◌, OnOk};
+ghost use Rattle.json.specs.Tree.{json_tokens};
+ghost use Rattle.serde_json.specs.Data.{object};
+ghost use Rattle.serde_json.specs.Written.{outline};
 ghost use Rattle.rx_reply.specs.Explain.{named, count_of, count_data, counted_members, actions_data, explain_data};
-ghost use Rattle.rx_reply.specs.Writing.{with_data};
+ghost use Rattle.rx_reply.specs.Writing.{member_tokens};
 
-use crate::writing::put;
+use crate::writing::{put_number, put_text};
+use json::Writer;
 use rx_table::{Action, Counts};
-use serde_json::{Map, Value as Json, json};
-use std::alloc::{AllocError, Global};
+use std::alloc::AllocError;
 
 // What each action is called, in the order of the names.
 const NAMES: [(&str, Action); 15] = [
@@ -36,42 +36,51 @@ const NAMES: [(&str, Action); 15] = [
     ("runFullQueryAgain", Action::RunFullQueryAgain),
 ];
 
-pub(crate) fn explain_json(alloc: Global, number: u64, counts: &Counts) -> Result<Json, AllocError>
-    ensures { IfOk result (λ j. view j ≡ explain_data number counts.now) }
+pub(crate) fn put_explain(
+    writer: &mut Writer,
+    number: u64,
+    counts: &Counts,
+) -> Result<(), AllocError>
+    ensures tokens { OnOk result (writer.new.tokens
+        ≡ writer.old.tokens ++ json_tokens (outline (explain_data number counts.now))) }
+    ensures before { writer.new.before ≡ writer.old.before }
 {
-    let actions = actions_json(alloc, counts)?;
-    json!(in alloc; {
-        "actions": actions,
-        "asked": counts.asked,
-        "changes": counts.changes,
-        "full": counts.full,
-        "line": number,
-        "ok": "explain",
-    })
+    writer.begin_object()?;
+    writer.key("actions")?;
+    put_actions(writer, counts)?;
+    put_number(writer, "asked", counts.asked)?;
+    put_number(writer, "changes", counts.changes)?;
+    put_number(writer, "full", counts.full)?;
+    put_number(writer, "line", number)?;
+    put_text(writer, "ok", "explain")?;
+    writer.end_object()
 }
 
-fn actions_json(alloc: Global, counts: &Counts) -> Result<Json, AllocError>
-    ensures { IfOk result (λ j. view j ≡ actions_data counts.now) }
+// The object of the counts above 0.
+#[tactic(auto, unfolding(crate::specs::Explain::named_actions))]
+fn put_actions(writer: &mut Writer, counts: &Counts) -> Result<(), AllocError>
+    ensures tokens { OnOk result (writer.new.tokens
+        ≡ writer.old.tokens ++ json_tokens (outline (actions_data counts.now))) }
+    ensures before { writer.new.before ≡ writer.old.before }
 {
-    let members = counted_members(alloc, &NAMES, counts)?;
-    Ok(Json::Object(members))
+    put_table(writer, &NAMES, counts)
 }
 
-// The counts above 0 of a table's actions.
-fn counted_members(
-    alloc: Global,
+// Those of the actions of a table.
+fn put_table(
+    writer: &mut Writer,
     table: &[(&str, Action)],
     counts: &Counts,
-) -> Result<Map<String, Json>, AllocError>
-    requires { IsStrictlySortedBy (slice_cmp nat_cmp) (map (λ a. a.0) (named table.now)) }
-    ensures { IfOk result (λ m. members_view m.entries
-        ≡ counted_members counts.now (named table.now)) }
+) -> Result<(), AllocError>
+    ensures tokens { OnOk result (writer.new.tokens ≡ writer.old.tokens
+        ++ json_tokens (outline (object (counted_members counts.now (named table.now))))) }
+    ensures before { writer.new.before ≡ writer.old.before }
 {
-    let mut members = Map::new(alloc);
+    writer.begin_object()?;
     for (name, action) in table {
-        put_count(alloc, &mut members, name, count_of(counts, *action))?;
+        put_count(writer, name, count_of(counts, *action))?;
     }
-    Ok(members)
+    writer.end_object()
 }
 
 fn count_of(counts: &Counts, action: Action) -> u64
@@ -80,18 +89,14 @@ fn count_of(counts: &Counts, action: Action) -> u64
     counts.by_action[action as usize]
 }
 
-// Puts a count into an object, unless it is 0.
-fn put_count(
-    alloc: Global,
-    members: &mut Map<String, Json>,
-    name: &str,
-    count: u64,
-) -> Result<(), AllocError>
-    ensures { OnOk result (members_view members.new.entries
-        ≡ with_data name.now (count_data count) (members_view members.old.entries)) }
+// A count, unless it is 0.
+fn put_count(writer: &mut Writer, name: &str, count: u64) -> Result<(), AllocError>
+    ensures tokens { OnOk result (writer.new.tokens
+        ≡ writer.old.tokens ++ member_tokens name.now (count_data count)) }
+    ensures before { writer.new.before ≡ writer.old.before }
 {
     if count > 0 {
-        put(alloc, members, name, Json::from(count))?;
+        put_number(writer, name, count)?;
     }
     Ok(())
 }

@@ -1,11 +1,12 @@
-ghost use Rattle.std.specs.Prelude.{◌≡◌, IfOk};
-ghost use Rattle.serde_json.specs.View.{view};
+ghost use Rattle.std.specs.Prelude.{◌≡◌, ◌++◌, OnOk};
+ghost use Rattle.json.specs.Tree.{json_tokens};
+ghost use Rattle.serde_json.specs.Written.{outline};
 ghost use Rattle.rx_reply.specs.Form.{form_seen, reason_seen, plain_form, named_form, caused_form, form_data};
 
-use crate::writing::{put, put_text};
+use crate::writing::{put_maybe_number, put_maybe_text, put_number, put_text};
+use json::Writer;
 use rx_value::RxText;
-use serde_json::{Map, Value as Json};
-use std::alloc::{AllocError, Global};
+use std::alloc::AllocError;
 
 // What is printed of a refusal.
 #[derive(Debug, Drop)]
@@ -54,19 +55,19 @@ impl<'a> Form<'a> {
         }
     }
 
-    pub(crate) fn json(&self, alloc: Global, number: u64) -> Result<Json, AllocError>
-        ensures { IfOk result (λ j. view j ≡ form_data number (form_seen self.now)) }
+    pub(crate) fn put(&self, writer: &mut Writer, number: u64) -> Result<(), AllocError>
+        ensures tokens { OnOk result (writer.new.tokens ≡ writer.old.tokens
+            ++ json_tokens (outline (form_data number (form_seen self.now)))) }
+        ensures before { writer.new.before ≡ writer.old.before }
     {
-        let mut members = Map::new(alloc);
-        put_text(alloc, &mut members, "cause", self.cause)?;
-        put(alloc, &mut members, "code", Json::from(self.code))?;
-        put(alloc, &mut members, "line", Json::from(number))?;
-        put_text(alloc, &mut members, "name", self.name)?;
-        put_text(alloc, &mut members, "refused", Some(self.word))?;
-        put_text(alloc, &mut members, "rev", self.rev)?;
-        if let Some(row) = self.row {
-            put(alloc, &mut members, "row", Json::from(row))?;
-        }
-        Ok(Json::Object(members))
+        writer.begin_object()?;
+        put_maybe_text(writer, "cause", self.cause)?;
+        put_number(writer, "code", self.code)?;
+        put_number(writer, "line", number)?;
+        put_maybe_text(writer, "name", self.name)?;
+        put_text(writer, "refused", self.word)?;
+        put_maybe_text(writer, "rev", self.rev)?;
+        put_maybe_number(writer, "row", self.row)?;
+        writer.end_object()
     }
 }

@@ -1,4 +1,5 @@
-//! What the lines of a script are answered, and the lines of output.
+//! What the lines of a script are answered, and the lines of output. They are printed token by
+//! token from what an answer lends, so no document is copied and no JSON tree is made.
 #![tactic(auto)]
 
 mod emission;

@@ -133,6 +133,7 @@ fn line_form(fault: &LineFault) -> Form<'_>
         LineFault::Unexpected(name) => Form::named(6, "unexpected", name),
         LineFault::WrongType(name) => Form::named(7, "wrong_type", name),
         LineFault::Name(name) => Form::named(8, "name", name),
+        LineFault::Batch(name) => Form::named(20, "batch", name),
         LineFault::NotYet => Form::plain(27, "not_yet"),
         LineFault::Memory => Form::plain(0, "memory"),
     }

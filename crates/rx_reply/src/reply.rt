@@ -1,41 +1,77 @@
-ghost use Rattle.std.specs.Prelude.{◌≡◌, IfOk, string_bytes};
+ghost use Rattle.std.specs.Prelude.{◌≡◌, ◌++◌, IfOk, OnOk, string_bytes};
+ghost use Rattle.json.specs.Tree.{json_tokens};
 ghost use Rattle.serde_json.specs.Data.{no_members};
-ghost use Rattle.serde_json.specs.View.{view};
+ghost use Rattle.serde_json.specs.Written.{outline};
 ghost use Rattle.rx_reply.specs.Answer as answer;
-ghost use Rattle.rx_reply.specs.Answer.{answer_of, rows_of};
+ghost use Rattle.rx_reply.specs.Answer.{answer_of, rows_of, states_of};
 ghost use Rattle.rx_reply.specs.Reply.{line_object, ok_members, written_data, answer_data, answer_line, is_refusal};
 
-use crate::explain::explain_json;
+use crate::explain::put_explain;
 use crate::refusal::Refusal;
-use crate::writing::{output_line, rows_json, texts_json};
-use rx_document::Stored;
+use crate::writing::{
+    finish_line, put_maybe_place, put_number, put_rows, put_states, put_text, put_texts,
+};
+use json::Writer;
+use rx_document::{Place, Stored};
 use rx_table::Counts;
-use rx_value::{RxText, fields_json};
-use serde_json::{Value as Json, json};
+use rx_value::{RxText, put_fields};
 use std::alloc::{AllocError, Global};
 
 /// What a line is answered.
 #[derive(Debug, Drop)]
 pub enum Reply<'a> {
     /// Whether the collection is new.
-    Collection { new: bool },
-    Insert { rev: RxText },
-    Upsert { rev: RxText },
-    Patch { rev: RxText },
-    Remove { rev: RxText },
+    Collection {
+        new: bool,
+    },
+    Insert {
+        rev: RxText,
+    },
+    Upsert {
+        rev: RxText,
+    },
+    Patch {
+        rev: RxText,
+    },
+    Remove {
+        rev: RxText,
+    },
     /// The revisions in the order of the documents.
-    Bulk { revs: Vec<RxText> },
-    Get { doc: &'a Stored },
-    Find { rows: Vec<&'a Stored> },
-    Count { count: u64 },
+    Bulk {
+        revs: Vec<RxText>,
+    },
+    Get {
+        doc: &'a Stored,
+    },
+    Find {
+        rows: Vec<&'a Stored>,
+    },
+    Count {
+        count: u64,
+    },
     Observe,
     /// The query's rows are printed no more.
     Unobserve,
     /// How the changes since the query was observed were answered, also before a restart.
-    Explain { counts: &'a Counts },
+    Explain {
+        counts: &'a Counts,
+    },
+    /// The documents above a place in the order of writing, and the place that they go up to: the
+    /// last one's, or the one asked from.
+    Changes {
+        docs: Vec<&'a Stored>,
+        place: Option<Place>,
+    },
     Tick,
     /// The epoch that begins.
-    Restart { epoch: u64 },
+    Restart {
+        epoch: u64,
+    },
+    /// How many states there are, and what they hash to.
+    Digest {
+        count: u64,
+        digest: RxText,
+    },
     Refused(Refusal),
 }
 
@@ -50,87 +86,178 @@ impl Reply<'_> {
     pub fn line(&self, alloc: Global, number: u64) -> Result<String, AllocError>
         ensures { IfOk result (λ t. string_bytes t ≡ answer_line number (answer_of self.now)) }
     {
-        let json = self.json(alloc, number)?;
-        output_line(alloc, &json)
+        let mut writer = Writer::new(Vec::new(alloc));
+        self.put(alloc, &mut writer, number)?;
+        finish_line(writer)
     }
 
-    fn json(&self, alloc: Global, number: u64) -> Result<Json, AllocError>
-        ensures { IfOk result (λ j. view j ≡ answer_data number (answer_of self.now)) }
+    fn put(&self, alloc: Global, writer: &mut Writer, number: u64) -> Result<(), AllocError>
+        ensures tokens { OnOk result (writer.new.tokens ≡ writer.old.tokens
+            ++ json_tokens (outline (answer_data number (answer_of self.now)))) }
+        ensures before { writer.new.before ≡ writer.old.before }
     {
         match self {
-            Reply::Collection { new } => collection_json(alloc, number, *new),
-            Reply::Insert { rev } => written_json(alloc, number, "insert", rev),
-            Reply::Upsert { rev } => written_json(alloc, number, "upsert", rev),
-            Reply::Patch { rev } => written_json(alloc, number, "patch", rev),
-            Reply::Remove { rev } => written_json(alloc, number, "remove", rev),
-            Reply::Bulk { revs } => bulk_json(alloc, number, revs.as_slice()),
-            Reply::Get { doc } => get_json(alloc, number, doc),
-            Reply::Find { rows } => find_json(alloc, number, rows.as_slice()),
-            Reply::Count { count } => count_json(alloc, number, *count),
-            Reply::Observe => plain_json(alloc, number, "observe"),
-            Reply::Unobserve => plain_json(alloc, number, "unobserve"),
-            Reply::Explain { counts } => explain_json(alloc, number, counts),
-            Reply::Tick => plain_json(alloc, number, "tick"),
-            Reply::Restart { epoch } => restart_json(alloc, number, *epoch),
-            Reply::Refused(refusal) => refusal.form().json(alloc, number),
+            Reply::Collection { new } => put_collection(writer, number, *new),
+            Reply::Insert { rev } => put_written(writer, number, "insert", rev),
+            Reply::Upsert { rev } => put_written(writer, number, "upsert", rev),
+            Reply::Patch { rev } => put_written(writer, number, "patch", rev),
+            Reply::Remove { rev } => put_written(writer, number, "remove", rev),
+            Reply::Bulk { revs } => put_bulk(writer, number, revs.as_slice()),
+            Reply::Get { doc } => put_get(alloc, writer, number, doc),
+            Reply::Find { rows } => put_find(writer, number, rows.as_slice()),
+            Reply::Count { count } => put_counted(writer, number, *count),
+            Reply::Observe => put_plain(writer, number, "observe"),
+            Reply::Unobserve => put_plain(writer, number, "unobserve"),
+            Reply::Explain { counts } => put_explain(writer, number, counts),
+            Reply::Changes { docs, place } => put_changes(writer, number, docs.as_slice(), place),
+            Reply::Tick => put_plain(writer, number, "tick"),
+            Reply::Restart { epoch } => put_restart(writer, number, *epoch),
+            Reply::Digest { count, digest } => put_digest(writer, number, *count, digest),
+            Reply::Refused(refusal) => refusal.form().put(writer, number),
         }
     }
 }
 
-fn plain_json(alloc: Global, number: u64, ok: &str) -> Result<Json, AllocError>
-    ensures { IfOk result (λ j. view j ≡ line_object number (ok_members ok.now no_members)) }
+fn put_plain(writer: &mut Writer, number: u64, ok: &str) -> Result<(), AllocError>
+    ensures tokens { OnOk result (writer.new.tokens
+        ≡ writer.old.tokens
+        ++ json_tokens (outline (line_object number (ok_members ok.now no_members)))) }
+    ensures before { writer.new.before ≡ writer.old.before }
 {
-    json!(in alloc; {"line": number, "ok": ok})
+    writer.begin_object()?;
+    put_number(writer, "line", number)?;
+    put_text(writer, "ok", ok)?;
+    writer.end_object()
 }
 
-fn collection_json(alloc: Global, number: u64, new: bool) -> Result<Json, AllocError>
-    ensures { IfOk result (λ j. view j ≡ answer_data number (answer.collection new)) }
+fn put_collection(writer: &mut Writer, number: u64, new: bool) -> Result<(), AllocError>
+    ensures tokens { OnOk result (writer.new.tokens
+        ≡ writer.old.tokens ++ json_tokens (outline (answer_data number (answer.collection new)))) }
+    ensures before { writer.new.before ≡ writer.old.before }
 {
-    json!(in alloc; {"line": number, "new": new, "ok": "collection"})
+    writer.begin_object()?;
+    put_number(writer, "line", number)?;
+    writer.key("new")?;
+    writer.boolean(new)?;
+    put_text(writer, "ok", "collection")?;
+    writer.end_object()
 }
 
-fn written_json(alloc: Global, number: u64, ok: &str, rev: &RxText) -> Result<Json, AllocError>
-    ensures { IfOk result (λ j. view j ≡ written_data number ok.now rev.now) }
+fn put_written(writer: &mut Writer, number: u64, ok: &str, rev: &RxText) -> Result<(), AllocError>
+    ensures tokens { OnOk result (writer.new.tokens
+        ≡ writer.old.tokens ++ json_tokens (outline (written_data number ok.now rev.now))) }
+    ensures before { writer.new.before ≡ writer.old.before }
 {
-    json!(in alloc; {"line": number, "ok": ok, "rev": rev.as_str()})
+    writer.begin_object()?;
+    put_number(writer, "line", number)?;
+    put_text(writer, "ok", ok)?;
+    put_text(writer, "rev", rev.as_str())?;
+    writer.end_object()
 }
 
-fn bulk_json(alloc: Global, number: u64, revs: &[RxText]) -> Result<Json, AllocError>
-    ensures { IfOk result (λ j. view j ≡ answer_data number (answer.bulk revs.now)) }
+fn put_bulk(writer: &mut Writer, number: u64, revs: &[RxText]) -> Result<(), AllocError>
+    ensures tokens { OnOk result (writer.new.tokens
+        ≡ writer.old.tokens ++ json_tokens (outline (answer_data number (answer.bulk revs.now)))) }
+    ensures before { writer.new.before ≡ writer.old.before }
 {
-    let revs = texts_json(alloc, revs)?;
-    json!(in alloc; {"line": number, "ok": "bulk", "revs": revs})
+    writer.begin_object()?;
+    put_number(writer, "line", number)?;
+    put_text(writer, "ok", "bulk")?;
+    writer.key("revs")?;
+    put_texts(writer, revs)?;
+    writer.end_object()
 }
 
-fn get_json(alloc: Global, number: u64, doc: &Stored) -> Result<Json, AllocError>
-    ensures { IfOk result (λ j. view j ≡ answer_data number (answer.get doc.now)) }
+fn put_get(alloc: Global, writer: &mut Writer, number: u64, doc: &Stored) -> Result<(), AllocError>
+    ensures tokens { OnOk result (writer.new.tokens
+        ≡ writer.old.tokens ++ json_tokens (outline (answer_data number (answer.get doc.now)))) }
+    ensures before { writer.new.before ≡ writer.old.before }
 {
-    let fields = fields_json(alloc, &doc.state.fields)?;
     let rev = doc.rev.text(alloc)?;
-    json!(in alloc; {
-        "doc": fields,
-        "line": number,
-        "lwt": doc.lwt,
-        "ok": "get",
-        "rev": rev.as_str(),
-    })
+    writer.begin_object()?;
+    writer.key("doc")?;
+    put_fields(writer, &doc.state.fields)?;
+    put_number(writer, "line", number)?;
+    put_number(writer, "lwt", doc.lwt)?;
+    put_text(writer, "ok", "get")?;
+    put_text(writer, "rev", rev.as_str())?;
+    writer.end_object()
 }
 
-fn find_json(alloc: Global, number: u64, rows: &[&Stored]) -> Result<Json, AllocError>
-    ensures { IfOk result (λ j. view j ≡ answer_data number (answer.find (rows_of rows.now))) }
+fn put_find(writer: &mut Writer, number: u64, rows: &[&Stored]) -> Result<(), AllocError>
+    ensures tokens { OnOk result (writer.new.tokens
+        ≡ writer.old.tokens
+        ++ json_tokens (outline (answer_data number (answer.find (rows_of rows.now))))) }
+    ensures before { writer.new.before ≡ writer.old.before }
 {
-    let rows = rows_json(alloc, rows)?;
-    json!(in alloc; {"line": number, "ok": "find", "rows": rows})
+    writer.begin_object()?;
+    put_number(writer, "line", number)?;
+    put_text(writer, "ok", "find")?;
+    writer.key("rows")?;
+    put_rows(writer, rows)?;
+    writer.end_object()
 }
 
-fn count_json(alloc: Global, number: u64, count: u64) -> Result<Json, AllocError>
-    ensures { IfOk result (λ j. view j ≡ answer_data number (answer.count count)) }
+fn put_counted(writer: &mut Writer, number: u64, count: u64) -> Result<(), AllocError>
+    ensures tokens { OnOk result (writer.new.tokens
+        ≡ writer.old.tokens ++ json_tokens (outline (answer_data number (answer.count count)))) }
+    ensures before { writer.new.before ≡ writer.old.before }
 {
-    json!(in alloc; {"count": count, "line": number, "ok": "count"})
+    writer.begin_object()?;
+    put_number(writer, "count", count)?;
+    put_number(writer, "line", number)?;
+    put_text(writer, "ok", "count")?;
+    writer.end_object()
 }
 
-fn restart_json(alloc: Global, number: u64, epoch: u64) -> Result<Json, AllocError>
-    ensures { IfOk result (λ j. view j ≡ answer_data number (answer.restart epoch)) }
+fn put_changes(
+    writer: &mut Writer,
+    number: u64,
+    docs: &[&Stored],
+    place: &Option<Place>,
+) -> Result<(), AllocError>
+    ensures tokens { OnOk result (writer.new.tokens
+        ≡ writer.old.tokens
+        ++ json_tokens (outline (answer_data number
+        (answer.changes (states_of docs.now) place.now)))) }
+    ensures before { writer.new.before ≡ writer.old.before }
 {
-    json!(in alloc; {"epoch": epoch, "line": number, "ok": "restart"})
+    writer.begin_object()?;
+    writer.key("docs")?;
+    put_states(writer, docs)?;
+    put_number(writer, "line", number)?;
+    put_text(writer, "ok", "changes")?;
+    put_maybe_place(writer, "place", place)?;
+    writer.end_object()
+}
+
+fn put_restart(writer: &mut Writer, number: u64, epoch: u64) -> Result<(), AllocError>
+    ensures tokens { OnOk result (writer.new.tokens
+        ≡ writer.old.tokens ++ json_tokens (outline (answer_data number (answer.restart epoch)))) }
+    ensures before { writer.new.before ≡ writer.old.before }
+{
+    writer.begin_object()?;
+    put_number(writer, "epoch", epoch)?;
+    put_number(writer, "line", number)?;
+    put_text(writer, "ok", "restart")?;
+    writer.end_object()
+}
+
+fn put_digest(
+    writer: &mut Writer,
+    number: u64,
+    count: u64,
+    digest: &RxText,
+) -> Result<(), AllocError>
+    ensures tokens { OnOk result (writer.new.tokens
+        ≡ writer.old.tokens
+        ++ json_tokens (outline (answer_data number (answer.digest count digest.now)))) }
+    ensures before { writer.new.before ≡ writer.old.before }
+{
+    writer.begin_object()?;
+    put_number(writer, "count", count)?;
+    put_text(writer, "digest", digest.as_str())?;
+    put_number(writer, "line", number)?;
+    put_text(writer, "ok", "digest")?;
+    writer.end_object()
 }

@@ -1,73 +1,157 @@
-// What the lines of output have in common.
-ghost use Rattle.std.specs.Prelude.{◌≡◌, IfOk, OnOk, false, option_map, string_bytes};
-ghost use Rattle.serde_json.specs.Data.{string, put};
-ghost use Rattle.serde_json.specs.View.{view, members_view};
-ghost use Rattle.serde_json.specs.Written.{has_float};
+// The parts that lines of output have in common, as tokens after those that a writer has.
+ghost use Rattle.std.specs.Prelude.{◌≡◌, ◌∷◌, [], ◌++◌, IfOk, OnOk, option_map, string_bytes};
+ghost use Rattle.json.specs.Token.{key};
+ghost use Rattle.json.specs.Tree.{json_tokens};
+ghost use Rattle.serde_json.specs.Data.{Data, string};
+ghost use Rattle.serde_json.specs.Written.{outline};
+ghost use Rattle.rx_value.specs.State.{state_data};
 ghost use Rattle.rx_value.specs.Writing.{fields_data};
-ghost use Rattle.rx_reply.specs.Answer.{rows_of};
-ghost use Rattle.rx_reply.specs.Writing.{list_data, with_text, output_line};
+ghost use Rattle.rx_reply.specs.Answer.{rows_of, states_of};
+ghost use Rattle.rx_reply.specs.Emission.{rows_fields};
+ghost use Rattle.rx_reply.specs.Writing.{number_data, list_data, place_data, member_tokens, output_line};
 
-use rx_document::Stored;
-use rx_value::{RxText, fields_json};
-use serde_json::{Map, Value as Json};
-use std::alloc::{AllocError, Global};
+use json::Writer;
+use rx_document::{Place, Stored};
+use rx_query::Results;
+use rx_value::{RxText, put_fields, put_state};
+use std::alloc::AllocError;
 
-pub(crate) fn output_line(alloc: Global, json: &Json) -> Result<String, AllocError>
-    ensures { has_float (view json.now) ≡ false
-        → IfOk result (λ t. string_bytes t ≡ output_line (view json.now)) }
+// The line of what was written.
+pub(crate) fn finish_line(writer: Writer) -> Result<String, AllocError>
+    requires { writer.before ≡ [] }
+    ensures { (d : Data) → writer.tokens ≡ json_tokens (outline d)
+        → IfOk result (λ t. string_bytes t ≡ output_line d) }
 {
-    let mut text = json.to_string(alloc)?;
+    // A writer gives UTF-8.
+    let mut text = unsafe { String::from_utf8_unchecked(writer.into_inner()) };
     text.push('\n')?;
     Ok(text)
 }
 
-// The list of the objects of the fields.
-pub(crate) fn rows_json(alloc: Global, rows: &[&Stored]) -> Result<Json, AllocError>
-    ensures { IfOk result (λ j. view j ≡ list_data fields_data (rows_of rows.now)) }
+pub(crate) fn put_number(writer: &mut Writer, name: &str, number: u64) -> Result<(), AllocError>
+    ensures tokens { OnOk result (writer.new.tokens
+        ≡ writer.old.tokens ++ key name.now ∷ json_tokens (outline (number_data number))) }
+    ensures before { writer.new.before ≡ writer.old.before }
 {
-    let mut items = Vec::with_capacity(alloc, rows.len())?;
-    for doc in rows {
-        items.push(fields_json(alloc, &doc.state.fields)?)?;
-    }
-    Ok(Json::Array(items))
+    writer.key(name)?;
+    writer.u64(number)
 }
 
-pub(crate) fn texts_json(alloc: Global, texts: &[RxText]) -> Result<Json, AllocError>
-    ensures { IfOk result (λ j. view j ≡ list_data string texts.now) }
+pub(crate) fn put_text(writer: &mut Writer, name: &str, text: &str) -> Result<(), AllocError>
+    ensures tokens { OnOk result (writer.new.tokens
+        ≡ writer.old.tokens ++ key name.now ∷ json_tokens (outline (string text.now))) }
+    ensures before { writer.new.before ≡ writer.old.before }
 {
-    let mut items = Vec::with_capacity(alloc, texts.len())?;
-    for text in texts {
-        items.push(Json::try_from_str(alloc, text.as_str())?)?;
-    }
-    Ok(Json::Array(items))
+    writer.key(name)?;
+    writer.string(text)
 }
 
-// Puts a member into an object.
-pub(crate) fn put(
-    alloc: Global,
-    members: &mut Map<String, Json>,
+pub(crate) fn put_maybe_number(
+    writer: &mut Writer,
     name: &str,
-    value: Json,
+    number: Option<u64>,
 ) -> Result<(), AllocError>
-    ensures { OnOk result (members_view members.new.entries
-        ≡ put name.now (view value) (members_view members.old.entries)) }
+    ensures tokens { OnOk result (writer.new.tokens
+        ≡ writer.old.tokens ++ member_tokens name.now (option_map number_data number)) }
+    ensures before { writer.new.before ≡ writer.old.before }
 {
-    members.insert(String::from_str(alloc, name)?, value)?;
-    Ok(())
+    match number {
+        Some(number) => put_number(writer, name, number),
+        None => Ok(()),
+    }
 }
 
-// Puts a text into an object, where there is one.
-pub(crate) fn put_text(
-    alloc: Global,
-    members: &mut Map<String, Json>,
+pub(crate) fn put_maybe_text(
+    writer: &mut Writer,
     name: &str,
     text: Option<&str>,
 ) -> Result<(), AllocError>
-    ensures { OnOk result (members_view members.new.entries
-        ≡ with_text name.now (option_map (λ t. t.now) text.entry) (members_view members.old.entries)) }
+    ensures tokens { OnOk result (writer.new.tokens
+        ≡ writer.old.tokens ++ member_tokens name.now (option_map (λ t. string t.now) text.entry)) }
+    ensures before { writer.new.before ≡ writer.old.before }
 {
     match text {
-        Some(text) => put(alloc, members, name, Json::try_from_str(alloc, text)?),
+        Some(text) => put_text(writer, name, text),
         None => Ok(()),
     }
+}
+
+pub(crate) fn put_maybe_place(
+    writer: &mut Writer,
+    name: &str,
+    place: &Option<Place>,
+) -> Result<(), AllocError>
+    ensures tokens { OnOk result (writer.new.tokens
+        ≡ writer.old.tokens ++ member_tokens name.now (option_map place_data place.now)) }
+    ensures before { writer.new.before ≡ writer.old.before }
+{
+    let Some(place) = place else {
+        return Ok(());
+    };
+    writer.key(name)?;
+    put_place(writer, place)
+}
+
+fn put_place(writer: &mut Writer, place: &Place) -> Result<(), AllocError>
+    ensures tokens { OnOk result (writer.new.tokens
+        ≡ writer.old.tokens ++ json_tokens (outline (place_data place.now))) }
+    ensures before { writer.new.before ≡ writer.old.before }
+{
+    writer.begin_object()?;
+    put_text(writer, "id", place.id.as_str())?;
+    put_number(writer, "lwt", place.lwt)?;
+    writer.end_object()
+}
+
+pub(crate) fn put_texts(writer: &mut Writer, texts: &[RxText]) -> Result<(), AllocError>
+    ensures tokens { OnOk result (writer.new.tokens
+        ≡ writer.old.tokens ++ json_tokens (outline (list_data string texts.now))) }
+    ensures before { writer.new.before ≡ writer.old.before }
+{
+    writer.begin_array()?;
+    for text in texts {
+        writer.string(text.as_str())?;
+    }
+    writer.end_array()
+}
+
+// The fields of documents.
+pub(crate) fn put_rows(writer: &mut Writer, rows: &[&Stored]) -> Result<(), AllocError>
+    ensures tokens { OnOk result (writer.new.tokens
+        ≡ writer.old.tokens ++ json_tokens (outline (list_data fields_data (rows_of rows.now)))) }
+    ensures before { writer.new.before ≡ writer.old.before }
+{
+    writer.begin_array()?;
+    for document in rows {
+        put_fields(writer, &document.state.fields)?;
+    }
+    writer.end_array()
+}
+
+// The fields of a query's rows.
+pub(crate) fn put_results(writer: &mut Writer, rows: &Results) -> Result<(), AllocError>
+    ensures tokens { OnOk result (writer.new.tokens
+        ≡ writer.old.tokens
+        ++ json_tokens (outline (list_data fields_data (rows_fields rows.now)))) }
+    ensures before { writer.new.before ≡ writer.old.before }
+{
+    writer.begin_array()?;
+    for i in 0..rows.len() {
+        put_fields(writer, &rows.row(i).fields)?;
+    }
+    writer.end_array()
+}
+
+// The states of documents, with their deletion marks.
+pub(crate) fn put_states(writer: &mut Writer, documents: &[&Stored]) -> Result<(), AllocError>
+    ensures tokens { OnOk result (writer.new.tokens
+        ≡ writer.old.tokens
+        ++ json_tokens (outline (list_data state_data (states_of documents.now)))) }
+    ensures before { writer.new.before ≡ writer.old.before }
+{
+    writer.begin_array()?;
+    for document in documents {
+        put_state(writer, &document.state)?;
+    }
+    writer.end_array()
 }

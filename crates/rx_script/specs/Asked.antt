@@ -1,5 +1,5 @@
 -- What a line asks, with the JSON in it as the data that it stands for.
-use Rattle.std.specs.Prelude.{◌≡◌, ◌≤◌, ⊤, ℕ, List, map, Bool, true, Option, is_some}
+use Rattle.std.specs.Prelude.{◌≡◌, ◌≤◌, ⊤, ℕ, List, map, Bool, true, Option, is_some, IfSome}
 use Rattle.std.specs.List.{list_all}
 use Rattle.serde_json.specs.Data.{Data}
 use Rattle.serde_json.specs.Find.{as_object}
@@ -8,6 +8,7 @@ use Rattle.rx_value.specs.Name.{is_name}
 use Rattle.rx_value.specs.Value.{largest}
 use Rattle.rx_script.specs.declared.line.Line.{Line}
 use Rattle.rx_script.specs.declared.line.Line.TheVariants as line
+use Rattle.rx_script.specs.declared.since.Since.{Since}
 
 pub data Asked : Type 0 where
   Collection : (name : List ℕ) (schema : Data) → Asked
@@ -22,8 +23,10 @@ pub data Asked : Type 0 where
   Observe : (name coll : List ℕ) (query : Data) → Asked
   Unobserve : (name : List ℕ) → Asked
   Explain : (name : List ℕ) → Asked
+  Changes : (coll : List ℕ) (since : Option Since) (batch : ℕ) → Asked
   Tick : (at : ℕ) → Asked
   Restart : Asked
+  Digest : (coll : List ℕ) → Asked
 
 abbrev pub asked : Line → Asked
 asked (line.Collection name schema) = Collection name (view schema)
@@ -38,13 +41,20 @@ asked (line.Count coll query) = Count coll (view query)
 asked (line.Observe name coll query) = Observe name coll (view query)
 asked (line.Unobserve name) = Unobserve name
 asked (line.Explain name) = Explain name
+asked (line.Changes coll since batch) = Changes coll since batch
 asked (line.Tick at) = Tick at
 asked line.Restart = Restart
+asked (line.Digest coll) = Digest coll
 
 abbrev pub is_object : Data → Bool
 is_object d = is_some (as_object d)
 
--- names are names, documents are objects, and a moment is a number of a script
+-- the most documents of a batch
+abbrev pub max_batch : ℕ
+max_batch = 100
+
+-- names are names, documents are objects, a moment and a write time are numbers of a script, and a
+-- batch is within its limits
 abbrev pub IsLawful : Asked → Type 0
 IsLawful (Collection name schema) = is_name name ≡ true
 IsLawful (Insert coll doc) = (is_name coll ≡ true) × (is_object doc ≡ true)
@@ -58,5 +68,8 @@ IsLawful (Count coll query) = is_name coll ≡ true
 IsLawful (Observe name coll query) = (is_name name ≡ true) × (is_name coll ≡ true)
 IsLawful (Unobserve name) = is_name name ≡ true
 IsLawful (Explain name) = is_name name ≡ true
+IsLawful (Changes coll since batch) =
+    (is_name coll ≡ true) × IfSome since (λ s. s.lwt ≤ largest) × (1 ≤ batch) × (batch ≤ max_batch)
 IsLawful (Tick at) = at ≤ largest
 IsLawful Restart = ⊤
+IsLawful (Digest coll) = is_name coll ≡ true

@@ -1,16 +1,17 @@
 -- Reading a line: what it asks, or the first fault.
-use Rattle.std.specs.Prelude.{⊤, ℕ, List, [], ◌∷◌, length, codes, Bool, ◌&&◌, is_some, is_none, nat_le, if◌then◌else◌, Option, Some, None, option_map, unwrap_or, Result, Ok, Err}
+use Rattle.std.specs.Prelude.{⊤, ℕ, List, [], ◌∷◌, length, codes, Bool, ◌&&◌, ◌||◌, is_some, is_none, nat_le, if◌then◌else◌, Option, Some, None, option_map, unwrap_or, Result, Ok, Err}
 use Rattle.std.specs.List.{list_all}
 use Rattle.std.specs.Str.{is_utf8}
 use Rattle.serde_json.specs.Data.{Data, null, Items, no_items, item}
 use Rattle.serde_json.specs.Find.{get, as_array}
 use Rattle.serde_json.specs.Read.{read}
 use Rattle.rx_value.specs.Due.{◌>>◌, or_fault, unless}
-use Rattle.rx_value.specs.Form.{missing, unexpected, text_at, whole_within}
+use Rattle.rx_value.specs.Form.{missing, unexpected, text_at, whole_at, whole_within}
 use Rattle.rx_value.specs.Name.{is_name}
 use Rattle.rx_value.specs.Named.{named}
 use Rattle.rx_value.specs.Value.{largest}
-use Rattle.rx_script.specs.Asked.{Asked, is_object, Collection, Insert, Bulk, Upsert, Patch, Remove, Get, Find, Count, Observe, Unobserve, Explain, Tick, Restart}
+use Rattle.rx_script.specs.Asked.{Asked, is_object, max_batch, Collection, Insert, Bulk, Upsert, Patch, Remove, Get, Find, Count, Observe, Unobserve, Explain, Changes, Tick, Restart, Digest}
+use Rattle.rx_script.specs.Since.{maybe_since}
 use Rattle.rx_script.specs.declared.fault.LineFault.{LineFault}
 use Rattle.rx_script.specs.declared.fault.LineFault.TheVariants as fault
 
@@ -73,12 +74,25 @@ objects name d = demand (are_objects (json_at name d)) (fault.WrongType name)
 abbrev pub a_moment : List ℕ → Data → Result ℕ LineFault
 a_moment name d = or_fault (fault.WrongType name) (whole_within name 0 largest d)
 
+-- a whole number, however great, that may be missing
+abbrev pub maybe_whole : List ℕ → Data → Result ⊤ LineFault
+maybe_whole name d =
+    demand (is_none (get name d) || is_some (whole_at name d)) (fault.WrongType name)
+
 -- ---- the text of a member is a name
 
 abbrev pub a_name : List ℕ → List ℕ → Result ⊤ LineFault
 a_name member text = demand (is_name text) (fault.Name member)
 
--- ---- the forms: which members, of which kinds, which of them names
+-- ---- the number of a member is within its limits
+
+-- from 1 to the most; where it is missing, the number that is meant
+abbrev pub a_count : List ℕ → ℕ → ℕ → Data → Result ℕ LineFault
+a_count name most meant d =
+    if is_none (get name d) then Ok meant
+    else or_fault (fault.Batch name) (whole_within name 1 most d)
+
+-- ---- the forms: which members, of which kinds, which of them names, which within limits
 
 abbrev pub collection_of : Data → Result Asked LineFault
 collection_of d =
@@ -148,6 +162,15 @@ name_of d =
     a_name (codes "name") name >> λ _.
     Ok name
 
+abbrev pub changes_of : Data → Result Asked LineFault
+changes_of d =
+    has_form (codes "do" ∷ codes "in" ∷ []) (codes "since" ∷ codes "batch" ∷ []) d >> λ _.
+    a_text (codes "in") d >> λ coll. maybe_since (codes "since") d >> λ since.
+    maybe_whole (codes "batch") d >> λ _.
+    a_name (codes "in") coll >> λ _.
+    a_count (codes "batch") max_batch max_batch d >> λ batch.
+    Ok (Changes coll since batch)
+
 abbrev pub tick_of : Data → Result Asked LineFault
 tick_of d =
     has_form (codes "do" ∷ codes "at" ∷ []) [] d >> λ _.
@@ -156,6 +179,13 @@ tick_of d =
 
 abbrev pub restart_of : Data → Result Asked LineFault
 restart_of d = has_form (codes "do" ∷ []) [] d >> λ _. Ok Restart
+
+abbrev pub digest_of : Data → Result Asked LineFault
+digest_of d =
+    has_form (codes "do" ∷ codes "in" ∷ []) [] d >> λ _.
+    a_text (codes "in") d >> λ coll.
+    a_name (codes "in") coll >> λ _.
+    Ok (Digest coll)
 
 -- a form that has not come
 abbrev pub not_yet : Data → Result Asked LineFault
@@ -178,10 +208,10 @@ forms =
     ∷ (codes "explain", λ d. name_of d >> λ name. Ok (Explain name))
     ∷ (codes "replicate", not_yet)
     ∷ (codes "turn", not_yet)
-    ∷ (codes "changes", not_yet)
+    ∷ (codes "changes", changes_of)
     ∷ (codes "tick", tick_of)
     ∷ (codes "restart", restart_of)
-    ∷ (codes "digest", not_yet)
+    ∷ (codes "digest", digest_of)
     ∷ []
 
 -- ---- lines

@@ -23,6 +23,8 @@ pub enum LineFault {
     WrongType(RxText),
     #[error("a member that is not a name")]
     Name(RxText),
+    #[error("a number out of its limits")]
+    Batch(RxText),
     /// Lines of this kind are not played yet.
     #[error("the line is not played yet")]
     NotYet,

@@ -4,15 +4,16 @@ ghost use Rattle.serde_json.specs.View.{view};
 ghost use Rattle.rx_value.specs.Due.{Due, DueBy};
 ghost use Rattle.rx_value.specs.Name.{is_name};
 ghost use Rattle.rx_script.specs.Asked.{asked, is_object, IsLawful};
-ghost use Rattle.rx_script.specs.Line.{collection_of, document_of, bulk_of, patch_of, remove_of, get_of, query_of, observe_of, name_of, tick_of, restart_of, form_of};
+ghost use Rattle.rx_script.specs.Line.{collection_of, document_of, bulk_of, patch_of, remove_of, get_of, query_of, observe_of, name_of, changes_of, tick_of, restart_of, digest_of, form_of};
 ghost use Rattle.rx_script.specs.declared.fault.LineFault.TheVariants.{Memory};
 
 use crate::fault::LineFault;
-use crate::line::Line;
+use crate::line::{Line, MAX_BATCH};
 use crate::member::{
-    check_form, check_name, check_needed, check_object, check_objects, read_maybe_text,
-    read_moment, read_text, take_items, take_json,
+    check_form, check_maybe_whole, check_name, check_needed, check_object, check_objects,
+    read_count, read_maybe_text, read_moment, read_text, take_items, take_json,
 };
+use crate::since::read_maybe_since;
 use rx_value::{RxText, text_at};
 use serde_json::Value as Json;
 use std::alloc::Global;
@@ -52,9 +53,11 @@ pub(crate) fn read_form(alloc: Global, json: Json) -> Result<Line, LineFault>
         Some("explain") => Ok(Line::Explain {
             name: read_name(alloc, json)?,
         }),
+        Some("changes") => read_changes(alloc, json),
         Some("tick") => read_tick(alloc, json),
         Some("restart") => read_restart(alloc, json),
-        Some("replicate" | "turn" | "changes" | "digest") => Err(LineFault::NotYet),
+        Some("digest") => read_digest(alloc, json),
+        Some("replicate" | "turn") => Err(LineFault::NotYet),
         Some(word) => Err(LineFault::UnknownDo(RxText::new(alloc, word)?)),
         None => Err(LineFault::WrongType(RxText::new(alloc, "do")?)),
     }
@@ -173,6 +176,19 @@ fn read_name(alloc: Global, json: Json) -> Result<RxText, LineFault>
     Ok(name)
 }
 
+fn read_changes(alloc: Global, json: Json) -> Result<Line, LineFault>
+    ensures exact { DueBy Memory asked result (changes_of (view json)) }
+    ensures lawful { IfOk result (λ line. IsLawful (asked line)) }
+{
+    check_form(alloc, &json, &["do", "in"], &["since", "batch"])?;
+    let coll = read_text(alloc, &json, "in")?;
+    let since = read_maybe_since(alloc, &json, "since")?;
+    check_maybe_whole(alloc, &json, "batch")?;
+    check_name(alloc, "in", &coll)?;
+    let batch = read_count(alloc, &json, "batch", MAX_BATCH, MAX_BATCH)?;
+    Ok(Line::Changes { coll, since, batch })
+}
+
 fn read_tick(alloc: Global, json: Json) -> Result<Line, LineFault>
     ensures exact { DueBy Memory asked result (tick_of (view json)) }
     ensures lawful { IfOk result (λ line. IsLawful (asked line)) }
@@ -188,4 +204,14 @@ fn read_restart(alloc: Global, json: Json) -> Result<Line, LineFault>
 {
     check_form(alloc, &json, &["do"], &[])?;
     Ok(Line::Restart)
+}
+
+fn read_digest(alloc: Global, json: Json) -> Result<Line, LineFault>
+    ensures exact { DueBy Memory asked result (digest_of (view json)) }
+    ensures lawful { IfOk result (λ line. IsLawful (asked line)) }
+{
+    check_form(alloc, &json, &["do", "in"], &[])?;
+    let coll = read_text(alloc, &json, "in")?;
+    check_name(alloc, "in", &coll)?;
+    Ok(Line::Digest { coll })
 }

@@ -16,22 +16,29 @@
 //! | `observe` | `name`, `in`, `query` |
 //! | `unobserve` | `name` |
 //! | `explain` | `name` |
+//! | `changes` | `in`, and maybe `since` and `batch` |
 //! | `tick` | `at` |
 //! | `restart` | |
+//! | `digest` | `in` |
 //!
 //! `in` and `name` are names, `key` and `rev` are texts, `doc` and `set` are objects, `docs` is a
 //! list of objects, `at` is a whole number from 0 to 2^53 - 1, and `schema` and `query` are any
-//! JSON. The lines `replicate`, `turn`, `changes` and `digest` are known and not read yet.
+//! JSON. `since` is an object of exactly the text `id` and a number `lwt` such as `at`, and `batch`
+//! a whole number, 100 where it is missing. The lines `replicate` and `turn` are known and not read
+//! yet.
 //!
 //! The first fault counts: the line's length, its JSON, that it is an object; then `do`; then
 //! whether a member is missing, in the order of the table, or is none of these, by its bytes; then
-//! the kinds of the members in the order of the table, and last the names in that order.
+//! the kinds of the members in the order of the table, then the names in that order, and last
+//! whether a batch is from 1 to 100.
 #![tactic(auto)]
 
 mod fault;
 mod forms;
 mod line;
 mod member;
+mod since;
 
 pub use fault::LineFault;
-pub use line::{Line, MAX_LINE_BYTES};
+pub use line::{Line, MAX_BATCH, MAX_LINE_BYTES};
+pub use since::Since;

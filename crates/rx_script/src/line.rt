@@ -7,12 +7,16 @@ ghost use Rattle.rx_script.specs.declared.fault.LineFault.TheVariants.{Memory};
 
 use crate::fault::LineFault;
 use crate::forms::read_form;
+use crate::since::Since;
 use rx_value::RxText;
 use serde_json::Value as Json;
 use std::alloc::Global;
 
 /// The most bytes that a line may have.
 pub const MAX_LINE_BYTES: usize = 1_048_576;
+
+/// The most documents of a batch, and as many as it has where no number is given.
+pub const MAX_BATCH: u32 = 100;
 
 /// What a line asks. Names are read; schemas, documents and queries are left as the JSON that
 /// they are, since only the session can judge them. `coll` is the member `in`.
@@ -68,10 +72,18 @@ pub enum Line {
     Explain {
         name: RxText,
     },
+    Changes {
+        coll: RxText,
+        since: Option<Since>,
+        batch: u32,
+    },
     Tick {
         at: u64,
     },
     Restart,
+    Digest {
+        coll: RxText,
+    },
 }
 
 impl Line {

@@ -7,11 +7,13 @@ ghost use Rattle.rx_value.specs.Form.{texts};
 ghost use Rattle.rx_value.specs.Name.{is_name};
 ghost use Rattle.rx_value.specs.Value.{largest};
 ghost use Rattle.rx_script.specs.Asked.{is_object};
-ghost use Rattle.rx_script.specs.Line.{has_needed, has_form, a_text, maybe_text, an_object, objects, a_moment, a_name, json_at, items_of, are_objects};
+ghost use Rattle.rx_script.specs.Line.{has_needed, has_form, a_text, maybe_text, an_object, objects, a_moment, maybe_whole, a_count, a_name, json_at, items_of, are_objects};
 ghost use Rattle.rx_script.specs.declared.fault.LineFault.TheVariants.{Memory};
 
 use crate::fault::LineFault;
-use rx_value::{LARGEST, RxText, first_missing, first_unexpected, is_name, text_at, whole_within};
+use rx_value::{
+    LARGEST, RxText, first_missing, first_unexpected, is_name, text_at, whole_at, whole_within,
+};
 use serde_json::Value as Json;
 use std::alloc::Global;
 
@@ -104,6 +106,37 @@ pub(crate) fn read_moment(alloc: Global, json: &Json, name: &str) -> Result<u64,
     match whole_within(json, name, 0, LARGEST as u64) {
         Some(at) => Ok(at),
         None => Err(LineFault::WrongType(RxText::new(alloc, name)?)),
+    }
+}
+
+// A whole number, however great, or none.
+pub(crate) fn check_maybe_whole(alloc: Global, json: &Json, name: &str) -> Result<(), LineFault>
+    ensures { Due Memory result (maybe_whole name.now (view json.now)) }
+{
+    if json.get(name).is_none() || whole_at(json, name).is_some() {
+        Ok(())
+    } else {
+        Err(LineFault::WrongType(RxText::new(alloc, name)?))
+    }
+}
+
+// The whole number of that member, from 1 to the most; where it is missing, the one that is meant.
+pub(crate) fn read_count(
+    alloc: Global,
+    json: &Json,
+    name: &str,
+    most: u32,
+    meant: u32,
+) -> Result<u32, LineFault>
+    ensures exact { Due Memory result (a_count name.now most meant (view json.now)) }
+    ensures limits { 1 ≤ meant → meant ≤ most → IfOk result (λ n. (1 ≤ n) × (n ≤ most)) }
+{
+    if json.get(name).is_none() {
+        return Ok(meant);
+    }
+    match whole_within(json, name, 1, most as u64) {
+        Some(number) => Ok(number as u32),
+        None => Err(LineFault::Batch(RxText::new(alloc, name)?)),
     }
 }
 

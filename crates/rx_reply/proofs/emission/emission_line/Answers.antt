@@ -1,8 +1,7 @@
-use Rattle.std.proofs.Common.{map}
-use Rattle.rx_reply.proofs.Floats.{emission_no_float}
+use Rattle.rx_reply.specs.Emission.{emission_data, rows_fields}
 use Rattle.rx_reply.proofs.emission.emission_line.Goals as goal
 
 pub returns : goal.returns
 returns c =
-    rw c.in_ok-json.ensures at c.output_line.ensures
-    (emission_no_float c.args.name.now (map (λ r. r.fields) c.args.rows.now))
+    c.finish_line.ensures (emission_data c.args.name.now (rows_fields c.args.rows.now))
+    (rw c.new-writer.ensures.tokens at c.in_ok-put_emission.ensures.tokens)

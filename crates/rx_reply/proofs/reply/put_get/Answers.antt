@@ -1,0 +1,26 @@
+use Rattle.std.proofs.Common.{◌∷◌, codes, append_assoc, ◌∙◌}
+use Rattle.json.specs.Token.{begin_object, key}
+use Rattle.json.specs.Tree.{json_tokens}
+use Rattle.serde_json.specs.Written.{outline}
+use Rattle.rx_value.specs.Writing.{fields_data}
+use Rattle.rx_reply.proofs.Tokens.{on_ok, in_turn}
+use Rattle.rx_reply.proofs.reply.put_get.Goals as goal
+
+pub returns-clause-tokens : goal.returns-clause-tokens
+returns-clause-tokens c =
+    let fields = json_tokens (outline (fields_data c.args.doc.now.state.fields)) in
+    on_ok c.end_object.result
+    (λ last. in_turn c.args.writer.now.tokens c.put_fields.new.writer.tokens c.end_object.new.self.tokens
+    (begin_object ∷ key (codes "doc") ∷ fields) _
+    (rw (c.in_ok-put_fields.ensures.tokens, c.in_ok-key.ensures.ok, c.in_ok-begin_object.ensures.ok)
+    (simp append_assoc))
+    (last ∙ rw (
+      c.in_ok-put_text-2.ensures.tokens,
+      c.in_ok-put_text.ensures.tokens,
+      c.in_ok-put_number-2.ensures.tokens,
+      c.in_ok-put_number.ensures.tokens,
+      c.as_str.ensures,
+      c.in_ok-rev.ensures,
+    )
+    (simp append_assoc)))
+    c.end_object.ensures.ok
