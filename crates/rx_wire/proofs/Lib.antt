@@ -1,0 +1,9 @@
+pub mod Lines
+pub mod Tokens
+pub mod Keys
+pub mod Lawful
+pub mod Unmarked
+pub mod Parsed
+pub mod Again
+pub mod Texts
+pub mod OneLine

@@ -1,0 +1,15 @@
+use Rattle.std.proofs.Common.{refl, append_assoc, ◌∙◌}
+use Rattle.rx_wire.proofs.Tokens.{on_ok}
+use Rattle.rx_wire.proofs.printing.put_conflicts.Goals as goal
+
+-- the tokens of one member after another
+pub returns-clause-tokens : goal.returns-clause-tokens
+returns-clause-tokens c =
+    on_ok c.end_object.result _ _ (λ is. is ∙ rw (
+      c.in_ok-put_whole-2.ensures.tokens,
+      c.in_ok-put_whole.ensures.tokens,
+      c.in_ok-put_states.ensures.tokens,
+      c.in_ok-key.ensures.ok,
+      c.in_ok-begin_object.ensures.ok,
+    ) (simp (append_assoc) refl))
+    c.end_object.ensures.ok

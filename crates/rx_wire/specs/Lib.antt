@@ -1,0 +1,10 @@
+pub mod Limits
+pub mod OneLine
+pub mod Fault
+pub mod Form
+pub mod States
+pub mod Lawful
+pub mod Writing
+pub mod Printing
+pub mod Reading
+pub mod Spelling
