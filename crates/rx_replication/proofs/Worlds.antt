@@ -1,0 +1,79 @@
+-- What a commit or an exchange keeps of all replications of a world.
+use Rattle.std.proofs.Common.{◌≡◌, ◌≢◌, ℕ, true, false, List, Option, Some, None, refl, sym, ap, ◌∙◌, ◌⊎◌, inl, inr, subst, true≢false}
+use Rattle.std.proofs.lemmas.Slice.Eq.{bytes_eq-Decides}
+use Rattle.std.specs.Str.{bytes_eq}
+use Rattle.rx_value.specs.Named.{named}
+use Rattle.rx_value.specs.declared.state.State.{State}
+use Rattle.rx_document.specs.declared.place.Place.{Place}
+use Rattle.rx_collection.specs.Held.{Held}
+use Rattle.rx_replication.specs.Known.{KnownStates}
+use Rattle.rx_replication.specs.Sound.{IsForkSound, IsMasterSound}
+use Rattle.rx_replication.specs.Worlds.{Collections, Linked, HasSoundFork, HasSoundMaster, IsSoundIn}
+use Rattle.rx_replication.proofs.Commits.{Wrote}
+use Rattle.rx_replication.proofs.Lists.{some_same}
+use Rattle.rx_replication.proofs.Orders.{same_key}
+use Rattle.rx_replication.proofs.Sides.{side_after}
+
+-- a collection of a name was written, and all others stay
+pub record IsWrittenAt (before after : Collections) (name : List ℕ) (ss : List State)
+    : Type 0 where
+  pub old : Held
+  pub new : Held
+  pub was : named before name ≡ Some old
+  pub is : named after name ≡ Some new
+  pub wrote : Wrote old.documents ss new.documents
+  pub others : (k : List ℕ) → k ≢ name → named after k ≡ named before k
+
+is_or_not : (k name : List ℕ) → (k ≡ name) ⊎ (k ≢ name)
+is_or_not k name =
+    elim (bytes_eq k name) as (λ b. bytes_eq k name ≡ b → (k ≡ name) ⊎ (k ≢ name)) [
+      | true ↦ (λ h. inl (same_key k name h))
+      | false ↦ (λ h. inr (λ same. true≢false
+          (sym ((bytes_eq-Decides k name).1 same) ∙ h)))
+    ] refl
+
+module _ (before after : Collections) (name : List ℕ) (ss : List State)
+    (w : IsWrittenAt before after name ss) where
+  fork_after : (r : Linked) → HasSoundFork before r → (r.fork ≡ name) ⊎ (r.fork ≢ name)
+      → HasSoundFork after r
+  fork_after r s (inl is) =
+      let same : s.0 ≡ w.old = some_same (sym s.1 ∙ ap (named before) is ∙ w.was) in (
+        w.new,
+        ap (named after) is ∙ w.is,
+        side_after w.old.documents ss w.new.documents w.wrote r.known r.up
+            (subst (λ (c : Held). IsForkSound c.documents r.known r.up) same s.2),
+      )
+  fork_after r s (inr other) = (s.0, w.others r.fork other ∙ s.1, s.2)
+
+  pub master_after : (master : Option (List ℕ)) (known : KnownStates) (down : Option Place)
+      → HasSoundMaster before master known down → HasSoundMaster after master known down
+  master_after None known down s = tt
+  master_after (Some k) known down s =
+      elim (is_or_not k name) [
+        | inl is ↦
+            let same : s.0 ≡ w.old = some_same (sym s.1 ∙ ap (named before) is ∙ w.was) in (
+              w.new,
+              ap (named after) is ∙ w.is,
+              side_after w.old.documents ss w.new.documents w.wrote known down
+                  (subst (λ (c : Held). IsMasterSound c.documents known down) same s.2),
+            )
+        | inr other ↦ (s.0, w.others k other ∙ s.1, s.2)
+      ]
+
+  -- a commit on any collection keeps each replication sound, whether it is of its fork, of its
+  -- master or of neither
+  pub commit_keeps : (r : Linked) → IsSoundIn before r → IsSoundIn after r
+  commit_keeps r s = record {
+    fork_side = fork_after r s.fork_side (is_or_not r.fork name);
+    master_side = master_after r.master r.known r.down s.master_side;
+  }
+
+  -- an exchange: a commit on the fork, and what it knows anew
+  pub exchange_keeps : (r : Linked) (known : KnownStates) (up down : Option Place)
+      → r.fork ≡ name → IsForkSound w.new.documents known up
+      → HasSoundMaster before r.master known down
+      → IsSoundIn after (record r { known = known; up = up; down = down })
+  exchange_keeps r known up down is fork_side master_side = record {
+    fork_side = (w.new, ap (named after) is ∙ w.is, fork_side);
+    master_side = master_after r.master known down master_side;
+  }

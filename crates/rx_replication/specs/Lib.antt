@@ -1,0 +1,16 @@
+pub mod Member
+pub mod Write
+pub mod Known
+pub mod Request
+pub mod Master
+pub mod Taking
+pub mod Updates
+pub mod Sound
+pub mod Answered
+pub mod Fitting
+pub mod Steps
+pub mod Exchange
+pub mod Left
+pub mod Interleaving
+pub mod Throughout
+pub mod Worlds
