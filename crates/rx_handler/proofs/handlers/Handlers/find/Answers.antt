@@ -1,0 +1,8 @@
+use Rattle.std.proofs.Common.{◌∙◌, ap, option_map}
+use Rattle.rx_value.proofs.Named.{lookup-by_name, map-copied}
+use Rattle.rx_handler.proofs.handlers.Handlers.find.Goals as goal
+
+pub returns : goal.returns
+returns g c =
+    map-copied (λ h. h.kind) c.get.result ∙ ap (option_map (λ h. h.kind)) c.get.ensures.value
+    ∙ lookup-by_name (λ h. h.kind) c.args.self.now.held.entries c.args.name.now

@@ -1,0 +1,3 @@
+pub mod Resolve
+pub mod Handlers
+pub mod Shown

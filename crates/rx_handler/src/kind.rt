@@ -1,0 +1,12 @@
+/// Which of two states a handler gives.
+#[derive(Debug, Clone, Copy)]
+pub enum HandlerKind {
+    /// The master's.
+    MasterWins,
+    /// The fork's.
+    ForkWins,
+    /// The one with the greater number in a field, the master's where neither has.
+    Greater,
+    /// Both together: of each field the greater value.
+    Join,
+}

@@ -1,0 +1,83 @@
+ghost use Rattle.std.specs.Prelude.{◌≡◌, [], None, OnOk, OnErr, option_map};
+ghost use Rattle.rx_value.specs.Named.{named, put_in_order};
+ghost use Rattle.rx_meta.specs.Side.{side_with, AreKnownByKey};
+
+use rx_document::Place;
+use rx_value::State;
+use std::alloc::{AllocError, Global};
+use std::collections::BTreeMap;
+use std::marker::Model;
+
+/// A fork's knowledge of its master.
+#[derive(Drop)]
+pub struct Meta {
+    alloc: Global,
+    pub(crate) known: BTreeMap<String, State>,
+    up: Option<Place>,
+    down: Option<Place>,
+}
+
+impl Model for Meta {
+    ghost use Rattle.rx_value.specs.Named.{by_bytes};
+    ghost use Rattle.rx_meta.specs.Side.{Side, side_with, AreKnownByKey};
+
+    ghost Value = { Side };
+
+    ghost view = { λ m. side_with (by_bytes m.known.entries) m.up m.down };
+
+    ghost invariant = { λ m. AreKnownByKey (by_bytes m.known.entries) };
+}
+
+impl Meta {
+    pub fn new(alloc: Global) -> Meta
+        ensures { result ≡ side_with [] None None }
+    {
+        Meta {
+            alloc,
+            known: BTreeMap::new(alloc),
+            up: None,
+            down: None,
+        }
+    }
+
+    /// The master's state of that key, as it was learnt last.
+    pub fn known(&self, key: &str) -> Option<&State>
+        ensures value { option_map (λ s. s.now) result ≡ named self.now.known key.now }
+        ensures lawful { AreKnownByKey self.now.known }
+    {
+        self.known.get(key)
+    }
+
+    /// The place up to which the fork's documents were pushed.
+    pub fn up(&self) -> Option<&Place>
+        ensures { option_map (λ p. p.now) result ≡ self.now.up }
+    {
+        self.up.as_ref()
+    }
+
+    /// The place up to which the master's documents were pulled.
+    pub fn down(&self) -> Option<&Place>
+        ensures { option_map (λ p. p.now) result ≡ self.now.down }
+    {
+        self.down.as_ref()
+    }
+
+    /// Knows a state in the place of the one of its key.
+    pub fn learn(&mut self, state: State) -> Result<(), AllocError>
+        ensures ok { OnOk result (self.new ≡ side_with
+            (put_in_order self.old.known state.key state) self.old.up self.old.down) }
+        ensures err { OnErr result (self.new ≡ self.old) }
+    {
+        let key = String::from_str(self.alloc, state.key.as_str())?;
+        self.known.insert(key, state)?;
+        Ok(())
+    }
+
+    /// Sets both checkpoints.
+    pub fn advance(&mut self, up: Option<Place>, down: Option<Place>)
+        ensures { self.new ≡ side_with self.old.known up down }
+    {
+        self.up = up;
+        self.down = down;
+    }
+}
