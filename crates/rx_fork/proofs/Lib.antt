@@ -1,0 +1,5 @@
+pub mod Items
+pub mod Walk
+pub mod Pushes
+pub mod Validity
+pub mod Accepted

@@ -1,0 +1,4 @@
+pub mod BadReply
+pub mod Asked
+pub mod Accept
+pub mod Valid

@@ -1,0 +1,103 @@
+ghost use Rattle.std.specs.Prelude.{◌≡◌, map, take, IfOk, option_map};
+ghost use Rattle.rx_replication.specs.Known.{pending, NonePendingBelow};
+ghost use Rattle.rx_replication.specs.Request.{push_row, push_or_pull};
+ghost use Rattle.rx_fork.specs.Asked.{asked_of, HasRowsApart};
+
+use crate::fork::{Fork, is_pending};
+use crate::lists::copy_of_place;
+use rx_collection::Collection;
+use rx_document::{Place, Stored};
+use rx_meta::Meta;
+use rx_value::RxList;
+use rx_wire::{AskKind, PushRow, Request};
+use std::alloc::{AllocError, Global};
+
+/// A request, and the fork's last write time when it was made.
+#[derive(Debug, Drop)]
+pub struct Asked {
+    pub request: Request,
+    pub lwt: u64,
+}
+
+impl Fork {
+    /// The request that is due: a push of the first `batch` documents to be pushed, by place, or a
+    /// pull where there is none.
+    pub fn ask(
+        &self,
+        alloc: Global,
+        collection: &Collection,
+        epoch: u64,
+        n: u64,
+        batch: u32,
+    ) -> Result<Asked, AllocError>
+        requires { NonePendingBelow collection.now.documents self.now.meta.known self.now.meta.up }
+        ensures asked { IfOk result (λ asked. asked
+            ≡ asked_of collection.now.documents self.now.meta epoch n batch) }
+        ensures apart { IfOk result (λ asked. HasRowsApart asked.request.ask) }
+    {
+        let rows = self.rows(alloc, collection, batch)?;
+        let ask = push_or_pull(alloc, rows, self.meta.down(), batch)?;
+        Ok(Asked {
+            request: Request { epoch, n, ask },
+            lwt: collection.last_lwt(),
+        })
+    }
+
+    // The first rows to be pushed, at most so many.
+    fn rows(
+        &self,
+        alloc: Global,
+        collection: &Collection,
+        most: u32,
+    ) -> Result<RxList<PushRow>, AllocError>
+        requires { NonePendingBelow collection.now.documents self.now.meta.known self.now.meta.up }
+        ensures { IfOk result (λ rows. rows ≡ map (push_row self.now.meta.known)
+            (take most (pending collection.now.documents self.now.meta.known))) }
+    {
+        let mut rows = RxList::new(alloc);
+        let mut left = most;
+        for held in collection.page(self.meta.up(), collection.len()) {
+            if left == 0 {
+                break;
+            }
+            if is_pending(&self.meta, held) {
+                rows.push(push_row(alloc, &self.meta, held)?)?;
+                left -= 1;
+            }
+        }
+        Ok(rows)
+    }
+}
+
+// A push of the rows, or a pull where there is none.
+fn push_or_pull(
+    alloc: Global,
+    rows: RxList<PushRow>,
+    down: Option<&Place>,
+    batch: u32,
+) -> Result<AskKind, AllocError>
+    ensures { IfOk result (λ ask. ask
+        ≡ push_or_pull rows (option_map (λ p. p.now) down.entry) batch) }
+{
+    if rows.len() > 0 {
+        return Ok(AskKind::Push(rows));
+    }
+    Ok(AskKind::Pull {
+        place: copy_of_place(alloc, down)?,
+        batch,
+    })
+}
+
+// The document as a row of a push: its known state is the assumed one.
+fn push_row(alloc: Global, meta: &Meta, held: &Stored) -> Result<PushRow, AllocError>
+    ensures { IfOk result (λ row. row ≡ push_row meta.now.known held.now) }
+{
+    let assumed = match meta.known(held.state.key.as_str()) {
+        Some(known) => Some(known.copy(alloc)?),
+        None => None,
+    };
+    Ok(PushRow {
+        assumed,
+        new: held.state.copy(alloc)?,
+    })
+}
