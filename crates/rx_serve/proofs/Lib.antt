@@ -1,0 +1,5 @@
+pub mod Feeds
+pub mod Coming
+pub mod Cuts
+pub mod Answering
+pub mod Courses

@@ -1,0 +1,65 @@
+-- A connection on its way.
+use Rattle.std.specs.Prelude.{◌≡◌, ℕ, ◌+◌, suc, ◌≤◌, List, ◌++◌, Option, Some, None}
+use Rattle.rx_collection.specs.Held.{Held}
+use Rattle.rx_serve.specs.Served.{served_first, ends_here, after_replies}
+use Rattle.rx_serve.specs.declared.ended.Ended.{Ended}
+use Rattle.rx_serve.specs.declared.ended.Why.{Why}
+use Rattle.rx_serve.specs.declared.ended.Why.TheVariants as why
+
+-- these bytes begin with those
+abbrev pub IsFront : List ℕ → List ℕ → Type 0
+IsFront front bytes = (rest : List ℕ) × (bytes ≡ front ++ rest)
+
+-- where it stands: the collection, the bytes to come, the bytes sent, and the moments of the pushes
+pub record Standing : Type 0 where
+  pub collection : Held
+  pub coming : List ℕ
+  pub sent : List ℕ
+  pub moments : List ℕ
+
+-- what was sent, and the moments that joined, from one standing to a later one
+pub record Joins (old new : Standing) : Type 0 where
+  pub bytes : List ℕ
+  pub joined : List ℕ
+  pub sent : new.sent ≡ old.sent ++ bytes
+  pub moments : new.moments ≡ old.moments ++ joined
+
+-- So many requests were answered and their replies sent: at whatever moments later ones come, what
+-- is served from the old standing on is these replies, and then what is served from the new one on.
+pub record Serves (n : ℕ) (old new : Standing) : Type 0 where
+  pub joins : Joins old new
+  pub going : (k : ℕ) (later : List ℕ)
+      → served_first (n + k) old.collection (joins.joined ++ later) old.coming
+      ≡ after_replies n joins.bytes (served_first k new.collection later new.coming)
+
+-- It ends for that reason, and all bytes due were sent.
+pub record EndsFor (why : Why) (old new : Standing) : Type 0 where
+  pub joins : Joins old new
+  pub ends : (k : ℕ) (later : List ℕ)
+      → served_first (suc k) old.collection (joins.joined ++ later) old.coming
+      ≡ ends_here new.collection why joins.bytes
+
+-- It ends since the wire failed: so many more requests were answered, at most one, and a front of
+-- the bytes due was sent.
+pub record Breaks (n : ℕ) (old new : Standing) : Type 0 where
+  pub joins : Joins old new
+  pub few : n ≤ 1
+  pub front : (k : ℕ) (later : List ℕ)
+      → IsFront joins.bytes
+      (served_first (suc k) old.collection (joins.joined ++ later) old.coming).due
+  pub answered : (later : List ℕ)
+      → (served_first n old.collection (joins.joined ++ later) old.coming).replies ≡ n
+  pub after : (later : List ℕ)
+      → (served_first n old.collection (joins.joined ++ later) old.coming).after ≡ new.collection
+
+-- it ends so, after so many more requests
+abbrev pub EndsSo : Why → ℕ → Standing → Standing → Type 0
+EndsSo why.Wire n old new = Breaks n old new
+EndsSo why.Peer n old new = (n ≡ 0) × EndsFor why.Peer old new
+EndsSo why.Request n old new = (n ≡ 0) × EndsFor why.Request old new
+EndsSo why.Clock n old new = (n ≡ 0) × EndsFor why.Clock old new
+
+-- one line more: a request was answered, or it ended
+abbrev pub Steps : Option Ended → Standing → Standing → Type 0
+Steps None old new = Serves 1 old new
+Steps (Some ended) old new = EndsSo ended.why ended.requests old new
