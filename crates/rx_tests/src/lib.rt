@@ -14,9 +14,13 @@ mod explained;
 mod hashes;
 mod headline;
 #[cfg(test)]
+mod indexed;
+#[cfg(test)]
 mod journal;
 #[cfg(test)]
 mod limits;
+#[cfg(test)]
+mod listed;
 #[cfg(test)]
 mod many;
 #[cfg(test)]
@@ -47,6 +51,8 @@ mod statuses;
 mod stops;
 #[cfg(test)]
 mod values;
+#[cfg(test)]
+mod windowed;
 #[cfg(test)]
 mod windows;
 #[cfg(test)]

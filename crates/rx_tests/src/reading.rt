@@ -79,9 +79,7 @@ const CASES: &str = r#"
 < {"code":4,"line":L,"name":"fly","refused":"unknown_do"}
 
 == what has not come is refused before its members are read
-> {"do":"changes"}
-< {"code":27,"line":L,"refused":"not_yet"}
-> {"do":"digest","x":1}
+> {"do":"turn","x":1}
 < {"code":27,"line":L,"refused":"not_yet"}
 > {"do":"replicate","name":5}
 < {"code":27,"line":L,"refused":"not_yet"}

@@ -1,0 +1,6 @@
+//! Tests of forks, masters and what goes between them: what the clauses leave to examples, and that
+//! calls succeed where memory is ample.
+#![tactic(auto)]
+
+#[cfg(test)]
+mod messages;
