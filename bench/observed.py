@@ -5,9 +5,9 @@
 
 A random stream of writes (one in ten inserts, one removes, the others set the number of a document)
 goes over collections of 1,000, 10,000 and 100,000 documents with 0, 16, 64 and 256 observed queries.
-Each query has a selector, a sort and a limit of 20. sqlite3 gets the same writes and is asked for the rows of all
-queries after each, since any of them may have changed: with an index that holds these rows in order, and for 64
-queries also without one, over a few of the writes. What it takes to make the documents and to observe is taken off
+Each query has a selector, a sort and a limit of 20, and an index holds its rows in order. sqlite3 gets the same
+writes and is asked for the rows of all queries after each, since any of them may have changed: with the same index,
+and for 64 queries also without one, over a few of the writes. What it takes to make the documents and to observe is taken off
 both. Then the queries are explained: the share of the changes by what was done to the rows.
 """
 import json
@@ -28,9 +28,10 @@ SCHEMA = {
     "version": 0, "primaryKey": "id", "type": "object", "required": ["id"],
     "properties": {
         "id": {"type": "string", "maxLength": 20},
-        "g": {"type": "integer", "minimum": 0, "maximum": 255},
-        "n": {"type": "integer"},
+        "g": {"type": "integer", "minimum": 0, "maximum": 255, "multipleOf": 1},
+        "n": {"type": "integer", "minimum": 0, "maximum": 1_000_003, "multipleOf": 1},
     },
+    "indexes": [["g", "n"]],
 }
 PRAGMAS = ["PRAGMA journal_mode=WAL;", "PRAGMA synchronous=FULL;"]
 TABLE = "CREATE TABLE c(id TEXT PRIMARY KEY, g INTEGER, n INTEGER) WITHOUT ROWID;"
