@@ -1,5 +1,5 @@
 -- The record of a commit is legal, and its rows are in order.
-use Rattle.std.proofs.Common.{◌≡◌, ℕ, suc, ◌<◌, true, false, List, [], ◌∷◌, map, length, Some, None, Less, Equal, Greater, option_map, Result, Ok, Err, IfOk, refl, sym, ap, ◌∙◌, subst, arith, lt-ltb, le-leb, eq-eqb}
+use Rattle.std.proofs.Common.{◌≡◌, ℕ, suc, ◌<◌, true, false, List, [], ◌∷◌, map, length, Some, Less, Equal, Greater, refl, sym, ap, ◌∙◌, subst, arith, lt-ltb, le-leb, eq-eqb}
 use Rattle.std.specs.Cmp.Derive.{both_true}
 use Rattle.std.specs.List.{AllByRecursion, list_all}
 use Rattle.std.specs.List.Sorted.{IsStrictlySortedBy}
@@ -12,21 +12,17 @@ use Rattle.rx_value.specs.declared.state.State.{State}
 use Rattle.rx_schema.specs.declared.shape.Shape.{Shape}
 use Rattle.rx_collection.specs.Commit.{by_key, row_of, rows_of, next_height}
 use Rattle.rx_collection.specs.Held.{Held}
-use Rattle.rx_collection.specs.Lawful.{IsLawful}
-use Rattle.rx_collection.specs.Time.{last_lwt, most_lwt, stamp}
-use Rattle.rx_collection.proofs.Commits.{IsLater, stamped}
+use Rattle.rx_collection.specs.Time.{last_lwt, most_lwt}
+use Rattle.rx_collection.proofs.Commits.{IsLater}
 use Rattle.rx_collection.proofs.Named.{all_put}
 use Rattle.rx_collection.proofs.Rows.{by_key-rising}
 use Rattle.rx_record.specs.Content.{Content, rows}
 use Rattle.rx_record.specs.Rows.{key_of}
-use Rattle.rx_record.specs.Shown.{content}
 use Rattle.rx_record.specs.Writable.{IsOrdered}
-use Rattle.rx_record.specs.declared.record.Record.{Record}
 use Rattle.rx_record.specs.declared.record.RowOut.{RowOut}
-use Rattle.rx_world.specs.Commit.{out_of, commit_to}
+use Rattle.rx_world.specs.Commit.{out_of}
 use Rattle.rx_world.specs.Step.{IsValidState, is_due, takes, legal}
 use Rattle.rx_world.specs.World.{World}
-use Rattle.rx_world.specs.declared.fault.StepFault.{StepFault}
 
 -- ---- states by key
 

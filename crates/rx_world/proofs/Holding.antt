@@ -1,11 +1,19 @@
 -- What holds of each holder after a record.
-use Rattle.std.proofs.Common.{ℕ, List, [], sym, subst}
+use Rattle.std.proofs.Common.{◌≡◌, ℕ, List, [], ◌∷◌, Option, Some, None, sym, subst}
 use Rattle.std.specs.List.{AllByRecursion}
+use Rattle.std.specs.Option.{option_map_or}
+use Rattle.rx_value.specs.Named.{named, change_named}
+use Rattle.rx_value.specs.declared.state.State.{State}
+use Rattle.rx_document.specs.declared.place.Place.{Place}
 use Rattle.rx_document.specs.declared.stored.Stored.{Stored}
 use Rattle.rx_collection.specs.Held.{Held, held_with}
+use Rattle.rx_record.specs.Content.{Content, rows, exchange}
+use Rattle.rx_record.specs.declared.record.RowOut.{RowOut}
 use Rattle.rx_world.specs.Holders.{After}
 use Rattle.rx_world.specs.Step.{stored_rows}
-use Rattle.rx_world.specs.Touch.{Touch, no_collection, new_collection, new_rows}
+use Rattle.rx_world.specs.Touch.{Touch, no_collection, new_collection, new_rows, fork_rows, exchange_touch, touch}
+use Rattle.rx_world.specs.World.{World}
+use Rattle.rx_world.specs.declared.replication.Replication.{Replication}
 use Rattle.rx_world.proofs.Looked.{all_put_named, all_change_named}
 
 -- what holds of each holder that is made, and is kept by rows, holds of all where it held of all
@@ -20,8 +28,35 @@ after_all P held written IsMadeFor made kept (new_collection name schema) old ne
     subst (AllByRecursion (λ e. P e.1)) (sym after.2)
     (all_put_named (λ n h. P h) old name after.0
     (made (held_with name schema []) after.0 after.1) all)
-after_all P held written IsMadeFor made kept (new_rows name lwt rows) old new after all =
+after_all P held written IsMadeFor made kept (new_rows name lwt rs) old new after all =
     subst (AllByRecursion (λ e. P e.1)) (sym after)
     (all_change_named (λ n h. P h) old name
-    (λ h. written h (stored_rows (held h).name lwt rows))
-    (λ h at here. kept h (stored_rows (held h).name lwt rows) here) all)
+    (λ h. written h (stored_rows (held h).name lwt rs))
+    (λ h at here. kept h (stored_rows (held h).name lwt rs) here) all)
+
+-- rows are put into the holder of their name
+pub rows_after : {H : Type 0} (held : H → Held) (written : H → List Stored → H)
+    (IsMadeFor : Held → H → Type 0) (entry : Content) (w : World) (name : List ℕ) (lwt : ℕ) (rs : List RowOut)
+    (old new : List (List ℕ × H)) → entry ≡ rows name lwt rs
+    → new ≡ change_named old name (λ h. written h (stored_rows (held h).name lwt rs))
+    → After held written IsMadeFor (touch entry w) old new
+rows_after held written IsMadeFor entry w name lwt rs old new is now =
+    subst (λ e. After held written IsMadeFor (touch e w) old new) (sym is) now
+
+-- the rows of an exchange make no holder
+none_made : {H : Type 0} (held : H → Held) (written : H → List Stored → H)
+    (IsMadeFor : Held → H → Type 0) (lwt : ℕ) (rs : List RowOut) (o : Option Replication) (old new : List (List ℕ × H))
+    → After held written (λ c h. Unit {0}) (option_map_or (fork_rows lwt rs) o no_collection) old new
+    → After held written IsMadeFor (option_map_or (fork_rows lwt rs) o no_collection) old new
+none_made held written IsMadeFor lwt rs None old new after = after
+none_made held written IsMadeFor lwt [] (Some r) old new after = after
+none_made held written IsMadeFor lwt (row ∷ rs) (Some r) old new after = after
+
+pub exchange_after : {H : Type 0} (held : H → Held) (written : H → List Stored → H)
+    (IsMadeFor : Held → H → Type 0) (entry : Content) (w : World) (name : List ℕ) (lwt : ℕ) (rs : List RowOut) (known : List State)
+    (up down : Option Place) (old new : List (List ℕ × H)) → entry ≡ exchange name lwt rs known up down
+    → After held written (λ c h. Unit {0}) (exchange_touch lwt rs name w.replications) old new
+    → After held written IsMadeFor (touch entry w) old new
+exchange_after held written IsMadeFor entry w name lwt rs known up down old new is after =
+    subst (λ e. After held written IsMadeFor (touch e w) old new) (sym is)
+    (none_made held written IsMadeFor lwt rs (named w.replications name) old new after)

@@ -8,3 +8,9 @@ pub mod Valid
 pub mod Replays
 pub mod Alike
 pub mod Holding
+pub mod Forks
+pub mod Sides
+pub mod Links
+pub mod Making
+pub mod Deciding
+pub mod Sounds

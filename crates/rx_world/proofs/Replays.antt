@@ -1,7 +1,6 @@
 -- Replaying more bodies.
-use Rattle.std.proofs.Common.{◌≡◌, ℕ, ◌+◌, ◌≤◌, List, [], ◌∷◌, ◌++◌, length, true, false, cond, Option, Some, None, Result, Ok, Err, refl, sym, ap, ◌∙◌, subst, arith}
+use Rattle.std.proofs.Common.{◌≡◌, ℕ, List, [], ◌∷◌, ◌++◌, true, false, cond, Option, Some, None, Ok, refl, ap, ◌∙◌}
 use Rattle.rx_record.specs.Content.{Content, record_of}
-use Rattle.rx_record.specs.declared.at.At.{At}
 use Rattle.rx_world.specs.Replay.{played, replay_from, replay}
 use Rattle.rx_world.specs.Step.{step, stepped, legal}
 use Rattle.rx_world.specs.World.{World, empty}

@@ -1,23 +1,25 @@
 -- What a legal record does to the collections of a world.
-use Rattle.std.proofs.Common.{◌≡◌, ◌≢◌, ℕ, ◌+◌, ◌≤◌, ◌&&◌, true, false, cond, List, [], ◌∷◌, ◌++◌, length, map, Option, Some, None, is_some, is_none, nat_lt, option_map, refl, sym, ap, ◌∙◌, subst, arith, true≢false, eqb-true, eq-eqb}
+use Rattle.std.proofs.Common.{◌≡◌, ℕ, ◌+◌, ◌&&◌, Bool, true, false, List, [], ◌∷◌, length, Option, Some, None, is_some, is_none, nat_lt, refl, sym, ap, ◌∙◌, subst, true≢false, eq-eqb}
 use Rattle.std.proofs.lemmas.Bool.{and_parts}
-use Rattle.std.specs.List.{AllByRecursion}
+use Rattle.std.specs.List.{list_all}
 use Rattle.std.specs.Map.{keys_of}
 use Rattle.std.specs.Option.{option_map_or, ForSome}
-use Rattle.std.specs.Str.{bytes_eq}
 use Rattle.rx_value.specs.Name.{is_name}
-use Rattle.rx_value.specs.Named.{named, put_named}
+use Rattle.rx_value.specs.Named.{named}
 use Rattle.rx_value.specs.declared.state.State.{State}
 use Rattle.rx_schema.specs.declared.shape.Shape.{Shape}
 use Rattle.rx_collection.specs.Commit.{AreNext}
 use Rattle.rx_collection.specs.Held.{Held}
 use Rattle.rx_collection.proofs.Named.{at_name}
-use Rattle.rx_record.specs.Content.{Content, collection, rows, epoch}
-use Rattle.rx_record.specs.Writable.{IsOrdered}
+use Rattle.rx_document.specs.declared.place.Place.{Place}
+use Rattle.rx_record.specs.Content.{collection, rows, exchange, epoch}
+use Rattle.rx_record.specs.Writable.{IsOrdered, KeysRise}
 use Rattle.rx_record.specs.declared.record.RowOut.{RowOut}
 use Rattle.rx_world.specs.Lawful.{IsLawfulAt, IsLawfulWorld}
 use Rattle.rx_world.specs.Schema.{schema_in}
-use Rattle.rx_world.specs.Step.{step, legal, takes, written_to, stored_rows}
+use Rattle.rx_world.specs.Replicating.{stays_or_rises}
+use Rattle.rx_world.specs.Step.{step, legal, takes, is_held_with, fork_takes, takes_exchange, written_to, stored_rows}
+use Rattle.rx_world.specs.declared.replication.Replication.{Replication}
 use Rattle.rx_world.specs.World.{World, max_collections}
 use Rattle.rx_world.proofs.States.{nothing}
 use Rattle.rx_world.proofs.Looked.{keys-change_named}
@@ -39,6 +41,23 @@ rows_go name lwt written w is =
       | None ↦ (λ at is. absurd (true≢false (sym is)))
       | Some c ↦ (λ at is. record { held = c; named = at; taken = is })
     ] refl is
+
+-- so do those of an exchange, if there is one, to the fork, which then holds the known keys
+pub exchange_goes : (name : List ℕ) (lwt : ℕ) (written : List RowOut) (known : List State) (up down : Option Place) (w : World)
+    → legal (exchange name lwt written known up down) w ≡ true
+    → (r : Replication) → named w.replications name ≡ Some r
+    → (c : Held) → named w.collections r.fork ≡ Some c → fork_takes lwt written known c ≡ true
+exchange_goes name lwt written known up down w is r at c there =
+    let takes_it : Replication → Bool = takes_exchange w.collections lwt written known up down in
+    let here : takes_it r ≡ true = sym (ap (λ o. option_map_or takes_it o false) at) ∙ is in
+    let last = (and_parts (stays_or_rises r.side.up up && stays_or_rises r.side.down down)
+    (option_map_or (fork_takes lwt written known) (named w.collections r.fork) false) here).1 in
+    sym (ap (λ o. option_map_or (fork_takes lwt written known) o false) there) ∙ last
+
+pub fork_rows_taken : (lwt : ℕ) (row : RowOut) (written : List RowOut) (known : List State) (c : Held)
+    → fork_takes lwt (row ∷ written) known c ≡ true → takes lwt (row ∷ written) c ≡ true
+fork_rows_taken lwt row written known c is =
+    (and_parts (takes lwt (row ∷ written) c) (list_all (is_held_with c (row ∷ written)) known) is).0
 
 -- they leave the names
 pub rows_names : (name : List ℕ) (lwt : ℕ) (written : List RowOut) (w : World)
@@ -98,3 +117,15 @@ legal_are_next name lwt written w lawful is up = λ c at.
 -- the next epoch is legal
 pub epoch_legal : (w : World) → legal (epoch (w.epoch + 1)) w ≡ true
 epoch_legal w = eq-eqb (w.epoch + 1) (w.epoch + 1) refl
+
+-- ---- exchanges
+
+-- the rows of a legal exchange may be written to the fork, one after another
+pub exchange_next : (name : List ℕ) (lwt : ℕ) (written : List RowOut) (known : List State) (up down : Option Place) (w : World)
+    → IsLawfulWorld w → legal (exchange name lwt written known up down) w ≡ true → KeysRise written
+    → ForSome (named w.replications name) (λ r. ForSome (named w.collections r.fork)
+    (λ c. AreNext c (stored_rows c.name lwt written)))
+exchange_next name lwt [] known up down w lawful is rise = λ r at c there. tt
+exchange_next name lwt (row ∷ written) known up down w lawful is rise = λ r at c there.
+    taken_are_next c lwt (row ∷ written) (lawful_at w r.fork c lawful there).lawful
+    (fork_rows_taken lwt row written known c (exchange_goes name lwt (row ∷ written) known up down w is r at c there)) rise

@@ -1,5 +1,5 @@
 -- Rows that are legal may be written, one after another.
-use Rattle.std.proofs.Common.{◌≡◌, ℕ, ◌<◌, ◌≤◌, ◌&&◌, Bool, true, false, cond, List, [], ◌∷◌, map, length, Option, Some, None, is_none, ◌==◌, nat_lt, nat_le, Less, Equal, refl, sym, ap, ◌∙◌, subst, arith, true≢false, ltb-true, leb-true, eqb-true}
+use Rattle.std.proofs.Common.{◌≡◌, ℕ, ◌<◌, ◌≤◌, ◌&&◌, Bool, true, false, cond, List, [], ◌∷◌, map, length, Some, ◌==◌, nat_lt, nat_le, Less, Equal, refl, sym, ap, ◌∙◌, subst, arith, ltb-true, leb-true, eqb-true}
 use Rattle.std.proofs.lemmas.Bool.{and_parts}
 use Rattle.std.specs.Cmp.{nat_cmp_is}
 use Rattle.std.specs.List.{AllByRecursion, list_all}

@@ -1,12 +1,15 @@
 -- The fields of documents stay valid, and the names of collections distinct.
-use Rattle.std.proofs.Common.{◌≡◌, ℕ, ◌==◌, true, List, [], ◌∷◌, Option, Some, None, is_none, IfSome, option_map, sym, subst}
+use Rattle.std.proofs.Common.{◌≡◌, ℕ, ◌==◌, true, List, [], ◌∷◌, Option, Some, None, IfSome, option_map, refl, sym, subst}
 use Rattle.std.proofs.lemmas.Bool.{and_parts}
 use Rattle.std.specs.List.{AllByRecursion, IsDistinct, list_all}
 use Rattle.std.specs.Map.{keys_of}
+use Rattle.std.specs.Option.{option_map_or}
 use Rattle.std.specs.Str.{bytes_eq}
 use Rattle.rx_value.specs.Named.{named}
+use Rattle.rx_value.specs.declared.state.State.{State}
 use Rattle.rx_schema.specs.Validity.{first_fault}
 use Rattle.rx_schema.specs.declared.shape.Shape.{Shape}
+use Rattle.rx_document.specs.declared.place.Place.{Place}
 use Rattle.rx_collection.specs.Commit.{next_height, with_row, with_rows}
 use Rattle.rx_collection.specs.Held.{Held, held_with}
 use Rattle.rx_collection.proofs.Named.{at_name, all_put}
@@ -14,12 +17,13 @@ use Rattle.rx_record.specs.Content.{Content, collection, rows, replication, exch
 use Rattle.rx_record.specs.declared.record.RowOut.{RowOut}
 use Rattle.rx_world.specs.Schema.{schema_in}
 use Rattle.rx_world.specs.Step.{is_valid_state, is_due, takes, legal, step, collections_after, stored_of, stored_rows, written_to}
-use Rattle.rx_world.specs.Touch.{new_where}
+use Rattle.rx_world.specs.Touch.{no_collection, new_where, fork_rows}
 use Rattle.rx_world.specs.Valid.{AreValid, AllValid, AreDistinct}
 use Rattle.rx_world.specs.World.{World, empty}
-use Rattle.rx_world.proofs.Looked.{all_put_named, all_change_named, distinct_put_named}
+use Rattle.rx_world.specs.declared.replication.Replication.{Replication}
+use Rattle.rx_world.proofs.Looked.{all_put_named, all_change_named, distinct_put_named, keys-change_named}
 use Rattle.rx_world.proofs.States.{state_valid}
-use Rattle.rx_world.proofs.Steps.{rows_go, rows_names}
+use Rattle.rx_world.proofs.Steps.{rows_go, rows_names, exchange_goes, fork_rows_taken}
 use Rattle.rx_world.proofs.Turns.{takes_parts}
 
 -- ---- a collection
@@ -67,6 +71,19 @@ pub valid_found : {A : Type 0} (held : A → Held) (w : World) (name : List ℕ)
 valid_found held w name None valid at = tt
 valid_found held w name (Some a) valid at = valid_at w name (held a) valid (sym at)
 
+-- so does the fork of a legal exchange
+fork_valid : (name : List ℕ) (lwt : ℕ) (written : List RowOut) (known : List State) (up down : Option Place) (w : World)
+    → legal (exchange name lwt written known up down) w ≡ true → AllValid w
+    → (o : Option Replication) → named w.replications name ≡ o
+    → AllByRecursion (λ e. AreValid e.1) (collections_after (option_map_or (fork_rows lwt written) o no_collection) w.collections)
+fork_valid name lwt written known up down w is valid None at = valid
+fork_valid name lwt [] known up down w is valid (Some r) at = valid
+fork_valid name lwt (row ∷ written) known up down w is valid (Some r) at =
+    all_change_named (λ k x. AreValid x) w.collections r.fork (written_to lwt (row ∷ written))
+    (λ c there here. valid_taken lwt (row ∷ written) c
+    (fork_rows_taken lwt row written known c (exchange_goes name lwt (row ∷ written) known up down w is r at c there)) here)
+    valid
+
 -- a legal record leaves a valid world
 pub valid_step : (entry : Content) (w : World) → legal entry w ≡ true → AllValid w
     → AllValid (step entry w)
@@ -83,7 +100,8 @@ valid_step (rows name lwt written) w is valid =
     let same : to.held ≡ c = let there = to.named in cc in
     valid_taken lwt written c (subst (λ x. takes lwt written x ≡ true) same to.taken) here) valid
 valid_step (replication name fork master handler field) w is valid = valid
-valid_step (exchange name lwt written known up down) w is valid = valid
+valid_step (exchange name lwt written known up down) w is valid =
+    fork_valid name lwt written known up down w is valid (named w.replications name) refl
 valid_step (epoch number) w is valid = valid
 
 -- ---- names
@@ -92,6 +110,14 @@ valid_step (epoch number) w is valid = valid
 pub distinct_empty : AreDistinct empty
 unfolding IsDistinct
 distinct_empty = tt
+
+-- the rows of a fork leave the names
+fork_distinct : (lwt : ℕ) (written : List RowOut) (w : World) → AreDistinct w → (o : Option Replication)
+    → IsDistinct bytes_eq (keys_of (collections_after (option_map_or (fork_rows lwt written) o no_collection) w.collections))
+fork_distinct lwt written w distinct None = distinct
+fork_distinct lwt [] w distinct (Some r) = distinct
+fork_distinct lwt (row ∷ written) w distinct (Some r) =
+    subst (IsDistinct bytes_eq) (sym (keys-change_named (written_to lwt (row ∷ written)) w.collections r.fork)) distinct
 
 -- a record leaves names that come once
 pub distinct_step : (entry : Content) (w : World) → AreDistinct w → AreDistinct (step entry w)
@@ -103,5 +129,6 @@ distinct_step (collection name schema) w distinct =
 distinct_step (rows name lwt written) w distinct =
     subst (IsDistinct bytes_eq) (sym (rows_names name lwt written w)) distinct
 distinct_step (replication name fork master handler field) w distinct = distinct
-distinct_step (exchange name lwt written known up down) w distinct = distinct
+distinct_step (exchange name lwt written known up down) w distinct =
+    fork_distinct lwt written w distinct (named w.replications name)
 distinct_step (epoch number) w distinct = distinct

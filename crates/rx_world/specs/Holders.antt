@@ -6,24 +6,33 @@ use Rattle.rx_value.specs.Named.{by_name, by_bytes, put_named, change_named}
 use Rattle.rx_document.specs.declared.stored.Stored.{Stored}
 use Rattle.rx_collection.specs.Held.{Held, held_with}
 use Rattle.rx_collection.specs.Lawful.{IsLawful}
+use Rattle.rx_world.specs.Made.{IsMadeWorld}
 use Rattle.rx_world.specs.Step.{stored_rows}
 use Rattle.rx_world.specs.Touch.{Touch, no_collection, new_collection, new_rows}
-use Rattle.rx_world.specs.Valid.{AllValid, AreDistinct}
-use Rattle.rx_world.specs.World.{World, world_with}
+use Rattle.rx_world.specs.World.{World, Replications}
 use Rattle.rx_world.specs.declared.parts.Parts.{Parts}
 
--- holders by name, in the order of their making, and the last epoch
+-- holders and replications by name, in the order of their making, and the last epoch
 pub record Holders (H : Type 0) : Type 0 where
   pub entries : List (String Global × H)
+  pub replications : Replications
   pub epoch : ℕ
 
 -- those of the parts
 abbrev pub holders_of : {H : Type 0} → Parts H → Holders H
-holders_of p = record { entries = p.holders.entries; epoch = p.epoch }
+holders_of p = record {
+  entries = p.holders.entries;
+  replications = by_bytes p.replications.entries;
+  epoch = p.epoch;
+}
 
 -- the world that the holders hold
 abbrev pub world_in : {H : Type 0} → (H → Held) → Holders H → World
-world_in held h = world_with (by_name held h.entries) h.epoch
+world_in held h = record {
+  collections = by_name held h.entries;
+  replications = h.replications;
+  epoch = h.epoch;
+}
 
 -- the holder isn't broken, and its collection is lawful and has that name
 pub record IsWhole {H : Type 0} (held : H → Held) (broken : H → Bool) (name : List ℕ) (h : H)
@@ -36,11 +45,10 @@ pub record IsWhole {H : Type 0} (held : H → Held) (broken : H → Bool) (name 
 abbrev pub AreWhole : {H : Type 0} → (H → Held) → (H → Bool) → List (String Global × H) → Type 0
 AreWhole held broken es = AllByRecursion (λ e. IsWhole held broken (string_bytes e.0) e.1) es
 
--- each holder is so, the fields of their documents are valid, and no name comes twice
+-- each holder is so, and the world that they hold is as records make it
 pub record AreSound {H : Type 0} (held : H → Held) (broken : H → Bool) (h : Holders H) : Type 0 where
   pub whole : AreWhole held broken h.entries
-  pub valid : AllValid (world_in held h)
-  pub distinct : AreDistinct (world_in held h)
+  pub made : IsMadeWorld (world_in held h)
 
 -- the holders by the bytes of their names
 abbrev pub holders_in : {H : Type 0} → Holders H → List (List ℕ × H)

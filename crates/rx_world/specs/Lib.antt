@@ -1,10 +1,15 @@
 pub mod World
 pub mod Schema
+pub mod Chain
+pub mod Replicating
 pub mod Touch
 pub mod Step
 pub mod Replay
 pub mod Commit
 pub mod Lawful
 pub mod Valid
+pub mod Linked
+pub mod Made
 pub mod Holders
 pub mod Edit
+pub mod Sound

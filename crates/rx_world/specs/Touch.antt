@@ -1,9 +1,13 @@
 -- What a record touches of the collections.
-use Rattle.std.specs.Prelude.{ℕ, List, Option, Some, None}
+use Rattle.std.specs.Prelude.{ℕ, List, [], ◌∷◌, Option, Some, None}
+use Rattle.std.specs.Option.{option_map_or}
+use Rattle.rx_value.specs.Named.{named}
 use Rattle.rx_schema.specs.declared.shape.Shape.{Shape}
 use Rattle.rx_record.specs.Content.{Content, collection, rows, replication, exchange, epoch}
 use Rattle.rx_record.specs.declared.record.RowOut.{RowOut}
 use Rattle.rx_world.specs.Schema.{schema_in}
+use Rattle.rx_world.specs.World.{World, Replications}
+use Rattle.rx_world.specs.declared.replication.Replication.{Replication}
 
 -- none of them, a new one of that name and schema, or the one of that name, into which rows go that
 -- were written at that time
@@ -17,9 +21,19 @@ abbrev pub new_where : List ℕ → Option Shape → Touch
 new_where name None = no_collection
 new_where name (Some s) = new_collection name s
 
-abbrev pub touch : Content → Touch
-touch (collection name schema) = new_where name (schema_in schema)
-touch (rows name lwt written) = new_rows name lwt written
-touch (replication name fork master handler field) = no_collection
-touch (exchange name lwt written known up down) = no_collection
-touch (epoch number) = no_collection
+-- the fork of a replication, where there is a row
+abbrev pub fork_rows : ℕ → List RowOut → Replication → Touch
+fork_rows lwt [] r = no_collection
+fork_rows lwt (row ∷ written) r = new_rows r.fork lwt (row ∷ written)
+
+-- that of the replication of a name
+abbrev pub exchange_touch : ℕ → List RowOut → List ℕ → Replications → Touch
+exchange_touch lwt written name rs = option_map_or (fork_rows lwt written) (named rs name) no_collection
+
+-- in a world, whose replications tell the fork of an exchange
+abbrev pub touch : Content → World → Touch
+touch (collection name schema) w = new_where name (schema_in schema)
+touch (rows name lwt written) w = new_rows name lwt written
+touch (replication name fork master handler field) w = no_collection
+touch (exchange name lwt written known up down) w = exchange_touch lwt written name w.replications
+touch (epoch number) w = no_collection

@@ -1,20 +1,28 @@
--- Collections by name, and the last epoch.
+-- Collections and replications by name, and the last epoch.
 use Rattle.std.specs.Prelude.{ℕ, List, []}
 use Rattle.rx_collection.specs.Held.{Held}
+use Rattle.rx_world.specs.declared.replication.Replication.{Replication}
 
--- collections by name, in the order of their making, and the last epoch
+-- by name, in the order of their making
+abbrev pub Collections : Type 0
+Collections = List (List ℕ × Held)
+
+abbrev pub Replications : Type 0
+Replications = List (List ℕ × Replication)
+
 pub record World : Type 0 where
-  pub collections : List (List ℕ × Held)
+  pub collections : Collections
+  pub replications : Replications
   pub epoch : ℕ
 
--- with these collections and that epoch
-abbrev pub world_with : List (List ℕ × Held) → ℕ → World
-world_with collections epoch = record { collections = collections; epoch = epoch }
-
--- no collections, and no epoch yet
+-- no collections and no replications, and no epoch yet
 abbrev pub empty : World
-empty = world_with [] 0
+empty = record { collections = []; replications = []; epoch = 0 }
 
 -- the most collections
 abbrev pub max_collections : ℕ
 max_collections = 64
+
+-- the most replications
+abbrev pub max_replications : ℕ
+max_replications = 64

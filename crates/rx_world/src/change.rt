@@ -2,17 +2,20 @@ ghost use Rattle.std.specs.Prelude.{◌≡◌, true, false, Ok, OnOk, IfOk};
 ghost use Rattle.rx_record.specs.Shown.{content};
 ghost use Rattle.rx_record.specs.Writable.{IsOrdered};
 ghost use Rattle.rx_world.specs.Holders.{After, AreWhole, holders_of, world_in};
-ghost use Rattle.rx_value.specs.Named.{by_bytes, by_name};
+ghost use Rattle.rx_value.specs.Named.{by_bytes, by_name, named};
 ghost use Rattle.rx_world.specs.Schema.{schema_in};
-ghost use Rattle.rx_world.specs.Step.{step, legal, collections_after};
-ghost use Rattle.rx_world.specs.Touch.{touch, new_where};
+ghost use Rattle.rx_collection.specs.Commit.{AreNext};
+ghost use Rattle.rx_world.specs.Step.{step, legal, collections_after, stored_rows};
+ghost use Rattle.std.specs.Option.{ForSome};
+ghost use Rattle.rx_world.specs.Touch.{touch, new_where, exchange_touch};
 
 use crate::names::{add, write};
 use crate::parts::Parts;
+use crate::replications::{add as add_replication, exchange, find};
 use crate::schema_text::schema_in;
 use indexmap::IndexMap;
 use rx_collection::{Collection, Holder};
-use rx_record::Record;
+use rx_record::{Record, RowOut};
 use rx_value::RxText;
 use std::alloc::{AllocError, Global};
 
@@ -34,7 +37,7 @@ pub(crate) fn change<H: Holder + Drop, F: Fn(Collection) -> Result<H, AllocError
         ≡ step (content entry) (world_in H.held (holders_of parts.old))) }
     ensures whole { OnOk result (AreWhole H.held H.is_broken parts.new.holders.entries) }
     ensures holders { OnOk result (After H.held H.written (λ c h. F.post make.now c (Ok h))
-        (touch (content entry)) (by_bytes parts.old.holders.entries)
+        (touch (content entry) (world_in H.held (holders_of parts.old))) (by_bytes parts.old.holders.entries)
         (by_bytes parts.new.holders.entries)) }
 {
     match entry {
@@ -44,11 +47,72 @@ pub(crate) fn change<H: Holder + Drop, F: Fn(Collection) -> Result<H, AllocError
         Record::Rows { name, lwt, rows } => {
             write(&mut parts.holders, alloc, name.as_str(), lwt, rows)
         }
-        Record::Replication { .. } | Record::Exchange { .. } => Ok(()),
+        Record::Replication {
+            name,
+            fork,
+            master,
+            handler,
+            field,
+        } => add_replication(
+            &mut parts.replications,
+            alloc,
+            name,
+            fork,
+            master,
+            handler,
+            field,
+        ),
+        Record::Exchange {
+            name,
+            lwt,
+            rows,
+            known,
+            up,
+            down,
+        } => {
+            write_fork(parts, alloc, name.as_str(), lwt, rows)?;
+            exchange(&mut parts.replications, name.as_str(), known, up, down)
+        }
         Record::Epoch { number } => {
             parts.epoch = number;
             Ok(())
         }
+    }
+}
+
+// Writes the rows of an exchange to the replication's fork, if there is a row.
+fn write_fork<H: Holder>(
+    parts: &mut Parts<H>,
+    alloc: Global,
+    name: &str,
+    lwt: u64,
+    rows: Vec<RowOut>,
+) -> Result<(), AllocError>
+    requires whole { AreWhole H.held H.is_broken parts.old.holders.entries }
+    requires next { ForSome (named (by_bytes parts.old.replications.entries) name.now)
+        (λ r. ForSome (named (by_name H.held parts.old.holders.entries) r.fork)
+        (λ c. AreNext c (stored_rows c.name lwt rows.items))) }
+    ensures held { OnOk result (by_name H.held parts.new.holders.entries
+        ≡ collections_after (exchange_touch lwt rows.items name.now (by_bytes parts.old.replications.entries))
+        (by_name H.held parts.old.holders.entries)) }
+    ensures holders { OnOk result (After H.held H.written (λ c h. Unit {0})
+        (exchange_touch lwt rows.items name.now (by_bytes parts.old.replications.entries))
+        (by_bytes parts.old.holders.entries) (by_bytes parts.new.holders.entries)) }
+    ensures whole { OnOk result (AreWhole H.held H.is_broken parts.new.holders.entries) }
+    ensures others { OnOk result ((parts.new.replications ≡ parts.old.replications)
+        × (parts.new.epoch ≡ parts.old.epoch)) }
+{
+    match find(&parts.replications, name) {
+        Some(replication) if !rows.is_empty() => {
+            write(
+                &mut parts.holders,
+                alloc,
+                replication.fork.as_str(),
+                lwt,
+                rows,
+            )
+        }
+        _ => Ok(()),
     }
 }
 

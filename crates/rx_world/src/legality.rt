@@ -9,6 +9,9 @@ ghost use Rattle.rx_world.specs.Step.{is_valid_state, is_due, takes, legal};
 
 use crate::names::find;
 use crate::parts::{MAX_COLLECTIONS, Parts};
+use crate::replicating::{may_begin, takes_exchange};
+use crate::replicating_views::takes_exchange_view;
+use crate::replications::find as find_replication;
 use crate::schema_text::schema_in;
 use rx_collection::{Collection, Holder, MOST_LWT};
 use rx_record::{Record, RecordView, RowOut, RowView, RowViews};
@@ -33,12 +36,37 @@ pub(crate) fn is_legal<H: Holder>(
             Some(holder) => Ok(takes(holder.collection(), *lwt, rows.as_slice())),
             None => Ok(false),
         },
-        Record::Replication { .. } | Record::Exchange { .. } => Ok(false),
+        Record::Replication {
+            name,
+            fork,
+            master,
+            ..
+        } => Ok(may_begin(parts, name.as_str(), fork.as_str(), master)),
+        Record::Exchange {
+            name,
+            lwt,
+            rows,
+            known,
+            up,
+            down,
+        } => match find_replication(&parts.replications, name.as_str()) {
+            Some(replication) => Ok(takes_exchange(
+                &parts.holders,
+                replication,
+                *lwt,
+                rows.as_slice(),
+                known.as_slice(),
+                up,
+                down,
+            )),
+            None => Ok(false),
+        },
         Record::Epoch { number } => Ok(is_next(*number, parts.epoch)),
     }
 }
 
-/// The same of a record that is only lent. A schema or one state at a time is owned.
+/// The same of a record that is only lent. A schema, one state at a time, a master's name or a
+/// checkpoint is owned.
 pub(crate) fn is_legal_view<H: Holder>(
     parts: &Parts<H>,
     alloc: Global,
@@ -54,7 +82,38 @@ pub(crate) fn is_legal_view<H: Holder>(
             Some(holder) => takes_views(alloc, holder.collection(), *lwt, rows),
             None => Ok(false),
         },
-        RecordView::Replication { .. } | RecordView::Exchange { .. } => Ok(false),
+        RecordView::Replication {
+            name,
+            fork,
+            master,
+            ..
+        } => {
+            let master = master.own(alloc)?;
+            Ok(may_begin(parts, name, fork, &master))
+        }
+        RecordView::Exchange {
+            name,
+            lwt,
+            rows,
+            known,
+            up,
+            down,
+        } => match find_replication(&parts.replications, name) {
+            Some(replication) => {
+                let takes = takes_exchange_view(
+                    &parts.holders,
+                    alloc,
+                    replication,
+                    *lwt,
+                    rows,
+                    known,
+                    up,
+                    down,
+                )?;
+                Ok(takes)
+            }
+            None => Ok(false),
+        },
         RecordView::Epoch { number } => Ok(is_next(*number, parts.epoch)),
     }
 }
@@ -80,13 +139,13 @@ fn is_new<H: Holder>(
 }
 
 // Whether a collection takes the rows at that write time.
-fn takes(collection: &Collection, lwt: u64, rows: &[RowOut]) -> bool
+pub(crate) fn takes(collection: &Collection, lwt: u64, rows: &[RowOut]) -> bool
     ensures { result ≡ takes lwt rows.now collection.now }
 {
     !rows.is_empty() && collection.last_lwt() < lwt && lwt <= MOST_LWT && are_due(collection, rows)
 }
 
-fn takes_views(
+pub(crate) fn takes_views(
     alloc: Global,
     collection: &Collection,
     lwt: u64,
@@ -155,7 +214,7 @@ fn is_due(collection: &Collection, row: &RowOut) -> bool
     }
 }
 
-fn is_valid(schema: &Schema, state: &State) -> bool
+pub(crate) fn is_valid(schema: &Schema, state: &State) -> bool
     ensures { result ≡ is_valid_state schema.now state.now }
 {
     schema.valid(&state.fields).is_ok()

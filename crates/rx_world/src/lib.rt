@@ -1,18 +1,26 @@
-//! Collections by name: what the records of a journal do to them, where they are legal, and the
-//! record of a commit.
+//! Collections and replications by name: what the records of a journal do to them, where they are
+//! legal, and the record of a commit.
 #![tactic(auto)]
 
+mod chain;
 mod change;
 mod fault;
+mod following;
 mod legality;
 mod names;
 mod parts;
+mod replicating;
+mod replicating_views;
+mod replication;
+mod replications;
 mod rows;
 mod same;
 mod schema_text;
+mod soundness;
 mod world;
 
 pub use fault::{ApplyFault, StepFault};
-pub use parts::MAX_COLLECTIONS;
-pub use rows::commit;
+pub use parts::{MAX_COLLECTIONS, MAX_REPLICATIONS};
+pub use replication::Replication;
+pub use rows::{commit, rows_out};
 pub use world::World;

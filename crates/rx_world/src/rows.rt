@@ -44,8 +44,8 @@ fn stored_row(alloc: Global, name: &RxText, lwt: u64, row: RowOut) -> Result<Sto
     })
 }
 
-// Documents as the rows of a record.
-fn rows_out(alloc: Global, documents: Vec<Stored>) -> Result<Vec<RowOut>, AllocError>
+/// Documents as the rows of a record.
+pub fn rows_out(alloc: Global, documents: Vec<Stored>) -> Result<Vec<RowOut>, AllocError>
     ensures { IfOk result (λ rows. rows.items ≡ map out_of documents.items) }
 {
     let mut rows = Vec::with_capacity(alloc, documents.len())?;

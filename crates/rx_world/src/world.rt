@@ -8,30 +8,39 @@ ghost use Rattle.rx_value.specs.Named.{named};
 ghost use Rattle.rx_collection.specs.Lawful.{IsLawful};
 ghost use Rattle.rx_record.specs.Shown.{content, content_in};
 ghost use Rattle.rx_record.specs.Writable.{IsOrdered};
+ghost use Rattle.rx_world.specs.Chain.{is_fork, may_follow};
 ghost use Rattle.rx_world.specs.Commit.{commit};
 ghost use Rattle.rx_world.specs.Edit.{Edited, Leaves, LeavesWhole};
 ghost use Rattle.rx_world.specs.Holders.{After, IsWhole, holders_in, world_in};
 ghost use Rattle.rx_world.specs.Lawful.{IsLawfulWorld};
+ghost use Rattle.rx_world.specs.Linked.{IsLinked};
+ghost use Rattle.rx_world.specs.Made.{IsMadeWorld};
+ghost use Rattle.rx_world.specs.Sound.{IsSoundWorld};
 ghost use Rattle.rx_world.specs.Step.{IsValidState, step, legal};
 ghost use Rattle.rx_world.specs.Touch.{touch};
 ghost use Rattle.rx_world.specs.Valid.{AreValid, AreDistinct};
 ghost use Rattle.rx_world.specs.World.{empty};
 
+use crate::chain;
 use crate::change::change;
 use crate::fault::{ApplyFault, StepFault};
+use crate::following::follow_same;
 use crate::legality::{is_legal, is_legal_view};
 use crate::names::{edit, find};
 use crate::parts::Parts;
+use crate::replication::Replication;
+use crate::replications::find as find_replication;
 use crate::rows::commit;
 use crate::same::hold_same;
+use crate::soundness::is_sound;
 use indexmap::IndexMap;
 use rx_collection::{Collection, Holder};
-use rx_record::{Record, RecordView};
+use rx_record::{MasterName, Record, RecordView};
 use rx_value::State;
 use std::alloc::{AllocError, Global};
 use std::marker::Model;
 
-/// Holders of collections by name, in the order of their making, and the last epoch.
+/// Holders of collections and replications by name, in the order of their making, and the last epoch.
 #[derive(Drop)]
 pub struct World<H: Holder + Drop> {
     parts: Parts<H>,
@@ -54,6 +63,7 @@ impl<H: Holder + Drop> World<H> {
         World {
             parts: Parts {
                 holders: IndexMap::new(alloc),
+                replications: IndexMap::new(alloc),
                 epoch: 0,
             },
         }
@@ -72,6 +82,7 @@ impl<H: Holder + Drop> World<H> {
         ensures lawful { IsLawfulWorld (world_in H.held self.now) }
         ensures whole { AllByRecursion (λ e. IsWhole H.held H.is_broken e.0 e.1) (holders_in self.now) }
         ensures distinct { AreDistinct (world_in H.held self.now) }
+        ensures made { IsMadeWorld (world_in H.held self.now) }
     {
         self.parts.holders.len()
     }
@@ -138,9 +149,10 @@ impl<H: Holder + Drop> World<H> {
             ≡ step (content entry) (world_in H.held self))
             × (legal (content entry) (world_in H.held self) ≡ true)) }
         ensures holders { IfOk result (λ world. After H.held H.written
-            (λ c h. F.post make.now c (Ok h)) (touch (content entry)) (holders_in self)
+            (λ c h. F.post make.now c (Ok h)) (touch (content entry) (world_in H.held self)) (holders_in self)
             (holders_in world)) }
         ensures distinct { IfOk result (λ world. AreDistinct (world_in H.held world)) }
+        ensures made { IfOk result (λ world. IsMadeWorld (world_in H.held world)) }
         ensures illegal { IsErrOf result ApplyFault.Illegal
             → legal (content entry) (world_in H.held self) ≡ false }
     {
@@ -166,22 +178,70 @@ impl<H: Holder + Drop> World<H> {
         ensures world { IfOk result (λ world. world_in H.held world
             ≡ step (content entry) (world_in H.held self)) }
         ensures holders { IfOk result (λ world. After H.held H.written
-            (λ c h. F.post make.now c (Ok h)) (touch (content entry)) (holders_in self)
+            (λ c h. F.post make.now c (Ok h)) (touch (content entry) (world_in H.held self)) (holders_in self)
             (holders_in world)) }
         ensures distinct { IfOk result (λ world. AreDistinct (world_in H.held world)) }
+        ensures made { IfOk result (λ world. IsMadeWorld (world_in H.held world)) }
     {
         let mut parts = self.parts;
         change(&mut parts, alloc, entry, make)?;
         Ok(World { parts })
     }
 
-    /// Whether the collections are those of the other world, in the same order. So a journal that
-    /// was opened again is compared with the world that wrote it. The epoch is left aside.
+    /// Whether the collections are those of the other world, in the same order, and so are the
+    /// replications, with what they know. So a journal that was opened again is compared with the
+    /// world that wrote it. The epoch is left aside.
     pub fn has_same(&self, other: &World<H>) -> bool
-        ensures { Decides result ((world_in H.held self.now).collections
-            ≡ (world_in H.held other.now).collections) }
+        ensures { Decides result (((world_in H.held self.now).collections
+            ≡ (world_in H.held other.now).collections)
+            × ((world_in H.held self.now).replications
+            ≡ (world_in H.held other.now).replications)) }
     {
         hold_same(&self.parts.holders, &other.parts.holders)
+            && follow_same(&self.parts.replications, &other.parts.replications)
+    }
+
+    /// How many replications there are.
+    pub fn replications(&self) -> usize
+        ensures { result ≡ length (world_in H.held self.now).replications }
+    {
+        self.parts.replications.len()
+    }
+
+    /// The replication of that name.
+    pub fn replication(&self, name: &str) -> Option<&Replication>
+        ensures found { option_map (λ r. r.now) result
+            ≡ named (world_in H.held self.now).replications name.now }
+        ensures linked { IfSome result
+            (λ r. IsLinked (world_in H.held self.now).collections name.now r.now) }
+        ensures made { IsMadeWorld (world_in H.held self.now) }
+    {
+        find_replication(&self.parts.replications, name)
+    }
+
+    /// Whether no replication has lost anything: what is below a checkpoint is known, what is known
+    /// is held, and no checkpoint is above all documents. It looks at each document of a fork or a
+    /// master, and at each known state, once for each replication.
+    pub fn sound(&self) -> bool
+        ensures { Decides result (IsSoundWorld (world_in H.held self.now)) }
+    {
+        is_sound(&self.parts)
+    }
+
+    /// Whether the collection of that name is a fork.
+    pub fn is_fork(&self, name: &str) -> bool
+        ensures { result ≡ is_fork name.now (world_in H.held self.now).replications }
+    {
+        chain::is_fork(&self.parts.replications, name)
+    }
+
+    /// Whether the collection may follow that master: no chain of replications has three
+    /// collections.
+    pub fn may_follow(&self, fork: &str, master: &MasterName) -> bool
+        ensures { result
+            ≡ may_follow (world_in H.held self.now).replications fork.now master.now }
+    {
+        chain::may_follow(&self.parts.replications, fork, master)
     }
 
     /// The holders, in the order of their making.

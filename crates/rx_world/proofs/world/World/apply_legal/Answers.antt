@@ -1,28 +1,33 @@
 use Rattle.std.proofs.Common.{◌≡◌, true, sym, subst}
 use Rattle.rx_record.specs.Shown.{content}
 use Rattle.rx_world.specs.Holders.{holders_of, world_in}
+use Rattle.rx_world.specs.Made.{IsMadeWorld}
 use Rattle.rx_world.specs.Step.{legal}
-use Rattle.rx_world.specs.Valid.{AllValid, AreDistinct}
-use Rattle.rx_world.proofs.Valid.{valid_step, distinct_step}
+use Rattle.rx_world.specs.Valid.{AreDistinct}
+use Rattle.rx_world.proofs.Making.{made_step}
+use Rattle.rx_world.proofs.Valid.{distinct_step}
+use Rattle.rx_world.proofs.world.World.apply_legal.Given.{Over}
 use Rattle.rx_world.proofs.world.World.apply_legal.Goals as goal
 
-pub invariant_of-result : goal.invariant_of-result
-invariant_of-result g c =
+-- the new world is one that records made
+made : (g : Over) (c : goal.In_ok-change g)
+    → IsMadeWorld (world_in g.H.Holder.held (holders_of c.change.new.parts))
+made g c =
+    let entry = content c.args.entry in
     let old = world_in g.H.Holder.held (holders_of c.self.inside.parts) in
-    let made = c.in_ok-change.ensures in
-    let legal : legal (content c.args.entry) old ≡ true =
-    subst (λ w. legal (content c.args.entry) (world_in g.H.Holder.held w) ≡ true) (sym c.self.view_is)
-    c.requires.legal in
-    record {
-      whole = made.whole;
-      valid = subst AllValid (sym made.world)
-          (valid_step (content c.args.entry) old legal c.self.invariant.valid);
-      distinct = subst AreDistinct (sym made.world)
-          (distinct_step (content c.args.entry) old c.self.invariant.distinct);
-    }
+    let legal : legal entry old ≡ true =
+    subst (λ w. legal entry (world_in g.H.Holder.held w) ≡ true) (sym c.self.view_is) c.requires.legal in
+    subst IsMadeWorld (sym c.in_ok-change.ensures.world)
+    (made_step entry old legal c.requires.ordered c.self.invariant.made)
+
+pub invariant_of-result : goal.invariant_of-result
+invariant_of-result g c = record { whole = c.in_ok-change.ensures.whole; made = made g c }
+
+pub returns-clause-made : goal.returns-clause-made
+returns-clause-made g c = made g c
 
 pub returns-clause-distinct : goal.returns-clause-distinct
 returns-clause-distinct g c =
     subst AreDistinct (sym c.in_ok-change.ensures.world)
     (distinct_step (content c.args.entry) (world_in g.H.Holder.held (holders_of c.self.inside.parts))
-    c.self.invariant.distinct)
+    c.self.invariant.made.distinct)

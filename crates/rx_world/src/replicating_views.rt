@@ -1,0 +1,141 @@
+// What a replication takes, of a record that is only lent. One state at a time, or a checkpoint, is
+// owned.
+ghost use Rattle.std.specs.Prelude.{◌≡◌, IfOk, option_map};
+ghost use Rattle.std.specs.List.{list_all};
+ghost use Rattle.rx_record.specs.Views.{place_in, rows_left, states_left};
+ghost use Rattle.rx_value.specs.Named.{by_name};
+ghost use Rattle.rx_world.specs.Holders.{AreWhole};
+ghost use Rattle.rx_world.specs.Replicating.{stays_or_rises};
+ghost use Rattle.rx_world.specs.Step.{fork_takes, has_key, is_held_with, takes_exchange, takes_rows};
+
+use crate::legality::{is_valid, takes_views};
+use crate::names::find;
+use crate::replicating::stays_or_rises;
+use crate::replication::Replication;
+use indexmap::IndexMap;
+use rx_collection::{Collection, Holder};
+use rx_document::Place;
+use rx_record::{PlaceView, RowViews, StateViews};
+use rx_value::State;
+use std::alloc::{AllocError, Global};
+
+// Whether a replication takes an exchange.
+pub(crate) fn takes_exchange_view<H: Holder>(
+    holders: &IndexMap<String, H>,
+    alloc: Global,
+    replication: &Replication,
+    lwt: u64,
+    rows: &RowViews<'_>,
+    known: &StateViews<'_>,
+    up: &Option<PlaceView<'_>>,
+    down: &Option<PlaceView<'_>>,
+) -> Result<bool, AllocError>
+    requires { AreWhole H.held H.is_broken holders.now.entries }
+    ensures { IfOk result (λ b. b ≡ takes_exchange (by_name H.held holders.now.entries) lwt
+        (rows_left rows.now) (states_left known.now) (option_map place_in up.now)
+        (option_map place_in down.now) replication.now) }
+{
+    if !view_stays_or_rises(alloc, replication.side.up(), up)?
+        || !view_stays_or_rises(alloc, replication.side.down(), down)?
+    {
+        return Ok(false);
+    }
+    match find(holders, replication.fork.as_str()) {
+        Some(fork) => fork_takes_views(fork.collection(), alloc, lwt, rows, known),
+        None => Ok(false),
+    }
+}
+
+fn view_stays_or_rises(
+    alloc: Global,
+    old: Option<&Place>,
+    new: &Option<PlaceView<'_>>,
+) -> Result<bool, AllocError>
+    ensures { IfOk result (λ b. b
+        ≡ stays_or_rises (option_map (λ p. p.now) old.entry) (option_map place_in new.now)) }
+{
+    let new = own_place(alloc, new)?;
+    Ok(stays_or_rises(old, &new))
+}
+
+fn own_place(alloc: Global, place: &Option<PlaceView<'_>>) -> Result<Option<Place>, AllocError>
+    ensures { IfOk result (λ owned. owned ≡ option_map place_in place.now) }
+{
+    match place {
+        Some(place) => Ok(Some(place.own(alloc)?)),
+        None => Ok(None),
+    }
+}
+
+// Whether a fork takes the rows, and then holds the keys of the known states.
+fn fork_takes_views(
+    fork: &Collection,
+    alloc: Global,
+    lwt: u64,
+    rows: &RowViews<'_>,
+    known: &StateViews<'_>,
+) -> Result<bool, AllocError>
+    ensures { IfOk result (λ b. b
+        ≡ fork_takes lwt (rows_left rows.now) (states_left known.now) fork.now) }
+{
+    if !takes_row_views(fork, alloc, lwt, rows)? {
+        return Ok(false);
+    }
+    are_held_views(fork, alloc, rows, known)
+}
+
+fn takes_row_views(
+    fork: &Collection,
+    alloc: Global,
+    lwt: u64,
+    rows: &RowViews<'_>,
+) -> Result<bool, AllocError>
+    ensures { IfOk result (λ b. b ≡ takes_rows lwt (rows_left rows.now) fork.now) }
+{
+    let mut rest = *rows;
+    match rest.next() {
+        Some(_) => takes_views(alloc, fork, lwt, rows),
+        None => Ok(lwt == 0),
+    }
+}
+
+fn are_held_views(
+    fork: &Collection,
+    alloc: Global,
+    rows: &RowViews<'_>,
+    known: &StateViews<'_>,
+) -> Result<bool, AllocError>
+    ensures { IfOk result (λ b. b
+        ≡ list_all (is_held_with fork.now (rows_left rows.now)) (states_left known.now)) }
+{
+    let mut known = *known;
+    while let Some(state) = known.next() {
+        let state = state.own(alloc)?;
+        if !is_held_view(fork, rows, &state) {
+            return Ok(false);
+        }
+    }
+    Ok(true)
+}
+
+// Whether the state is valid, and its key is held by the fork with the rows.
+fn is_held_view(fork: &Collection, rows: &RowViews<'_>, state: &State) -> bool
+    ensures { result ≡ is_held_with fork.now (rows_left rows.now) state.now }
+{
+    if !is_valid(fork.schema(), state) {
+        return false;
+    }
+    fork.get(state.key.as_str()).is_some() || has_key_view(state.key.as_str(), rows)
+}
+
+fn has_key_view(key: &str, rows: &RowViews<'_>) -> bool
+    ensures { result ≡ has_key key.now (rows_left rows.now) }
+{
+    let mut rows = *rows;
+    while let Some(row) = rows.next() {
+        if row.state.key == key {
+            return true;
+        }
+    }
+    false
+}
