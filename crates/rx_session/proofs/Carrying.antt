@@ -9,7 +9,7 @@ use Rattle.rx_observe.specs.Observing.{Observing, cooled, each, with_queries}
 use Rattle.rx_observe.specs.Rows.{emissions_due}
 use Rattle.rx_world.specs.Holders.{Holders, IsWhole, holders_in}
 use Rattle.rx_world.specs.Valid.{AreDistinct}
-use Rattle.rx_world.specs.World.{World, world_with}
+use Rattle.rx_world.specs.World.{World}
 use Rattle.rx_session.specs.Doing.{after, restart}
 use Rattle.rx_session.specs.Emissions.{emission_due, emissions, settled_session, settled_query}
 use Rattle.rx_session.specs.Lives.{bare, with_cooled, each_live}
@@ -176,7 +176,11 @@ module _ (old : Holders Observing) (moment number : ℕ) (ps : List Place)
 
   -- the world in another epoch
   abbrev again : World
-  again = world_with (world_of old).collections number
+  again = record {
+    collections = (world_of old).collections;
+    replications = old.replications;
+    epoch = number;
+  }
 
   -- its collections are those that the queries move to
   same_again : again.collections ≡ colls (each_live with_cooled (holders_in old))
@@ -191,10 +195,11 @@ module _ (old : Holders Observing) (moment number : ℕ) (ps : List Place)
 
   -- the session that goes on is the one before, in that epoch, with its queries made cold
   pub carried_session : (new : Holders Observing)
-      → holders_in new ≡ each_live with_cooled (holders_in old) → new.epoch ≡ number
+      → holders_in new ≡ each_live with_cooled (holders_in old)
+      → new.replications ≡ old.replications → new.epoch ≡ number
       → record { world = world_of new; moment = moment; queries = queries_of (holders_in new) ps }
       ≡ settled_session (after (restart number) before)
-  carried_session new lives epoch =
+  carried_session new lives replications epoch =
       let moved = each_live with_cooled (holders_in old) in
       let collections = carried_collections old new lives in
       let queries : queries_of (holders_in new) ps
@@ -204,7 +209,7 @@ module _ (old : Holders Observing) (moment number : ℕ) (ps : List Place)
       ∙ sym (quiet_queries again moved same_again ps (moved_quiet (holders_in old) quiet))
       ∙ ap (map (settled_query again)) (moved_queries (holders_in old) ps) in
       λ i. record {
-        world = record { collections = collections i; epoch = epoch i };
+        world = record { collections = collections i; replications = replications i; epoch = epoch i };
         moment = moment;
         queries = queries i;
       }

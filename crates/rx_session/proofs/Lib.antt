@@ -7,3 +7,6 @@ pub mod Moving
 pub mod Settling
 pub mod Editing
 pub mod Carrying
+pub mod Several
+pub mod Played
+pub mod Naming

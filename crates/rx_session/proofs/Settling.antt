@@ -11,7 +11,6 @@ use Rattle.rx_world.specs.Holders.{Holders, holders_in}
 use Rattle.rx_world.specs.Step.{step, legal}
 use Rattle.rx_world.specs.Touch.{Touch, touch}
 use Rattle.rx_world.specs.Valid.{AreDistinct}
-use Rattle.rx_world.specs.World.{world_with}
 use Rattle.rx_world.proofs.Holding.{after_all}
 use Rattle.rx_world.proofs.Looked.{keys-change_named}
 use Rattle.rx_world.proofs.Valid.{distinct_step}
@@ -23,7 +22,6 @@ use Rattle.rx_session.specs.Placed.{ArePlaced, AreQuietBut, AreUnwatched, IsUnwa
 use Rattle.rx_session.specs.Session.{Session, is_observed}
 use Rattle.rx_session.specs.declared.place.Place.{Place}
 use Rattle.rx_session.proofs.Places.{any-queries_of, colls, distinct_in, world_colls}
-use Rattle.rx_session.proofs.Writing.{queries_after, legal_unheld, placed_after, quiet_after, quiet_but}
 use Rattle.rx_session.proofs.Showing.{due_of_one, quiet_due, quiet_queries, settled_all_quiet, settled_colls, settled_placed, settled_queries}
 use Rattle.rx_session.proofs.Adding.{added_colls, added_placed, added_queries, added_quiet, place_in}
 use Rattle.rx_session.proofs.Dropping.{all_in_first, dropped_colls, dropped_placed, dropped_queries, dropped_quiet, none_found, rest_of, undropped_placed, undropped_queries}
@@ -59,12 +57,12 @@ abbrev pub session_of : Holders Observing → ℕ → List Place → Session
 session_of h moment ps =
     record { world = world_of h; moment = moment; queries = queries_of (holders_in h) ps }
 
--- worlds of the same collections and the same epoch
+-- worlds of the same collections and replications, and of the same epoch
 pub same_world : (h g : Holders Observing) → colls (holders_in h) ≡ colls (holders_in g)
-    → h.epoch ≡ g.epoch → world_of h ≡ world_of g
-same_world h g same epochs =
-    ap (λ cs. world_with cs h.epoch) (world_colls h ∙ same ∙ sym (world_colls g))
-    ∙ ap (world_with (world_of g).collections) epochs
+    → h.replications ≡ g.replications → h.epoch ≡ g.epoch → world_of h ≡ world_of g
+same_world h g same replications epochs =
+    let collections = world_colls h ∙ same ∙ sym (world_colls g) in
+    λ i. record { collections = collections i; replications = replications i; epoch = epochs i }
 
 module _ (h : Holders Observing) (ps : List Place) (quiet : AllByRecursion IsQuiet (holders_in h))
   where
@@ -90,118 +88,6 @@ module _ (h : Holders Observing) (ps : List Place) (quiet : AllByRecursion IsQui
     at_session moment at =
         ap (λ qs. record { world = world_of h; moment = at; queries = qs }) (sym all_settled)
 
--- ---- after a record
-
--- a record was applied to settled collections, and the emissions that are due were written
-pub record IsWritten (content : Content) (old new last : Holders Observing) (ps : List Place)
-    : Type 0 where
-  pub placed : ArePlaced (holders_in old) ps
-  pub distinct : AreDistinct (world_of old)
-  pub quiet : AllByRecursion IsQuiet (holders_in old)
-  pub allowed : legal content (world_of old) ≡ true
-  pub stepped : world_of new ≡ step content (world_of old)
-  pub applied : IsAfter (touch content) (holders_in old) (holders_in new)
-  pub emitted : holders_in last ≡ settled_in (coll_written (touch content)) (holders_in new)
-  pub epochs : last.epoch ≡ new.epoch
-
-module _ (content : Content) (old new last : Holders Observing) (moment : ℕ) (ps : List Place)
-    (so : IsWritten content old new last ps) where
-  -- all are in their places
-  placed_then : ArePlaced (holders_in new) ps
-  placed_then =
-      placed_after (touch content) (world_of old) (holders_in old) (holders_in new) ps (world_colls old)
-      so.placed (legal_unheld content (world_of old) so.allowed) so.applied
-
-  -- the queries have followed the record
-  followed_then : queries_of (holders_in new) ps
-      ≡ map (query_after (world_of old) (touch content)) (queries_of (holders_in old) ps)
-  followed_then =
-      queries_after (touch content) (world_of old) (holders_in old) (holders_in new) ps (world_colls old)
-      so.placed (legal_unheld content (world_of old) so.allowed) so.applied
-
-  -- no name of a collection comes twice
-  distinct_then : AreDistinct (world_of new)
-  distinct_then = subst AreDistinct (sym so.stepped) (distinct_step content (world_of old) so.distinct)
-
-  -- all is quiet where no documents are written
-  quiet_then : coll_written (touch content) ≡ None → AllByRecursion IsQuiet (holders_in new)
-  quiet_then is = quiet_after (touch content) (holders_in old) (holders_in new) is so.applied so.quiet
-
-  -- and all others are where some are
-  quiet_others : (coll : List ℕ) → coll_written (touch content) ≡ Some coll
-      → AreQuietBut coll (holders_in new)
-  quiet_others coll is = quiet_but (touch content) coll (holders_in old) (holders_in new) is so.applied so.quiet
-
-  -- the emissions are those of the collection whose documents were written
-  due_by : (o : Option (List ℕ)) → coll_written (touch content) ≡ o
-      → due_in o (holders_in new)
-      ≡ flat_map (emission_due (world_of new)) (queries_of (holders_in new) ps)
-  due_by None is = sym (none_due new ps (quiet_then is))
-  due_by (Some coll) is =
-      sym (due_of_one (world_of new) (holders_in new) (world_colls new) coll (quiet_others coll is) ps
-      placed_then)
-
-  pub written_due : due_in (coll_written (touch content)) (holders_in new)
-      ≡ emissions (after (write content) (session_of old moment ps))
-  written_due =
-      due_by (coll_written (touch content)) refl
-      ∙ ap (λ qs. flat_map (emission_due (world_of new)) qs) followed_then
-      ∙ ap (λ w. flat_map (emission_due w)
-      (map (query_after (world_of old) (touch content)) (queries_of (holders_in old) ps))) so.stepped
-
-  -- once they are emitted
-  queries_by : (o : Option (List ℕ)) → coll_written (touch content) ≡ o
-      → queries_of (settled_in o (holders_in new)) ps
-      ≡ map (settled_query (world_of new)) (queries_of (holders_in new) ps)
-  queries_by None is = sym (all_settled new ps (quiet_then is))
-  queries_by (Some coll) is =
-      settled_queries (world_of new) (holders_in new) (world_colls new) coll (quiet_others coll is) ps
-
-  colls_by : (o : Option (List ℕ)) → colls (settled_in o (holders_in new)) ≡ colls (holders_in new)
-  colls_by None = refl
-  colls_by (Some coll) = settled_colls (holders_in new) coll
-
-  placed_by : (o : Option (List ℕ)) → ArePlaced (settled_in o (holders_in new)) ps
-  placed_by None = placed_then
-  placed_by (Some coll) = settled_placed (holders_in new) coll ps placed_then
-
-  quiet_by : (o : Option (List ℕ)) → coll_written (touch content) ≡ o
-      → AllByRecursion IsQuiet (settled_in o (holders_in new))
-  quiet_by None is = quiet_then is
-  quiet_by (Some coll) is =
-      settled_all_quiet (holders_in new) coll (distinct_in new distinct_then) (quiet_others coll is)
-
-  -- the world is that after the record
-  written_world : world_of last ≡ step content (world_of old)
-  written_world =
-      same_world last new (ap colls so.emitted ∙ colls_by (coll_written (touch content))) so.epochs ∙ so.stepped
-
-  -- the queries have followed it, and are settled
-  written_queries : queries_of (holders_in last) ps
-      ≡ map (settled_query (step content (world_of old)))
-      (map (query_after (world_of old) (touch content)) (queries_of (holders_in old) ps))
-  written_queries =
-      ap (λ ls. queries_of ls ps) so.emitted ∙ queries_by (coll_written (touch content)) refl
-      ∙ ap (map (settled_query (world_of new))) followed_then
-      ∙ ap (λ w. map (settled_query w)
-      (map (query_after (world_of old) (touch content)) (queries_of (holders_in old) ps))) so.stepped
-
-  pub written_session : session_of last moment ps
-      ≡ settled_session (after (write content) (session_of old moment ps))
-  written_session =
-      λ i. record { world = written_world i; moment = moment; queries = written_queries i }
-
-  pub written_placed : ArePlaced (holders_in last) ps
-  written_placed = subst (λ ls. ArePlaced ls ps) (sym so.emitted) (placed_by (coll_written (touch content)))
-
-  pub written_distinct : AreDistinct (world_of last)
-  written_distinct =
-      subst AreDistinct (sym written_world) (distinct_step content (world_of old) so.distinct)
-
-  pub written_quiet : AllByRecursion IsQuiet (holders_in last)
-  written_quiet =
-      subst (AllByRecursion IsQuiet) (sym so.emitted) (quiet_by (coll_written (touch content)) refl)
-
 -- ---- once a query is observed
 
 -- no place has a name that no query has
@@ -219,6 +105,7 @@ pub record IsWatched (name coll : List ℕ) (q : Asked) (old last : Holders Obse
   pub free : list_any (λ p. bytes_eq name p.name) ps ≡ false
   pub keyed : has_key q.primary (named (world_of old).collections coll) ≡ true
   pub emitted : holders_in last ≡ settled_in (Some coll) (watched_in name coll q (holders_in old))
+  pub replications : last.replications ≡ old.replications
   pub epochs : last.epoch ≡ old.epoch
 
 module _ (name coll : List ℕ) (q : Asked) (old last : Holders Observing) (moment : ℕ) (ps : List Place)
@@ -266,7 +153,7 @@ module _ (name coll : List ℕ) (q : Asked) (old last : Holders Observing) (mome
   watched_world =
       same_world last old
       (ap colls so.emitted ∙ settled_colls more coll ∙ added_colls (holders_in old) coll name q)
-      so.epochs
+      so.replications so.epochs
 
   -- all queries are settled
   watched_queries : queries_of (holders_in last) (ps ++ place_in coll name ∷ [])
@@ -303,6 +190,7 @@ pub record IsLeft (name : List ℕ) (old new : Holders Observing) (ps : List Pla
   pub distinct : AreDistinct (world_of old)
   pub quiet : AllByRecursion IsQuiet (holders_in old)
   pub dropped : holders_in new ≡ unobserved name (place_named name ps) (holders_in old)
+  pub replications : new.replications ≡ old.replications
   pub epochs : new.epoch ≡ old.epoch
 
 module _ (name : List ℕ) (old new : Holders Observing) (moment : ℕ) (ps : List Place)
@@ -331,7 +219,7 @@ module _ (name : List ℕ) (old new : Holders Observing) (moment : ℕ) (ps : Li
 
   -- the world stays
   without_world : world_of new ≡ world_of old
-  without_world = same_world new old (ap colls so.dropped ∙ left_colls (place_named name ps)) so.epochs
+  without_world = same_world new old (ap colls so.dropped ∙ left_colls (place_named name ps)) so.replications so.epochs
 
   -- the other queries stay
   without_queries : queries_of (holders_in new) (rest_of name ps)

@@ -29,7 +29,7 @@ use Rattle.rx_session.proofs.Places.{all_both, all_map, all_named, all_of, colls
 -- ---- lists
 
 -- where two names differ, they do so either way round
-turned : (k l : List ℕ) → bytes_eq k l ≡ false → bytes_eq l k ≡ false
+pub turned : (k l : List ℕ) → bytes_eq k l ≡ false → bytes_eq l k ≡ false
 turned k l other =
     other_names l k (λ same. true≢false (sym ((bytes_eq-Decides k l).1 (sym same)) ∙ other))
 
@@ -46,7 +46,7 @@ all_names P test (p ∷ ps) all =
     ]
 
 -- of names that differ, some differ
-some_distinct : (test : Place → Bool) (ps : List Place)
+pub some_distinct : (test : Place → Bool) (ps : List Place)
     → IsDistinct bytes_eq (map (λ (p : Place). p.name) ps)
     → IsDistinct bytes_eq (map (λ (p : Place). p.name) (filter test ps))
 some_distinct test [] distinct = distinct
@@ -63,13 +63,13 @@ some_distinct test (p ∷ ps) distinct =
 
 module _ {X : Type 0} where
   -- what holds of names holds of those of things
-  all_keys : (P : List ℕ → Type 0) (es : List (List ℕ × X)) → AllByRecursion P (keys_of es)
+  pub all_keys : (P : List ℕ → Type 0) (es : List (List ℕ × X)) → AllByRecursion P (keys_of es)
       → AllByRecursion (λ e. P e.0) es
   all_keys P [] all = tt
   all_keys P (e ∷ es) all = (all.0, all_keys P es all.1)
 
   -- where names differ, each names its own thing
-  own_named : (es : List (List ℕ × X)) → IsDistinct bytes_eq (keys_of es)
+  pub own_named : (es : List (List ℕ × X)) → IsDistinct bytes_eq (keys_of es)
       → AllByRecursion (λ e. named es e.0 ≡ Some e.1) es
   own_named [] distinct = tt
   own_named (e ∷ es) distinct =
@@ -101,7 +101,7 @@ each_quiet c (q ∷ qs) is =
     (h.0, each_quiet c qs h.1)
 
 -- nor of queries that are settled
-settled_quiet : (c : Held) (qs : Queries) → emissions_due c (each (settled c) qs) ≡ []
+pub settled_quiet : (c : Held) (qs : Queries) → emissions_due c (each (settled c) qs) ≡ []
 settled_quiet c [] = refl
 settled_quiet c (q ∷ qs) =
     ap (λ o. with_emission q.0 o (emissions_due c (each (settled c) qs)))
@@ -115,11 +115,11 @@ emission_first name None es = refl
 emission_first name (Some r) es = refl
 
 -- an observed query of which nothing is due
-abbrev IsShown : World → Observed → Type 0
+abbrev pub IsShown : World → Observed → Type 0
 IsShown w o = unseen (Some (result w o)) o.watched.emitted ≡ None
 
 -- the query of a place is one, where it is there
-abbrev IsShownAt : World → Lives → Place → Type 0
+abbrev pub IsShownAt : World → Lives → Place → Type 0
 IsShownAt w ls p = (v : Watched) → watched_at ls p ≡ Some v → IsShown w (observed_at p v)
 
 -- such a query is settled
@@ -162,7 +162,7 @@ module _ (w : World) (p : Place) where
       (shown v refl)
 
   -- so it is settled
-  settles : (o : Option Watched) → ((v : Watched) → o ≡ Some v → IsShown w (observed_at p v))
+  pub settles : (o : Option Watched) → ((v : Watched) → o ≡ Some v → IsShown w (observed_at p v))
       → option_map (observed_at p) o
       ≡ option_map (settled_query w) (option_map (observed_at p) o)
   settles None shown = refl
@@ -171,14 +171,14 @@ module _ (w : World) (p : Place) where
 
 module _ (w : World) (ls : Lives) (same : w.collections ≡ colls ls) where
   -- the collection of a name
-  held_at : (name : List ℕ) (l : Observing) → named ls name ≡ Some l
+  pub held_at : (name : List ℕ) (l : Observing) → named ls name ≡ Some l
       → named w.collections name ≡ Some l.collection
   held_at name l at =
       ap (λ cs. named cs name) same ∙ named-colls ls name
       ∙ ap (option_map (λ (x : Observing). x.collection)) at
 
   -- nothing is due of a place's query where nothing is of its collection
-  shown_at : (p : Place)
+  pub shown_at : (p : Place)
       → ((l : Observing) → named ls p.coll ≡ Some l → emissions_due l.collection l.queries ≡ [])
       → IsShownAt w ls p
   shown_at p quiet v at =
@@ -222,7 +222,7 @@ module _ (w : World) (ls : Lives) (same : w.collections ≡ colls ls) where
   settle_on p (Some v) = refl
 
   -- the query of the place
-  settled_here : (p : Place)
+  pub settled_here : (p : Place)
       → query_at (change_named ls p.coll with_settled) p
       ≡ option_map (settled_query w) (query_at ls p)
   settled_here p =

@@ -5,6 +5,7 @@ use Rattle.std.proofs.lemmas.Slice.Eq.{bytes_eq-Decides}
 use Rattle.std.specs.Prelude.{filter, option_and_then, IsSome}
 use Rattle.std.specs.List.{AllByRecursion}
 use Rattle.std.specs.Map.{keys_of}
+use Rattle.std.specs.Option.{option_map_or}
 use Rattle.std.specs.Str.{bytes_eq}
 use Rattle.rx_value.specs.Named.{named, change_named, put_named}
 use Rattle.rx_collection.specs.Held.{Held}
@@ -15,8 +16,9 @@ use Rattle.rx_observe.specs.Rows.{emissions_due}
 use Rattle.rx_observe.specs.Watched.{Watched}
 use Rattle.rx_world.specs.Schema.{schema_in}
 use Rattle.rx_world.specs.Step.{legal, stored_rows}
-use Rattle.rx_world.specs.Touch.{Touch, no_collection, new_collection, new_rows, new_where, touch}
+use Rattle.rx_world.specs.Touch.{Touch, no_collection, new_collection, new_rows, new_where, fork_rows, touch}
 use Rattle.rx_world.specs.World.{World}
+use Rattle.rx_world.specs.declared.replication.Replication.{Replication}
 use Rattle.rx_world.proofs.Looked.{all_change_named, all_put_named, equal_names, named-change_other, named-change_same, named-put_other, other_names}
 use Rattle.rx_session.specs.Applied.{IsAfter, coll_written, with_written}
 use Rattle.rx_session.specs.Doing.{query_after, watch_in}
@@ -43,8 +45,15 @@ IsUnheld w no_collection = Unit {0}
 IsUnheld w (new_collection name schema) = named w.collections name ≡ None
 IsUnheld w (new_rows name lwt written) = Unit {0}
 
+-- the fork of an exchange is no new collection
+fork_unheld : (w : World) (lwt : ℕ) (written : List RowOut) (o : Option Replication)
+    → IsUnheld w (option_map_or (fork_rows lwt written) o no_collection)
+fork_unheld w lwt written None = tt
+fork_unheld w lwt [] (Some r) = tt
+fork_unheld w lwt (row ∷ written) (Some r) = tt
+
 -- a legal one's isn't
-pub legal_unheld : (content : Content) (w : World) → legal content w ≡ true → IsUnheld w (touch content)
+pub legal_unheld : (content : Content) (w : World) → legal content w ≡ true → IsUnheld w (touch content w)
 legal_unheld (collection name schema) w allowed =
     let is = (and_parts _ _ (and_parts _ _ (and_parts _ _ allowed).0).0).1 in
     elim (schema_in schema) as (λ o. IsUnheld w (new_where name o)) [
@@ -52,8 +61,9 @@ legal_unheld (collection name schema) w allowed =
       | Some s ↦ none_is (named w.collections name) is
     ]
 legal_unheld (rows name lwt written) w allowed = tt
-legal_unheld (replication name fork master handler field) w allowed = cc
-legal_unheld (exchange name lwt written known up down) w allowed = cc
+legal_unheld (replication name fork master handler field) w allowed = tt
+legal_unheld (exchange name lwt written known up down) w allowed =
+    fork_unheld w lwt written (named w.replications name)
 legal_unheld (epoch number) w allowed = tt
 
 -- so no collection with queries has it
@@ -236,30 +246,3 @@ placed_after (new_rows name lwt written) w ls new ps same placed unheld after =
     (placed_changed (with_written lwt written)
     (λ l. keys-map (watch_after l.collection (stored_rows l.collection.name lwt written)) l.queries)
     ls name ps placed)
-
--- rows reach the queries of their collection alone, so there's nothing to be emitted of the others
-pub quiet_but : (t : Touch) (coll : List ℕ) (ls new : Lives) → coll_written t ≡ Some coll
-    → IsAfter t ls new → AllByRecursion IsQuiet ls → AreQuietBut coll new
-quiet_but no_collection coll ls new is after quiet = cc
-quiet_but (new_collection name schema) coll ls new is after quiet = cc
-quiet_but (new_rows name lwt written) coll ls new is after quiet =
-    let same : name ≡ coll = cc in
-    let P = λ (n : List ℕ) (l : Observing).
-    (bytes_eq name n ≡ false → emissions_due l.collection l.queries ≡ []) in
-    let each : AllByRecursion (λ e. P e.0 e.1) ls =
-    all_map IsQuiet (λ e. P e.0 e.1) (λ e is other. is) ls quiet in
-    subst (λ n. AreQuietBut n new) same
-    (subst (AreQuietBut name) (sym after)
-    (all_change_named P ls name (with_written lwt written)
-    (λ l at was other. absurd (true≢false (sym (equal_names name) ∙ other))) each))
-
--- after another record there's nothing to be emitted of any
-pub quiet_after : (t : Touch) (ls new : Lives) → coll_written t ≡ None
-    → IsAfter t ls new → AllByRecursion IsQuiet ls → AllByRecursion IsQuiet new
-quiet_after no_collection ls new is after quiet =
-    subst (AllByRecursion IsQuiet) (sym after) quiet
-quiet_after (new_collection name schema) ls new is after quiet =
-    subst (AllByRecursion IsQuiet) (sym after.2)
-    (all_put_named (λ n (l : Observing). emissions_due l.collection l.queries ≡ []) ls name after.0
-    (ap (λ (l : Observing). emissions_due l.collection l.queries) after.1) quiet)
-quiet_after (new_rows name lwt written) ls new is after quiet = cc

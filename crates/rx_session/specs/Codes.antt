@@ -6,6 +6,8 @@ use Rattle.rx_collection.specs.contracts.collection.Collection as collection
 use Rattle.rx_observe.specs.Codes.{watched_code}
 use Rattle.rx_observe.specs.Watched.{Watched}
 use Rattle.rx_world.specs.World.{World}
+use Rattle.rx_world.specs.contracts.replication.Replication as replication
+use Rattle.rx_world.specs.declared.replication.Replication.{Replication}
 use Rattle.rx_session.specs.Session.{Observed, Session}
 
 -- a name
@@ -15,10 +17,11 @@ text_code = coded_list coded_ℕ
 -- a world, as the pair of its parts
 abbrev pub world_code : Coded World
 world_code =
-    code_by (List (List ℕ × Held) × ℕ)
-    (coded× (coded_list (coded× text_code collection.the_row.coded)) coded_ℕ)
-    (λ w. (w.collections, w.epoch))
-    (λ p. record { collections = p.0; epoch = p.1 })
+    code_by (List (List ℕ × Held) × (List (List ℕ × Replication) × ℕ))
+    (coded× (coded_list (coded× text_code collection.the_row.coded))
+    (coded× (coded_list (coded× text_code replication.the_row.coded)) coded_ℕ))
+    (λ w. (w.collections, (w.replications, w.epoch)))
+    (λ p. record { collections = p.0; replications = p.1.0; epoch = p.1.1 })
     (λ _. refl)
 
 -- an observed query, as the tuple of its parts

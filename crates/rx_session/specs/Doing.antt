@@ -51,7 +51,10 @@ abbrev pub after : Doing → Session → Session
 after nothing s = s
 after (set_clock at) s = record s { moment = at }
 after (write content) s =
-    record s { world = step content s.world; queries = map (query_after s.world (touch content)) s.queries }
+    record s {
+      world = step content s.world;
+      queries = map (query_after s.world (touch content s.world)) s.queries;
+    }
 after (watch name coll q) s =
     record s { queries = s.queries ++ new_query s.world name coll q ∷ [] }
 after (unwatch name) s = record s { queries = filter (λ o. not (bytes_eq name o.name)) s.queries }

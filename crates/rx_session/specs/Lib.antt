@@ -7,3 +7,4 @@ pub mod Codes
 pub mod Lives
 pub mod Applied
 pub mod Shown
+pub mod Playing

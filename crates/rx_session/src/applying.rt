@@ -3,6 +3,7 @@ ghost use Rattle.std.specs.Prelude.{◌≡◌, true, false, IfOk, IsErrOf};
 ghost use Rattle.rx_record.specs.Shown.{content};
 ghost use Rattle.rx_record.specs.Writable.{IsOrdered};
 ghost use Rattle.rx_world.specs.Holders.{holders_in};
+ghost use Rattle.rx_world.specs.Made.{IsMadeWorld};
 ghost use Rattle.rx_world.specs.Step.{step, legal};
 ghost use Rattle.rx_world.specs.Touch.{touch};
 ghost use Rattle.rx_world.specs.Valid.{AreDistinct};
@@ -30,6 +31,7 @@ pub fn apply(
         × (legal (content entry) (world_of world) ≡ true)) }
     ensures unwatched { IfOk result (λ w. AreUnwatched (holders_in w)) }
     ensures distinct { IfOk result (λ w. AreDistinct (world_of w)) }
+    ensures made { IfOk result (λ w. IsMadeWorld (world_of w)) }
     ensures illegal { IsErrOf result ApplyFault.Illegal
         → legal (content entry) (world_of world) ≡ false }
 {
@@ -47,8 +49,9 @@ fn change(
     ensures ok { IfOk result (λ w. (world_of w ≡ step (content entry) (world_of world))
         × (legal (content entry) (world_of world) ≡ true)) }
     ensures lives { IfOk result
-        (λ w. IsAfter (touch (content entry)) (holders_in world) (holders_in w)) }
+        (λ w. IsAfter (touch (content entry) (world_of world)) (holders_in world) (holders_in w)) }
     ensures distinct { IfOk result (λ w. AreDistinct (world_of w)) }
+    ensures made { IfOk result (λ w. IsMadeWorld (world_of w)) }
     ensures illegal { IsErrOf result ApplyFault.Illegal
         → legal (content entry) (world_of world) ≡ false }
 {
@@ -70,7 +73,7 @@ pub(crate) fn apply_legal(
     requires legal { legal (content entry) (world_of world) ≡ true }
     ensures world { IfOk result (λ w. world_of w ≡ step (content entry) (world_of world)) }
     ensures lives { IfOk result
-        (λ w. IsAfter (touch (content entry)) (holders_in world) (holders_in w)) }
+        (λ w. IsAfter (touch (content entry) (world_of world)) (holders_in world) (holders_in w)) }
 {
     world.apply_legal(
         alloc,
@@ -79,12 +82,24 @@ pub(crate) fn apply_legal(
     )
 }
 
-// The collection whose documents a record writes.
-pub(crate) fn coll_written(alloc: Global, entry: &Record) -> Result<Option<RxText>, AllocError>
-    ensures { IfOk result (λ coll. coll ≡ coll_written (touch (content entry.now))) }
+// The collection whose documents a record writes: that of its rows, or the fork of an exchange that
+// has a row.
+pub(crate) fn coll_written(
+    alloc: Global,
+    world: &World<Live>,
+    entry: &Record,
+) -> Result<Option<RxText>, AllocError>
+    ensures { IfOk result
+        (λ coll. coll ≡ coll_written (touch (content entry.now) (world_of world.now))) }
 {
     match entry {
         Record::Rows { name, .. } => Ok(Some(name.copy(alloc)?)),
+        Record::Exchange { name, rows, .. } if !rows.is_empty() => {
+            match world.replication(name.as_str()) {
+                Some(replication) => Ok(Some(replication.fork.copy(alloc)?)),
+                None => Ok(None),
+            }
+        }
         _ => Ok(None),
     }
 }

@@ -21,6 +21,7 @@ pub(crate) fn take_due(
 ) -> Result<Vec<Emission>, AllocError>
     ensures lives { OnOk result (holders_in world.new
         ≡ change_named (holders_in world.old) coll.now with_settled) }
+    ensures replications { world.new.replications ≡ world.old.replications }
     ensures epoch { world.new.epoch ≡ world.old.epoch }
     ensures due { IfOk result
         (λ due. due.items ≡ due_of (named (holders_in world.old) coll.now)) }
@@ -48,6 +49,7 @@ pub(crate) fn observe(
     requires keyed { has_key (asked query).primary (named (world_of world.old).collections coll.now) ≡ true }
     ensures lives { OnOk result (holders_in world.new
         ≡ change_named (holders_in world.old) coll.now (with_query name (asked query))) }
+    ensures replications { world.new.replications ≡ world.old.replications }
     ensures epoch { world.new.epoch ≡ world.old.epoch }
 {
     let observed = world.edit(
@@ -68,6 +70,7 @@ pub(crate) fn observe(
 pub(crate) fn unobserve(world: &mut World<Live>, coll: &RxText, name: &RxText)
     ensures lives { holders_in world.new
         ≡ change_named (holders_in world.old) coll.now (without_query name.now) }
+    ensures replications { world.new.replications ≡ world.old.replications }
     ensures epoch { world.new.epoch ≡ world.old.epoch }
 {
     world.edit(coll.as_str(), |live| live.unobserve(name.as_str()));

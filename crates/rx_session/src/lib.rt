@@ -1,5 +1,5 @@
 //! What there is between two lines of a script: collections with their observed queries, and the
-//! present moment.
+//! present moment. A line that writes several records plays them one after another, and then settles.
 #![tactic(auto)]
 
 mod applying;
@@ -7,9 +7,11 @@ mod doing;
 mod emitting;
 mod next;
 mod place;
+mod playing;
 mod reopening;
 mod session;
 
 pub use applying::apply;
 pub use doing::{Doing, Watch};
+pub use playing::Playing;
 pub use session::Session;

@@ -13,7 +13,6 @@ ghost use Rattle.rx_session.specs.Lives.{IsFree};
 ghost use Rattle.rx_session.specs.Placed.{world_of};
 ghost use Rattle.rx_session.specs.Shown.{done_by};
 
-use crate::applying::{apply_legal, coll_written};
 use crate::doing::{Doing, Watch};
 use crate::emitting::{observe, take_due, unobserve};
 use crate::place::Place;
@@ -78,21 +77,8 @@ impl Session {
             (λ p. p.1.items ≡ emissions (after (doing.write (content entry)) self)) }
         ensures before { IsSettled self }
     {
-        let Session {
-            world,
-            moment,
-            places,
-            diagram,
-        } = self;
-        let coll = coll_written(alloc, &entry)?;
-        let mut world = apply_legal(world, alloc, entry, &diagram)?;
-        let due = take_due_in(alloc, &mut world, coll)?;
-        let session = Session {
-            world,
-            moment,
-            places,
-            diagram,
-        };
+        let played = self.begin(alloc).write(alloc, entry)?;
+        let (session, due) = played.settle(alloc)?;
         Ok((session, due))
     }
 
@@ -142,22 +128,6 @@ impl Session {
     }
 }
 
-// The emissions of the collection whose documents were written, if there is one.
-fn take_due_in(
-    alloc: Global,
-    world: &mut World<Live>,
-    coll: Option<RxText>,
-) -> Result<Vec<Emission>, AllocError>
-    ensures lives { OnOk result (holders_in world.new ≡ settled_in coll (holders_in world.old)) }
-    ensures epoch { world.new.epoch ≡ world.old.epoch }
-    ensures due { IfOk result (λ due. due.items ≡ due_in coll (holders_in world.old)) }
-{
-    match coll {
-        Some(coll) => take_due(alloc, world, &coll),
-        None => Ok(Vec::new(alloc)),
-    }
-}
-
 // Observes a query in a collection. Hands out the emissions that are due there.
 fn observe_in(
     alloc: Global,
@@ -170,6 +140,7 @@ fn observe_in(
     requires keyed { has_key (asked query).primary (named (world_of world.old).collections coll.now) ≡ true }
     ensures lives { OnOk result (holders_in world.new ≡ settled_in (Some coll.now)
         (watched_in name.now coll.now (asked query) (holders_in world.old))) }
+    ensures replications { world.new.replications ≡ world.old.replications }
     ensures epoch { world.new.epoch ≡ world.old.epoch }
     ensures due { IfOk result (λ due. due.items ≡ due_in (Some coll.now)
         (watched_in name.now coll.now (asked query) (holders_in world.old))) }
@@ -191,6 +162,7 @@ fn add_place(places: &mut Vec<Place>, name: RxText, coll: RxText) -> Result<(), 
 fn unobserve_at(world: &mut World<Live>, place: Option<&Place>, name: &RxText)
     ensures lives { holders_in world.new
         ≡ unobserved name.now (option_map (λ p. p.now) place.entry) (holders_in world.old) }
+    ensures replications { world.new.replications ≡ world.old.replications }
     ensures epoch { world.new.epoch ≡ world.old.epoch }
 {
     match place {

@@ -18,9 +18,11 @@ use rx_world::World;
 use std::alloc::{AllocError, Global};
 
 impl Session {
-    /// The session on the same collections as a journal gave them. Its queries are cold, and go on.
+    /// The session on the same collections and replications as a journal gave them. Its queries are
+    /// cold, and go on.
     pub fn reopen(self, alloc: Global, world: World<Live>) -> Result<Session, AllocError>
         requires same { (world_of world).collections ≡ self.world.collections }
+        requires replications { (world_of world).replications ≡ self.world.replications }
         requires unwatched { AreUnwatched (holders_in world) }
         ensures session { IfOk result
             (λ s. s ≡ settled_session (after (doing.restart (world_of world).epoch) self)) }
@@ -44,6 +46,7 @@ fn carry_all(alloc: Global, old: World<Live>, world: &mut World<Live>) -> Result
     requires quiet { AllByRecursion IsQuiet (holders_in old) }
     requires unwatched { AreUnwatched (holders_in world.old) }
     ensures lives { OnOk result (holders_in world.new ≡ each_live with_cooled (holders_in old)) }
+    ensures replications { world.new.replications ≡ world.old.replications }
     ensures epoch { world.new.epoch ≡ world.old.epoch }
 {
     let lives = old.release(alloc)?;
@@ -61,6 +64,7 @@ fn carry(alloc: Global, live: Live, world: &mut World<Live>) -> Result<(), Alloc
     ensures lives { OnOk result (holders_in world.new
         ≡ change_named (holders_in world.old) live.collection.name
         (λ l. with_queries l (each cooled live.queries))) }
+    ensures replications { world.new.replications ≡ world.old.replications }
     ensures epoch { world.new.epoch ≡ world.old.epoch }
 {
     let coll = live.collection().name().copy(alloc)?;

@@ -80,6 +80,13 @@ impl Session {
         self.world.holder(name)
     }
 
+    /// The collections and replications, and the last epoch.
+    pub fn world(&self) -> &World<Live>
+        ensures { world_of result.now ≡ self.now.world }
+    {
+        &self.world
+    }
+
     /// The present moment, as it was set last.
     pub fn moment(&self) -> u64
         ensures { result ≡ self.now.moment }
@@ -126,9 +133,11 @@ impl Session {
         commit(alloc, collection, states, self.moment)
     }
 
-    /// Whether the collections are those of the world.
+    /// Whether the collections and the replications are those of the world.
     pub fn has_same(&self, world: &World<Live>) -> bool
-        ensures { Decides result (self.now.world.collections ≡ (world_of world.now).collections) }
+        ensures { Decides result
+            ((self.now.world.collections ≡ (world_of world.now).collections)
+            × (self.now.world.replications ≡ (world_of world.now).replications)) }
     {
         self.world.has_same(world)
     }

@@ -13,6 +13,7 @@ use Rattle.rx_outside.specs.declared.stop.Stop.{Stop}
 use Rattle.rx_outside.specs.declared.stop.Stop.TheVariants.{NotJournal, Full}
 use Rattle.rx_record.specs.Content.{Content, record_of}
 use Rattle.rx_world.specs.Replay.{replay}
+use Rattle.rx_world.specs.Sound.{IsSoundWorld}
 use Rattle.rx_world.specs.Step.{step, legal}
 use Rattle.rx_world.specs.World.{World}
 use Rattle.rx_world.proofs.Replays.{replay-more}
@@ -27,7 +28,8 @@ first (x ∷ xs) = x
 
 -- a body is the record that is legal on the world that the bodies make
 module _ (bodies : List (List ℕ)) (w : World) (body : List ℕ) (c : Content) (plays : replay bodies ≡ Some w)
-    (says : length body < 2 ^ 32 → record_of body ≡ Ok c) (fits : legal c w ≡ true) where
+    (says : length body < 2 ^ 32 → record_of body ≡ Ok c) (fits : legal c w ≡ true) (sound : IsSoundWorld w)
+    (sound_then : IsSoundWorld (step c w)) where
   plays_more : (front : List (List ℕ)) → front ≡ body ∷ [] → end_of (bodies ++ front) < 2 ^ 32
       → replay (bodies ++ front) ≡ Some (step c w)
   plays_more front is short =
@@ -41,7 +43,7 @@ module _ (bodies : List (List ℕ)) (w : World) (body : List ℕ) (c : Content) 
       → StandsFor file (bodies ++ front) → end_of (bodies ++ front) < 2 ^ 32
       → StandsLegally bodies (body ∷ []) file
   legal_front file [] rest whole stands short =
-      none_yet bodies (body ∷ []) w file plays
+      none_yet bodies (body ∷ []) w file plays sound
       (subst (λ (bs : List (List ℕ)). StandsFor file bs) (append-nil bodies) stands)
       (subst (λ (bs : List (List ℕ)). end_of bs < 2 ^ 32) (append-nil bodies) short)
   legal_front file (x ∷ []) rest whole stands short = record {
@@ -52,6 +54,7 @@ module _ (bodies : List (List ℕ)) (w : World) (body : List ℕ) (c : Content) 
     short = short;
     world = step c w;
     legal = plays_more (x ∷ []) (ap (λ (y : List ℕ). y ∷ []) (sym (ap first whole))) short;
+    sound = sound_then;
   }
   legal_front file (x ∷ y ∷ xs) rest whole stands short =
       absurd (omega (arith, ap length whole))

@@ -6,6 +6,7 @@ use Rattle.rx_frame.specs.File.{StandsFor, IsWhole, end_of}
 use Rattle.rx_journal.specs.declared.journal.Journal.{Journal}
 use Rattle.rx_world.specs.World.{World}
 use Rattle.rx_world.specs.Replay.{replay}
+use Rattle.rx_world.specs.Sound.{IsSoundWorld}
 use Rattle.rx_store.specs.Holds.{StandsLegally, GrowsLegally, Holds, ImagesStandFor, IsLegalFile, Leaves}
 
 -- a front of some bodies is a front of more
@@ -19,6 +20,7 @@ longer bodies xs ys c s = record {
   short = s.short;
   world = s.world;
   legal = s.legal;
+  sound = s.sound;
 }
 
 -- a front behind others
@@ -35,12 +37,13 @@ behind bodies xs ys c s =
       short = subst (λ (bs : List (List ℕ)). end_of bs < 2 ^ 32) all s.short;
       world = s.world;
       legal = subst (λ (bs : List (List ℕ)). replay bs ≡ Some s.world) all s.legal;
+      sound = s.sound;
     }
 
 -- none of the new bodies yet
 pub none_yet : (bodies more : List (List ℕ)) (w : World) (c : List ℕ) → replay bodies ≡ Some w
-    → StandsFor c bodies → end_of bodies < 2 ^ 32 → StandsLegally bodies more c
-none_yet bodies more w c plays stands short =
+    → IsSoundWorld w → StandsFor c bodies → end_of bodies < 2 ^ 32 → StandsLegally bodies more c
+none_yet bodies more w c plays sound stands short =
     let same = sym (append-nil bodies) in
     record {
       front = [];
@@ -50,6 +53,7 @@ none_yet bodies more w c plays stands short =
       short = subst (λ (bs : List (List ℕ)). end_of bs < 2 ^ 32) same short;
       world = w;
       legal = subst (λ (bs : List (List ℕ)). replay bs ≡ Some w) same plays;
+      sound = sound;
     }
 
 module _ {D : Type 0} (d : Ghosts D) where
@@ -70,7 +74,7 @@ module _ {D : Type 0} (d : Ghosts D) where
       → Holds d disk journal bodies w → Leaves d disk bodies more
   held disk journal bodies more w holds c now =
       let short : end_of bodies < 2 ^ 32 = omega (arith, holds.ready.ends, journal.short) in
-      none_yet bodies more w c holds.played
+      none_yet bodies more w c holds.played holds.sound
       (inr (subst (λ (l : List ℕ). IsWhole l bodies) (sym (holds.ready.durable c now)) holds.ready.whole))
       short
 
@@ -86,6 +90,7 @@ module _ {D : Type 0} (d : Ghosts D) where
     stands = inr holds.ready.whole;
     short = omega (arith, holds.ready.ends, journal.short);
     plays = holds.played;
+    sound = holds.sound;
   }
 
   -- nothing was done yet

@@ -18,8 +18,10 @@ use Rattle.rx_journal.specs.declared.windows.Windows.{Windows}
 use Rattle.rx_outside.specs.declared.stop.Stop.{Stop}
 use Rattle.rx_outside.specs.declared.stop.Stop.TheVariants.{NotJournal, Full}
 use Rattle.rx_world.specs.Replay.{replay}
+use Rattle.rx_world.specs.Sound.{IsSoundWorld}
 use Rattle.rx_world.specs.World.{World, empty}
 use Rattle.rx_world.proofs.Replays.{replay_from-nothing}
+use Rattle.rx_world.proofs.Sounds.{sound_empty}
 use Rattle.rx_store.specs.Holds.{Holds, GrowsLegally, ImagesStandFor, IsIllegalFile, IsLegalFile}
 use Rattle.rx_store.specs.Safe.{IsCrashSafe}
 use Rattle.rx_store.specs.Stops.{of_open}
@@ -40,26 +42,35 @@ some_is_not_none o w is none = true≢false (ap is_some (sym is ∙ none))
 module _ {D : Type 0} (d : Ghosts D) (old mid new : D) (windows : Windows) (begin : Begin d old mid windows)
     (same : d.content new ≡ d.content mid) (journal : Journal) (lent : List (List ℕ)) (v : World)
     (ready : IsReady d new journal lent) (plays : replay lent ≡ Some v) where
-  pub is_legal : IsLegalFile (d.content old) lent v
-  is_legal = record {
-    stands = begin.stood lent (subst (λ (l : List ℕ). IsWhole l lent) same ready.whole);
+  lent_stand : StandsFor (d.content old) lent
+  lent_stand = begin.stood lent (subst (λ (l : List ℕ). IsWhole l lent) same ready.whole)
+
+  pub is_legal : IsSoundWorld v → IsLegalFile (d.content old) lent v
+  is_legal sound = record {
+    stands = lent_stand;
     short = omega (arith, ready.ends, journal.short);
     plays = plays;
+    sound = sound;
   }
 
   -- where the file was a legal one of these bodies, they are those
   module _ (bodies : List (List ℕ)) (w : World) (lawful : IsLegalFile (d.content old) bodies w) where
     same_bodies : lent ≡ bodies
-    same_bodies = stands_for_one (d.content old) lent bodies is_legal.stands lawful.stands
+    same_bodies = stands_for_one (d.content old) lent bodies lent_stand lawful.stands
 
     pub holds_these : Holds d new journal bodies w
     holds_these = record {
       ready = subst (λ (bs : List (List ℕ)). IsReady d new journal bs) same_bodies ready;
       played = lawful.plays;
+      sound = lawful.sound;
     }
 
     pub same_world : v ≡ w
     same_world = some_is v w (sym plays ∙ ap replay same_bodies ∙ lawful.plays)
+
+    -- so the world isn't refused
+    pub is_sound : IsSoundWorld v
+    is_sound = subst IsSoundWorld (sym same_world) lawful.sound
 
 -- it was opened, and then read
 module _ {D : Type 0} (d : Ghosts D) (old mid new : D) (run : LeavesOnly d old mid (IsNoWorse d old))
@@ -82,7 +93,7 @@ module _ {D : Type 0} (d : Ghosts D) (old mid : D) (bodies : List (List ℕ)) (w
   -- nothing came
   pub no_more : ImagesStandFor d old bodies → GrowsLegally d old mid bodies []
   no_more alike =
-      weaker d old mid _ _ (λ c left. none_yet bodies [] w c lawful.plays (still alike c left) lawful.short) run
+      weaker d old mid _ _ (λ c left. none_yet bodies [] w c lawful.plays lawful.sound (still alike c left) lawful.short) run
 
   -- it was opened
   pub opened_safely : {A : Type 0} (limit : ℕ) (P : A → List (List ℕ) → Type 0) (x : A) → P x bodies
@@ -143,6 +154,7 @@ illegal_long file illegal =
         stands = inl (leb-true (length file) shortest is, refl);
         short = omega arith;
         plays = replay_from-nothing (Some empty);
+        sound = sound_empty;
       })))
       | false ↦ (λ is. leb-false (length file) shortest is)
     ] refl

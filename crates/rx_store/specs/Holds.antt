@@ -5,16 +5,18 @@ use Rattle.rx_disk.specs.Moments.{LeavesOnly}
 use Rattle.rx_frame.specs.File.{StandsFor, end_of}
 use Rattle.rx_journal.specs.Ready.{IsReady}
 use Rattle.rx_journal.specs.declared.journal.Journal.{Journal}
+use Rattle.rx_world.specs.Sound.{IsSoundWorld}
 use Rattle.rx_world.specs.World.{World}
 use Rattle.rx_world.specs.Replay.{replay}
 
 -- ---- files
 
--- a file is legal: it stands for bodies that end where a journal may end, and they make a world
+-- a file is legal: it stands for bodies that end where a journal may end, and they make a sound world
 pub record IsLegalFile (file : List ℕ) (bodies : List (List ℕ)) (w : World) : Type 0 where
   pub stands : StandsFor file bodies
   pub short : end_of bodies < 2 ^ 32
   pub plays : replay bodies ≡ Some w
+  pub sound : IsSoundWorld w
 
 -- no bodies and no world make the file legal
 abbrev pub IsIllegalFile : List ℕ → Type 0
@@ -33,6 +35,7 @@ pub record StandsLegally (bodies more : List (List ℕ)) (c : List ℕ) : Type 0
   pub short : end_of (bodies ++ front) < 2 ^ 32
   pub world : World
   pub legal : replay (bodies ++ front) ≡ Some world
+  pub sound : IsSoundWorld world
 
 -- ---- disks
 
@@ -50,7 +53,7 @@ abbrev pub GrowsLegally
     : {D : Type 0} → Ghosts D → D → D → List (List ℕ) → List (List ℕ) → Type 0
 GrowsLegally d old new bodies more = LeavesOnly d old new (StandsLegally bodies more)
 
--- the disk holds exactly these bodies, and they make the world
+-- the disk holds exactly these bodies, and they make the world, which is sound
 pub record Holds
     {D : Type 0}
     (d : Ghosts D)
@@ -60,3 +63,4 @@ pub record Holds
     (w : World) : Type 0 where
   pub ready : IsReady d disk journal bodies
   pub played : replay bodies ≡ Some w
+  pub sound : IsSoundWorld w

@@ -5,6 +5,7 @@ ghost use Rattle.rx_outside.specs.declared.stop.Stop.TheVariants as Stop;
 ghost use Rattle.rx_record.specs.Content.{content_bytes};
 ghost use Rattle.rx_record.specs.Shown.{content};
 ghost use Rattle.rx_record.specs.Writable.{IsOrdered};
+ghost use Rattle.rx_world.specs.Sound.{IsSoundWorld};
 ghost use Rattle.rx_world.specs.Step.{step, legal};
 ghost use Rattle.rx_world.specs.World.{World};
 ghost use Rattle.rx_store.specs.Holds.{Holds};
@@ -17,7 +18,8 @@ use rx_outside::Stop;
 use rx_record::Record;
 use std::alloc::Global;
 
-/// Puts a record behind those that the disk holds. The journal is spent on a stop.
+/// Puts a record behind those that the disk holds. The journal is spent on a stop. The record is
+/// legal on the world that is held, and keeps it sound: so each image stays a legal file.
 pub fn keep<D: Disk>(
     alloc: Global,
     journal: Journal,
@@ -28,6 +30,7 @@ pub fn keep<D: Disk>(
     requires ordered { IsOrdered (content entry.now) }
     ensures safe { D.tells → (bodies : List (List ℕ)) (w : World)
         → Holds D.Disk disk.old journal bodies w → legal (content entry.now) w ≡ true
+        → IsSoundWorld (step (content entry.now) w)
         → IsCrashSafe D.Disk disk.old disk.new bodies (content_bytes (content entry.now) ∷ [])
         journal.limit (λ kept all. Holds D.Disk disk.new kept all (step (content entry.now) w)) result }
     ensures limit { IfOk result (λ kept. kept.limit ≡ journal.limit) }

@@ -3,6 +3,7 @@ ghost use Rattle.std.specs.Prelude.{◌≡◌, ◌≤◌, ◌<◌, ◌^◌, ℕ,
 ghost use Rattle.rx_journal.specs.Reading.{IsUntouched};
 ghost use Rattle.rx_outside.specs.declared.stop.Stop.TheVariants as Stop;
 ghost use Rattle.rx_world.specs.Holders.{holders_in, world_in};
+ghost use Rattle.rx_world.specs.Sound.{IsSoundWorld};
 ghost use Rattle.rx_world.specs.World as worlds;
 ghost use Rattle.rx_store.specs.Holds.{Holds, IsIllegalFile, IsJournalOfSome, IsLegalFile};
 ghost use Rattle.rx_store.specs.Made.{AreMade};
@@ -18,7 +19,8 @@ use rx_world::World;
 use std::alloc::{AllocError, Global};
 
 /// Opens a journal and plays its records. No record is written: a file that isn't begun becomes one
-/// without records, and any other stays as it is.
+/// without records, and any other stays as it is. Records that make a world which isn't sound are no
+/// journal.
 pub fn open<H: Holder + Drop, D: Disk, F: Fn(Collection) -> Result<H, AllocError>>(
     alloc: Global,
     disk: &mut D,
@@ -35,6 +37,7 @@ pub fn open<H: Holder + Drop, D: Disk, F: Fn(Collection) -> Result<H, AllocError
     ensures stood { D.tells → IfOk result (λ _. IsJournalOfSome (D.content disk.old)) }
     ensures world { D.tells → (bodies : List (List ℕ)) (w : worlds.World)
         → IsLegalFile (D.content disk.old) bodies w → IfOk result (λ p. world_in H.held p.1 ≡ w) }
+    ensures sound { IfOk result (λ p. IsSoundWorld (world_in H.held p.1)) }
     ensures safe { D.tells → (bodies : List (List ℕ)) (w : worlds.World)
         → IsLegalFile (D.content disk.old) bodies w
         → IsCrashSafe D.Disk disk.old disk.new bodies [] limit
@@ -57,5 +60,9 @@ pub fn open<H: Holder + Drop, D: Disk, F: Fn(Collection) -> Result<H, AllocError
         Err(fault) => return Err(of_open(fault)),
     };
     let world = replay(alloc, disk, &mut windows, make)?;
-    Ok((windows.done(), world))
+    let journal = windows.done();
+    if !world.sound() {
+        return Err(Stop::NotJournal);
+    }
+    Ok((journal, world))
 }

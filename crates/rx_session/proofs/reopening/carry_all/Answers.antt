@@ -11,6 +11,7 @@ loop-live-init c =
       carrying_none c.args.old c.args.world.now left c.requires.same c.requires.unwatched
           c.release.ensures.whole all,
       search rules,
+      search rules,
     )
 
 pub carry-requires-clause-whole : goal.carry-requires-clause-whole
@@ -49,5 +50,6 @@ loop-live-preserved c =
     c.loop-live.invariant.0 c.in-Some.ensures.steps.0 in (
       carrying_next c.args.old ls live left n c.release.ensures.whole c.release.ensures.distinct
           (holders_in c.carry.new.world) c.in_ok-carry.ensures.lives,
-      c.in_ok-carry.ensures.epoch ∙ c.loop-live.invariant.1,
+      c.in_ok-carry.ensures.replications ∙ c.loop-live.invariant.1,
+      c.in_ok-carry.ensures.epoch ∙ c.loop-live.invariant.2,
     )

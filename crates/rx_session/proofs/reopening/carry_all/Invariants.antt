@@ -8,4 +8,5 @@ use Rattle.rx_session.proofs.reopening.carry_all.Given as goal
 abbrev pub invariant-loop-live : goal.invariant-loop-live
 invariant-loop-live l =
     IsCarrying (holders_in l.fn.old) (holders_in l.world) (into_iter_items l.live-iterator)
+    × (l.world.replications ≡ l.fn.world.replications)
     × (l.world.epoch ≡ l.fn.world.epoch)

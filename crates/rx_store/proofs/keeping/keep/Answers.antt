@@ -12,14 +12,14 @@ use Rattle.rx_store.proofs.Growing.{stays}
 use Rattle.rx_store.proofs.keeping.keep.Goals as goal
 
 pub returns-in_err-body-clause-safe : goal.returns-in_err-body-clause-safe
-returns-in_err-body-clause-safe g c told bodies w holds is =
+returns-in_err-body-clause-safe g c told bodies w holds is sound =
     ran_out g.D.Disk c.args.disk.now c.args.disk.now bodies (content_bytes (content c.args.entry.now) ∷ [])
     c.args.journal.limit _ c.from_residual.result (search rules)
     (λ alike. stays g.D.Disk c.args.disk.now c.args.journal bodies _ w holds
     (λ left e. g.met.D.Disk.only_now c.args.disk.now left told e))
 
 pub returns-in-Ok-clause-safe : goal.returns-in-Ok-clause-safe
-returns-in-Ok-clause-safe g c told bodies w holds is =
+returns-in-Ok-clause-safe g c told bodies w holds is sound =
     let said = content c.args.entry.now in
     let body = c.deref.result.now in
     let same : body ≡ content_bytes said = c.deref.ensures.value ∙ c.in_ok-body.ensures.bytes in
@@ -32,13 +32,14 @@ returns-in-Ok-clause-safe g c told bodies w holds is =
     record {
       moments = λ alike. subst (λ (l : List ℕ). GrowsLegally g.D.Disk c.args.disk.now c.append.new.disk bodies (l ∷ []))
           same
-          (grows_legally bodies w body said holds.played says is g.D.Disk c.args.disk.now
+          (grows_legally bodies w body said holds.played says is holds.sound sound g.D.Disk c.args.disk.now
           c.append.new.disk (c.append.ensures.moments told bodies holds.ready));
       at = record {
         ready = subst (λ (l : List ℕ). IsReady g.D.Disk c.append.new.disk c.in-Ok.journal (bodies ++ l ∷ []))
             same (c.in-Ok.ensures.added told bodies holds.ready);
         played = replay-more bodies (content_bytes said) said w holds.played
             (ap record_of (sym c.in_ok-body.ensures.bytes) ∙ c.in_ok-body.ensures.back c.requires.ordered short) is;
+        sound = sound;
       };
       fits = inr (subst (λ (n : ℕ). n ≤ c.args.journal.limit)
           (end_with bodies (content_bytes said) c.args.journal.end holds.ready.ends) fits);
@@ -47,7 +48,7 @@ returns-in-Ok-clause-safe g c told bodies w holds is =
     }
 
 pub returns-clause-safe : goal.returns-clause-safe
-returns-clause-safe g c told bodies w holds is =
+returns-clause-safe g c told bodies w holds is sound =
     let said = content c.args.entry.now in
     let body = c.deref.result.now in
     let same : body ≡ content_bytes said = c.deref.ensures.value ∙ c.in_ok-body.ensures.bytes in
@@ -59,6 +60,6 @@ returns-clause-safe g c told bodies w holds is =
     (not_added g.D.Disk c.args.disk.now c.append.new.disk c.args.journal bodies body w
     (λ kept all. Holds g.D.Disk c.append.new.disk kept all (step said w)) c.in-Err.fault
     c.of_append.result holds c.of_append.ensures
-    (grows_legally bodies w body said holds.played says is g.D.Disk c.args.disk.now c.append.new.disk
+    (grows_legally bodies w body said holds.played says is holds.sound sound g.D.Disk c.args.disk.now c.append.new.disk
     (c.append.ensures.moments told bodies holds.ready))
     c.in-Err.ensures.full_only c.in-Err.ensures.full_untouched)

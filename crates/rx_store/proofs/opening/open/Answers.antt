@@ -1,7 +1,7 @@
-use Rattle.std.proofs.Common.{rules}
+use Rattle.std.proofs.Common.{rules, sym, ◌∙◌, true≢false}
 use Rattle.rx_world.specs.Holders.{world_in}
 use Rattle.rx_world.specs.Replay.{replay}
-use Rattle.rx_store.proofs.Opened.{holds_these, illegal_long, is_legal, not_opened, opened_safely, read_no_worse, same_world, some_is_not_none, stopped_safely, untouched, untouched_by}
+use Rattle.rx_store.proofs.Opened.{holds_these, illegal_long, is_legal, is_sound, not_opened, opened_safely, read_no_worse, same_world, some_is_not_none, stopped_safely, untouched, untouched_by}
 use Rattle.rx_store.proofs.Playing.{read_on}
 use Rattle.rx_store.proofs.opening.open.Goals as goal
 
@@ -38,6 +38,26 @@ returns-in_err-world-clause-illegal g c told illegal =
     (λ t left le now. g.met.D.Disk.counts_now c.open.new.disk t left told le now))
     (c.replay.ensures.untouched told)
 
+-- a legal file makes a sound world
+pub returns-then-not-sound-clause-safe : goal.returns-then-not-sound-clause-safe
+returns-then-not-sound-clause-safe g c told bodies w lawful =
+    let begin = c.in-Ok.ensures.opened told in
+    let r = c.in_ok-world.ensures.ok told begin.none_yet in
+    let v = world_in g.H.Holder.held c.in_ok-world.world in
+    let sound = is_sound g.D.Disk c.args.disk.now c.open.new.disk c.replay.new.disk c.in-Ok.windows begin
+    (c.replay.ensures.untouched told).same c.done-journal.result r.0 v (r.1 c.done-journal.result c.done-journal.ensures.end) r.2
+    bodies w lawful in
+    absurd (true≢false (sym (c.sound.ensures.1 sound) ∙ c.if-not-sound.true))
+
+pub returns-then-not-sound-clause-illegal : goal.returns-then-not-sound-clause-illegal
+returns-then-not-sound-clause-illegal g c told illegal =
+    let long = illegal_long (g.D.Disk.content c.args.disk.now) illegal in
+    read_on g.D.Disk c.args.disk.now c.open.new.disk c.replay.new.disk
+    (untouched g.D.Disk c.args.disk.now c.open.new.disk long (c.open.ensures.moments told)
+    ((c.in-Ok.ensures.opened told).long long)
+    (λ t left le now. g.met.D.Disk.counts_now c.open.new.disk t left told le now))
+    (c.replay.ensures.untouched told)
+
 pub returns-clause-stood : goal.returns-clause-stood
 returns-clause-stood g c told =
     let begin = c.in-Ok.ensures.opened told in
@@ -46,7 +66,8 @@ returns-clause-stood g c told =
       r.0,
       v,
       is_legal g.D.Disk c.args.disk.now c.open.new.disk c.replay.new.disk c.in-Ok.windows begin
-          (c.replay.ensures.untouched told).same c.done.result r.0 v (r.1 c.done.result c.done.ensures.end) r.2,
+          (c.replay.ensures.untouched told).same c.done-journal.result r.0 v (r.1 c.done-journal.result c.done-journal.ensures.end) r.2
+          (c.sound.ensures.0 c.if-not-sound.false),
     )
 
 pub returns-clause-world : goal.returns-clause-world
@@ -54,8 +75,8 @@ returns-clause-world g c told bodies w lawful =
     let begin = c.in-Ok.ensures.opened told in
     let r = c.in_ok-world.ensures.ok told begin.none_yet in
     same_world g.D.Disk c.args.disk.now c.open.new.disk c.replay.new.disk c.in-Ok.windows begin
-    (c.replay.ensures.untouched told).same c.done.result r.0 (world_in g.H.Holder.held c.in_ok-world.world)
-    (r.1 c.done.result c.done.ensures.end) r.2 bodies w lawful
+    (c.replay.ensures.untouched told).same c.done-journal.result r.0 (world_in g.H.Holder.held c.in_ok-world.world)
+    (r.1 c.done-journal.result c.done-journal.ensures.end) r.2 bodies w lawful
 
 pub returns-clause-safe : goal.returns-clause-safe
 returns-clause-safe g c told bodies w lawful =
@@ -65,10 +86,10 @@ returns-clause-safe g c told bodies w lawful =
     (read_no_worse g.D.Disk c.args.disk.now c.open.new.disk c.replay.new.disk (c.open.ensures.moments told)
     (c.replay.ensures.untouched told)
     (λ t left le now. g.met.D.Disk.counts_now c.open.new.disk t left told le now))
-    c.args.limit _ (c.done.result, c.in_ok-world.world)
+    c.args.limit _ (c.done-journal.result, c.in_ok-world.world)
     (holds_these g.D.Disk c.args.disk.now c.open.new.disk c.replay.new.disk c.in-Ok.windows begin
-    (c.replay.ensures.untouched told).same c.done.result r.0 (world_in g.H.Holder.held c.in_ok-world.world)
-    (r.1 c.done.result c.done.ensures.end) r.2 bodies w lawful)
+    (c.replay.ensures.untouched told).same c.done-journal.result r.0 (world_in g.H.Holder.held c.in_ok-world.world)
+    (r.1 c.done-journal.result c.done-journal.ensures.end) r.2 bodies w lawful)
 
 pub returns-clause-illegal : goal.returns-clause-illegal
 returns-clause-illegal g c told illegal =
@@ -77,4 +98,5 @@ returns-clause-illegal g c told illegal =
     let v = world_in g.H.Holder.held c.in_ok-world.world in
     absurd (illegal r.0 v
     (is_legal g.D.Disk c.args.disk.now c.open.new.disk c.replay.new.disk c.in-Ok.windows begin
-    (c.replay.ensures.untouched told).same c.done.result r.0 v (r.1 c.done.result c.done.ensures.end) r.2))
+    (c.replay.ensures.untouched told).same c.done-journal.result r.0 v (r.1 c.done-journal.result c.done-journal.ensures.end) r.2
+    (c.sound.ensures.0 c.if-not-sound.false)))

@@ -86,3 +86,13 @@ loop-body-preserved g c =
       limit = move.limit ∙ inv.limit;
       faults = omega (arith, inv.faults, c.in-Ok-Some.ensures.faults);
     }
+
+pub returns-in-Ok-None-clause-untouched : goal.returns-in-Ok-None-clause-untouched
+returns-in-Ok-None-clause-untouched g c = λ told.
+    read_on g.D.Disk c.args.disk.now c.loop-body.disk c.next.new.disk (c.loop-body.invariant.untouched told)
+    (c.in-Ok-None.ensures.untouched told)
+
+pub returns-in-Err-clause-untouched : goal.returns-in-Err-clause-untouched
+returns-in-Err-clause-untouched g c = λ told.
+    read_on g.D.Disk c.args.disk.now c.loop-body.disk c.next.new.disk (c.loop-body.invariant.untouched told)
+    (c.in-Err.ensures.untouched told)

@@ -1,4 +1,4 @@
-use Rattle.std.proofs.Common.{◌≡◌, [], subst}
+use Rattle.std.proofs.Common.{◌≡◌, [], ap, sym, ◌∙◌, subst}
 use Rattle.rx_session.specs.Doing.{after, restart}
 use Rattle.rx_session.specs.Emissions.{emissions, settled_session, IsSettled}
 use Rattle.rx_session.specs.Inside.{seen}
@@ -33,7 +33,9 @@ returns-clause-session c =
     subst (λ (s : Session). seen (record { world = new; moment = i.moment; places = i.places; diagram = i.diagram })
     ≡ settled_session (after (restart number) s)) c.self.view_is
     (carried_session i.world i.moment number i.places.items c.self.invariant.quiet new
-    c.in_ok-carry_all.ensures.lives c.in_ok-carry_all.ensures.epoch)
+    c.in_ok-carry_all.ensures.lives
+    (c.in_ok-carry_all.ensures.replications ∙ c.requires.replications
+    ∙ ap (λ (s : Session). s.world.replications) (sym c.self.view_is)) c.in_ok-carry_all.ensures.epoch)
 
 pub returns-clause-emissions : goal.returns-clause-emissions
 returns-clause-emissions c =

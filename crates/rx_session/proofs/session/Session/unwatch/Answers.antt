@@ -22,6 +22,7 @@ done c =
       dropped = c.unobserve_at.ensures.lives
           ∙ ap (λ o. unobserved name o (holders_in i.world))
           (c.find_place.ensures ∙ ap (place_named name) c.as_slice.ensures.value);
+      replications = c.unobserve_at.ensures.replications;
       epochs = c.unobserve_at.ensures.epoch;
     }
 

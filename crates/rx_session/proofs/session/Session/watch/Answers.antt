@@ -42,6 +42,7 @@ done c =
           has_key (asked w.query).primary (named s.world.collections w.coll) ≡ true)
           (sym c.self.view_is) c.requires.1;
       emitted = c.in_ok-due.ensures.lives;
+      replications = c.in_ok-due.ensures.replications;
       epochs = c.in_ok-due.ensures.epoch;
     }
 

@@ -1,0 +1,160 @@
+-- What a record makes of a session in play.
+use Rattle.std.proofs.Common.{◌≡◌, ℕ, ◌||◌, true, false, true≢false, cond, Bool, List, [], ◌∷◌, ◌++◌, map, Option, Some, None, refl, sym, ap, ◌∙◌, subst}
+use Rattle.std.proofs.lemmas.Bool.{or_parts}
+use Rattle.std.proofs.lemmas.List.Folds.{list_any-append}
+use Rattle.std.specs.List.{AllByRecursion, IsDistinct, flat_map, list_any}
+use Rattle.std.specs.Map.{keys_of}
+use Rattle.std.specs.Str.{bytes_eq}
+use Rattle.rx_record.specs.Content.{Content}
+use Rattle.rx_observe.specs.Observing.{Observing}
+use Rattle.rx_observe.specs.Rows.{emissions_due}
+use Rattle.rx_world.specs.Holders.{Holders, holders_in}
+use Rattle.rx_world.specs.Step.{step, legal}
+use Rattle.rx_world.specs.Touch.{Touch, no_collection, new_collection, new_rows, touch}
+use Rattle.rx_world.specs.Valid.{AreDistinct}
+use Rattle.rx_world.proofs.Looked.{all_change_named, all_put_named, equal_names}
+use Rattle.rx_world.proofs.Valid.{distinct_step}
+use Rattle.rx_session.specs.Applied.{IsAfter, coll_written, with_written}
+use Rattle.rx_session.specs.Doing.{after, query_after, write}
+use Rattle.rx_session.specs.Emissions.{emission_due, emissions, settled_query, settled_session}
+use Rattle.rx_session.specs.Placed.{Lives, ArePlaced, IsQuiet, queries_of, world_of}
+use Rattle.rx_session.specs.Playing.{AreQuietUnless, due_in_all, noted, settled_each}
+use Rattle.rx_session.specs.declared.place.Place.{Place}
+use Rattle.rx_session.proofs.Places.{all_map, colls, distinct_in, world_colls}
+use Rattle.rx_session.proofs.Settling.{same_world, session_of}
+use Rattle.rx_session.proofs.Several.{colls_each, placed_each, queries_each, quiet_each, taken_is_due}
+use Rattle.rx_session.proofs.Writing.{queries_after, legal_unheld, placed_after}
+
+-- ---- what is quiet
+
+-- all that were written before are still noted
+still_noted : (o : Option (List ℕ)) (written : List (List ℕ)) (name : List ℕ)
+    → list_any (bytes_eq name) (noted o written) ≡ false → list_any (bytes_eq name) written ≡ false
+still_noted None written name none = none
+still_noted (Some coll) written name none =
+    elim (list_any (bytes_eq coll) written)
+    as (λ b. list_any (bytes_eq name) (cond b written (written ++ coll ∷ [])) ≡ false
+    → list_any (bytes_eq name) written ≡ false) [
+      | true ↦ (λ n. n)
+      | false ↦ (λ n. (or_parts (list_any (bytes_eq name) written) (list_any (bytes_eq name) (coll ∷ []))
+          (sym (list_any-append (bytes_eq name) written (coll ∷ [])) ∙ n)).0)
+    ] none
+
+-- and so is the one that is written now
+now_noted : (coll : List ℕ) (written : List (List ℕ))
+    → list_any (bytes_eq coll) (noted (Some coll) written) ≡ false → true ≡ false
+now_noted coll written none =
+    elim (list_any (bytes_eq coll) written) as (λ b. list_any (bytes_eq coll) written ≡ b
+    → list_any (bytes_eq coll) (cond b written (written ++ coll ∷ [])) ≡ false → true ≡ false) [
+      | true ↦ (λ is n. sym is ∙ n)
+      | false ↦ (λ is n.
+          let last = (or_parts (list_any (bytes_eq coll) written) (list_any (bytes_eq coll) (coll ∷ []))
+          (sym (list_any-append (bytes_eq coll) written (coll ∷ [])) ∙ n)).1 in
+          sym (equal_names coll) ∙ (or_parts (bytes_eq coll coll) false last).0)
+    ] refl none
+
+-- a record leaves all quiet but the collections that were written, with its own
+quiet_noted : (t : Touch) (written : List (List ℕ)) (ls new : Lives) → IsAfter t ls new
+    → AreQuietUnless written ls → AreQuietUnless (noted (coll_written t) written) new
+quiet_noted no_collection written ls new after quiet = subst (AreQuietUnless written) (sym after) quiet
+quiet_noted (new_collection name schema) written ls new after quiet =
+    subst (AreQuietUnless written) (sym after.2)
+    (all_put_named (λ n (l : Observing).
+    list_any (bytes_eq n) written ≡ false → emissions_due l.collection l.queries ≡ []) ls name after.0
+    (λ none. ap (λ (l : Observing). emissions_due l.collection l.queries) after.1) quiet)
+quiet_noted (new_rows name lwt rows) written ls new after quiet =
+    let now : List (List ℕ) = noted (Some name) written in
+    let P = λ (n : List ℕ) (l : Observing).
+    (list_any (bytes_eq n) now ≡ false → emissions_due l.collection l.queries ≡ []) in
+    let each : AllByRecursion (λ e. P e.0 e.1) ls =
+    all_map (λ (e : List ℕ × Observing). list_any (bytes_eq e.0) written ≡ false → IsQuiet e)
+    (λ e. P e.0 e.1) (λ e is none. is (still_noted (Some name) written e.0 none)) ls quiet in
+    subst (AreQuietUnless now) (sym after)
+    (all_change_named P ls name (with_written lwt rows)
+    (λ l at was none. absurd (true≢false (now_noted name written none))) each)
+
+-- ---- one record
+
+pub record IsPlayed (content : Content) (old new : Holders Observing) (ps : List Place)
+    (written : List (List ℕ)) : Type 0 where
+  pub placed : ArePlaced (holders_in old) ps
+  pub distinct : AreDistinct (world_of old)
+  pub quiet : AreQuietUnless written (holders_in old)
+  pub allowed : legal content (world_of old) ≡ true
+  pub stepped : world_of new ≡ step content (world_of old)
+  pub applied : IsAfter (touch content (world_of old)) (holders_in old) (holders_in new)
+
+module _ (content : Content) (old new : Holders Observing) (moment : ℕ) (ps : List Place)
+    (written : List (List ℕ)) (so : IsPlayed content old new ps written) where
+  -- all are in their places
+  pub played_placed : ArePlaced (holders_in new) ps
+  played_placed =
+      placed_after (touch content (world_of old)) (world_of old) (holders_in old) (holders_in new) ps
+      (world_colls old) so.placed (legal_unheld content (world_of old) so.allowed) so.applied
+
+  -- the queries have followed the record
+  followed : queries_of (holders_in new) ps
+      ≡ map (query_after (world_of old) (touch content (world_of old))) (queries_of (holders_in old) ps)
+  followed =
+      queries_after (touch content (world_of old)) (world_of old) (holders_in old) (holders_in new) ps
+      (world_colls old) so.placed (legal_unheld content (world_of old) so.allowed) so.applied
+
+  pub played_distinct : AreDistinct (world_of new)
+  played_distinct = subst AreDistinct (sym so.stepped) (distinct_step content (world_of old) so.distinct)
+
+  pub played_quiet
+      : AreQuietUnless (noted (coll_written (touch content (world_of old))) written) (holders_in new)
+  played_quiet =
+      quiet_noted (touch content (world_of old)) written (holders_in old) (holders_in new) so.applied so.quiet
+
+  pub played_session : session_of new moment ps ≡ after (write content) (session_of old moment ps)
+  played_session =
+      λ i. record { world = so.stepped i; moment = moment; queries = followed i }
+
+-- ---- once all is emitted
+
+pub record IsTaken (old new : Holders Observing) (ps : List Place) (written : List (List ℕ)) : Type 0 where
+  pub placed : ArePlaced (holders_in old) ps
+  pub distinct : AreDistinct (world_of old)
+  pub quiet : AreQuietUnless written (holders_in old)
+  pub emitted : holders_in new ≡ settled_each written (holders_in old)
+  pub replications : new.replications ≡ old.replications
+  pub epochs : new.epoch ≡ old.epoch
+
+module _ (old new : Holders Observing) (moment : ℕ) (ps : List Place) (written : List (List ℕ))
+    (so : IsTaken old new ps written) where
+  taken_world : world_of new ≡ world_of old
+  taken_world =
+      same_world new old (ap colls so.emitted ∙ colls_each written (holders_in old)) so.replications so.epochs
+
+  pub taken_placed : ArePlaced (holders_in new) ps
+  taken_placed =
+      subst (λ ls. ArePlaced ls ps) (sym so.emitted) (placed_each written (holders_in old) ps so.placed)
+
+  pub taken_distinct : AreDistinct (world_of new)
+  taken_distinct = subst AreDistinct (sym taken_world) so.distinct
+
+  pub taken_quiet : AllByRecursion IsQuiet (holders_in new)
+  taken_quiet =
+      subst (AllByRecursion IsQuiet) (sym so.emitted)
+      (quiet_each written (holders_in old) (distinct_in old so.distinct) so.quiet)
+
+  pub taken_due : due_in_all written ps (holders_in old) ≡ emissions (session_of old moment ps)
+  taken_due =
+      taken_is_due written (world_of old) (holders_in old) (world_colls old) ps so.placed
+      (distinct_in old so.distinct) so.quiet
+
+  taken_queries : queries_of (holders_in new) ps
+      ≡ map (settled_query (world_of old)) (queries_of (holders_in old) ps)
+  taken_queries =
+      ap (λ ls. queries_of ls ps) so.emitted
+      ∙ queries_each written (world_of old) (holders_in old) (world_colls old) ps so.quiet
+
+  pub taken_session : session_of new moment ps ≡ settled_session (session_of old moment ps)
+  taken_session =
+      λ i. record { world = taken_world i; moment = moment; queries = taken_queries i }
+
+-- where all is quiet, it is where none was written
+pub none_written : (ls : Lives) → AllByRecursion IsQuiet ls → AreQuietUnless [] ls
+none_written [] quiet = tt
+none_written (l ∷ ls) quiet = (λ none. quiet.0, none_written ls quiet.1)

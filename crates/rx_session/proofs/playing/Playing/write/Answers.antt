@@ -1,0 +1,47 @@
+use Rattle.std.proofs.Common.{◌≡◌, true, sym, ap, ◌∙◌, subst}
+use Rattle.rx_record.specs.Shown.{content}
+use Rattle.rx_world.specs.Holders.{holders_in}
+use Rattle.rx_world.specs.Step.{legal}
+use Rattle.rx_session.specs.Doing.{after, write}
+use Rattle.rx_session.specs.Playing.{AreQuietUnless, noted}
+use Rattle.rx_session.specs.Session.{Session}
+use Rattle.rx_session.proofs.Played.{IsPlayed, played_distinct, played_placed, played_quiet, played_session}
+use Rattle.rx_session.proofs.Settling.{session_of}
+use Rattle.rx_session.proofs.playing.Playing.write.Goals as goal
+
+-- what was done to the collections
+done : (c : goal.In_ok-note)
+    → IsPlayed (content c.args.entry) c.self.inside.world c.in_ok-world.world c.self.inside.places.items
+    c.self.inside.written.items
+done c = record {
+  placed = c.self.invariant.placed;
+  distinct = c.self.invariant.distinct;
+  quiet = c.self.invariant.quiet;
+  allowed = subst (λ (s : Session). legal (content c.args.entry) s.world ≡ true) (sym c.self.view_is)
+      c.requires.legal;
+  stepped = c.in_ok-world.ensures.world;
+  applied = c.in_ok-world.ensures.lives;
+}
+
+pub invariant_of-result : goal.invariant_of-result
+invariant_of-result c =
+    let i = c.self.inside in
+    let entry = content c.args.entry in
+    let new = c.in_ok-world.world in
+    let ps = i.places.items in
+    let written = i.written.items in
+    record {
+      placed = played_placed entry i.world new i.moment ps written (done c);
+      distinct = played_distinct entry i.world new i.moment ps written (done c);
+      quiet = subst (λ names. AreQuietUnless names (holders_in new))
+          (sym (c.in_ok-note.ensures ∙ ap (λ o. noted o written) c.in_ok-coll.ensures))
+          (played_quiet entry i.world new i.moment ps written (done c));
+    }
+
+pub returns : goal.returns
+returns c =
+    let i = c.self.inside in
+    let entry = content c.args.entry in
+    subst (λ (s : Session). session_of c.in_ok-world.world i.moment i.places.items ≡ after (write entry) s)
+    c.self.view_is
+    (played_session entry i.world c.in_ok-world.world i.moment i.places.items i.written.items (done c))

@@ -1,0 +1,231 @@
+// A session in the midst of a line.
+ghost use Rattle.std.specs.Prelude.{◌≡◌, ◌++◌, true, IfOk, OnOk};
+ghost use Rattle.std.specs.List.{list_any};
+ghost use Rattle.std.specs.Str.{bytes_eq};
+ghost use Rattle.rx_record.specs.Shown.{content};
+ghost use Rattle.rx_record.specs.Writable.{IsOrdered};
+ghost use Rattle.rx_world.specs.Holders.{holders_in};
+ghost use Rattle.rx_world.specs.Step.{legal};
+ghost use Rattle.rx_session.specs.Doing as doing;
+ghost use Rattle.rx_session.specs.Doing.{after};
+ghost use Rattle.rx_session.specs.Emissions.{emissions, settled_session, IsSettled};
+ghost use Rattle.rx_session.specs.Placed.{world_of};
+ghost use Rattle.rx_session.specs.Playing.{due_each, due_in_all, emission_of, in_places, noted, settled_each, without_emission};
+
+use crate::applying::{apply_legal, coll_written};
+use crate::emitting::take_due;
+use crate::place::Place;
+use crate::session::Session;
+use rx_diagram::Diagram;
+use rx_observe::{Emission, Live};
+use rx_record::Record;
+use rx_value::RxText;
+use rx_world::World;
+use std::alloc::{AllocError, Global};
+use std::marker::Model;
+use std::rc::Rc;
+
+/// The session after the records that a line has written so far. What they change of the results is
+/// to be emitted yet.
+#[derive(Drop)]
+pub struct Playing {
+    world: World<Live>,
+    moment: u64,
+    places: Vec<Place>,
+    diagram: Rc<Diagram>,
+    // The names of the collections whose documents were written.
+    written: Vec<RxText>,
+}
+
+impl Model for Playing {
+    ghost use Rattle.rx_session.specs.Session.{Session as SeenSession};
+    ghost use Rattle.rx_session.specs.Codes.{session_code};
+
+    ghost Value = { SeenSession };
+
+    ghost coded = { session_code };
+
+    ghost use Rattle.rx_session.specs.Playing.{seen_in_play, IsInPlay};
+
+    ghost view = { seen_in_play };
+
+    ghost invariant = { IsInPlay };
+}
+
+impl Session {
+    /// The same session, of which a line is to write records.
+    pub fn begin(self, alloc: Global) -> Playing
+        ensures same { result ≡ self }
+        ensures before { IsSettled self }
+    {
+        Playing {
+            world: self.world,
+            moment: self.moment,
+            places: self.places,
+            diagram: self.diagram,
+            written: Vec::new(alloc),
+        }
+    }
+}
+
+impl Playing {
+    /// The collections and replications, and the last epoch.
+    pub fn world(&self) -> &World<Live>
+        ensures { world_of result.now ≡ self.now.world }
+    {
+        &self.world
+    }
+
+    /// The session after one record more.
+    pub fn write(self, alloc: Global, entry: Record) -> Result<Playing, AllocError>
+        requires legal { legal (content entry) self.world ≡ true }
+        requires ordered { IsOrdered (content entry) }
+        ensures { IfOk result (λ p. p ≡ after (doing.write (content entry)) self) }
+    {
+        let Playing {
+            world,
+            moment,
+            places,
+            diagram,
+            mut written,
+        } = self;
+        let coll = coll_written(alloc, &world, &entry)?;
+        let world = apply_legal(world, alloc, entry, &diagram)?;
+        note(&mut written, coll)?;
+        Ok(Playing {
+            world,
+            moment,
+            places,
+            diagram,
+            written,
+        })
+    }
+
+    /// The session once the emissions are written, and these, in the order of observing.
+    pub fn settle(self, alloc: Global) -> Result<(Session, Vec<Emission>), AllocError>
+        ensures session { IfOk result (λ p. p.0 ≡ settled_session self) }
+        ensures emissions { IfOk result (λ p. p.1.items ≡ emissions self) }
+    {
+        let Playing {
+            mut world,
+            moment,
+            places,
+            diagram,
+            written,
+        } = self;
+        let due = take_all(alloc, &mut world, places.as_slice(), written.as_slice())?;
+        let session = Session {
+            world,
+            moment,
+            places,
+            diagram,
+        };
+        Ok((session, due))
+    }
+}
+
+// The names, with one more, if there is one.
+fn note(written: &mut Vec<RxText>, coll: Option<RxText>) -> Result<(), AllocError>
+    ensures { OnOk result (written.new.items ≡ noted coll written.old.items) }
+{
+    let Some(coll) = coll else {
+        return Ok(());
+    };
+    if is_noted(written.as_slice(), &coll) {
+        return Ok(());
+    }
+    written.push(coll)?;
+    Ok(())
+}
+
+fn is_noted(written: &[RxText], coll: &RxText) -> bool
+    ensures { result ≡ list_any (bytes_eq coll.now) written.now }
+{
+    written.iter().any(|name| coll.as_str() == name.as_str())
+}
+
+// The emissions due of the collections of these names, which are emitted then.
+fn take_all(
+    alloc: Global,
+    world: &mut World<Live>,
+    places: &[Place],
+    written: &[RxText],
+) -> Result<Vec<Emission>, AllocError>
+    ensures lives { OnOk result
+        (holders_in world.new ≡ settled_each written.now (holders_in world.old)) }
+    ensures replications { world.new.replications ≡ world.old.replications }
+    ensures epoch { world.new.epoch ≡ world.old.epoch }
+    ensures due { IfOk result (λ due. due.items
+        ≡ due_in_all written.now places.now (holders_in world.old)) }
+{
+    let Some((first, more)) = written.split_first() else {
+        return Ok(Vec::new(alloc));
+    };
+    if more.is_empty() {
+        let due = take_due(alloc, world, first)?;
+        return Ok(due);
+    }
+    let due = take_each(alloc, world, written)?;
+    let due = in_places(alloc, places, due)?;
+    Ok(due)
+}
+
+// The same, one collection after another.
+fn take_each(
+    alloc: Global,
+    world: &mut World<Live>,
+    written: &[RxText],
+) -> Result<Vec<Emission>, AllocError>
+    ensures lives { OnOk result
+        (holders_in world.new ≡ settled_each written.now (holders_in world.old)) }
+    ensures replications { world.new.replications ≡ world.old.replications }
+    ensures epoch { world.new.epoch ≡ world.old.epoch }
+    ensures due { IfOk result
+        (λ due. due.items ≡ due_each written.now (holders_in world.old)) }
+{
+    let mut all = Vec::new(alloc);
+    for coll in written {
+        let due = take_due(alloc, world, coll)?;
+        add_all(&mut all, due)?;
+    }
+    Ok(all)
+}
+
+fn add_all(all: &mut Vec<Emission>, more: Vec<Emission>) -> Result<(), AllocError>
+    ensures { OnOk result (all.new.items ≡ all.old.items ++ more.items) }
+{
+    for emission in more {
+        all.push(emission)?;
+    }
+    Ok(())
+}
+
+// Emissions in the order of the places.
+fn in_places(
+    alloc: Global,
+    places: &[Place],
+    mut due: Vec<Emission>,
+) -> Result<Vec<Emission>, AllocError>
+    ensures { IfOk result (λ ordered. ordered.items ≡ in_places places.now due.items) }
+{
+    let mut ordered = Vec::with_capacity(alloc, due.len())?;
+    for place in places {
+        if let Some(emission) = take_named(&mut due, &place.name) {
+            ordered.push(emission)?;
+        }
+    }
+    Ok(ordered)
+}
+
+// Takes the emission of that name out, if there is one.
+fn take_named(due: &mut Vec<Emission>, name: &RxText) -> Option<Emission>
+    ensures found { result ≡ emission_of name.now due.old.items }
+    ensures left { due.new.items ≡ without_emission name.now due.old.items }
+{
+    for i in 0..due.len() {
+        if name.as_str() == due[i].name.as_str() {
+            return Some(due.remove(i));
+        }
+    }
+    None
+}
