@@ -1,5 +1,5 @@
 -- What holds of a plan that was made.
-use Rattle.std.proofs.Common.{◌≡◌, ℕ, true, ◌==◌, ◌&&◌, List, [], ◌∷◌, map, Option, Some, None, option_map, Result, Ok, Err, refl, sym, ap, ◌∙◌, subst}
+use Rattle.std.proofs.Common.{◌≡◌, ℕ, true, ◌==◌, ◌&&◌, List, [], ◌∷◌, map, Option, Some, None, option_map, Result, Ok, Err, refl, sym, ap, ◌∙◌, subst, false, eqb-true}
 use Rattle.std.specs.List.{AllByRecursion, IsDistinct}
 use Rattle.std.specs.Map.{values_of}
 use Rattle.std.specs.Prelude.{IfOk, Bool}
@@ -45,6 +45,8 @@ pub record IsOf (by : Resolve) (fork : Documents) (side : Side) (ask : AskKind) 
   pub is : taking by fork side.up side.down ask body ≡ Some taken
   pub rows : plan.rows ≡ taken.rows
   pub known : plan.known ≡ values_of (by_key taken.known)
+  pub up : plan.up ≡ taken.up
+  pub down : plan.down ≡ taken.down
 
 of_taking : (by : Resolve) (fork : Documents) (side : Side) (ask : AskKind) (body : Body)
     (plan : ExchangePlan) (o : Option Taking) → taking by fork side.up side.down ask body ≡ o
@@ -57,6 +59,8 @@ of_taking by fork side ask body plan (Some t) is h =
       is = is;
       rows = ap (λ (p : ExchangePlan). p.rows) (sym same);
       known = ap (λ (p : ExchangePlan). p.known) (sym same);
+      up = ap (λ (p : ExchangePlan). p.up) (sym same);
+      down = ap (λ (p : ExchangePlan). p.down) (sym same);
     }
 
 answered_of : (by : Resolve) (fork : Documents) (side : Side) (ask : AskKind) (body : Body)
@@ -69,17 +73,41 @@ answered_of by fork side ask body plan h =
     (no_fault (bad_reply side.down ask body) (or_fault (BadReply 0) (option_map plan_of tk)) plan
     h))
 
-accepted_of : (by : Resolve) (fork : Documents) (side : Side) (asked : Asked) (reply : Reply)
+-- a reply that is taken: the fork wasn't written since the asking, and nothing is at fault
+pub record IsTaken (by : Resolve) (fork : Documents) (side : Side) (asked : Asked) (reply : Reply)
+    (plan : ExchangePlan) : Type 0 where
+  pub unmoved : last_lwt fork ≡ asked.lwt
+  pub fits : bad_reply side.down asked.request.ask reply.body ≡ None
+  pub of : IsOf by fork side asked.request.ask reply.body plan
+
+demanded : {E : Type 0} (b : Bool) (e : E) (x : Unit {0}) → demand b e ≡ Ok x → b ≡ true
+demanded true e x is = refl
+demanded false e x is = absurd (cc)
+
+without_fault : (o : Option ℕ) (rest : Result ExchangePlan AcceptFault) (plan : ExchangePlan)
+    → unless BadReply o rest ≡ Ok plan → o ≡ None
+without_fault None rest plan h = refl
+without_fault (Some at) rest plan h = absurd (cc)
+
+pub accepted_parts : (by : Resolve) (fork : Documents) (side : Side) (asked : Asked) (reply : Reply)
     (plan : ExchangePlan) → accepted by fork side asked reply ≡ Ok plan
-    → IsOf by fork side asked.request.ask reply.body plan
-accepted_of by fork side asked reply plan h =
+    → IsTaken by fork side asked reply plan
+accepted_parts by fork side asked reply plan h =
+    let ask = asked.request.ask in
+    let unmoved = last_lwt fork == asked.lwt in
     let a = ok_then (demand (reply.epoch == asked.request.epoch && reply.n == asked.request.n)
-    (Foreign reply.epoch reply.n)) (λ _. demand (last_lwt fork == asked.lwt)
-    (Moved asked.lwt (last_lwt fork)) >> λ _. answered by fork side asked.request.ask reply.body)
-    plan h in
-    let b = ok_then (demand (last_lwt fork == asked.lwt) (Moved asked.lwt (last_lwt fork)))
-    (λ _. answered by fork side asked.request.ask reply.body) plan a.2 in
-    answered_of by fork side asked.request.ask reply.body plan b.2
+    (Foreign reply.epoch reply.n)) (λ _. demand unmoved (Moved asked.lwt (last_lwt fork))
+    >> λ _. answered by fork side ask reply.body) plan h in
+    let b = ok_then (demand unmoved (Moved asked.lwt (last_lwt fork)))
+    (λ _. answered by fork side ask reply.body) plan a.2 in
+    record {
+      unmoved = eqb-true (last_lwt fork) asked.lwt
+          (demanded unmoved (Moved asked.lwt (last_lwt fork)) b.0 b.1);
+      fits = without_fault (bad_reply side.down ask reply.body)
+          (or_fault (BadReply 0)
+          (option_map plan_of (taking by fork side.up side.down ask reply.body))) plan b.2;
+      of = answered_of by fork side ask reply.body plan b.2;
+    }
 
 -- ---- what holds of takings holds of what was answered
 
@@ -89,7 +117,7 @@ pub when_made : {P : ExchangePlan → Type 0} (by : Resolve) (fork : Documents) 
     → ((plan : ExchangePlan) → IsOf by fork side asked.request.ask reply.body plan → P plan)
     → IfOk r P
 when_made by fork side asked reply (Ok plan) due each =
-    each plan (accepted_of by fork side asked reply plan due)
+    each plan (accepted_parts by fork side asked reply plan due).of
 when_made by fork side asked reply (Err e) due each = tt
 
 -- the keys of the rows differ

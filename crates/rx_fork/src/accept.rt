@@ -30,7 +30,7 @@ pub struct ExchangePlan {
     pub down: Option<Place>,
 }
 
-impl Fork {
+impl Fork<'_> {
     /// What the reply to a request comes to. The field is the handler's.
     pub fn accept(
         &self,
@@ -44,7 +44,7 @@ impl Fork {
         requires rows { HasRowsApart asked.now.request.ask }
         requires states { HasStatesApart reply.now.body }
         ensures exact { Due Memory result (accepted (resolve handler.now.kind field.now)
-            collection.now.documents self.now.meta asked.now reply.now) }
+            collection.now.documents self.now.meta.now asked.now reply.now) }
         // No two of the rows have one key.
         ensures apart { IfOk result (λ plan. IsDistinct bytes_eq (map (λ s. s.key) plan.rows)) }
         // States that are valid give states that are.
@@ -68,7 +68,7 @@ impl Fork {
         requires rows { HasRowsApart asked.now.request.ask }
         requires states { HasStatesApart reply.now.body }
         ensures exact { Due Memory result (accepted (resolve handler.now.kind field.now)
-            collection.now.documents self.now.meta asked.now reply.now) }
+            collection.now.documents self.now.meta.now asked.now reply.now) }
     {
         if reply.epoch != asked.request.epoch || reply.n != asked.request.n {
             return Err(AcceptFault::Foreign(reply.epoch, reply.n));
@@ -100,7 +100,7 @@ impl Fork {
         requires rows { HasRowsApart ask.now }
         requires states { HasStatesApart body.now }
         ensures exact { Due Memory result (answered (resolve handler.now.kind field.now)
-            collection.now.documents self.now.meta ask.now body.now) }
+            collection.now.documents self.now.meta.now ask.now body.now) }
     {
         match (ask, body) {
             (AskKind::Push(rows), Body::Conflicts(conflicts)) => self.pushed(

@@ -19,7 +19,7 @@ pub struct Asked {
     pub lwt: u64,
 }
 
-impl Fork {
+impl Fork<'_> {
     /// The request that is due: a push of the first `batch` documents to be pushed, by place, or a
     /// pull where there is none.
     pub fn ask(
@@ -30,9 +30,10 @@ impl Fork {
         n: u64,
         batch: u32,
     ) -> Result<Asked, AllocError>
-        requires { NonePendingBelow collection.now.documents self.now.meta.known self.now.meta.up }
+        requires { NonePendingBelow collection.now.documents self.now.meta.now.known
+            self.now.meta.now.up }
         ensures asked { IfOk result (λ asked. asked
-            ≡ asked_of collection.now.documents self.now.meta epoch n batch) }
+            ≡ asked_of collection.now.documents self.now.meta.now epoch n batch) }
         ensures apart { IfOk result (λ asked. HasRowsApart asked.request.ask) }
     {
         let rows = self.rows(alloc, collection, batch)?;
@@ -50,9 +51,10 @@ impl Fork {
         collection: &Collection,
         most: u32,
     ) -> Result<RxList<PushRow>, AllocError>
-        requires { NonePendingBelow collection.now.documents self.now.meta.known self.now.meta.up }
-        ensures { IfOk result (λ rows. rows ≡ map (push_row self.now.meta.known)
-            (take most (pending collection.now.documents self.now.meta.known))) }
+        requires { NonePendingBelow collection.now.documents self.now.meta.now.known
+            self.now.meta.now.up }
+        ensures { IfOk result (λ rows. rows ≡ map (push_row self.now.meta.now.known)
+            (take most (pending collection.now.documents self.now.meta.now.known))) }
     {
         let mut rows = RxList::new(alloc);
         let mut left = most;

@@ -8,15 +8,16 @@ use rx_value::State;
 
 /// The fork's side of one replication.
 #[derive(Drop)]
-pub struct Fork {
-    pub meta: Meta,
+pub struct Fork<'a> {
+    pub meta: &'a Meta,
 }
 
-impl Fork {
+impl Fork<'_> {
     /// How many documents are to be pushed. Those up to the checkpoint aren't looked at.
     pub fn pending(&self, collection: &Collection) -> usize
-        requires { NonePendingBelow collection.now.documents self.now.meta.known self.now.meta.up }
-        ensures { result ≡ length (pending collection.now.documents self.now.meta.known) }
+        requires { NonePendingBelow collection.now.documents self.now.meta.now.known
+            self.now.meta.now.up }
+        ensures { result ≡ length (pending collection.now.documents self.now.meta.now.known) }
     {
         count_pending(
             &self.meta,

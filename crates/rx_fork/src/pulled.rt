@@ -21,7 +21,7 @@ use rx_document::Place;
 use rx_value::{RxList, State};
 use std::alloc::{AllocError, Global};
 
-impl Fork {
+impl Fork<'_> {
     // What the answer to a pull comes to.
     pub(crate) fn pulled(
         &self,
@@ -33,7 +33,7 @@ impl Fork {
     ) -> Result<ExchangePlan, AcceptFault>
         requires { IsDistinct bytes_eq (map (λ s. s.key) states.now) }
         ensures exact { (resolve : Resolve) (place : Option SeenPlace) → Due Memory result
-            (answered resolve collection.now.documents self.now.meta (Pull place batch)
+            (answered resolve collection.now.documents self.now.meta.now (Pull place batch)
             (Docs states.now (option_map (λ p. p.now) to.entry))) }
     {
         if states.len() > batch as usize {

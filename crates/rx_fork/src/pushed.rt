@@ -21,7 +21,7 @@ use rx_value::{RxList, RxText, State};
 use rx_wire::PushRow;
 use std::alloc::{AllocError, Global};
 
-impl Fork {
+impl Fork<'_> {
     // What the answer to a push comes to.
     pub(crate) fn pushed(
         &self,
@@ -34,7 +34,7 @@ impl Fork {
     ) -> Result<ExchangePlan, AcceptFault>
         requires { IsDistinct bytes_eq (map (λ row. row.new.key) rows.now) }
         ensures exact { Due Memory result (answered (resolve handler.now.kind field.now)
-            collection.now.documents self.now.meta (Push rows.now) (Conflicts conflicts.now)) }
+            collection.now.documents self.now.meta.now (Push rows.now) (Conflicts conflicts.now)) }
     {
         if let Some(at) = first_foreign(rows, conflicts) {
             return Err(AcceptFault::BadReply(at));

@@ -7,8 +7,10 @@ mod explain;
 mod form;
 mod refusal;
 mod reply;
+mod turn;
 mod writing;
 
 pub use emission::emission_line;
 pub use refusal::{Cause, DocumentFault, Refusal};
 pub use reply::Reply;
+pub use turn::{Exchanged, Lost, TurnEnd};

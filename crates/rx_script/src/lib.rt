@@ -35,10 +35,12 @@
 
 mod fault;
 mod forms;
+mod happening;
 mod line;
 mod member;
 mod since;
 
 pub use fault::LineFault;
+pub use happening::Happening;
 pub use line::{Line, MAX_BATCH, MAX_LINE_BYTES};
 pub use since::Since;

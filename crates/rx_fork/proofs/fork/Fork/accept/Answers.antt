@@ -9,7 +9,7 @@ returns-clause-apart g c =
     let kind = c.args.handler.now.kind in
     let field = c.args.field.now in
     let fork = c.args.collection.now.documents in
-    let side = c.args.self.now.meta in
+    let side = c.args.self.now.meta.now in
     let asked = c.args.asked.now in
     let reply = c.args.reply.now in
     when_made (resolve kind field) fork side asked reply c.plan.result c.plan.ensures.exact
@@ -22,7 +22,7 @@ returns-clause-valid g c = λ asks pass.
     let field = c.args.field.now in
     let schema = c.args.collection.now.schema in
     let fork = c.args.collection.now.documents in
-    let side = c.args.self.now.meta in
+    let side = c.args.self.now.meta.now in
     let asked = c.args.asked.now in
     let reply = c.args.reply.now in
     when_made (resolve kind field) fork side asked reply c.plan.result c.plan.ensures.exact

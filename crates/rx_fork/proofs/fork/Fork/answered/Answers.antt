@@ -17,7 +17,7 @@ pub returns-in-Pull-Docs : goal.returns-in-Pull-Docs
 returns-in-Pull-Docs g c =
     let w = c.in-Pull-Docs in
     let fork = c.args.collection.now.documents in
-    let side = c.args.self.now.meta in
+    let side = c.args.self.now.meta.now in
     let by = resolve c.args.handler.now.kind c.args.field.now in
     let place = option_map (λ p. p.now) c.as_ref.result in
     record {

@@ -7,7 +7,7 @@ use Rattle.rx_fork.proofs.fork.Fork.ask.Goals as goal
 
 pub returns-clause-apart : goal.returns-clause-apart
 returns-clause-apart c =
-    let meta = c.args.self.now.meta in
+    let meta = c.args.self.now.meta.now in
     let documents = c.args.collection.now.documents in
     let due = map (push_row meta.known) (take c.args.batch (pending documents meta.known)) in
     subst HasRowsApart

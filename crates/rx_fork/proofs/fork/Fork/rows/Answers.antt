@@ -8,7 +8,7 @@ use Rattle.rx_fork.proofs.fork.Fork.rows.Goals.{in-None, in-Some+then-left-eq0}
 
 pub loop-held-preserved-then-is_pending : goal.loop-held-preserved-then-is_pending
 loop-held-preserved-then-is_pending c = (
-  pending_step c.args.self.now.meta.known c.loop-held.left c.in-Some.held.now
+  pending_step c.args.self.now.meta.now.known c.loop-held.left c.in-Some.held.now
       c.loop-held.held-iterator c.next.new.self c.loop-held.rows c.push.new.self _
       c.in-Some.ensures.steps (sym c.if-is_pending.ensures) c.if-left-eq0.false
       (c.in_ok-push.ensures.ok ∙ ap (λ row. c.loop-held.rows ++ row ∷ []) c.in_ok-push_row.ensures)
@@ -20,14 +20,14 @@ loop-held-preserved-then-is_pending c = (
 pub returns : goal.returns
 returns c =
     let held = c.args.collection.now in
-    let known = c.args.self.now.meta.known in
+    let known = c.args.self.now.meta.now.known in
     let whole =
     ap (λ ds. map (push_row known) (take c.args.most (filter (is_pending known) ds)))
     (c.into_iter-held-iterator.ensures.into_iter_gives ∙ c.page-held-items.ensures.documents
     ∙ ap (λ n. since held.documents (option_map (λ p. p.now) c.up.result) n) c.len.ensures.count
     ∙ ap (λ up. since held.documents up (length held.documents)) c.up.ensures)
     ∙ ap (λ ds. map (push_row known) (take c.args.most ds))
-    (pending_above held known c.args.self.now.meta.up c.len.ensures.lawful c.requires) in
+    (pending_above held known c.args.self.now.meta.now.up c.len.ensures.lawful c.requires) in
     elim c.match-next.branch [
       | in-None w ↦ pending_ended known c.loop-held.left c.loop-held.held-iterator
           c.loop-held.rows _ w.in-None.ensures.steps.0 c.loop-held.invariant.0 ∙ whole

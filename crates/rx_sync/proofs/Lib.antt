@@ -1,0 +1,15 @@
+mod Examples
+pub mod Worlds
+pub mod Masters
+pub mod Staying
+pub mod Messages
+pub mod Written
+pub mod Takings
+pub mod Twice
+pub mod Exchanges
+pub mod Ends
+pub mod Going
+pub mod Repeats
+pub mod Turns
+pub mod Calls
+pub mod Refusals

@@ -1,0 +1,251 @@
+-- What a turn keeps.
+use Rattle.std.proofs.Common.{◌≡◌, ◌∙◌, ℕ, zero, suc, ◌≤◌, List, [], ◌∷◌, ◌++◌, take, Option, Some, None, option_map, refl, sym, ap, subst}
+use Rattle.std.specs.List.{AllByRecursion}
+use Rattle.rx_value.specs.Due.{◌>>=◌}
+use Rattle.rx_value.specs.Named.{named}
+use Rattle.rx_collection.specs.Held.{Held}
+use Rattle.rx_wire.specs.declared.message.Request.{Request}
+use Rattle.rx_replication.proofs.Lists.{some_same, not_none, all_at, from_slice_get}
+use Rattle.rx_fork.specs.Asked.{asked_of}
+use Rattle.rx_fork.specs.declared.ask.Asked.{Asked}
+use Rattle.rx_record.specs.Content.{Content}
+use Rattle.rx_reply.specs.declared.turn.Lost.TheVariants as lost
+use Rattle.rx_reply.specs.declared.turn.TurnEnd.{TurnEnd}
+use Rattle.rx_reply.specs.declared.turn.TurnEnd.TheVariants.{Quiet}
+use Rattle.rx_schema.specs.declared.shape.Shape.{Shape}
+use Rattle.rx_script.specs.declared.happening.Happening.{Happening}
+use Rattle.rx_script.specs.declared.happening.Happening.TheVariants as link
+use Rattle.rx_world.specs.World.{World, Replications}
+use Rattle.rx_world.specs.declared.replication.Replication.{Replication}
+use Rattle.rx_sync.specs.Asking.{asked_by, asked_in}
+use Rattle.rx_sync.specs.Asks.{Asks, AsksAreLawful, IsLawfulRequest, next_number, with_request}
+use Rattle.rx_sync.specs.Exchange.{Terms, Course, after, course, course_by, exchange, late_records, late_request, once_late}
+use Rattle.rx_sync.specs.Handling.{Handled, handled_for}
+use Rattle.rx_sync.specs.Laws.{ComeSoundly, EveryTurn, IsLevel, IsReady, IsTurnSound, MayTurn, MayTurnAgain, QuietIsLevel, RemembersLawful}
+use Rattle.rx_sync.specs.Turn.{Turned, before, end_by, ended_with, first_of, going_on, rest_of, turn}
+use Rattle.rx_sync.proofs.Ends.{HasEnds, ends_of}
+use Rattle.rx_sync.proofs.Exchanges.{HasHandled}
+use Rattle.rx_sync.proofs.Going.{GoesWell, behind_well, due_here, handled_come, handled_well, lost_goes_well, lost_well, taken_goes_well}
+use Rattle.rx_sync.proofs.Messages.{asked_at}
+use Rattle.rx_sync.proofs.Repeats.{twice_is_once}
+use Rattle.rx_sync.proofs.Staying.{ready_after, remembers_after, soundly_in_turn}
+use Rattle.rx_sync.proofs.Worlds.{after-append, soundly-append}
+
+-- ---- an exchange
+
+module _ (t : Terms) (w : World) (ready : IsReady w t.name t.kinds) (n batch : ℕ) (some : 1 ≤ batch)
+    (asked : Asked) (is : asked_in w t.name n batch ≡ Some asked) where
+  pub exchange_well : (x : Happening) → GoesWell w t.name batch (exchange t asked x w)
+  exchange_well link.Ok = taken_goes_well w t.name t.kinds ready t.now n batch some asked is
+  exchange_well (link.Late j) = taken_goes_well w t.name t.kinds ready t.now n batch some asked is
+  exchange_well link.LoseRequest = lost_well w t.name batch lost.LoseRequest asked.request.ask
+  exchange_well link.LoseReply =
+      lost_goes_well w t.name t.kinds ready t.now n batch some asked is lost.LoseReply
+  exchange_well link.Stale =
+      lost_goes_well w t.name t.kinds ready t.now n batch some asked is lost.Stale
+  exchange_well link.Twice =
+      subst (GoesWell w t.name batch) (sym (twice_is_once t w ready asked (n, batch, some, is)))
+      (taken_goes_well w t.name t.kinds ready t.now n batch some asked is)
+
+  -- where an earlier request is handled first, it is still the one that was asked
+  asked_then : (q : Request) (h : Handled)
+      → HasHandled w ready.here.master (ends_of w t.name t.kinds ready).master t.now q h
+      → asked_in (after h.records w) t.name n batch ≡ Some asked
+  asked_then q h hh =
+      let v = after h.records w in
+      let e : HasEnds w t.name ready.here.replication ready.here.master = ends_of w t.name t.kinds
+      ready in
+      let r = ready.here.replication in
+      let at : named v.replications t.name ≡ Some r =
+      ap (λ (rs : Replications). named rs t.name) hh.leaves.replications ∙ ready.here.held in
+      let held : named v.collections r.fork ≡ Some e.fork =
+      hh.leaves.others r.fork (λ same. e.other (sym same)) ∙ e.held in
+      ap (λ (o : Option Replication). o >>= asked_by v n batch) at
+      ∙ ap (λ (o : Option Held). o >>= λ fork. Some (asked_of fork.documents r.side v.epoch n
+      batch)) held
+      ∙ ap (λ (k : ℕ). Some (asked_of e.fork.documents r.side k n batch)) hh.leaves.epoch
+      ∙ ap Some (asked_at w t.name n batch asked r e.fork ready.here.held e.held is)
+
+late_lawful : (s : Shape) (x : Happening) (a : Asks) (q : Request) → AsksAreLawful s a
+    → late_request x a ≡ Some q → IsLawfulRequest s q
+late_lawful s (link.Late j) a q lawful is =
+    all_at (IsLawfulRequest s) a.requests q lawful (from_slice_get a.requests j q is)
+late_lawful s link.Ok a q lawful is = not_none is
+late_lawful s link.LoseRequest a q lawful is = not_none is
+late_lawful s link.LoseReply a q lawful is = not_none is
+late_lawful s link.Twice a q lawful is = not_none is
+late_lawful s link.Stale a q lawful is = not_none is
+
+module _ (t : Terms) (w : World) (ready : IsReady w t.name t.kinds) (n batch : ℕ) (some : 1 ≤ batch)
+    (asked : Asked) (is : asked_in w t.name n batch ≡ Some asked) (x : Happening) where
+  handled_late : (q : Request) (o : Option Handled)
+      → IsLawfulRequest (ends_of w t.name t.kinds ready).fork.schema q
+      → handled_for w t.name q t.now ≡ o
+      → GoesWell w t.name batch (once_late t asked x w (option_map (λ h. h.records) o))
+  handled_late q None lawful at = record { come = tt; quiet = λ is. absurd (cc) }
+  handled_late q (Some h) lawful at =
+      let hh = handled_well w t.name t.kinds ready t.now q h lawful at in
+      let come = handled_come w t.name t.kinds ready t.now q h hh in
+      behind_well w t.name batch h.records (exchange t asked x (after h.records w)) come
+      (exchange_well t (after h.records w) (ready_after h.records w t.name t.kinds ready come) n
+      batch
+      some asked (asked_then t w ready n batch some asked is q h hh) x)
+
+  late_by : (o : Option Request)
+      → ((q : Request) → o ≡ Some q
+      → IsLawfulRequest (ends_of w t.name t.kinds ready).fork.schema q)
+      → GoesWell w t.name batch (once_late t asked x w (late_records t.name t.now w o))
+  late_by None lawful = exchange_well t w ready n batch some asked is x
+  late_by (Some q) lawful =
+      handled_late q (handled_for w t.name q t.now) (lawful q refl) refl
+
+  pub late_well : (a : Asks) → RemembersLawful w t.name a
+      → GoesWell w t.name batch
+      (once_late t asked x w (late_records t.name t.now w (late_request x a)))
+  late_well a lawful =
+      let e : HasEnds w t.name ready.here.replication ready.here.master = ends_of w t.name t.kinds
+      ready in
+      late_by (late_request x a) (λ q at.
+      late_lawful e.fork.schema x a q
+      (lawful ready.here.replication ready.here.held e.fork e.held) at)
+
+  -- the request is still the one that was asked, once the late one was handled
+  once_handled_asked : (q : Request) (o : Option Handled) (cs : List Content)
+      → IsLawfulRequest (ends_of w t.name t.kinds ready).fork.schema q
+      → handled_for w t.name q t.now ≡ o → option_map (λ h. h.records) o ≡ Some cs
+      → asked_in (after cs w) t.name n batch ≡ Some asked
+  once_handled_asked q None cs lawful at is' = not_none is'
+  once_handled_asked q (Some h) cs lawful at is' =
+      subst (λ (cs : List Content). asked_in (after cs w) t.name n batch ≡ Some asked)
+      (some_same is')
+      (asked_then t w ready n batch some asked is q h
+      (handled_well w t.name t.kinds ready t.now q h lawful at))
+
+  late_asked_by : (o : Option Request) (cs : List Content)
+      → ((q : Request) → o ≡ Some q
+      → IsLawfulRequest (ends_of w t.name t.kinds ready).fork.schema q)
+      → late_records t.name t.now w o ≡ Some cs
+      → asked_in (after cs w) t.name n batch ≡ Some asked
+  late_asked_by None cs lawful at =
+      subst (λ (cs : List Content). asked_in (after cs w) t.name n batch ≡ Some asked)
+      (some_same at) is
+  late_asked_by (Some q) cs lawful at =
+      once_handled_asked q (handled_for w t.name q t.now) cs (lawful q refl) refl at
+
+  pub late_asked : (a : Asks) → RemembersLawful w t.name a → (cs : List Content)
+      → late_records t.name t.now w (late_request x a) ≡ Some cs
+      → asked_in (after cs w) t.name n batch ≡ Some asked
+  late_asked a lawful cs at =
+      let e : HasEnds w t.name ready.here.replication ready.here.master = ends_of w t.name t.kinds
+      ready in
+      late_asked_by (late_request x a) cs (λ q there.
+      late_lawful e.fork.schema x a q
+      (lawful ready.here.replication ready.here.held e.fork e.held) there) at
+
+-- ---- what is remembered
+
+all_take : {A : Type 0} (P : A → Type 0) (n : ℕ) (xs : List A) → AllByRecursion P xs
+    → AllByRecursion P (take n xs)
+all_take P zero xs all = tt
+all_take P (suc n) [] all = tt
+all_take P (suc n) (x ∷ xs) all = (all.0, all_take P n xs all.1)
+
+pub remembers_more : (w : World) (name : List ℕ) (r : Replication) (fork : Held) (q : Request)
+    (a : Asks) → named w.replications name ≡ Some r → named w.collections r.fork ≡ Some fork
+    → IsLawfulRequest fork.schema q → RemembersLawful w name a
+    → RemembersLawful w name (with_request q a)
+remembers_more w name r fork q a at held lawful all = λ s s_at c c_held.
+    let same : r ≡ s = some_same (sym at ∙ s_at) in
+    let here : fork ≡ c =
+    some_same (sym held ∙ ap (λ (r : Replication). named w.collections r.fork) same ∙ c_held) in
+    all_take (IsLawfulRequest c.schema) 17 (q ∷ a.requests)
+    (subst (λ (c : Held). IsLawfulRequest c.schema q) here lawful, all s s_at c c_held)
+
+-- ---- an exchange with all that belongs to it
+
+record CourseGoesWell (t : Terms) (batch : ℕ) (w : World) (c : Course) : Type 0 where
+  pub come : ComeSoundly w c.records
+  pub asks : RemembersLawful w t.name c.asks
+  pub quiet : end_by batch c.came ≡ Some Quiet → IsLevel (after c.records w) t.name
+
+course_well : (t : Terms) (batch : ℕ) → 1 ≤ batch → (x : Happening) (w : World) (a : Asks)
+    → MayTurn t w a → CourseGoesWell t batch w (course t batch x w a)
+course_well t batch some x w a may = by (asked_in w t.name (next_number a) batch) refl
+  where
+    by : (o : Option Asked) → asked_in w t.name (next_number a) batch ≡ o
+        → CourseGoesWell t batch w (course_by t x w a o)
+    by None is = record { come = tt; asks = may.asks; quiet = λ is. absurd (cc) }
+    by (Some asked) is =
+        let e : HasEnds w t.name may.ready.here.replication may.ready.here.master =
+        ends_of w t.name t.kinds may.ready in
+        let lawful : IsLawfulRequest e.fork.schema asked.request =
+        (due_here w t.name t.kinds may.ready t.now (next_number a) batch some asked is).lawful in
+        let asks : RemembersLawful w t.name (with_request asked.request a) =
+        remembers_more w t.name may.ready.here.replication e.fork asked.request a
+        may.ready.here.held
+        e.held lawful may.asks in
+        let well = late_well t w may.ready (next_number a) batch some asked is x
+        (with_request asked.request a) asks in
+        record { come = well.come; asks = asks; quiet = well.quiet }
+
+-- afterwards another one may follow
+course_again : (t : Terms) (batch : ℕ) (w : World) (a : Asks) (c : Course) → MayTurn t w a
+    → CourseGoesWell t batch w c → MayTurn t (after c.records w) c.asks
+course_again t batch w a c may well = record {
+  ready = ready_after c.records w t.name t.kinds may.ready well.come;
+  asks = remembers_after c.records w t.name t.kinds c.asks may.ready
+      (soundly_in_turn w c.records well.come) well.asks;
+}
+
+-- ---- a turn
+
+pub record TurnGoesWell (t : Terms) (w : World) (u : Turned) : Type 0 where
+  pub come : ComeSoundly w u.records
+  pub again : MayTurn t (after u.records w) u.asks
+  pub quiet : u.ended ≡ Quiet → IsLevel (after u.records w) t.name
+
+before_well : (t : Terms) (batch : ℕ) (w : World) (c : Course) (rest : Turned)
+    → CourseGoesWell t batch w c → TurnGoesWell t (after c.records w) rest
+    → TurnGoesWell t w (before c rest)
+before_well t batch w c rest well more =
+    let same : after (c.records ++ rest.records) w ≡ after rest.records (after c.records w) =
+    after-append c.records rest.records w in
+    record {
+      come = soundly-append w c.records rest.records well.come more.come;
+      again = subst (λ (v : World). MayTurn t v rest.asks) (sym same) more.again;
+      quiet = λ is. subst (λ (v : World). IsLevel v t.name) (sym same) (more.quiet is);
+    }
+
+on_well : (t : Terms) (batch : ℕ) (w : World) (a : Asks) (c : Course) (rest : Turned)
+    (o : Option TurnEnd) → MayTurn t w a → CourseGoesWell t batch w c → end_by batch c.came ≡ o
+    → TurnGoesWell t (after c.records w) rest → TurnGoesWell t w (going_on c o rest)
+on_well t batch w a c rest None may well is more = before_well t batch w c rest well more
+on_well t batch w a c rest (Some end) may well is more =
+    before_well t batch w c (ended_with end c.asks) well (record {
+      come = tt;
+      again = course_again t batch w a c may well;
+      quiet = λ same. well.quiet (is ∙ ap Some same);
+    })
+
+turn_well : (t : Terms) (batch budget : ℕ) (link : List Happening) (w : World) (a : Asks)
+    → 1 ≤ batch → MayTurn t w a → TurnGoesWell t w (turn t batch budget link w a)
+turn_well t batch zero link w a some may =
+    record { come = tt; again = may; quiet = λ is. absurd (cc) }
+turn_well t batch (suc budget) link w a some may =
+    let c : Course = course t batch (first_of link) w a in
+    let well : CourseGoesWell t batch w c = course_well t batch some (first_of link) w a may in
+    on_well t batch w a c (turn t batch budget (rest_of link) (after c.records w) c.asks)
+    (end_by batch c.came) may well refl
+    (turn_well t batch budget (rest_of link) (after c.records w) c.asks some
+    (course_again t batch w a c may well))
+
+-- ---- the laws
+
+pub turn_sound : EveryTurn IsTurnSound
+turn_sound t batch budget link w a some may = (turn_well t batch budget link w a some may).come
+
+pub turn_again : EveryTurn MayTurnAgain
+turn_again t batch budget link w a some may = (turn_well t batch budget link w a some may).again
+
+pub turn_quiet : EveryTurn QuietIsLevel
+turn_quiet t batch budget link w a some may = (turn_well t batch budget link w a some may).quiet

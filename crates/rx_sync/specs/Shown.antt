@@ -1,0 +1,22 @@
+-- What is planned, as the definitions see it.
+use Rattle.std.specs.Prelude.{List, [], ◌∷◌, map, Option, Some, None}
+use Rattle.rx_record.specs.Content.{Content}
+use Rattle.rx_record.specs.Shown.{content}
+use Rattle.rx_record.specs.declared.record.Record.{Record}
+use Rattle.rx_sync.specs.Exchange.{Planned}
+use Rattle.rx_sync.specs.Handling.{Handled}
+use Rattle.rx_sync.specs.declared.exchanging.Planned.{Planned as PlannedHere}
+use Rattle.rx_sync.specs.declared.handling.Handled.{Handled as HandledHere}
+
+-- the record, if there is one
+abbrev pub record_in : Option Record → List Content
+record_in None = []
+record_in (Some entry) = content entry ∷ []
+
+-- what a master does
+abbrev pub handled_of : HandledHere → Handled
+handled_of h = record { records = record_in h.written; reply = h.reply }
+
+-- what an exchange comes to
+abbrev pub planned_of : PlannedHere → Planned
+planned_of p = record { records = map content p.records.items; came = p.came }

@@ -1,0 +1,25 @@
+//! What the forks and masters of one journal do with each other: what a fork asks, what its master
+//! answers, how the fork takes it, and turns of such exchanges over a link that loses, repeats and
+//! delays. A world is only read here. What is to be written is given as records.
+#![tactic(auto)]
+
+mod asking;
+mod asks;
+mod copies;
+mod earlier;
+mod exchanging;
+mod fault;
+mod handling;
+mod laws;
+mod lookup;
+mod taking;
+
+pub use asking::{ask, pending};
+pub use asks::Asks;
+pub use copies::copy_of_request;
+pub use earlier::late;
+pub use exchanging::{Planned, exchange};
+pub use fault::TakeFault;
+pub use handling::{Handled, handle};
+pub use laws::turn_laws;
+pub use taking::take;
