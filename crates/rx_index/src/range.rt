@@ -1,4 +1,4 @@
-ghost use Rattle.std.specs.Prelude.{◌≡◌, length, map};
+ghost use Rattle.std.specs.Prelude.{◌≡◌, ◌<◌, ◌^◌, length, map};
 ghost use Rattle.std.specs.Iterator.{at_most};
 ghost use Rattle.std.specs.Map.{keys_of};
 ghost use Rattle.std.specs.Map.Iter.{TakesFirst};
@@ -31,6 +31,25 @@ impl<'a> Range<'a> {
     {
         Range { keys }
     }
+
+    /// How many are left. None of them is read.
+    pub fn len(self) -> usize
+        requires { length self < 2 ^ 63 }
+        ensures { result ≡ length self.entry }
+    {
+        count_keys(self.keys)
+    }
+}
+
+fn count_keys(keys: btree_map::Range<'_, Bound, ()>) -> usize
+    requires { length keys < 2 ^ 63 }
+    ensures { result ≡ length keys.entry }
+{
+    let mut count = 0;
+    for _key in keys {
+        count += 1;
+    }
+    count
 }
 
 impl<'a> Iterator for Range<'a> {

@@ -1,13 +1,13 @@
-ghost use Rattle.std.specs.Prelude.{◌≡◌, map, IfOk};
+ghost use Rattle.std.specs.Prelude.{◌≡◌, filter, length, map, IfOk};
 ghost use Rattle.std.specs.Map.{values_of};
 ghost use Rattle.rx_query.specs.Asked.{asked};
-ghost use Rattle.rx_query.specs.Result.{result_of, row_of, fresh_rows};
+ghost use Rattle.rx_query.specs.Result.{is_due, result_of, row_of, fresh_rows};
 ghost use Rattle.rx_observe.specs.Indexes.{AreIndexesOf};
 
-use rx_collection::Collection;
+use rx_collection::{All, Collection};
 use rx_document::Stored;
 use rx_index::Index;
-use rx_planner::{Plan, plan};
+use rx_planner::{Plan, in_window, plan};
 use rx_query::{Query, Results, Row};
 use std::alloc::{AllocError, Global};
 
@@ -48,6 +48,38 @@ pub(crate) fn find_in<'a>(
 {
     let documents: Vec<&Stored> = collection.all().collect(alloc)?;
     query.scratch(alloc, documents.as_slice())
+}
+
+// How many documents a query's result has, by the index of its plan.
+pub(crate) fn count_by(
+    alloc: Global,
+    collection: &Collection,
+    indexes: &[Index],
+    query: &Query,
+) -> Result<u64, AllocError>
+    requires keyed { (asked query.now).primary ≡ collection.now.schema.primary }
+    requires indexed { AreIndexesOf collection.now indexes.now }
+    ensures { IfOk result (λ n. n
+        ≡ length (result_of (asked query.now) (values_of collection.now.documents))) }
+{
+    let plan = plan(alloc, query, indexes)?;
+    if spans_all(&plan) && !query.selector().clauses().is_empty() {
+        return Ok(count_in(collection, query));
+    }
+    plan.count(alloc, query, indexes, collection)
+}
+
+// The same without an index.
+pub(crate) fn count_in(collection: &Collection, query: &Query) -> u64
+    ensures { result ≡ length (result_of (asked query.now) (values_of collection.now.documents)) }
+{
+    in_window(query, count_due(query, collection.all()))
+}
+
+fn count_due(query: &Query, documents: All<'_>) -> usize
+    ensures { result ≡ length (filter (is_due (asked query.now)) documents.entry) }
+{
+    documents.filter(|document| query.is_due(document)).count()
 }
 
 // The rows of a query, from scratch.

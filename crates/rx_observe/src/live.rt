@@ -1,4 +1,4 @@
-ghost use Rattle.std.specs.Prelude.{◌≡◌, [], None, true, false, is_some, IfSome, IfOk, OnOk, OnErr, option_map, map};
+ghost use Rattle.std.specs.Prelude.{◌≡◌, [], None, true, false, is_some, IfSome, IfOk, OnOk, OnErr, option_map, length, map};
 ghost use Rattle.std.specs.Map.{values_of};
 ghost use Rattle.rx_value.specs.Named.{named};
 ghost use Rattle.rx_query.specs.Asked.{asked};
@@ -9,7 +9,7 @@ ghost use Rattle.rx_observe.specs.Rows.{emissions_due};
 ghost use Rattle.rx_observe.specs.Watched.{IsRight};
 
 use crate::emission::{Emission, Unseen, emit_all, look_all};
-use crate::full::{find_by, find_in, run_in_full};
+use crate::full::{count_by, count_in, find_by, find_in, run_in_full};
 use crate::indexes::indexes_of;
 use crate::observed::Observed;
 use crate::step::put_row;
@@ -133,6 +133,18 @@ impl Live {
             return find_in(alloc, &self.collection, query);
         }
         find_by(alloc, &self.collection, self.indexes.as_slice(), query)
+    }
+
+    /// How many documents a query's result has.
+    pub fn count(&self, alloc: Global, query: &Query) -> Result<u64, AllocError>
+        requires keyed { (asked query.now).primary ≡ self.now.collection.schema.primary }
+        ensures { IfOk result (λ n. n
+            ≡ length (result_of (asked query.now) (values_of self.now.collection.documents))) }
+    {
+        if self.broken {
+            return Ok(count_in(&self.collection, query));
+        }
+        count_by(alloc, &self.collection, self.indexes.as_slice(), query)
     }
 
     /// What is to be shown: the rows of each query that differ from those emitted last. They are

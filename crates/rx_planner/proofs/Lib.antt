@@ -1,6 +1,9 @@
 pub mod Lists
 pub mod Best
 pub mod Selected
+pub mod Enclosed
+pub mod Told
+pub mod Counts
 pub mod Ordered
 pub mod Members
 pub mod Rising

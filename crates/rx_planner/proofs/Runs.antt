@@ -39,7 +39,7 @@ use Rattle.rx_planner.proofs.Selected.{due_between}
 
 -- ---- documents by their keys
 
-named_in : {X : Type 0} (es : List (List ℕ × X)) (k : List ℕ) (x : X) → named es k ≡ Some x
+pub named_in : {X : Type 0} (es : List (List ℕ × X)) (k : List ℕ) (x : X) → named es k ≡ Some x
     → In x (values_of es)
 named_in [] k x at = absurd (cc)
 named_in (e ∷ es) k x at =
@@ -71,7 +71,7 @@ in_named (e ∷ es) up keyed z (inr i) =
     ∙ other_key e.0 z.state.key (key_above e.0 es up.0 keyed.1 z i))
     ∙ in_named es up.1 keyed.1 z i
 
-carried_in : (primary : List ℕ) (es : Documents)
+pub carried_in : (primary : List ℕ) (es : Documents)
     → AllByRecursion (λ e. named e.1.state.fields primary ≡ Some (Text e.1.state.key)) es
     → (z : Stored) → In z (values_of es) → named z.state.fields primary ≡ Some (Text z.state.key)
 carried_in primary [] all z i = absurd i
@@ -90,12 +90,12 @@ due_named q (Some e) d h =
       | false ↦ (λ is at. absurd (cc))
     ]) refl h
 
-due_is : (q : Asked) (o : Option Stored) (d : Stored) → o ≡ Some d → is_due q d ≡ true
+pub due_is : (q : Asked) (o : Option Stored) (d : Stored) → o ≡ Some d → is_due q d ≡ true
     → if_due q o ≡ Some d
 due_is q o d is h = ap (if_due q) is ∙ ap (λ b. cond b (Some d) None) h
 
 -- a key among keys
-has_in : (keys : List Position) (k : Position) → In k keys → has_key keys k ≡ true
+pub has_in : (keys : List Position) (k : Position) → In k keys → has_key keys k ≡ true
 has_in [] k i = absurd i
 has_in (x ∷ xs) k i =
     (elim (is_eq (position_cmp k x)) as (λ b. is_eq (position_cmp k x) ≡ b
@@ -118,12 +118,17 @@ in_has (x ∷ xs) k h =
 
 -- ---- what a walk meets
 
+-- the keys of due documents that carry their primary keys stand between the bounds
+abbrev pub Encloses : Asked → Names → Position → Position → Type 0
+Encloses q fields low high = (d : Stored) → is_due q d ≡ true
+    → named d.state.fields q.primary ≡ Some (Text d.state.key)
+    → is_between low high (key_of fields d) ≡ true
+
 module _ (q : Asked) (documents : Documents) (fields : Names) (keys : List Position)
     (low high : Position) (collection : IsCollection q.primary documents)
     (up : IsStrictlySortedBy position_cmp keys)
     (held : HoldsWhere (is_between low high) (indexed_by fields keys) documents)
-    (low_is : low ≡ bound_of q false (path_of q fields))
-    (high_is : high ≡ bound_of q true (path_of q fields)) where
+    (encloses : Encloses q fields low high) where
   abbrev between : List Position
   between = filter (is_between low high) keys
 
@@ -171,10 +176,7 @@ module _ (q : Asked) (documents : Documents) (fields : Names) (keys : List Posit
       let bears = carried_in q.primary documents collection.carried z r.0 in
       let k = key_of fields z in
       let here : named documents (id_of k) ≡ Some z = ap (named documents) (id_of-key_of fields z) ∙ at in
-      let stands : is_between low high k ≡ true =
-      ap (λ p. is_between p high k) low_is
-      ∙ ap (λ p. is_between (bound_of q false (path_of q fields)) p k) high_is
-      ∙ due_between q fields z r.1 bears in
+      let stands : is_between low high k ≡ true = encloses z r.1 bears in
       let has : has_key keys k ≡ true =
       held k stands ∙ ap (λ o. is_key_of fields o k) here ∙ ap is_eq (itself k) in
       subst (In z) (sym met_is)
@@ -291,8 +293,7 @@ module _ (q : Asked) (documents : Documents) (fields : Names) (keys : List Posit
     (low high : Position) (collection : IsCollection q.primary documents)
     (up : IsStrictlySortedBy position_cmp keys)
     (held : HoldsWhere (is_between low high) (indexed_by fields keys) documents)
-    (low_is : low ≡ bound_of q false (path_of q fields))
-    (high_is : high ≡ bound_of q true (path_of q fields)) where
+    (encloses : Encloses q fields low high) where
   -- of an ordered plan the first ones that are met
   pub run_ordered : (rows : List Stored) (ids : List (List ℕ))
       → rows ++ due_among q documents ids ≡ due_among q documents (ids_between low high keys)
@@ -301,8 +302,7 @@ module _ (q : Asked) (documents : Documents) (fields : Names) (keys : List Posit
   run_ordered rows ids parts full ordered =
       ap (drop q.skip)
       (cut_front (most_rows q) rows (due_among q documents ids) ids full (λ e. ap (due_among q documents) e)
-      ∙ ap (cut (most_rows q)) (parts ∙ met_ordered q documents fields keys low high collection up held
-      low_is high_is ordered))
+      ∙ ap (cut (most_rows q)) (parts ∙ met_ordered q documents fields keys low high collection up held encloses ordered))
       ∙ window q (sorted (stored_before q) (filter (is_due q) (values_of documents)))
 
   -- some in order, and the others
@@ -316,7 +316,7 @@ module _ (q : Asked) (documents : Documents) (fields : Names) (keys : List Posit
       (IsPermutation-append_left back rows (sorted (stored_before q) rows)
       (sorted-permutes (stored_before q) rows))
       (subst (differ q) (sym parts)
-      (met_distinct q documents fields keys low high collection up held low_is high_is)))
+      (met_distinct q documents fields keys low high collection up held encloses)))
 
   -- else of some in order and the others as many first ones
   pub run_sorted : (rows first last : List Stored) (ids : List (List ℕ))
@@ -332,13 +332,13 @@ module _ (q : Asked) (documents : Documents) (fields : Names) (keys : List Posit
       (sorted-permutes (stored_before q) rows) in
       let apart : differ q (rows ++ back) =
       subst (differ q) (sym parts)
-      (met_distinct q documents fields keys low high collection up held low_is high_is) in
+      (met_distinct q documents fields keys low high collection up held encloses) in
       let as_many : length first ≡ length rows =
       ap length first_is ∙ length_permutation rows (sorted (stored_before q) rows)
       (sorted-permutes (stored_before q) rows) in
       let together : sorted (stored_before q) (rows ++ back) ≡ all =
       ap (sorted (stored_before q)) parts
-      ∙ met_sorted q documents fields keys low high collection up held low_is high_is in
+      ∙ met_sorted q documents fields keys low high collection up held encloses in
       let whole : sorted (stored_before q) (first ++ back) ≡ all =
       ap (λ xs. sorted (stored_before q) (xs ++ back)) first_is
       ∙ sym (sorted_alike q (rows ++ back) (sorted (stored_before q) rows ++ back) moved apart)
@@ -366,7 +366,7 @@ module _ (q : Asked) (documents : Documents) (indexes : List Indexed) (plan : Pl
   within =
       subst (λ n. plan.index < n) (length-map indexes (λ (k : Indexed). k.fields)) planned.within
 
-  held_there : HoldsWhere (is_between plan.low plan.high) i documents
+  pub held_there : HoldsWhere (is_between plan.low plan.high) i documents
   held_there =
       subst (λ o. IfSome o (λ k. HoldsWhere (is_between plan.low plan.high) k documents))
       (slice_get_read indexes (length indexes) plan.index i refl within is) held
@@ -374,11 +374,18 @@ module _ (q : Asked) (documents : Documents) (indexes : List Indexed) (plan : Pl
   path : path_at q (map (λ k. k.fields) indexes) plan.index ≡ path_of q i.fields
   path = path_read q indexes plan.index i is within
 
-  low_is : plan.low ≡ bound_of q false (path_of q i.fields)
+  pub low_is : plan.low ≡ bound_of q false (path_of q i.fields)
   low_is = planned.low ∙ ap (bound_of q false) path
 
-  high_is : plan.high ≡ bound_of q true (path_of q i.fields)
+  pub high_is : plan.high ≡ bound_of q true (path_of q i.fields)
   high_is = planned.high ∙ ap (bound_of q true) path
+
+  encloses : Encloses q i.fields plan.low plan.high
+  encloses d due carried =
+      let k = key_of i.fields d in
+      ap (λ p. is_between p plan.high k) low_is
+      ∙ ap (λ p. is_between (bound_of q false (path_of q i.fields)) p k) high_is
+      ∙ due_between q i.fields d due carried
 
   module _ (rows : List Stored) (ids met_ids : List (List ℕ))
       (parts : rows ++ due_among q documents ids ≡ due_among q documents met_ids)
@@ -392,8 +399,7 @@ module _ (q : Asked) (documents : Documents) (indexes : List Indexed) (plan : Pl
     first_distinct =
         distinct_front (eq_by_cmp (stored_cmp q)) rows (due_among q documents ids)
         (subst (IsDistinct (eq_by_cmp (stored_cmp q))) (sym all_parts)
-        (met_distinct q documents i.fields i.keys plan.low plan.high collection up held_there low_is
-        high_is))
+        (met_distinct q documents i.fields i.keys plan.low plan.high collection up held_there encloses))
 
     -- in order they are so strictly
     pub first_strict : (first : List Stored) → first ≡ sorted (stored_before q) rows
@@ -406,16 +412,14 @@ module _ (q : Asked) (documents : Documents) (indexes : List Indexed) (plan : Pl
     pub first_apart : (first : List Stored) → first ≡ sorted (stored_before q) rows
         → differ q (first ++ due_among q documents ids)
     first_apart first first_is =
-        apart_so q documents i.fields i.keys plan.low plan.high collection up held_there low_is
-        high_is rows first ids all_parts first_is
+        apart_so q documents i.fields i.keys plan.low plan.high collection up held_there encloses rows first ids all_parts first_is
 
     module _ (most : Option ℕ) (wanted_so : most ≡ most_rows q)
         (full : IsFull most (length rows) ids) where
       -- where the plan is ordered they are the result
       pub ordered_result : plan.ordered ≡ true → drop q.skip rows ≡ result_of q (values_of documents)
       ordered_result ordered =
-          run_ordered q documents i.fields i.keys plan.low plan.high collection up held_there low_is
-          high_is rows ids all_parts (subst (λ m. IsFull m (length rows) ids) wanted_so full)
+          run_ordered q documents i.fields i.keys plan.low plan.high collection up held_there encloses rows ids all_parts (subst (λ m. IsFull m (length rows) ids) wanted_so full)
           (ap (is_ordered q) (sym path) ∙ sym planned.ordered ∙ ordered)
 
       -- else as many first ones of those in order and of the others
@@ -424,5 +428,4 @@ module _ (q : Asked) (documents : Documents) (indexes : List Indexed) (plan : Pl
           ≡ take (length first) (sorted (stored_before q) (first ++ due_among q documents ids))
           → drop q.skip last ≡ result_of q (values_of documents)
       sorted_result first last =
-          run_sorted q documents i.fields i.keys plan.low plan.high collection up held_there low_is
-          high_is rows first last ids all_parts (subst (λ m. IsFull m (length rows) ids) wanted_so full)
+          run_sorted q documents i.fields i.keys plan.low plan.high collection up held_there encloses rows first last ids all_parts (subst (λ m. IsFull m (length rows) ids) wanted_so full)

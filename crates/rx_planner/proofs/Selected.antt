@@ -81,7 +81,7 @@ of_clauses name (clause (nor ds) cs) fields ts is h =
     of_clauses name cs fields ts is (both_true (clause_holds (nor ds) fields) (all_hold cs fields) h).1
 
 -- a field stands to each operand as its operator says
-of_operand : (q : Asked) (field : List ℕ) (which : Compare) (v : Value) (fields : Pairs)
+pub of_operand : (q : Asked) (field : List ℕ) (which : Compare) (v : Value) (fields : Pairs)
     → operand q field which ≡ Some v → all_hold q.clauses fields ≡ true
     → compares which (named fields field) v ≡ true
 of_operand q field which v fields is h =
@@ -109,7 +109,7 @@ fixed_value q field v fields is h =
 -- ---- bounds
 
 -- a bound whose values are all met
-past : (up : Bool) (xs : List (Option Value)) → is_le (values_cmp [] up xs false) ≡ not up
+pub past : (up : Bool) (xs : List (Option Value)) → is_le (values_cmp [] up xs false) ≡ not up
 past true [] = refl
 past false [] = refl
 past true (x ∷ xs) = refl
@@ -145,7 +145,7 @@ one_more v w x r b is h =
     ap (λ z. is_le (ordering_then (order_of (Some v) z) r)) is
     ∙ ap (λ o. is_le (ordering_then o r)) (value_total.antisymm v w) ∙ h
 
-at_end : (up : Bool) (o l x : Option Value) (xs : List (Option Value))
+pub at_end : (up : Bool) (o l x : Option Value) (xs : List (Option Value))
     → ((v : Value) → o ≡ Some v → compares (strict up) x v ≡ true)
     → ((v : Value) → l ≡ Some v → compares (loose up) x v ≡ true)
     → is_le (values_cmp (end_by up o l).values (end_by up o l).after (x ∷ xs) false) ≡ not up
@@ -194,16 +194,27 @@ module _ (q : Asked) (fields : Pairs) (holds : all_hold q.clauses fields ≡ tru
 
 -- ---- keys
 
--- the key of a live document that carries its primary key, by the path
+-- the key of a document that carries its primary key, by the path
+pub key_with : (q : Asked) (fields : Names) (d : Stored)
+    → named d.state.fields q.primary ≡ Some (Text d.state.key)
+    → key_of fields d
+    ≡ position_with (Some (Flag d.state.deleted) ∷ map (λ f. named d.state.fields f) (path_of q fields))
+    false
+key_with q fields d carried =
+    let at : List ℕ → Option Value = λ f. named d.state.fields f in
+    ap (λ x. position_with (Some (Flag d.state.deleted) ∷ (map at fields ++ x ∷ [])) false) (sym carried)
+    ∙ ap (λ xs. position_with (Some (Flag d.state.deleted) ∷ xs) false)
+    (sym (map-append at fields (q.primary ∷ [])))
+
+-- of a live one
 pub key_is : (q : Asked) (fields : Names) (d : Stored) → d.state.deleted ≡ false
     → named d.state.fields q.primary ≡ Some (Text d.state.key)
     → key_of fields d
     ≡ position_with (Some (Flag false) ∷ map (λ f. named d.state.fields f) (path_of q fields)) false
 key_is q fields d live carried =
-    let at : List ℕ → Option Value = λ f. named d.state.fields f in
-    ap (λ b. position_with (Some (Flag b) ∷ (map at fields ++ Some (Text d.state.key) ∷ [])) false) live
-    ∙ ap (λ x. position_with (Some (Flag false) ∷ (map at fields ++ x ∷ [])) false) (sym carried)
-    ∙ ap (λ xs. position_with (Some (Flag false) ∷ xs) false) (sym (map-append at fields (q.primary ∷ [])))
+    key_with q fields d carried
+    ∙ ap (λ b. position_with (Some (Flag b) ∷ map (λ f. named d.state.fields f) (path_of q fields)) false)
+    live
 
 -- a due document isn't deleted, and the selector holds of it
 pub due_parts : (q : Asked) (d : Stored) → is_due q d ≡ true

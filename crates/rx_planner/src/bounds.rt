@@ -1,6 +1,6 @@
 ghost use Rattle.std.specs.Prelude.{◌≡◌, map, IfOk};
 ghost use Rattle.rx_query.specs.Asked.{asked};
-ghost use Rattle.rx_planner.specs.Plan.{end_at, bound_of};
+ghost use Rattle.rx_planner.specs.Plan.{strict, loose, end_at, bound_of};
 ghost use Rattle.rx_planner.specs.Onto.{onto};
 
 use crate::path::operand;
@@ -30,8 +30,19 @@ pub(crate) fn bound(
     Ok(Bound::new(values, up))
 }
 
+// The operators that bound a field on that side, the one that leaves its operand out first.
+pub(crate) fn operators(up: bool) -> (Compare, Compare)
+    ensures { result ≡ (strict up, loose up) }
+{
+    if up {
+        (Compare::Lt, Compare::Lte)
+    } else {
+        (Compare::Gt, Compare::Gte)
+    }
+}
+
 // The values of fixed fields, and the bound of the next one.
-fn end(
+pub(crate) fn end(
     alloc: Global,
     query: &Query,
     field: &str,
@@ -40,11 +51,7 @@ fn end(
 ) -> Result<Bound, AllocError>
     ensures { IfOk result (λ b. b ≡ onto values.items (end_at (asked query.now) up field.now)) }
 {
-    let (strict, loose) = if up {
-        (Compare::Lt, Compare::Lte)
-    } else {
-        (Compare::Gt, Compare::Gte)
-    };
+    let (strict, loose) = operators(up);
     if let Some(value) = operand(query, field, strict) {
         values.push(Some(value.copy(alloc)?))?;
         return Ok(Bound::new(values, !up));

@@ -3,6 +3,9 @@
 
 mod bounds;
 mod choice;
+mod closed;
+mod count;
+mod exact;
 mod order;
 mod path;
 mod planned;
@@ -10,5 +13,6 @@ mod planning;
 mod rows;
 mod run;
 
+pub use count::in_window;
 pub use planned::Plan;
 pub use planning::plan;

@@ -15,7 +15,7 @@ use rx_query::Query;
 use std::alloc::{AllocError, Global};
 
 // The document of that primary key, if it is due.
-fn due<'a, T: Lookup>(query: &Query, docs: &'a T, id: &str) -> Option<&'a Stored>
+pub(crate) fn due<'a, T: Lookup>(query: &Query, docs: &'a T, id: &str) -> Option<&'a Stored>
     ensures { option_map (λ d. d.now) result
         ≡ if_due (asked query.now) (named (T.documents docs.now) id.now) }
 {

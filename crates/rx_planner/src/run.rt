@@ -1,6 +1,6 @@
-ghost use Rattle.std.specs.Prelude.{◌≡◌, ◌<◌, length, map, drop, slice_get, IfOk, IfSome, option_map};
+ghost use Rattle.std.specs.Prelude.{◌≡◌, map, drop, slice_get, IfOk, IfSome, option_map};
 ghost use Rattle.std.specs.Map.{values_of};
-ghost use Rattle.rx_index.specs.Index.{HoldsWhere, is_between, ids_between};
+ghost use Rattle.rx_index.specs.Index.{HoldsWhere, is_between};
 ghost use Rattle.rx_query.specs.Asked.{asked};
 ghost use Rattle.rx_query.specs.Result.{IsCollection, result_of};
 ghost use Rattle.rx_planner.specs.Plan.{IsPlan};
@@ -38,19 +38,6 @@ impl Plan {
         }
         skip_rows(&mut rows, query.skip() as usize);
         Ok(rows)
-    }
-
-    /// How many keys of its index stand between its bounds.
-    pub fn span(&self, indexes: &[Index]) -> usize
-        requires { self.now.index < length indexes.now }
-        ensures { IfSome (slice_get indexes.now self.now.index)
-            (λ i. result ≡ length (ids_between self.now.low self.now.high i.keys)) }
-    {
-        let mut span = 0;
-        for _id in indexes[self.index].range(&self.low, &self.high) {
-            span += 1;
-        }
-        span
     }
 }
 

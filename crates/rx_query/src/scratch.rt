@@ -35,7 +35,8 @@ impl Query {
             .collect(alloc)
     }
 
-    fn is_due(&self, doc: &Stored) -> bool
+    /// Whether a document is live, and asked for.
+    pub fn is_due(&self, doc: &Stored) -> bool
         ensures { result ≡ is_due (asked self.now) doc.now }
     {
         !doc.state.deleted && self.matches(&doc.state.fields)

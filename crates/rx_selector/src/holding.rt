@@ -6,7 +6,8 @@ use crate::tree::{Clause, Compare, Test};
 use rx_value::{Fields, Value, order};
 use std::cmp::Ordering;
 
-fn is_same_kind(a: &Value, b: &Value) -> bool
+/// Whether both are flags, numbers or texts.
+pub fn is_same_kind(a: &Value, b: &Value) -> bool
     ensures { result ≡ same_kind a.now b.now }
 {
     matches!(

@@ -11,5 +11,6 @@ mod tree;
 mod values;
 
 pub use fault::SelectorFault;
+pub use holding::is_same_kind;
 pub use selector::Selector;
-pub use tree::Compare;
+pub use tree::{Clause, Compare, Test};

@@ -4,7 +4,7 @@ ghost use Rattle.rx_value.specs.Due.{DueBy};
 ghost use Rattle.rx_selector.specs.Holding.{all_hold};
 ghost use Rattle.rx_selector.specs.Operand.{operand_in};
 ghost use Rattle.rx_selector.specs.Reading.{selector_of};
-ghost use Rattle.rx_selector.specs.Tree.{said, no_clauses};
+ghost use Rattle.rx_selector.specs.Tree.{said, clauses_view, no_clauses};
 ghost use Rattle.rx_selector.specs.declared.fault.SelectorFault.TheVariants.{Memory};
 
 use crate::fault::SelectorFault;
@@ -40,6 +40,13 @@ impl Selector {
         Selector {
             clauses: Vec::new(alloc),
         }
+    }
+
+    /// Its outermost members, which all have to hold.
+    pub fn clauses(&self) -> &[Clause]
+        ensures { clauses_view result.now ≡ said self.now }
+    {
+        self.clauses.as_slice()
     }
 
     pub fn matches(&self, fields: &Fields) -> bool
