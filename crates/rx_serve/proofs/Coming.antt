@@ -1,5 +1,5 @@
 -- How a line comes.
-use Rattle.std.proofs.Common.{◌≡◌, ◌∙◌, refl, sym, ap, ℕ, ◌≤◌, List, [], ◌∷◌, ◌++◌, length, arith, append_assoc, append-nil, length-append, Option, Some, None, subst}
+use Rattle.std.proofs.Common.{◌≡◌, ◌∙◌, refl, sym, ap, ℕ, ◌+◌, ◌<◌, ◌≤◌, true, false, List, [], ◌∷◌, ◌++◌, length, arith, append_assoc, append-nil, length-append, Bool, ◌==◌, Option, Some, None, subst}
 use Rattle.rx_wire.specs.Limits.{longest_line}
 use Rattle.rx_serve.specs.Calling.{IsFirstLine, IsNoLine, IsTooLong}
 use Rattle.rx_serve.specs.Incoming.{Received, Advances, Comes, IsNext}
@@ -104,14 +104,17 @@ too_long line s left more b come is other full =
       long = omega (arith, length-append line (b ∷ []), full);
     }
 
-next_of : (found : Next) (old new : Received) (s left : List ℕ) → Comes old.line s (old.unread ++ left)
+next_of : (found : Next) (old new : Received) (s left : List ℕ)
+    → Comes old.line s (old.unread ++ left)
     → Advances (Some found) old new → IsNext found new.line s (new.unread ++ left)
 next_of Line old new s left come adv = comes_line old new s left come adv
-next_of TooLong old new s left come adv = comes_long old new s left new.line (new.unread ++ left) come adv
+next_of TooLong old new s left come adv =
+    comes_long old new s left new.line (new.unread ++ left) come adv
 next_of End old new s left come adv = absurd adv
 
 -- what there is
-pub comes_next : (found : Next) (o : Option Next) → o ≡ Some found → (old new : Received) (s left : List ℕ)
+pub comes_next : (found : Next) (o : Option Next) → o ≡ Some found → (old new : Received)
+    (s left : List ℕ)
     → Comes old.line s (old.unread ++ left) → Advances o old new
     → IsNext found new.line s (new.unread ++ left)
 comes_next found o is old new s left come adv =

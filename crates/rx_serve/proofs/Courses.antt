@@ -1,10 +1,10 @@
 -- A connection from its parts.
-use Rattle.std.proofs.Common.{◌≡◌, ◌∙◌, refl, sym, ap, subst, ℕ, suc, ◌+◌, ◌-◌, ◌<◌, ◌≤◌, List, [], ◌∷◌, ◌++◌, length, drop, Result, Ok, Err, OnErr, arith, append_assoc, append-nil}
+use Rattle.std.proofs.Common.{◌≡◌, ◌∙◌, refl, sym, ap, subst, ℕ, zero, suc, ◌+◌, ◌-◌, ◌<◌, ◌≤◌, List, [], ◌∷◌, ◌++◌, length, drop, Result, Ok, Err, OnErr, arith, append_assoc, append-nil}
 use Rattle.rx_collection.specs.Held.{Held}
-use Rattle.rx_serve.specs.Answered.{Continues}
-use Rattle.rx_serve.specs.Course.{Standing, Joins, Serves, EndsFor, Breaks, EndsSo}
+use Rattle.rx_serve.specs.Answered.{Commits, Continues, HoldsForSome, LeavesSome}
+use Rattle.rx_serve.specs.Course.{IsFront, Standing, Joins, Serves, EndsFor, Breaks, EndsSo, Halts}
 use Rattle.rx_serve.specs.Ends.{joined_since, Connection, IsServed, IsCutOff, IsStopped, EndsBy}
-use Rattle.rx_serve.specs.Served.{Served, ends_here, after_replies, served_first, most_requests}
+use Rattle.rx_serve.specs.Served.{Served, ends_here, after_replies, served, served_first, most_requests}
 use Rattle.rx_serve.specs.declared.ended.Why.{Why}
 use Rattle.rx_serve.specs.declared.ended.Why.TheVariants as why
 
@@ -19,19 +19,27 @@ pub since : (old new more : List ℕ) → new ≡ old ++ more → joined_since o
 since old new more is = ap (drop (length old)) is ∙ drop_joined old more
 
 -- nothing was served yet
-no_replies : (next : Served) → next ≡ after_replies 0 [] next
+no_replies : (next : Served) → next ≡ after_replies 0 [] [] next
 no_replies next =
-    ap (λ n. record { after = next.after; replies = n; why = next.why; due = next.due })
+    ap (λ n. record {
+      after = next.after;
+      commits = next.commits;
+      replies = n;
+      why = next.why;
+      due = next.due;
+    })
     (none next.replies)
   where
     none : (n : ℕ) → n ≡ 0 + n
     none n = omega arith
 
-serves_none : (s : Standing) → Serves 0 s s
-serves_none s = record {
+serves_none : (s : Standing) (Holds : Commits → Type 0) → Holds [] → Serves 0 Holds s s
+serves_none s Holds holds = record {
   joins = record {
     bytes = [];
+    commits = [];
     joined = [];
+    holds = holds;
     sent = sym (append-nil s.sent);
     moments = sym (append-nil s.moments);
   };
@@ -44,15 +52,16 @@ serves_none s = record {
     none k = omega arith
 
 -- nothing was received yet
-pub serves_begun : (c : Held) (unread coming sent moments : List ℕ) → unread ≡ []
-    → Serves 0
+pub serves_begun : (c : Held) (unread coming sent moments : List ℕ) (Holds : Commits → Type 0)
+    → Holds [] → unread ≡ []
+    → Serves 0 Holds
     (record { collection = c; coming = coming; sent = sent; moments = moments })
     (record { collection = c; coming = unread ++ coming; sent = sent; moments = moments })
-serves_begun c unread coming sent moments none =
+serves_begun c unread coming sent moments Holds holds none =
     let a : Standing = record { collection = c; coming = coming; sent = sent; moments = moments } in
-    let P : List ℕ → Type 0 = λ v. Serves 0 a
+    let P : List ℕ → Type 0 = λ v. Serves 0 Holds a
     (record { collection = c; coming = v ++ coming; sent = sent; moments = moments }) in
-    subst P (sym none) (serves_none a)
+    subst P (sym none) (serves_none a Holds holds)
 
 pub continues_more : (a b c : List ℕ) → Continues a b → Continues b c → Continues a c
 continues_more a b c first second = (
@@ -60,51 +69,97 @@ continues_more a b c first second = (
   second.1 ∙ ap (λ v. v ++ second.0) first.1 ∙ append_assoc a first.0 second.0,
 )
 
+replies_more : (i j : ℕ) (xs ys : Commits) (bs cs : List ℕ) (next : Served)
+    → after_replies i xs bs (after_replies j ys cs next)
+    ≡ after_replies (i + j) (xs ++ ys) (bs ++ cs) next
+replies_more i j xs ys bs cs next =
+    ap (λ n. record {
+      after = next.after;
+      commits = xs ++ (ys ++ next.commits);
+      replies = n;
+      why = next.why;
+      due = bs ++ (cs ++ next.due);
+    })
+    (sum next.replies)
+    ∙ ap (λ v. record {
+      after = next.after;
+      commits = v;
+      replies = (i + j) + next.replies;
+      why = next.why;
+      due = bs ++ (cs ++ next.due);
+    })
+    (sym (append_assoc xs ys next.commits))
+    ∙ ap (λ v. record {
+      after = next.after;
+      commits = (xs ++ ys) ++ next.commits;
+      replies = (i + j) + next.replies;
+      why = next.why;
+      due = v;
+    })
+    (sym (append_assoc bs cs next.due))
+  where
+    sum : (n : ℕ) → i + (j + n) ≡ (i + j) + n
+    sum n = omega arith
+
+-- what holds over a part and then the next holds over both
+abbrev pub Join : (Commits → Type 0) → (Commits → Type 0) → (Commits → Type 0) → Type 0
+Join H I J = (first second : Commits) → H first → I second → J (first ++ second)
+
+-- and where more may have been done behind the next
+abbrev pub JoinLast : (Commits → Type 0) → (Commits → Commits → Type 0)
+    → (Commits → Commits → Type 0) → Type 0
+JoinLast H I J = (first second more : Commits) → H first → I second more → J (first ++ second) more
+
 -- one part after another
-abbrev joins_more : (a b c : Standing) → Joins a b → Joins b c → Joins a c
-joins_more a b c first second = record {
+abbrev joins_more : (H I J : Commits → Type 0) → Join H I J → (a b c : Standing) → Joins H a b
+    → Joins I b c → Joins J a c
+joins_more H I J join a b c first second = record {
   bytes = first.bytes ++ second.bytes;
+  commits = first.commits ++ second.commits;
   joined = first.joined ++ second.joined;
+  holds = join first.commits second.commits first.holds second.holds;
   sent = second.sent ∙ ap (λ v. v ++ second.bytes) first.sent
       ∙ append_assoc a.sent first.bytes second.bytes;
   moments = second.moments ∙ ap (λ v. v ++ second.joined) first.moments
       ∙ append_assoc a.moments first.joined second.joined;
 }
 
-replies_more : (i j : ℕ) (bs cs : List ℕ) (next : Served)
-    → after_replies i bs (after_replies j cs next) ≡ after_replies (i + j) (bs ++ cs) next
-replies_more i j bs cs next =
-    ap (λ n. record { after = next.after; replies = n; why = next.why; due = bs ++ (cs ++ next.due) })
-    (sum next.replies)
-    ∙ ap (λ v. record { after = next.after; replies = (i + j) + next.replies; why = next.why; due = v })
-    (sym (append_assoc bs cs next.due))
-  where
-    sum : (n : ℕ) → i + (j + n) ≡ (i + j) + n
-    sum n = omega arith
-
-module _ (i : ℕ) (a b : Standing) (first : Serves i a b) where
+module _ (i : ℕ) (H : Commits → Type 0) (a b : Standing) (first : Serves i H a b) where
   -- what is served from the first on is these replies, and then what is served from the second on
   served_then : (n k : ℕ) (joined later : List ℕ) → n ≡ i + k
       → served_first n a.collection ((first.joins.joined ++ joined) ++ later) a.coming
-      ≡ after_replies i first.joins.bytes (served_first k b.collection (joined ++ later) b.coming)
+      ≡ after_replies i first.joins.commits first.joins.bytes
+      (served_first k b.collection (joined ++ later) b.coming)
   served_then n k joined later is =
       ap (λ m. served_first m a.collection ((first.joins.joined ++ joined) ++ later) a.coming) is
       ∙ ap (λ v. served_first (i + k) a.collection v a.coming)
       (append_assoc first.joins.joined joined later)
       ∙ first.going k (joined ++ later)
 
-  pub serves_more : (j : ℕ) (c : Standing) → Serves j b c → Serves (i + j) a c
-  serves_more j c second = record {
-    joins = joins_more a b c first.joins second.joins;
+  pub serves_more : (I J : Commits → Type 0) → Join H I J → (j : ℕ) (c : Standing)
+      → Serves j I b c → Serves (i + j) J a c
+  serves_more I J join j c second = record {
+    joins = joins_more H I J join a b c first.joins second.joins;
     going = λ k later.
         served_then ((i + j) + k) (j + k) second.joins.joined later (sum k)
-        ∙ ap (after_replies i first.joins.bytes) (second.going k later)
-        ∙ replies_more i j first.joins.bytes second.joins.bytes
-        (served_first k c.collection later c.coming);
+        ∙ ap (after_replies i first.joins.commits first.joins.bytes) (second.going k later)
+        ∙ replies_more i j first.joins.commits second.joins.commits first.joins.bytes
+        second.joins.bytes (served_first k c.collection later c.coming);
   }
     where
       sum : (k : ℕ) → (i + j) + k ≡ i + (j + k)
       sum k = omega arith
+
+-- it holds over some commits, part after part
+pub holds_more : (H I J : Commits → Type 0) → Join H I J → HoldsForSome H → HoldsForSome I
+    → HoldsForSome J
+holds_more H I J join first second =
+    (first.0 ++ second.0, join first.0 second.0 first.1 second.1)
+
+pub leaves_more : (H : Commits → Type 0) (I J : Commits → Commits → Type 0) → JoinLast H I J
+    → HoldsForSome H → LeavesSome I → LeavesSome J
+leaves_more H I J join first last =
+    (first.0 ++ last.0, last.1, join first.0 last.0 last.1 first.1 last.2)
 
 -- ---- the whole connection
 
@@ -119,21 +174,20 @@ between a c = record {
 }
 
 -- the same, by what joined
-abbrev by_parts : (a c : Standing) → Joins a c → Connection
-by_parts a c joins = record {
+abbrev by_parts : (a c : Standing) → List ℕ → List ℕ → Connection
+by_parts a c moments sent = record {
   before = a.collection;
   after = c.collection;
-  moments = joins.joined;
+  moments = moments;
   coming = a.coming;
-  sent = joins.bytes;
+  sent = sent;
 }
 
-same_parts : (a c : Standing) (joins : Joins a c) → by_parts a c joins ≡ between a c
-same_parts a c joins =
-    ap (λ v. record { before = a.collection; after = c.collection; moments = v; coming = a.coming; sent = joins.bytes })
-    (sym (since a.moments c.moments joins.joined joins.moments))
-    ∙ ap (λ v. record { before = a.collection; after = c.collection; moments = joined_since a.moments c.moments; coming = a.coming; sent = v })
-    (sym (since a.sent c.sent joins.bytes joins.sent))
+same_parts : (a c : Standing) (moments sent : List ℕ) → c.moments ≡ a.moments ++ moments
+    → c.sent ≡ a.sent ++ sent → by_parts a c moments sent ≡ between a c
+same_parts a c moments sent more told =
+    ap (λ v. by_parts a c v sent) (sym (since a.moments c.moments moments more))
+    ∙ ap (by_parts a c (joined_since a.moments c.moments)) (sym (since a.sent c.sent sent told))
 
 plus_none : (n : ℕ) → n + 0 ≡ n
 plus_none n = omega arith
@@ -147,126 +201,171 @@ left_after i less = omega (arith, less)
 left_at : (i : ℕ) → i ≤ most_requests → most_requests ≡ i + (most_requests - i)
 left_at i less = omega (arith, less)
 
-module _ (i : ℕ) (a b : Standing) (first : Serves i a b) where
+module _ (i : ℕ) (H : Commits → Type 0) (a b : Standing) (first : Serves i H a b) where
   abbrev replies : List ℕ
   replies = first.joins.bytes
+
+  abbrev commits : Commits
+  commits = first.joins.commits
 
   -- all that is served, with moments that joined since
   served_at : (n k : ℕ) (joined : List ℕ) → n ≡ i + k
       → served_first n a.collection (first.joins.joined ++ joined) a.coming
-      ≡ after_replies i replies (served_first k b.collection (joined ++ []) b.coming)
+      ≡ after_replies i commits replies (served_first k b.collection (joined ++ []) b.coming)
   served_at n k joined is =
       ap (λ v. served_first n a.collection v a.coming)
       (sym (append-nil (first.joins.joined ++ joined)))
-      ∙ served_then i a b first n k joined [] is
+      ∙ served_then i H a b first n k joined [] is
 
   first_at : (joined : List ℕ)
       → served_first i a.collection (first.joins.joined ++ joined) a.coming
-      ≡ after_replies i replies (ends_here b.collection why.Peer [])
+      ≡ after_replies i commits replies (ends_here b.collection why.Peer [])
   first_at joined = served_at i 0 joined (none_plus i)
 
-  -- it ended for that reason
-  pub ended_for : (w : Why) (n : ℕ) (c : Standing) → n ≡ 0 → i < most_requests → EndsFor w b c
-      → IsServed w (i + n) (between a c)
-  ended_for w n c none less second =
-      let joins = joins_more a b c first.joins second.joins in
-      let P : Connection → Type 0 = λ v. IsServed w (i + n) v in
-      subst P (same_parts a c joins)
-      (served_at most_requests (suc ((most_requests - i) - 1)) second.joins.joined (left_after i less)
-      ∙ ap (after_replies i replies) (second.ends ((most_requests - i) - 1) [])
-      ∙ ap (λ m. record { after = c.collection; replies = i + m; why = w; due = replies ++ second.joins.bytes })
-      (sym none))
+  module _ (I J : Commits → Type 0) (join : Join H I J) where
+    -- it ended for that reason
+    pub ended_for : (w : Why) (n : ℕ) (c : Standing) → n ≡ 0 → i < most_requests → EndsFor w I b c
+        → IsServed w (i + n) J (between a c)
+    ended_for w n c none less second =
+        let joins = joins_more H I J join a b c first.joins second.joins in
+        let all = served_at most_requests (suc ((most_requests - i) - 1)) second.joins.joined
+        (left_after i less)
+        ∙ ap (after_replies i commits replies) (second.ends ((most_requests - i) - 1) []) in
+        let P : Connection → Type 0 = λ v. IsServed w (i + n) J v in
+        subst P (same_parts a c joins.joined joins.bytes joins.moments joins.sent)
+        (record {
+          after = ap (λ (x : Served). x.after) all;
+          answered = ap (λ (x : Served). x.replies) all ∙ ap (λ m. i + m) (sym none);
+          ended = ap (λ (x : Served). x.why) all;
+          sent = ap (λ (x : Served). x.due) all;
+          holds = subst J
+              (ap (λ v. commits ++ v) second.none ∙ sym (ap (λ (x : Served). x.commits) all))
+              joins.holds;
+        })
 
-  -- the wire failed
-  pub cut_off : (n : ℕ) (c : Standing) → i < most_requests → Breaks n b c → IsCutOff (i + n) (between a c)
-  cut_off n c less second =
-      let joins = joins_more a b c first.joins second.joins in
-      let joined = second.joins.joined in
-      let front = second.front ((most_requests - i) - 1) [] in
-      let P : Connection → Type 0 = λ v. IsCutOff (i + n) v in
-      subst P (same_parts a c joins)
-      (record {
-        front = (
-          front.0,
-          ap (λ (x : Served). x.due)
-              (served_at most_requests (suc ((most_requests - i) - 1)) joined (left_after i less))
-              ∙ ap (λ v. replies ++ v) front.1
-              ∙ sym (append_assoc replies second.joins.bytes front.0),
-        );
-        answered = ap (λ (x : Served). x.replies) (served_at (i + n) n joined refl)
-            ∙ ap (λ m. i + m) (second.answered []);
-        after = ap (λ (x : Served). x.after) (served_at (i + n) n joined refl)
-            ∙ second.after [];
-        whole = (
-          i,
-          omega arith,
-          omega (arith, second.few),
-          (
-            second.joins.bytes,
-            ap (λ v. v ++ second.joins.bytes)
-                (sym (ap (λ (x : Served). x.due) (first_at joined) ∙ append-nil replies)),
-          ),
-        );
-      })
+    -- the wire failed
+    pub cut_off : (n : ℕ) (c : Standing) → i < most_requests → Breaks n I b c
+        → IsCutOff (i + n) J (between a c)
+    cut_off n c less second =
+        let joins = joins_more H I J join a b c first.joins second.joins in
+        let joined = second.joins.joined in
+        let front = second.front ((most_requests - i) - 1) [] in
+        let P : Connection → Type 0 = λ v. IsCutOff (i + n) J v in
+        subst P (same_parts a c joins.joined joins.bytes joins.moments joins.sent)
+        (record {
+          front = (
+            front.0,
+            ap (λ (x : Served). x.due)
+                (served_at most_requests (suc ((most_requests - i) - 1)) joined (left_after i less))
+                ∙ ap (λ v. replies ++ v) front.1
+                ∙ sym (append_assoc replies second.joins.bytes front.0),
+          );
+          answered = ap (λ (x : Served). x.replies) (served_at (i + n) n joined refl)
+              ∙ ap (λ m. i + m) (second.answered []);
+          after = ap (λ (x : Served). x.after) (served_at (i + n) n joined refl)
+              ∙ second.after [];
+          holds = subst J
+              (sym (ap (λ (x : Served). x.commits) (served_at (i + n) n joined refl)
+              ∙ ap (λ v. commits ++ v) (second.committed [])))
+              joins.holds;
+          whole = (
+            i,
+            omega arith,
+            omega (arith, second.few),
+            (
+              second.joins.bytes,
+              ap (λ v. v ++ second.joins.bytes)
+                  (sym (ap (λ (x : Served). x.due) (first_at joined) ∙ append-nil replies)),
+            ),
+          );
+        })
 
-  -- it ended so
-  pub ended_so : (w : Why) (n : ℕ) (c : Standing) → i < most_requests → EndsSo w n b c
-      → EndsBy w (i + n) (between a c)
-  ended_so why.Wire n c less second = cut_off n c less second
-  ended_so why.Peer n c less second = ended_for why.Peer n c second.0 less second.1
-  ended_so why.Request n c less second = ended_for why.Request n c second.0 less second.1
-  ended_so why.Clock n c less second = ended_for why.Clock n c second.0 less second.1
+    -- it ended so
+    pub ended_so : (w : Why) (n : ℕ) (c : Standing) → i < most_requests → EndsSo w n I b c
+        → EndsBy w (i + n) J (between a c)
+    ended_so why.Wire n c less second = cut_off n c less second
+    ended_so why.Peer n c less second = ended_for why.Peer n c second.0 less second.1
+    ended_so why.Request n c less second = ended_for why.Request n c second.0 less second.1
+    ended_so why.Clock n c less second = ended_for why.Clock n c second.0 less second.1
 
   -- a stop came
-  pub stopped : (c : Standing) → i ≤ most_requests → c.sent ≡ b.sent → Continues b.moments c.moments
-      → IsStopped (between a c)
-  stopped c few same more =
-      let joins : Joins a c = record {
-        bytes = replies;
-        joined = first.joins.joined ++ more.0;
-        sent = same ∙ first.joins.sent;
-        moments = more.1 ∙ ap (λ v. v ++ more.0) first.joins.moments
-            ∙ append_assoc a.moments first.joins.joined more.0;
-      } in
-      let P : Connection → Type 0 = λ v. IsStopped v in
-      subst P (same_parts a c joins)
+  pub stopped : (I J : Commits → Commits → Type 0) → JoinLast H I J → (c : Standing)
+      → i ≤ most_requests → Halts I b c → IsStopped J (between a c)
+  stopped I J join c few second =
+      let joined = second.joined in
+      let P : Connection → Type 0 = λ v. IsStopped J v in
+      let sure : (served_first i a.collection (first.joins.joined ++ joined) a.coming).commits
+      ≡ commits = ap (λ (x : Served). x.commits) (first_at joined) ∙ append-nil commits in
+      subst P
+      (same_parts a c (first.joins.joined ++ joined) replies
+      (second.moments ∙ ap (λ v. v ++ joined) first.joins.moments
+      ∙ append_assoc a.moments first.joins.joined joined)
+      (second.sent ∙ first.joins.sent))
       (record {
         n = i;
-        answered = ap (λ (x : Served). x.replies) (first_at more.0) ∙ plus_none i;
-        sent = ap (λ (x : Served). x.due) (first_at more.0) ∙ append-nil replies;
+        answered = ap (λ (x : Served). x.replies) (first_at joined) ∙ plus_none i;
+        sent = ap (λ (x : Served). x.due) (first_at joined) ∙ append-nil replies;
         front = (
-          (served_first (most_requests - i) b.collection (more.0 ++ []) b.coming).due,
+          (served_first (most_requests - i) b.collection (joined ++ []) b.coming).due,
           ap (λ (x : Served). x.due)
-              (served_at most_requests (most_requests - i) more.0 (left_at i few)),
+              (served_at most_requests (most_requests - i) joined (left_at i few)),
         );
+        begun = i + second.n;
+        no_fewer = omega arith;
+        one_more = omega (arith, second.few);
+        next = second.sure;
+        more = second.more;
+        due = ap (λ (x : Served). x.commits) (served_at (i + second.n) second.n joined refl)
+            ∙ ap (λ v. commits ++ v) (second.committed [])
+            ∙ sym (append_assoc commits second.sure second.more)
+            ∙ ap (λ v. (v ++ second.sure) ++ second.more) (sym sure);
+        holds = subst (λ v. J (v ++ second.sure) second.more) (sym sure)
+            (join commits second.sure second.more first.joins.holds second.holds);
       })
 
 -- so many requests were answered as a connection has
-pub ended_full : (n : ℕ) → n ≡ most_requests → (a b : Standing) → Serves n a b
-    → IsServed why.Peer most_requests (between a b)
-ended_full n full a b all =
-    let Q : ℕ → Type 0 = λ m. Serves m a b in
+pub ended_full : (n : ℕ) → n ≡ most_requests → (H : Commits → Type 0) (a b : Standing)
+    → Serves n H a b → IsServed why.Peer most_requests H (between a b)
+ended_full n full H a b all =
+    let Q : ℕ → Type 0 = λ m. Serves m H a b in
     let first = subst Q full all in
     let joins = first.joins in
-    let P : Connection → Type 0 = λ v. IsServed why.Peer most_requests v in
-    subst P (same_parts a b joins)
-    (ap (λ v. served_first most_requests a.collection v a.coming) (sym (append-nil joins.joined))
-    ∙ first.going 0 []
-    ∙ ap (λ v. record { after = b.collection; replies = most_requests; why = why.Peer; due = v })
-    (append-nil joins.bytes))
-
--- what joined is what stands behind
-pub joins_since : (old new more : List ℕ) → new ≡ old ++ more → new ≡ old ++ joined_since old new
-joins_since old new more is = is ∙ ap (λ v. old ++ v) (sym (since old new more is))
+    let whole = ap (λ v. served_first most_requests a.collection v a.coming)
+    (sym (append-nil joins.joined)) ∙ first.going 0 [] in
+    let P : Connection → Type 0 = λ v. IsServed why.Peer most_requests H v in
+    subst P (same_parts a b joins.joined joins.bytes joins.moments joins.sent)
+    (record {
+      after = ap (λ (x : Served). x.after) whole;
+      answered = ap (λ (x : Served). x.replies) whole;
+      ended = ap (λ (x : Served). x.why) whole;
+      sent = ap (λ (x : Served). x.due) whole ∙ append-nil joins.bytes;
+      holds = subst H
+          (sym (ap (λ (x : Served). x.commits) whole ∙ append-nil joins.commits)) joins.holds;
+    })
 
 -- nothing was done
-pub stopped_first : (c : Held) (coming sent moments : List ℕ)
-    → IsStopped (between
+pub stopped_first : (c : Held) (coming sent moments : List ℕ) (Holds : Commits → Commits → Type 0)
+    → Holds [] []
+    → IsStopped Holds (between
     (record { collection = c; coming = coming; sent = sent; moments = moments })
     (record { collection = c; coming = coming; sent = sent; moments = moments }))
-stopped_first c coming sent moments =
+stopped_first c coming sent moments Holds holds =
     let a : Standing = record { collection = c; coming = coming; sent = sent; moments = moments } in
-    stopped 0 a a (serves_none a) a (omega arith) refl ([], sym (append-nil moments))
+    let P : Connection → Type 0 = λ v. IsStopped Holds v in
+    subst P (same_parts a a [] [] (sym (append-nil moments)) (sym (append-nil sent)))
+    (record {
+      n = 0;
+      answered = refl;
+      sent = refl;
+      front = ((served c [] coming).due, refl);
+      begun = 0;
+      no_fewer = omega arith;
+      one_more = omega arith;
+      next = [];
+      more = [];
+      due = refl;
+      holds = holds;
+    })
 
 -- what holds at an error
 pub on_err : {T E : Type 0} (r : Result T E) (P : Type 0) → P → OnErr r P

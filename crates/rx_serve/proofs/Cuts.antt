@@ -1,5 +1,5 @@
 -- The lines of a stream, one after another.
-use Rattle.std.proofs.Common.{◌≡◌, ℕ, ◌<◌, ◌≤◌, zero, suc, leb, Bool, true, false, not, cond, ◌&&◌, ◌==◌, List, [], ◌∷◌, ◌++◌, take, length, Err, refl, sym, ap, ◌∙◌, arith, inl, inr, length-append}
+use Rattle.std.proofs.Common.{◌≡◌, ℕ, ◌+◌, ◌<◌, ◌≤◌, zero, suc, leb, Bool, true, false, not, cond, ◌&&◌, ◌==◌, List, [], ◌∷◌, ◌++◌, take, length, Ok, Err, refl, sym, ap, ◌∙◌, arith, inl, inr, append_assoc, length-append}
 use Rattle.std.proofs.lemmas.Bool.Decides.{leb_tells}
 use Rattle.rx_collection.specs.Held.{Held}
 use Rattle.rx_schema.specs.declared.shape.Shape.{Shape}
@@ -8,7 +8,7 @@ use Rattle.rx_wire.specs.Limits.{longest_line}
 use Rattle.rx_wire.specs.Spelling.{request_of}
 use Rattle.rx_wire.specs.declared.fault.WireFault.TheVariants.{TooLong}
 use Rattle.rx_serve.specs.Lines.{is_within, Cut, cut, byte_before, lines, long_rest}
-use Rattle.rx_serve.specs.Served.{as_line, ends_here, line_then, served_lines, served_first}
+use Rattle.rx_serve.specs.Served.{Served, as_line, ends_here, line_then, served_lines, served_first}
 use Rattle.rx_serve.specs.declared.ended.Why.TheVariants as why
 
 -- with a line at the front
@@ -17,7 +17,8 @@ line_before l c = record { whole = l ∷ c.whole; rest = c.rest }
 
 cut_step : (b : ℕ) (l rest : List ℕ) (e : Bool) → (not e && is_within l) ≡ true
     → (is_within l ≡ true → cut (l ++ 10 ∷ rest) ≡ line_before l (cut rest))
-    → cond e (record { whole = [] ∷ (cut (l ++ 10 ∷ rest)).whole; rest = (cut (l ++ 10 ∷ rest)).rest })
+    → cond e
+    (record { whole = [] ∷ (cut (l ++ 10 ∷ rest)).whole; rest = (cut (l ++ 10 ∷ rest)).rest })
     (byte_before b (cut (l ++ 10 ∷ rest)).whole (cut (l ++ 10 ∷ rest)).rest)
     ≡ line_before (b ∷ l) (cut rest)
 cut_step b l rest true h g = cc
@@ -47,8 +48,10 @@ one_before b front [] rest = refl
 one_before b front (l ∷ ls) rest = refl
 
 front_step : (b : ℕ) (front rest : List ℕ) (e : Bool) → (not e && is_within front) ≡ true
-    → (is_within front ≡ true → cut (front ++ rest) ≡ front_before front (cut rest).whole (cut rest).rest)
-    → cond e (record { whole = [] ∷ (cut (front ++ rest)).whole; rest = (cut (front ++ rest)).rest })
+    → (is_within front ≡ true
+    → cut (front ++ rest) ≡ front_before front (cut rest).whole (cut rest).rest)
+    → cond e
+    (record { whole = [] ∷ (cut (front ++ rest)).whole; rest = (cut (front ++ rest)).rest })
     (byte_before b (cut (front ++ rest)).whole (cut (front ++ rest)).rest)
     ≡ front_before (b ∷ front) (cut rest).whole (cut rest).rest
 front_step b front rest true h g = cc
@@ -106,7 +109,8 @@ lines_end bs h short =
     append-nil (x ∷ xs) = ap (λ ys. x ∷ ys) (append-nil xs)
 
 not_within : (n : ℕ) → longest_line < n → leb n 268435456 ≡ false
-not_within n h = elim (leb_tells n 268435456) [ inl w ↦ absurd (omega (arith, h, w.1)) | inr w ↦ w.0 ]
+not_within n h =
+    elim (leb_tells n 268435456) [ inl w ↦ absurd (omega (arith, h, w.1)) | inr w ↦ w.0 ]
 
 too_long : (s : Shape) (l : List ℕ) → longest_line < length l → request_of s l ≡ Err TooLong
 too_long s l h = rw (not_within (length l) h) refl

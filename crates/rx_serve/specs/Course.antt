@@ -1,7 +1,8 @@
 -- A connection on its way.
-use Rattle.std.specs.Prelude.{◌≡◌, ℕ, ◌+◌, suc, ◌≤◌, List, ◌++◌, Option, Some, None}
+use Rattle.std.specs.Prelude.{◌≡◌, ℕ, ◌+◌, suc, ◌≤◌, List, [], ◌++◌, Option, Some, None}
 use Rattle.rx_collection.specs.Held.{Held}
-use Rattle.rx_serve.specs.Served.{served_first, ends_here, after_replies}
+use Rattle.rx_serve.specs.Answered.{Commits}
+use Rattle.rx_serve.specs.Served.{Served, served_first, ends_here, after_replies}
 use Rattle.rx_serve.specs.declared.ended.Ended.{Ended}
 use Rattle.rx_serve.specs.declared.ended.Why.{Why}
 use Rattle.rx_serve.specs.declared.ended.Why.TheVariants as why
@@ -17,32 +18,36 @@ pub record Standing : Type 0 where
   pub sent : List ℕ
   pub moments : List ℕ
 
--- what was sent, and the moments that joined, from one standing to a later one
-pub record Joins (old new : Standing) : Type 0 where
+-- what was sent, the commits over which it holds, and the moments that joined, from one standing
+-- to a later one
+pub record Joins (Holds : Commits → Type 0) (old new : Standing) : Type 0 where
   pub bytes : List ℕ
+  pub commits : Commits
   pub joined : List ℕ
+  pub holds : Holds commits
   pub sent : new.sent ≡ old.sent ++ bytes
   pub moments : new.moments ≡ old.moments ++ joined
 
 -- So many requests were answered and their replies sent: at whatever moments later ones come, what
 -- is served from the old standing on is these replies, and then what is served from the new one on.
-pub record Serves (n : ℕ) (old new : Standing) : Type 0 where
-  pub joins : Joins old new
+pub record Serves (n : ℕ) (Holds : Commits → Type 0) (old new : Standing) : Type 0 where
+  pub joins : Joins Holds old new
   pub going : (k : ℕ) (later : List ℕ)
       → served_first (n + k) old.collection (joins.joined ++ later) old.coming
-      ≡ after_replies n joins.bytes (served_first k new.collection later new.coming)
+      ≡ after_replies n joins.commits joins.bytes (served_first k new.collection later new.coming)
 
--- It ends for that reason, and all bytes due were sent.
-pub record EndsFor (why : Why) (old new : Standing) : Type 0 where
-  pub joins : Joins old new
+-- It ends for that reason with no further commit, and all bytes due were sent.
+pub record EndsFor (why : Why) (Holds : Commits → Type 0) (old new : Standing) : Type 0 where
+  pub joins : Joins Holds old new
+  pub none : joins.commits ≡ []
   pub ends : (k : ℕ) (later : List ℕ)
       → served_first (suc k) old.collection (joins.joined ++ later) old.coming
       ≡ ends_here new.collection why joins.bytes
 
 -- It ends since the wire failed: so many more requests were answered, at most one, and a front of
 -- the bytes due was sent.
-pub record Breaks (n : ℕ) (old new : Standing) : Type 0 where
-  pub joins : Joins old new
+pub record Breaks (n : ℕ) (Holds : Commits → Type 0) (old new : Standing) : Type 0 where
+  pub joins : Joins Holds old new
   pub few : n ≤ 1
   pub front : (k : ℕ) (later : List ℕ)
       → IsFront joins.bytes
@@ -51,15 +56,31 @@ pub record Breaks (n : ℕ) (old new : Standing) : Type 0 where
       → (served_first n old.collection (joins.joined ++ later) old.coming).replies ≡ n
   pub after : (later : List ℕ)
       → (served_first n old.collection (joins.joined ++ later) old.coming).after ≡ new.collection
+  pub committed : (later : List ℕ)
+      → (served_first n old.collection (joins.joined ++ later) old.coming).commits ≡ joins.commits
 
 -- it ends so, after so many more requests
-abbrev pub EndsSo : Why → ℕ → Standing → Standing → Type 0
-EndsSo why.Wire n old new = Breaks n old new
-EndsSo why.Peer n old new = (n ≡ 0) × EndsFor why.Peer old new
-EndsSo why.Request n old new = (n ≡ 0) × EndsFor why.Request old new
-EndsSo why.Clock n old new = (n ≡ 0) × EndsFor why.Clock old new
+abbrev pub EndsSo : Why → ℕ → (Commits → Type 0) → Standing → Standing → Type 0
+EndsSo why.Wire n Holds old new = Breaks n Holds old new
+EndsSo why.Peer n Holds old new = (n ≡ 0) × EndsFor why.Peer Holds old new
+EndsSo why.Request n Holds old new = (n ≡ 0) × EndsFor why.Request Holds old new
+EndsSo why.Clock n Holds old new = (n ≡ 0) × EndsFor why.Clock Holds old new
 
 -- one line more: a request was answered, or it ended
-abbrev pub Steps : Option Ended → Standing → Standing → Type 0
-Steps None old new = Serves 1 old new
-Steps (Some ended) old new = EndsSo ended.why ended.requests old new
+abbrev pub Steps : Option Ended → (Commits → Type 0) → Standing → Standing → Type 0
+Steps None Holds old new = Serves 1 Holds old new
+Steps (Some ended) Holds old new = EndsSo ended.why ended.requests Holds old new
+
+-- A stop came before anything more was sent: the commit of the next request is sure, or may be
+-- there, or there was none.
+pub record Halts (Holds : Commits → Commits → Type 0) (old new : Standing) : Type 0 where
+  pub n : ℕ
+  pub few : n ≤ 1
+  pub sure : Commits
+  pub more : Commits
+  pub joined : List ℕ
+  pub holds : Holds sure more
+  pub sent : new.sent ≡ old.sent
+  pub moments : new.moments ≡ old.moments ++ joined
+  pub committed : (later : List ℕ)
+      → (served_first n old.collection (joined ++ later) old.coming).commits ≡ sure ++ more

@@ -9,14 +9,15 @@ use Rattle.rx_wire.specs.declared.message.AskKind.{AskKind}
 use Rattle.rx_wire.specs.declared.message.AskKind.TheVariants.{Push, Pull}
 use Rattle.rx_wire.specs.declared.message.Reply.{Reply}
 use Rattle.rx_wire.specs.declared.message.Request.{Request}
-use Rattle.rx_serve.specs.Answered.{answered_at}
+use Rattle.rx_serve.specs.Answered.{answered_at, Commits, commit_by}
 use Rattle.rx_serve.specs.Lines.{lines}
 use Rattle.rx_serve.specs.declared.ended.Why.{Why}
 use Rattle.rx_serve.specs.declared.ended.Why.TheVariants as why
 
--- the collection after it, how many replies are due, why it ends, and the bytes due
+-- the collection after it, its commits, how many replies are due, why it ends, and the bytes due
 pub record Served : Type 0 where
   pub after : Held
+  pub commits : Commits
   pub replies : ℕ
   pub why : Why
   pub due : List ℕ
@@ -27,12 +28,17 @@ as_line text = text ++ 10 ∷ []
 
 -- it ends here, with these bytes
 abbrev pub ends_here : Held → Why → List ℕ → Served
-ends_here c why due = record { after = c; replies = 0; why = why; due = due }
+ends_here c why due = record { after = c; commits = []; replies = 0; why = why; due = due }
 
--- so many replies, and then what is served next
-abbrev pub after_replies : ℕ → List ℕ → Served → Served
-after_replies n bytes next =
-    record { after = next.after; replies = n + next.replies; why = next.why; due = bytes ++ next.due }
+-- so many replies with these commits, and then what is served next
+abbrev pub after_replies : ℕ → Commits → List ℕ → Served → Served
+after_replies n commits bytes next = record {
+  after = next.after;
+  commits = commits ++ next.commits;
+  replies = n + next.replies;
+  why = next.why;
+  due = bytes ++ next.due;
+}
 
 -- the moment of a request, which is the first one, or 0 after the last; a pull needs none
 abbrev pub first_moment : List ℕ → ℕ
@@ -53,15 +59,17 @@ moments_after (Push rows) moments = later_moments moments
 moments_after (Pull place batch) moments = moments
 
 -- a reply, and then what is served next; the clock ended where there is none
-abbrev pub reply_then : Held → Option (Reply × Held) → (Held → Served) → Served
-reply_then c None next = ends_here c why.Clock []
-reply_then c (Some p) next = after_replies 1 (as_line (reply_text p.0)) (next p.1)
+abbrev pub reply_then : Held → Commits → Option (Reply × Held) → (Held → Served) → Served
+reply_then c commits None next = ends_here c why.Clock []
+reply_then c commits (Some p) next =
+    after_replies 1 commits (as_line (reply_text p.0)) (next p.1)
 
 -- a request is answered; anything else ends it with a fault
 abbrev pub line_then : Held → List ℕ → Result Request WireFault → (Held → List ℕ → Served) → Served
 line_then c moments (Err fault) next = ends_here c why.Request (as_line (fault_text fault))
 line_then c moments (Ok q) next =
-    reply_then c (answered_at c (moment_for q.ask moments) q)
+    reply_then c (commit_by c q.ask (moment_for q.ask moments))
+    (answered_at c (moment_for q.ask moments) q)
     (λ after. next after (moments_after q.ask moments))
 
 -- the lines in turn

@@ -95,7 +95,8 @@ fn receive_line<W: Wire>(alloc: Global, wire: &mut W) -> Result<Vec<u8>, CallFau
 
 // The next byte, if there is one.
 fn receive_byte<W: Wire>(wire: &mut W) -> Result<Option<u8>, CallFault>
-    ensures byte { W.tells → IfOk result (λ byte. IsNextByte byte (W.left wire.old) (W.left wire.new)) }
+    ensures byte { W.tells →
+        IfOk result (λ byte. IsNextByte byte (W.left wire.old) (W.left wire.new)) }
     ensures keeps { W.tells → OnErr result (W.left wire.new ≡ W.left wire.old) }
     ensures failed { OnErr result (Rises (W.faults wire.old) (W.faults wire.new)) }
     ensures fault { OnErr result (IsErrOf result CallFault.Wire) }

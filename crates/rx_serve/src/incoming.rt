@@ -163,7 +163,8 @@ fn line_end(bytes: &[u8]) -> Option<usize>
     ensures none { IfNone result (is_within bytes.now ≡ true) }
     ensures within { IfSome result (λ at. at < length bytes.now) }
     ensures line { IfSome result (λ at. is_within (take at bytes.now) ≡ true) }
-    ensures end { IfSome result (λ at. bytes.now ≡ take at bytes.now ++ 10 ∷ drop (at + 1) bytes.now) }
+    ensures end { IfSome result (λ at.
+        bytes.now ≡ take at bytes.now ++ 10 ∷ drop (at + 1) bytes.now) }
 {
     memchr(b'\n', bytes)
 }

@@ -4,3 +4,5 @@
 
 #[cfg(test)]
 mod messages;
+#[cfg(test)]
+mod served;

@@ -1,12 +1,31 @@
-use Rattle.std.proofs.Common.{rules, ◌≡◌, Err}
+use Rattle.std.proofs.Common.{rules, ◌≡◌, ℕ, List, true, Err, refl}
 use Rattle.rx_wire.specs.Spelling.{request_of}
-use Rattle.rx_serve.proofs.Answering.{ends_told, refused_line}
+use Rattle.rx_serve.specs.Answered.{Commits}
+use Rattle.rx_serve.specs.Course.{Halts}
+use Rattle.rx_serve.specs.Lines.{is_within}
+use Rattle.rx_serve.proofs.Answering.{asked, behind, ends_told, halts_none, refused_line}
+use Rattle.rx_serve.proofs.Courses.{on_err}
 use Rattle.rx_serve.proofs.serving.answer_line.Goals as goal
 
 pub returns-in_ok-refuse-in-Err-clause-steps : goal.returns-in_ok-refuse-in-Err-clause-steps
 returns-in_ok-refuse-in-Err-clause-steps g c = λ told within rest.
-    let at : request_of (g.A.Answer.collection c.args.answer.now).schema c.args.line.now ≡ Err c.in-Err.fault = search rules in
-    ends_told (g.A.Answer.collection c.args.answer.now) _ rest _ _ _ _
-    (refused_line (g.A.Answer.collection c.args.answer.now) c.args.line.now rest c.in-Err.fault within at)
+    let old = g.A.Answer.collection c.args.answer.now in
+    let at : request_of old.schema c.args.line.now ≡ Err c.in-Err.fault = search rules in
+    ends_told old _ rest _ _ _ _ (refused_line old c.args.line.now rest c.in-Err.fault within at)
+    _ (g.met.A.Answer.holds_of_none c.args.answer.now c.requires.going)
     c.in_ok-refuse-in-Err.field-0.why c.in_ok-refuse-in-Err.field-0.requests
     c.in_ok-refuse-in-Err.ensures.none (c.in_ok-refuse-in-Err.ensures.told told)
+
+pub returns-in_err-refuse-in-Err-clause-halts : goal.returns-in_err-refuse-in-Err-clause-halts
+returns-in_err-refuse-in-Err-clause-halts g c = λ told.
+    let old = g.A.Answer.collection c.args.answer.now in
+    let before = g.A.Answer.moments c.args.answer.now in
+    let line = c.args.line.now in
+    let Holds : Commits → Commits → Type 0 = g.A.Answer.holds c.args.answer.now c.args.answer.now in
+    let P : Type 0 = is_within line ≡ true → (rest : List ℕ)
+    → Halts Holds (asked old line rest (g.W.Wire.sent c.args.wire.now) before)
+    (behind old rest (g.W.Wire.sent c.refuse.new.wire) before) in
+    let halts : P = λ within rest.
+    halts_none _ _ Holds (c.in_err-refuse-in-Err.ensures.none_sent told) refl
+    (g.met.A.Answer.holds_of_none c.args.answer.now c.requires.going) in
+    on_err _ P halts

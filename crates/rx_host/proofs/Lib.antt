@@ -1,0 +1,4 @@
+mod Plans
+mod Hosts
+mod Answers
+mod Ends

@@ -1,0 +1,9 @@
+pub mod Worlds
+pub mod Records
+pub mod Planned
+pub mod Engine
+pub mod Keeping
+pub mod Moments
+pub mod Hosting
+pub mod Laws
+pub mod Serving
