@@ -1,12 +1,19 @@
 -- What may be done goes to the disk as it is.
-use Rattle.std.proofs.Common.{◌≡◌, ℕ, List, Result, subst}
+use Rattle.std.proofs.Common.{◌≡◌, ℕ, List, Result, ap, ◌∙◌, subst}
+use Rattle.rx_record.specs.Content.{epoch}
+use Rattle.rx_world.specs.Made.{IsMadeWorld}
+use Rattle.rx_world.specs.Sound.{IsSoundWorld}
+use Rattle.rx_world.specs.Step.{legal}
+use Rattle.rx_world.proofs.Making.{made_step}
+use Rattle.rx_world.proofs.Sounds.{sound_step}
+use Rattle.rx_world.proofs.Steps.{epoch_legal}
 use Rattle.rx_disk.specs.declared.disk.Disk.{Ghosts}
 use Rattle.rx_outside.specs.declared.stop.Stop.{Stop}
 use Rattle.rx_store.specs.Safe.{IsCrashSafe}
 use Rattle.rx_engine.specs.Meaning.{bodies_of, records_of}
-use Rattle.rx_session.specs.Doing.{Doing, nothing, set_clock, write, watch, unwatch, restart, MayDo}
+use Rattle.rx_session.specs.Doing.{Doing, nothing, set_clock, write, watch, unwatch, restart, after, MayDo}
 use Rattle.rx_session.specs.Session.{Session}
-use Rattle.rx_engine.specs.Shown.{HasOrder}
+use Rattle.rx_engine.specs.Shown.{HasOrder, WritesNoExchange}
 
 -- what may be done has the order of its record
 pub has_order : (d : Doing) (s : Session) → MayDo d s → HasOrder d
@@ -16,6 +23,26 @@ has_order (write c) s may = may.1
 has_order (watch name coll q) s may = tt
 has_order (unwatch name) s may = tt
 has_order (restart number) s may = tt
+
+-- a world that records made stays one
+pub made_then : (d : Doing) (s : Session) → MayDo d s → IsMadeWorld s.world → IsMadeWorld (after d s).world
+made_then nothing s may made = made
+made_then (set_clock at) s may made = made
+made_then (write c) s may made = made_step c s.world may.0 may.1 made
+made_then (watch name coll q) s may made = made
+made_then (unwatch name) s may made = made
+made_then (restart number) s may made =
+    made_step (epoch number) s.world (ap (λ n. legal (epoch n) s.world) may ∙ epoch_legal s.world) tt made
+
+-- and a sound one stays sound
+pub sound_then : (d : Doing) (s : Session) → MayDo d s → WritesNoExchange d → IsMadeWorld s.world
+    → IsSoundWorld s.world → IsSoundWorld (after d s).world
+sound_then nothing s may apart made sound = sound
+sound_then (set_clock at) s may apart made sound = sound
+sound_then (write c) s may apart made sound = sound_step c s.world may.0 may.1 apart made sound
+sound_then (watch name coll q) s may apart made sound = sound
+sound_then (unwatch name) s may apart made sound = sound
+sound_then (restart number) s may apart made sound = sound
 
 -- the records of the same doing
 pub by_doing : {D A : Type 0} (d : Ghosts D) (old new : D) (bodies : List (List ℕ)) (limit : ℕ)

@@ -1,5 +1,5 @@
 -- What no line does but the one that is asked for it.
-use Rattle.std.proofs.Common.{◌≡◌, ◌⊎◌, inl, inr, ℕ, length, not, nat_lt, List, ◌∷◌, [], Bool, true, false, true≢false, cond, Option, Some, None, option_map, Result, Ok, Err, refl, sym, ◌∙◌, ap, subst}
+use Rattle.std.proofs.Common.{◌≡◌, ◌⊎◌, inl, inr, ℕ, length, not, nat_lt, List, ◌∷◌, [], map, Bool, true, false, true≢false, cond, Option, Some, None, option_map, Result, Ok, Err, refl, sym, ◌∙◌, ap, subst}
 use Rattle.serde_json.specs.Data.{Data}
 use Rattle.rx_value.specs.Due.{◌>>◌, demand, lifted, or_fault}
 use Rattle.rx_value.specs.Named.{named}
@@ -9,7 +9,10 @@ use Rattle.rx_schema.specs.declared.shape.Shape.{Shape}
 use Rattle.rx_collection.specs.Held.{Held}
 use Rattle.rx_collection.specs.Since.{since}
 use Rattle.rx_digest.specs.Digest.{digest_of}
-use Rattle.rx_record.specs.Content.{Content}
+use Rattle.rx_collection.specs.Commit.{rows_of}
+use Rattle.rx_collection.specs.Time.{stamp}
+use Rattle.rx_record.specs.Content.{Content, rows}
+use Rattle.rx_record.specs.declared.record.RowOut.{RowOut}
 use Rattle.rx_reply.specs.Answer.{Answer, insert, upsert, patch, remove, bulk, get, find, count, observe, unobserve, explain, tick, digest}
 use Rattle.rx_reply.specs.declared.refusal.Refusal.TheVariants.{Exists, NoQuery, TooMany}
 use Rattle.rx_reply.specs.Reply.{is_refusal}
@@ -19,7 +22,9 @@ use Rattle.rx_script.specs.declared.fault.LineFault.{LineFault}
 use Rattle.rx_session.specs.Doing.{Doing, nothing, restart, set_clock, unwatch, watch}
 use Rattle.rx_session.specs.Session.{Session, counts_of, is_observed}
 use Rattle.rx_world.specs.World.{World}
-use Rattle.rx_world.specs.Commit.{commit_to}
+use Rattle.rx_world.specs.Commit.{commit_to, out_of}
+use Rattle.rx_world.proofs.Sounds.{IsNoExchange}
+use Rattle.rx_engine.specs.Shown.{WritesNoExchange}
 use Rattle.rx_engine.specs.Documents.{document_at, next_revision}
 use Rattle.rx_engine.specs.Faults.{of_line, of_schema}
 use Rattle.rx_engine.specs.Lines.{IsIdle, IsRestart, outcome, asked_outcome, line_outcome}
@@ -35,10 +40,11 @@ abbrev is_restart : Doing → Bool
 is_restart (restart number) = true
 is_restart _ = false
 
--- it is no refusal, and opens no journal
+-- it is no refusal, opens no journal, and writes no exchange
 record IsPlain (o : Outcome) : Type 0 where
   pub answers : is_refusal o.answer ≡ false
   pub stays : is_restart o.doing ≡ false
+  pub apart : WritesNoExchange o.doing
 
 -- whatever is done is so
 abbrev ArePlain : Result Outcome Fault → Type 0
@@ -58,35 +64,51 @@ abbrev outcome_or : Outcome → Result Outcome Fault → Outcome
 outcome_or o (Ok x) = x
 outcome_or o (Err e) = o
 
-just : (o : Outcome) → is_refusal o.answer ≡ false → is_restart o.doing ≡ false → ArePlain (Ok o)
-just o answers stays p is =
-    subst IsPlain (ap (outcome_or o) is) (record { answers = answers; stays = stays })
+just : (o : Outcome) → is_refusal o.answer ≡ false → is_restart o.doing ≡ false
+    → WritesNoExchange o.doing → ArePlain (Ok o)
+just o answers stays apart p is =
+    subst IsPlain (ap (outcome_or o) is) (record { answers = answers; stays = stays; apart = apart })
 
 -- ---- what the lines do
 
 written_plain : (answer : Answer) (o : Option Content) → is_refusal answer ≡ false
+    → ((content : Content) → o ≡ Some content → IsNoExchange content)
     → ArePlain (write_outcome answer o)
-written_plain answer None plain = none _
-written_plain answer (Some content) plain = just _ plain refl
+written_plain answer None plain apart = none _
+written_plain answer (Some content) plain apart = just _ plain refl (apart content refl)
+
+-- the record of a commit is one of rows
+rows_made : (o : Option ℕ) (written : ℕ → List RowOut) (name : List ℕ) (content : Content)
+    → option_map (λ lwt. rows name lwt (written lwt)) o ≡ Some content → IsNoExchange content
+rows_made None written name content is = absurd (cc)
+rows_made (Some lwt) written name content is =
+    let same : rows name lwt (written lwt) ≡ content = cc in subst IsNoExchange same tt
+
+committed : (coll : List ℕ) (states : List State) (now : ℕ) (c : Held) (content : Content)
+    → commit_to coll states now c ≡ Some content → IsNoExchange content
+committed coll states now c content is =
+    rows_made (stamp c.documents now) (λ lwt. map out_of (rows_of c states lwt)) coll content is
 
 made_plain : (name : List ℕ) (shape : Shape) (o : Option Held) (w : World)
     → ArePlain (collection_with name shape o w)
-made_plain name shape (Some held) w = after _ _ (λ _. just _ refl refl)
-made_plain name shape None w = after _ _ (λ _. just _ refl refl)
+made_plain name shape (Some held) w = after _ _ (λ _. just _ refl refl tt)
+made_plain name shape None w = after _ _ (λ _. just _ refl refl tt)
 
 all_plain : (coll : List ℕ) (c : Held) (states : List State) (s : Session)
     → ArePlain (commit_all coll c states s)
-all_plain coll c [] s = after _ _ (λ _. just _ refl refl)
+all_plain coll c [] s = after _ _ (λ _. just _ refl refl tt)
 all_plain coll c (state ∷ states) s =
     written_plain _ (commit_to coll (state ∷ states) s.moment c) refl
+    (committed coll (state ∷ states) s.moment c)
 
 alone_plain : (answer : Answer) → is_refusal answer ≡ false → ArePlain (Ok (answer_alone answer))
-alone_plain answer plain = just (answer_alone answer) plain refl
+alone_plain answer plain = just (answer_alone answer) plain refl tt
 
 one_plain : (coll : List ℕ) (answer : List ℕ → Answer) (c : Held) (state : State) (s : Session)
     → is_refusal (answer (next_revision c state.key)) ≡ false → ArePlain (commit_one coll answer c state s)
 one_plain coll answer c state s plain =
     written_plain (answer (next_revision c state.key)) (commit_to coll (state ∷ []) s.moment c) plain
+    (committed coll (state ∷ []) s.moment c)
 
 -- a restart alone opens the journal again
 plain_but : (ask : Asked) (s : Session) → (ask ≡ Restart) ⊎ ArePlain (asked_outcome ask s)
@@ -138,11 +160,11 @@ plain_but (Observe name coll query) s =
     (λ _. after (query_on c query)
     (λ q. demand (nat_lt (length s.queries) max_queries) (Refused TooMany) >> λ _. Ok (record { doing = watch name coll q; answer = observe }))
     (λ q. after (demand (nat_lt (length s.queries) max_queries) (Refused TooMany)) (λ _. Ok (record { doing = watch name coll q; answer = observe }))
-    (λ _. just (record { doing = watch name coll q; answer = observe }) refl refl)))))
+    (λ _. just (record { doing = watch name coll q; answer = observe }) refl refl tt)))))
 plain_but (Unobserve name) s =
     inr (after (demand (is_observed name s) (Refused NoQuery))
     (λ _. Ok (record { doing = unwatch name; answer = unobserve }))
-    (λ _. just (record { doing = unwatch name; answer = unobserve }) refl refl))
+    (λ _. just (record { doing = unwatch name; answer = unobserve }) refl refl tt))
 plain_but (Explain name) s =
     inr (after (or_fault (Refused NoQuery) (counts_of name s)) (λ counts. Ok (answer_alone (explain counts)))
     (λ counts. alone_plain (explain counts) refl))
@@ -155,7 +177,7 @@ plain_but (Digest coll) s =
     inr (after (collection_at coll s)
     (λ c. Ok (answer_alone (digest (length c.documents) (digest_of c.documents))))
     (λ c. alone_plain (digest (length c.documents) (digest_of c.documents)) refl))
-plain_but (Tick at) s = inr (just (record { doing = set_clock at; answer = tick }) refl refl)
+plain_but (Tick at) s = inr (just (record { doing = set_clock at; answer = tick }) refl refl tt)
 plain_but Restart s = inl refl
 
 -- ---- refusals
@@ -211,3 +233,28 @@ read_restart (Ok ask) s n is =
 pub restarts_only : (line : List ℕ) (s : Session) (n : ℕ) → (outcome line s).doing ≡ restart n
     → IsRestart line
 restarts_only line s n is = read_restart (line_of line) s n is
+
+-- ---- exchanges
+
+apart_by : (r : Result Outcome Fault) → ((o : Outcome) → r ≡ Ok o → WritesNoExchange o.doing)
+    → WritesNoExchange (outcome_or_refusal r).doing
+apart_by (Ok o) apart = apart o refl
+apart_by (Err (Refused refusal)) apart = tt
+apart_by (Err Memory) apart = tt
+
+restart_apart : (s : Session) (o : Outcome) → asked_outcome Restart s ≡ Ok o → WritesNoExchange o.doing
+restart_apart s o is = subst (λ (o : Outcome). WritesNoExchange o.doing) (ap (outcome_or o) is) tt
+
+ask_apart : (ask : Asked) (s : Session) → (ask ≡ Restart) ⊎ ArePlain (asked_outcome ask s) → (o : Outcome)
+    → asked_outcome ask s ≡ Ok o → WritesNoExchange o.doing
+ask_apart ask s (inl same) o is = restart_apart s o (sym (ap (λ (a : Asked). asked_outcome a s) same) ∙ is)
+ask_apart ask s (inr plain) o is = (plain o is).apart
+
+read_apart : (read : Result Asked LineFault) (s : Session) (o : Outcome)
+    → (lifted of_line read >> λ ask. asked_outcome ask s) ≡ Ok o → WritesNoExchange o.doing
+read_apart (Ok ask) s o is = ask_apart ask s (plain_but ask s) o is
+read_apart (Err fault) s o is = absurd (cc)
+
+-- no line writes an exchange
+pub writes_no_exchange : (line : List ℕ) (s : Session) → WritesNoExchange (outcome line s).doing
+writes_no_exchange line s = apart_by (line_outcome line s) (read_apart (line_of line) s)

@@ -1,5 +1,6 @@
 -- What a query found is its rows from scratch.
-use Rattle.std.proofs.Common.{◌≡◌, Bor, List, [], ◌∷◌, length, map, suc, refl, ap, ◌∙◌}
+use Rattle.std.proofs.Common.{◌≡◌, Bor, List, [], ◌∷◌, length, map, refl, sym, ap, ◌∙◌}
+use Rattle.std.proofs.lemmas.List.{length-map}
 use Rattle.std.specs.Map.{values_of}
 use Rattle.rx_document.specs.Documents.{Documents}
 use Rattle.rx_document.specs.declared.stored.Stored.{Stored}
@@ -14,11 +15,6 @@ lent_fields : (docs : List (Bor Stored)) → rows_of docs ≡ rows_fields (map r
 lent_fields [] = refl
 lent_fields (d ∷ ds) = ap (λ rows. d.now.state.fields ∷ rows) (lent_fields ds)
 
--- there are as many
-lent_length : (docs : List (Bor Stored)) → length docs ≡ length (rows_of docs)
-lent_length [] = refl
-lent_length (d ∷ ds) = ap suc (lent_length ds)
-
 module _ (q : Asked) (documents : Documents) (docs : List (Bor Stored))
     (are : map (λ d. d.now) docs ≡ result_of q (values_of documents)) where
   -- the fields of lent documents that a query found are those of its rows
@@ -26,6 +22,10 @@ module _ (q : Asked) (documents : Documents) (docs : List (Bor Stored))
   unfolding fresh_rows
   found_rows = lent_fields docs ∙ ap (λ ds. rows_fields (map row_of ds)) are
 
-  -- there are as many
-  pub found_count : length docs ≡ length (rows_found q documents)
-  found_count = lent_length docs ∙ ap length found_rows
+-- there are as many as the result has
+pub rows_count : (q : Asked) (documents : Documents)
+    → length (result_of q (values_of documents)) ≡ length (rows_found q documents)
+unfolding fresh_rows
+rows_count q documents =
+    let found = result_of q (values_of documents) in
+    sym (length-map found row_of) ∙ sym (length-map (map row_of found) (λ r. r.fields))

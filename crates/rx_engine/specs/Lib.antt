@@ -9,3 +9,4 @@ pub mod Meaning
 pub mod Shown
 pub mod Opening
 pub mod Engine
+pub mod SoundSession

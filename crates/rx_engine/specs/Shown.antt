@@ -4,6 +4,7 @@ use Rattle.rx_record.specs.Writable.{IsOrdered}
 use Rattle.rx_reply.specs.Answer.{answer_of}
 use Rattle.rx_session.specs.Doing.{Doing, write, restart}
 use Rattle.rx_session.specs.Shown.{done_by}
+use Rattle.rx_world.proofs.Sounds.{IsNoExchange}
 use Rattle.rx_engine.specs.Outcome.{Outcome}
 use Rattle.rx_engine.specs.declared.outcome.Outcome.{Outcome as Planned}
 use Rattle.rx_engine.specs.declared.outcome.LineDoing.{LineDoing}
@@ -15,6 +16,11 @@ doing_of (Restart number) = restart number
 
 abbrev pub outcome_of : Planned → Outcome
 outcome_of p = record { doing = doing_of p.doing; answer = answer_of p.reply }
+
+-- what is to be written is no exchange
+abbrev pub WritesNoExchange : Doing → Type 0
+WritesNoExchange (write c) = IsNoExchange c
+WritesNoExchange _ = ⊤
 
 -- the rows of what is to be written rise
 abbrev pub HasOrder : Doing → Type 0

@@ -10,17 +10,17 @@ ghost use Rattle.rx_value.specs.Named.{named};
 ghost use Rattle.rx_world.specs.World.{World};
 ghost use Rattle.rx_store.specs.Holds.{IsIllegalFile, IsJournalOfSome, IsLegalFile};
 ghost use Rattle.rx_store.specs.Safe.{HasDiskCause, IsCrashSafe};
-ghost use Rattle.rx_engine.specs.Engine.{IsAt, Answers, LeavesSession, session_of, limit_of};
 ghost use Rattle.rx_engine.specs.Lines.{outcome, IsIdle, IsRestart};
 ghost use Rattle.rx_engine.specs.Meaning.{meaning, bodies_of, records_of};
 ghost use Rattle.rx_engine.specs.Opening.{epoch_body, opened};
-ghost use Rattle.rx_engine.specs.Shown.{doing_of};
+ghost use Rattle.rx_engine.specs.Shown.{doing_of, WritesNoExchange};
 
 use crate::asking::plan;
 use crate::emitting::add_lines;
 use crate::keep::keep_doing;
 use crate::opening::{Opened, is_next, open};
 use crate::outcome::{LineDoing, Outcome};
+use crate::sound_session::SoundSession;
 use rx_collection::Holder;
 use rx_diagram::Diagram;
 use rx_digest::digest;
@@ -40,16 +40,18 @@ pub struct Output {
     pub refused: bool,
 }
 
-/// A journal, and the session that its records make.
+/// A journal, and the session that its records make. Its world is sound.
 #[derive(Drop)]
 pub struct Engine {
     journal: Journal,
-    session: Session,
+    session: SoundSession,
     /// Built once, for the journal opened again too.
     diagram: Rc<Diagram>,
 }
 
 impl Engine {
+    ghost use Rattle.rx_engine.specs.Engine.{IsAt, Answers, LeavesSession, session_of, limit_of};
+
     /// Opens a journal, plays its records, and begins a new epoch.
     pub fn open<D: Disk>(alloc: Global, disk: &mut D, limit: u64) -> Result<Engine, Stop>
         requires low { 9 ≤ limit }
@@ -81,9 +83,10 @@ impl Engine {
         let share = diagram.clone()?;
         let Opened { journal, world } = open(alloc, disk, limit, &diagram)?;
         let session = Session::new(alloc, world, share);
+        let sound = SoundSession::new(session);
         Ok(Engine {
             journal,
-            session,
+            session: sound,
             diagram,
         })
     }
@@ -134,7 +137,7 @@ impl Engine {
         ensures { IfOk result (λ found. found ≡ option_map (λ c. digest_of c.documents)
             (named (session_of self.now).world.collections name.now)) }
     {
-        match self.session.holder(name) {
+        match self.session.session().holder(name) {
             Some(live) => Ok(Some(digest(alloc, live.collection())?)),
             None => Ok(None),
         }
@@ -149,6 +152,7 @@ impl Engine {
     ) -> Result<(Engine, Vec<Emission>), Stop>
         requires at { D.tells → (bodies : List (List ℕ)) × IsAt D.Disk disk.old self bodies }
         requires may { MayDo (doing_of doing) (session_of self) }
+        requires apart { WritesNoExchange (doing_of doing) }
         ensures session { IfOk result (λ p. session_of p.0
             ≡ settled_session (after (doing_of doing) (session_of self))) }
         ensures emissions { IfOk result (λ p. p.1.items
@@ -179,6 +183,7 @@ impl Engine {
     ) -> Result<(Engine, Vec<Emission>), Stop>
         requires at { D.tells → (bodies : List (List ℕ)) × IsAt D.Disk disk.old self bodies }
         requires may { MayDo (done_by doing) (session_of self) }
+        requires apart { WritesNoExchange (done_by doing) }
         ensures session { IfOk result (λ p. session_of p.0
             ≡ settled_session (after (done_by doing) (session_of self))) }
         ensures emissions { IfOk result (λ p. p.1.items
@@ -198,11 +203,12 @@ impl Engine {
             session,
             diagram,
         } = self;
+        let session = session.release();
         let journal = keep_doing(alloc, journal, disk, &doing)?;
         let (session, emissions) = session.next(alloc, doing)?;
         let engine = Engine {
             journal,
-            session,
+            session: SoundSession::new(session),
             diagram,
         };
         Ok((engine, emissions))
@@ -226,6 +232,7 @@ impl Engine {
             session,
             diagram,
         } = self;
+        let session = session.release();
         let Opened { journal, world } = open(alloc, disk, journal.limit, &diagram)?;
         if !is_next(&session, &world, epoch) {
             return Err(Stop::NotJournal);
@@ -233,7 +240,7 @@ impl Engine {
         let session = session.reopen(alloc, world)?;
         Ok(Engine {
             journal,
-            session,
+            session: SoundSession::new(session),
             diagram,
         })
     }
@@ -249,7 +256,7 @@ struct Printed {
 
 fn print_reply(
     alloc: Global,
-    session: &Session,
+    session: &SoundSession,
     text: &[u8],
     number: u64,
 ) -> Result<Printed, AllocError>
@@ -260,7 +267,7 @@ fn print_reply(
     ensures refused { IfOk result (λ p. p.refused
         ≡ is_refusal (outcome text.now session.now).answer) }
 {
-    let Outcome { doing, reply } = plan(alloc, session, text)?;
+    let Outcome { doing, reply } = plan(alloc, session.session(), text)?;
     Ok(Printed {
         doing,
         text: reply.line(alloc, number)?,

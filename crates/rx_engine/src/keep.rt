@@ -6,6 +6,7 @@ ghost use Rattle.rx_session.specs.Session.{Session};
 ghost use Rattle.rx_session.specs.Shown.{done_by};
 ghost use Rattle.rx_store.specs.Holds.{Holds};
 ghost use Rattle.rx_store.specs.Safe.{HasDiskCause, IsCrashSafe};
+ghost use Rattle.rx_world.specs.Sound.{IsSoundWorld};
 ghost use Rattle.rx_world.specs.World.{World};
 ghost use Rattle.rx_engine.specs.Meaning.{bodies_of, records_of};
 ghost use Rattle.rx_engine.specs.Shown.{HasOrder};
@@ -17,7 +18,7 @@ use rx_session::Doing;
 use rx_store::keep;
 use std::alloc::Global;
 
-/// Puts the record of what is done on the disk, where it has one.
+/// Puts the record of what is done on the disk, where it has one. It keeps the world sound.
 pub(crate) fn keep_doing<D: Disk>(
     alloc: Global,
     journal: Journal,
@@ -28,6 +29,7 @@ pub(crate) fn keep_doing<D: Disk>(
     requires ordered { HasOrder (done_by doing.now) }
     ensures safe { D.tells → (bodies : List (List ℕ)) (s : Session)
         → Holds D.Disk disk.old journal bodies s.world → MayDo (done_by doing.now) s
+        → IsSoundWorld (after (done_by doing.now) s).world
         → IsCrashSafe D.Disk disk.old disk.new bodies (bodies_of (records_of (done_by doing.now)))
         journal.limit (λ kept all. Holds D.Disk disk.new kept all (after (done_by doing.now) s).world)
         result }

@@ -14,6 +14,7 @@ mod lookup;
 mod opening;
 mod outcome;
 mod queries;
+mod sound_session;
 mod writes;
 
 pub use engine::{Engine, Output};

@@ -9,6 +9,8 @@ ghost use Rattle.rx_session.specs.Placed.{AreUnwatched, world_of};
 ghost use Rattle.rx_store.specs.Holds.{Holds, IsIllegalFile, IsJournalOfSome, IsLegalFile};
 ghost use Rattle.rx_store.specs.Safe.{HasDiskCause, IsCrashSafe};
 ghost use Rattle.rx_world.specs.Holders.{holders_in};
+ghost use Rattle.rx_world.specs.Made.{IsMadeWorld};
+ghost use Rattle.rx_world.specs.Sound.{IsSoundWorld};
 ghost use Rattle.rx_world.specs.Step.{step};
 ghost use Rattle.rx_world.specs.Valid.{AreDistinct};
 ghost use Rattle.rx_world.specs.World as worlds;
@@ -51,6 +53,8 @@ pub(crate) fn open<D: Disk>(
     ensures begun { IfOk result (λ o. (w : worlds.World) × (world_of o.world ≡ next_epoch w)) }
     ensures unwatched { IfOk result (λ o. AreUnwatched (holders_in o.world)) }
     ensures distinct { IfOk result (λ o. AreDistinct (world_of o.world)) }
+    ensures made { IfOk result (λ o. IsMadeWorld (world_of o.world)) }
+    ensures sound { IfOk result (λ o. IsSoundWorld (world_of o.world)) }
     ensures limit { IfOk result (λ o. o.journal.limit ≡ limit) }
     ensures safe { D.tells → (bodies : List (List ℕ)) (w : worlds.World)
         → IsLegalFile (D.content disk.old) bodies w
@@ -87,6 +91,7 @@ fn next_epoch(
     ensures world { IfOk result (λ w. world_of w ≡ next_epoch (world_of world)) }
     ensures unwatched { IfOk result (λ w. AreUnwatched (holders_in w)) }
     ensures distinct { IfOk result (λ w. AreDistinct (world_of w)) }
+    ensures made { IfOk result (λ w. IsMadeWorld (world_of w)) }
 {
     match rx_session::apply(world, alloc, entry, diagram) {
         Ok(world) => Ok(world),

@@ -67,7 +67,7 @@ pub(crate) fn count_line<'a>(
 {
     let live = find_live(alloc, session, coll)?;
     let query = read_query(alloc, live.collection(), query)?;
-    let count = live.find(alloc, &query)?.len() as u64;
+    let count = live.count(alloc, &query)?;
     Ok(answer_alone(Reply::Count { count }))
 }
 

@@ -5,6 +5,7 @@ use Rattle.rx_store.specs.Holds.{IsLegalFile, StandsLegally}
 use Rattle.rx_frame.specs.File.{StandsFor}
 use Rattle.rx_world.specs.World.{World, empty}
 use Rattle.rx_world.specs.Replay.{replay, replay_from}
+use Rattle.rx_world.proofs.Sounds.{sound_empty}
 use Rattle.rx_top.specs.Start.{GoesOn, IsSettled, IsStart, StartsEmpty}
 
 -- a disk that holds such a file and nothing else
@@ -16,7 +17,7 @@ starts e disk file bodies more s settled = (
   s.world,
   record {
     legal = subst (λ (f : List ℕ). IsLegalFile f (bodies ++ s.front) s.world) (sym settled.content)
-        (record { stands = s.stands; short = s.short; plays = s.legal });
+        (record { stands = s.stands; short = s.short; plays = s.legal; sound = s.sound });
     alike = λ c here.
         subst (λ (f : List ℕ). StandsFor f (bodies ++ s.front)) (sym (settled.only c here)) s.stands;
   },
@@ -36,6 +37,6 @@ nothing_stands = inl (omega arith, refl)
 pub starts_empty : {D : Type 0} (d : Ghosts D) → StartsEmpty d
 starts_empty d = λ disk settled. record {
   legal = subst (λ (f : List ℕ). IsLegalFile f [] empty) (sym settled.content)
-      (record { stands = nothing_stands; short = omega arith; plays = plays_nothing });
+      (record { stands = nothing_stands; short = omega arith; plays = plays_nothing; sound = sound_empty });
   alike = λ c here. subst (λ (f : List ℕ). StandsFor f []) (sym (settled.only c here)) nothing_stands;
 }

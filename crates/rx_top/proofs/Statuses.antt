@@ -162,7 +162,7 @@ legal_now bodies c s =
     ap (λ v. bodies ++ v) (none_before s.front s.rest s.whole) ∙ append-nil bodies in (
       s.world,
       subst (λ (bs : List (List ℕ)). IsLegalFile c bs s.world) same
-          (record { stands = s.stands; short = s.short; plays = s.legal }),
+          (record { stands = s.stands; short = s.short; plays = s.legal; sound = s.sound }),
     )
 
 no_line : (f0 f2 : ℕ) (a b : List ℕ) → (b ≡ a ++ []) ⊎ (WritesFront a b [] × Rises f0 f2) → b ≡ a

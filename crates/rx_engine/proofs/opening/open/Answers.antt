@@ -1,8 +1,9 @@
-use Rattle.std.proofs.Common.{◌≡◌, ℕ, ◌+◌, [], ◌∷◌, ◌++◌, Ok, Err, ◌∙◌, ap, rules}
+use Rattle.std.proofs.Common.{◌≡◌, ℕ, ◌+◌, [], ◌∷◌, ◌++◌, Ok, Err, ◌∙◌, ap, sym, subst, rules}
 use Rattle.rx_record.specs.Content.{epoch, content_bytes}
 use Rattle.rx_session.specs.Placed.{world_of}
 use Rattle.rx_store.specs.Holds.{Holds}
 use Rattle.rx_store.proofs.Crashes.{answered, ran_out, same_stop, sooner}
+use Rattle.rx_world.specs.Sound.{IsSoundWorld}
 use Rattle.rx_world.specs.World.{World}
 use Rattle.rx_engine.specs.Opening.{epoch_body, next_epoch}
 use Rattle.rx_engine.proofs.Opened.{begun_safely, unwatched_made}
@@ -25,7 +26,7 @@ returns-in_err-journal-clause-safe g c told bodies w lawful =
     (begun_safely g.D.Disk c.args.disk.now c.open.new.disk c.keep.new.disk c.in_ok-opened.opened.0 bodies w
     (c.epoch.result + 1) c.args.limit _ _ (Err c.in_err-journal.field-0.0) opened opened.at
     c.in_ok-opened.ensures.limit number
-    (λ fits. c.in_err-journal.ensures.safe told (bodies ++ []) w opened.at fits))
+    (λ fits. c.in_err-journal.ensures.safe told (bodies ++ []) w opened.at fits opened.at.sound))
 
 pub returns-in_err-world-clause-safe : goal.returns-in_err-world-clause-safe
 returns-in_err-world-clause-safe g c told bodies w lawful =
@@ -36,7 +37,7 @@ returns-in_err-world-clause-safe g c told bodies w lawful =
     let safe = begun_safely g.D.Disk c.args.disk.now c.open.new.disk c.keep.new.disk c.in_ok-opened.opened.0 bodies w
     (c.epoch.result + 1) c.args.limit _ _ (Ok c.in_ok-journal.journal) opened opened.at
     c.in_ok-opened.ensures.limit number
-    (λ fits. c.in_ok-journal.ensures.safe told (bodies ++ []) w opened.at fits) in
+    (λ fits. c.in_ok-journal.ensures.safe told (bodies ++ []) w opened.at fits opened.at.sound) in
     ran_out g.D.Disk c.args.disk.now c.keep.new.disk bodies (epoch_body w ∷ []) c.args.limit _
     c.from_residual-in_err-world.result (search rules) safe.moments
 
@@ -51,7 +52,7 @@ returns-clause-safe g c told bodies w lawful =
     (begun_safely g.D.Disk c.args.disk.now c.open.new.disk c.keep.new.disk c.in_ok-opened.opened.0 bodies w
     (c.epoch.result + 1) c.args.limit _ _ (Ok c.in_ok-journal.journal) opened opened.at
     c.in_ok-opened.ensures.limit number
-    (λ fits. c.in_ok-journal.ensures.safe told (bodies ++ []) w opened.at fits))
+    (λ fits. c.in_ok-journal.ensures.safe told (bodies ++ []) w opened.at fits opened.at.sound))
     (λ holds. holds)
 
 pub returns-clause-opened : goal.returns-clause-opened
@@ -83,3 +84,6 @@ returns-in_err-world-clause-illegal g c told illegal =
 pub returns-clause-illegal : goal.returns-clause-illegal
 returns-clause-illegal g c told illegal =
     let stood = c.in_ok-opened.ensures.stood told in absurd (illegal stood.0 stood.1 stood.2)
+
+pub returns-clause-sound : goal.returns-clause-sound
+returns-clause-sound g c = subst IsSoundWorld (sym c.in_ok-world.ensures.world) c.in_ok-opened.ensures.sound

@@ -1,5 +1,5 @@
 use Rattle.std.proofs.Common.{◌++◌, Ok, Err, sym, ap, ◌∙◌, subst, rules}
-use Rattle.rx_session.specs.Doing.{Doing, after}
+use Rattle.rx_session.specs.Doing.{Doing, after, MayDo}
 use Rattle.rx_session.specs.Emissions.{emissions, settled_session}
 use Rattle.rx_session.specs.Session.{Session}
 use Rattle.rx_session.specs.Shown.{done_by}
@@ -7,7 +7,9 @@ use Rattle.rx_store.specs.Holds.{Holds}
 use Rattle.rx_store.proofs.Crashes.{answered, ran_out, same_stop}
 use Rattle.rx_engine.specs.Engine.{IsAt, session_of}
 use Rattle.rx_engine.specs.Meaning.{bodies_of, records_of}
-use Rattle.rx_engine.proofs.Keeping.{has_order}
+use Rattle.rx_world.specs.Made.{IsMadeWorld}
+use Rattle.rx_world.specs.Sound.{IsSoundWorld}
+use Rattle.rx_engine.proofs.Keeping.{has_order, made_then, sound_then}
 use Rattle.rx_engine.proofs.engine.Engine.change_session.Goals as goal
 
 pub keep_doing-requires-clause-holds : goal.keep_doing-requires-clause-holds
@@ -20,28 +22,55 @@ keep_doing-requires-clause-ordered g c =
     has_order (done_by c.args.doing) (session_of c.args.self) c.requires.may
 
 pub returns-in_err-journal-clause-safe : goal.returns-in_err-journal-clause-safe
+unfolding session_of
 returns-in_err-journal-clause-safe g c told bodies at =
     same_stop g.D.Disk c.args.disk.now c.keep_doing.new.disk bodies (bodies_of (records_of (done_by c.args.doing)))
     c.args.self.journal.limit _ _ c.in_err-journal.field-0.0 c.from_residual.result (search rules)
-    (c.in_err-journal.ensures.safe told bodies (session_of c.args.self) at c.requires.may)
+    (c.in_err-journal.ensures.safe told bodies (session_of c.args.self) at c.requires.may
+    (sound_then (done_by c.args.doing) c.args.self.session c.requires.may c.requires.apart c.release-session.ensures.made c.release-session.ensures.sound))
 
 pub next-requires : goal.next-requires
 unfolding session_of
-next-requires g c = c.requires.may
+next-requires g c =
+    subst (λ (s : Session). MayDo (done_by c.args.doing) s) (sym c.release-session.ensures.same) c.requires.may
 
 pub returns-in_err-session-clause-safe : goal.returns-in_err-session-clause-safe
+unfolding session_of
 returns-in_err-session-clause-safe g c told bodies at =
     ran_out g.D.Disk c.args.disk.now c.keep_doing.new.disk bodies (bodies_of (records_of (done_by c.args.doing)))
     c.args.self.journal.limit _ c.from_residual-in_err-session.result (search rules)
-    (c.in_ok-journal.ensures.safe told bodies (session_of c.args.self) at c.requires.may).moments
+    (c.in_ok-journal.ensures.safe told bodies (session_of c.args.self) at c.requires.may
+    (sound_then (done_by c.args.doing) c.args.self.session c.requires.may c.requires.apart c.release-session.ensures.made c.release-session.ensures.sound)).moments
+
+-- the session's world stays one that records made, and sound
+pub new-requires-clause-made : goal.new-requires-clause-made
+unfolding session_of
+new-requires-clause-made g c =
+    let s = c.args.self.session in
+    subst IsMadeWorld (sym (ap (λ (x : Session). x.world) (c.in_ok-session.ensures.session
+    ∙ ap (λ (x : Session). settled_session (after (done_by c.args.doing) x)) c.release-session.ensures.same)))
+    (made_then (done_by c.args.doing) s c.requires.may c.release-session.ensures.made)
+
+pub new-requires-clause-sound : goal.new-requires-clause-sound
+unfolding session_of
+new-requires-clause-sound g c =
+    let s = c.args.self.session in
+    subst IsSoundWorld (sym (ap (λ (x : Session). x.world) (c.in_ok-session.ensures.session
+    ∙ ap (λ (x : Session). settled_session (after (done_by c.args.doing) x)) c.release-session.ensures.same)))
+    (sound_then (done_by c.args.doing) s c.requires.may c.requires.apart c.release-session.ensures.made
+    c.release-session.ensures.sound)
 
 pub returns-clause-session : goal.returns-clause-session
 unfolding session_of
-returns-clause-session g c = c.in_ok-session.ensures.session
+returns-clause-session g c =
+    c.new.ensures ∙ c.in_ok-session.ensures.session
+    ∙ ap (λ (x : Session). settled_session (after (done_by c.args.doing) x)) c.release-session.ensures.same
 
 pub returns-clause-emissions : goal.returns-clause-emissions
 unfolding session_of
-returns-clause-emissions g c = c.in_ok-session.ensures.emissions
+returns-clause-emissions g c =
+    c.in_ok-session.ensures.emissions
+    ∙ ap (λ (x : Session). emissions (after (done_by c.args.doing) x)) c.release-session.ensures.same
 
 pub returns-clause-safe : goal.returns-clause-safe
 unfolding session_of
@@ -49,17 +78,19 @@ returns-clause-safe g c told bodies at =
     let more = bodies_of (records_of (done_by c.args.doing)) in
     answered g.D.Disk c.args.disk.now c.keep_doing.new.disk bodies more c.args.self.journal.limit _
     (λ p. IsAt g.D.Disk c.keep_doing.new.disk p.0) _ _
-    (c.in_ok-journal.ensures.safe told bodies c.args.self.session at c.requires.may)
+    (c.in_ok-journal.ensures.safe told bodies c.args.self.session at c.requires.may
+    (sound_then (done_by c.args.doing) c.args.self.session c.requires.may c.requires.apart c.release-session.ensures.made c.release-session.ensures.sound))
     (λ holds. subst (λ (x : Session). Holds g.D.Disk c.keep_doing.new.disk c.in_ok-journal.journal
-    (bodies ++ more) x.world) (sym c.in_ok-session.ensures.session) holds)
+    (bodies ++ more) x.world) (sym (c.new.ensures ∙ c.in_ok-session.ensures.session
+    ∙ ap (λ (x : Session). settled_session (after (done_by c.args.doing) x)) c.release-session.ensures.same)) holds)
 
 -- nothing was to be emitted before, so nothing is
 pub returns-clause-idle : goal.returns-clause-idle
 unfolding session_of
 returns-clause-idle g c is =
-    let s = c.args.self.session in (
-      c.in_ok-session.ensures.session ∙ ap (λ (d : Doing). settled_session (after d s)) is
-          ∙ c.next.ensures.before.same,
+    let s = c.release-session.result in (
+      c.new.ensures ∙ c.in_ok-session.ensures.session ∙ ap (λ (d : Doing). settled_session (after d s)) is
+          ∙ c.next.ensures.before.same ∙ c.release-session.ensures.same,
       c.in_ok-session.ensures.emissions ∙ ap (λ (d : Doing). emissions (after d s)) is
           ∙ c.next.ensures.before.quiet,
     )

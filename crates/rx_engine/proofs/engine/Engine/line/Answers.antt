@@ -9,10 +9,10 @@ use Rattle.rx_store.proofs.Growing.{stays}
 use Rattle.rx_engine.specs.Engine.{session_of, limit_of}
 use Rattle.rx_engine.specs.Lines.{outcome}
 use Rattle.rx_engine.specs.Meaning.{meaning, lines_of}
-use Rattle.rx_engine.specs.Shown.{doing_of}
+use Rattle.rx_engine.specs.Shown.{doing_of, WritesNoExchange}
 use Rattle.rx_engine.proofs.Idle.{alone, leaves, no_answer}
 use Rattle.rx_engine.proofs.Keeping.{by_doing}
-use Rattle.rx_engine.proofs.Outcomes.{refused_idle, restarts_only}
+use Rattle.rx_engine.proofs.Outcomes.{refused_idle, restarts_only, writes_no_exchange}
 use Rattle.rx_engine.proofs.engine.Engine.line.Goals as goal
 
 pub returns-in_err-doing-clause-safe : goal.returns-in_err-doing-clause-safe
@@ -25,6 +25,12 @@ returns-in_err-doing-clause-safe g c told bodies at =
 pub carry_out-requires-clause-may : goal.carry_out-requires-clause-may
 unfolding session_of
 carry_out-requires-clause-may g c = c.in_ok-doing.ensures.may
+
+pub carry_out-requires-clause-apart : goal.carry_out-requires-clause-apart
+unfolding session_of
+carry_out-requires-clause-apart g c =
+    subst WritesNoExchange (sym c.in_ok-doing.ensures.doing)
+    (writes_no_exchange c.args.text.now c.args.self.session)
 
 pub returns-in_err-engine-clause-safe : goal.returns-in_err-engine-clause-safe
 unfolding meaning session_of
@@ -50,10 +56,12 @@ returns-in_err-engine-clause-idle g c idle = (
 pub returns-in_err-add_lines-clause-safe : goal.returns-in_err-add_lines-clause-safe
 unfolding meaning session_of
 returns-in_err-add_lines-clause-safe g c told bodies at =
+    let is : c.from_residual-in_err-add_lines.result ≡ Err Memory =
+    search (rules, c.from_residual-in_err-add_lines.ensures) in
     let safe = by_doing g.D.Disk c.args.disk.now c.carry_out.new.disk bodies (limit_of c.args.self) _ _ _ _
     c.in_ok-doing.ensures.doing (c.in_ok-engine.ensures.safe told bodies at) in
     ran_out g.D.Disk c.args.disk.now c.carry_out.new.disk bodies _ (limit_of c.args.self) _
-    c.from_residual-in_err-add_lines.result (search rules) safe.moments
+    c.from_residual-in_err-add_lines.result is safe.moments
 
 pub returns-in_err-add_lines-clause-idle : goal.returns-in_err-add_lines-clause-idle
 unfolding session_of

@@ -2,6 +2,8 @@ use Rattle.std.proofs.Common.{◌++◌, ◌∷◌, [], Ok, Err, ◌∙◌, ap, s
 use Rattle.rx_session.specs.Session.{Session}
 use Rattle.rx_store.specs.Holds.{Holds}
 use Rattle.rx_store.proofs.Crashes.{answered, same_stop}
+use Rattle.rx_world.specs.Made.{IsMadeWorld}
+use Rattle.rx_world.specs.Sound.{IsSoundWorld}
 use Rattle.rx_engine.specs.Engine.{IsAt, session_of}
 use Rattle.rx_engine.specs.Opening.{epoch_body, session_on, opened}
 use Rattle.rx_engine.proofs.Opened.{not_begun, untouched}
@@ -13,21 +15,29 @@ returns-in_err-journal-clause-safe g c told bodies w lawful =
     c.in_err-journal.field-0.0 c.from_residual-in_err-journal.result (search rules)
     (c.in_err-journal.ensures.safe told bodies w lawful)
 
+pub new-sound-requires-clause-made : goal.new-sound-requires-clause-made
+new-sound-requires-clause-made g c =
+    subst IsMadeWorld (sym (ap (λ (x : Session). x.world) c.new-session.ensures)) c.in_ok-journal.ensures.made
+
+pub new-sound-requires-clause-sound : goal.new-sound-requires-clause-sound
+new-sound-requires-clause-sound g c =
+    subst IsSoundWorld (sym (ap (λ (x : Session). x.world) c.new-session.ensures)) c.in_ok-journal.ensures.sound
+
 pub returns-clause-opened : goal.returns-clause-opened
 unfolding session_of opened
 returns-clause-opened g c told bodies w lawful =
-    c.new-session.ensures ∙ ap session_on (c.in_ok-journal.ensures.opened told bodies w lawful)
+    c.new-sound.ensures ∙ c.new-session.ensures ∙ ap session_on (c.in_ok-journal.ensures.opened told bodies w lawful)
 
 pub returns-clause-begun : goal.returns-clause-begun
 unfolding session_of opened
 returns-clause-begun g c =
     let begun = c.in_ok-journal.ensures.begun in
-    (begun.0, c.new-session.ensures ∙ ap session_on begun.1)
+    (begun.0, c.new-sound.ensures ∙ c.new-session.ensures ∙ ap session_on begun.1)
 
 pub returns-clause-safe : goal.returns-clause-safe
 unfolding session_of opened
 returns-clause-safe g c told bodies w lawful =
-    let session = c.new-session.ensures ∙ ap session_on (c.in_ok-journal.ensures.opened told bodies w lawful) in
+    let session = c.new-sound.ensures ∙ c.new-session.ensures ∙ ap session_on (c.in_ok-journal.ensures.opened told bodies w lawful) in
     answered g.D.Disk c.args.disk.now c.open.new.disk bodies (epoch_body w ∷ []) c.args.limit _
     (IsAt g.D.Disk c.open.new.disk) _ _ (c.in_ok-journal.ensures.safe told bodies w lawful)
     (λ holds. subst (λ (s : Session). Holds g.D.Disk c.open.new.disk c.in_ok-journal.field-0.journal

@@ -8,7 +8,10 @@ use Rattle.rx_store.specs.Holds.{Holds}
 use Rattle.rx_store.specs.Safe.{IsCrashSafe}
 use Rattle.rx_store.proofs.Crashes.{answered, ran_out, same_stop}
 use Rattle.rx_store.proofs.Growing.{held_legal}
+use Rattle.rx_world.specs.Made.{IsMadeWorld}
+use Rattle.rx_world.specs.Sound.{IsSoundWorld}
 use Rattle.rx_world.specs.Step.{step}
+use Rattle.rx_engine.proofs.Keeping.{made_then}
 use Rattle.rx_world.specs.World.{World}
 use Rattle.rx_engine.specs.Engine.{IsAt, session_of}
 use Rattle.rx_engine.proofs.Opened.{by_number}
@@ -33,7 +36,8 @@ returns-then-not-is_next-clause-safe g c told bodies at =
     let legal = held_legal g.D.Disk c.args.disk.now c.args.self.journal bodies w at in
     let opened = c.in_ok-journal.ensures.opened told bodies w legal in
     let goes : c.is_next.result ≡ true =
-    c.is_next.ensures.1 (opened ∙ ap (λ (n : ℕ). step (epoch n) w) (sym c.requires.next)) in
+    c.is_next.ensures.1 (opened ∙ ap (λ (n : ℕ). step (epoch n) w) (sym c.requires.next)
+    ∙ sym (ap (λ (x : Session). step (epoch c.args.epoch) x.world) c.release-session.ensures.same)) in
     let not : c.is_next.result ≡ false = search rules in
     absurd (true≢false (sym goes ∙ not))
 
@@ -49,6 +53,30 @@ returns-in_err-session-clause-safe g c told bodies at =
     ran_out d c.args.disk.now c.open.new.disk bodies (content_bytes (epoch c.args.epoch) ∷ []) old.limit _
     c.from_residual-in_err-session.result (search rules) safe.moments
 
+-- the world is the one before, in its next epoch
+pub new-requires-clause-made : goal.new-requires-clause-made
+unfolding session_of
+new-requires-clause-made g c =
+    let s = c.args.self.session in
+    let goes : c.is_next.result ≡ true = search rules in
+    let number : (world_of c.in_ok-journal.field-0.world).epoch ≡ c.args.epoch =
+    ap (λ (x : World). x.epoch) (c.is_next.ensures.0 goes) in
+    let is = ap (λ (x : Session). x.world) (c.in_ok-session.ensures.session
+    ∙ ap (λ (n : ℕ). settled_session (after (restart n) c.release-session.result)) number
+    ∙ ap (λ (x : Session). settled_session (after (restart c.args.epoch) x)) c.release-session.ensures.same) in
+    subst IsMadeWorld (sym is) (made_then (restart c.args.epoch) s c.requires.next c.release-session.ensures.made)
+
+pub new-requires-clause-sound : goal.new-requires-clause-sound
+unfolding session_of
+new-requires-clause-sound g c =
+    let goes : c.is_next.result ≡ true = search rules in
+    let number : (world_of c.in_ok-journal.field-0.world).epoch ≡ c.args.epoch =
+    ap (λ (x : World). x.epoch) (c.is_next.ensures.0 goes) in
+    let is = ap (λ (x : Session). x.world) (c.in_ok-session.ensures.session
+    ∙ ap (λ (n : ℕ). settled_session (after (restart n) c.release-session.result)) number
+    ∙ ap (λ (x : Session). settled_session (after (restart c.args.epoch) x)) c.release-session.ensures.same) in
+    subst IsSoundWorld (sym is) c.release-session.ensures.sound
+
 pub returns-clause-session : goal.returns-clause-session
 unfolding session_of
 returns-clause-session g c =
@@ -56,7 +84,9 @@ returns-clause-session g c =
     let goes : c.is_next.result ≡ true = search rules in
     let number : (world_of c.in_ok-journal.field-0.world).epoch ≡ c.args.epoch =
     ap (λ (x : World). x.epoch) (c.is_next.ensures.0 goes) in
-    c.in_ok-session.ensures.session ∙ ap (λ (n : ℕ). settled_session (after (restart n) s)) number
+    c.new.ensures ∙ c.in_ok-session.ensures.session
+    ∙ ap (λ (x : Session). settled_session (after (restart (world_of c.in_ok-journal.field-0.world).epoch) x))
+    c.release-session.ensures.same ∙ ap (λ (n : ℕ). settled_session (after (restart n) s)) number
 
 pub returns-clause-quiet : goal.returns-clause-quiet
 unfolding session_of
@@ -65,7 +95,9 @@ returns-clause-quiet g c =
     let goes : c.is_next.result ≡ true = search rules in
     let number : (world_of c.in_ok-journal.field-0.world).epoch ≡ c.args.epoch =
     ap (λ (x : World). x.epoch) (c.is_next.ensures.0 goes) in
-    sym (ap (λ (n : ℕ). emissions (after (restart n) s)) number) ∙ c.in_ok-session.ensures.emissions
+    sym (ap (λ (n : ℕ). emissions (after (restart n) s)) number)
+    ∙ sym (ap (λ (x : Session). emissions (after (restart (world_of c.in_ok-journal.field-0.world).epoch) x))
+    c.release-session.ensures.same) ∙ c.in_ok-session.ensures.emissions
 
 pub returns-clause-safe : goal.returns-clause-safe
 unfolding session_of
@@ -78,8 +110,10 @@ returns-clause-safe g c told bodies at =
     let goes : c.is_next.result ≡ true = search rules in
     let number : (world_of c.in_ok-journal.field-0.world).epoch ≡ c.args.epoch =
     ap (λ (x : World). x.epoch) (c.is_next.ensures.0 goes) in
-    let session : c.in_ok-session.session ≡ settled_session (after (restart c.args.epoch) s) =
-    c.in_ok-session.ensures.session ∙ ap (λ (n : ℕ). settled_session (after (restart n) s)) number in
+    let session : c.new.result ≡ settled_session (after (restart c.args.epoch) s) =
+    c.new.ensures ∙ c.in_ok-session.ensures.session
+    ∙ ap (λ (x : Session). settled_session (after (restart (world_of c.in_ok-journal.field-0.world).epoch) x))
+    c.release-session.ensures.same ∙ ap (λ (n : ℕ). settled_session (after (restart n) s)) number in
     let safe = by_number d c.args.disk.now c.open.new.disk bodies s.world c.args.epoch old.limit c.requires.next _ _
     (c.in_ok-journal.ensures.safe told bodies s.world legal) in
     answered d c.args.disk.now c.open.new.disk bodies (content_bytes (epoch c.args.epoch) ∷ []) old.limit _
@@ -88,3 +122,9 @@ returns-clause-safe g c told bodies at =
     (sym session)
     (subst (λ (n : ℕ). Holds d c.open.new.disk new (bodies ++ content_bytes (epoch c.args.epoch) ∷ []) (step (epoch n) s.world))
     (sym c.requires.next) holds))
+
+pub returns-clause-cause : goal.returns-clause-cause
+returns-clause-cause g c = record {
+  later = c.in_ok-journal.ensures.cause.later;
+  failed = λ is. absurd (cc);
+}
