@@ -6,7 +6,7 @@ use std::alloc::{AllocError, Global};
 use std::test::Fail;
 
 // The indexes of the collection, in turn.
-const INDEXES: [&str; 8] = [
+pub const INDEXES: [&str; 8] = [
     "[]",
     r#"["n"]"#,
     r#"["b"]"#,
@@ -158,7 +158,6 @@ const RANKED: &str =
 {"do":"observe","name":"q","in":"c","query":{"selector":{"n":0}}}
 "#;
 
-// Indexes 1 and 2 are those of the plans below; index 0 is the primary key's.
 // A collection with indexes to be named.
 const COLLECTION: &str =
     r#"> {"do":"collection","name":"c","schema":{"version":0,"primaryKey":"id","type":"object","properties":{"id":{"type":"string","maxLength":20},"b":{"type":"boolean"},"n":{"type":"integer","minimum":-200,"maximum":200,"multipleOf":1},"s":{"type":"string","maxLength":5}},"indexes":INDEXES}}

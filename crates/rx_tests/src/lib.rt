@@ -7,6 +7,8 @@ mod bytes;
 #[cfg(test)]
 mod case;
 #[cfg(test)]
+mod counted;
+#[cfg(test)]
 mod endless;
 #[cfg(test)]
 mod explained;
@@ -26,9 +28,13 @@ mod many;
 #[cfg(test)]
 mod pages;
 #[cfg(test)]
+mod planned;
+#[cfg(test)]
 mod played;
 #[cfg(test)]
 mod queries;
+#[cfg(test)]
+mod random;
 #[cfg(test)]
 mod reading;
 #[cfg(test)]

@@ -1,7 +1,6 @@
 // A random script over eight observed queries of all kinds. After each write each query is asked
 // again by a `find` line, whose rows have to be those that its last emission showed.
-ghost use Rattle.std.specs.Prelude.{◌<◌};
-
+use crate::random::Random;
 use crate::run::{RUN, Setting, run};
 use crate::short::script_line;
 use std::alloc::{AllocError, Global};
@@ -51,7 +50,7 @@ fn random_script(alloc: Global) -> Result<String, AllocError> {
         )?;
         script.push_str(line.as_str())?;
     }
-    let mut random = Random { state: 7 };
+    let mut random = Random::new(7);
     for _ in 0..WRITES {
         add_write(alloc, &mut random, &mut script)?;
         add_finds(alloc, &mut script)?;
@@ -90,24 +89,6 @@ fn add_finds(alloc: Global, script: &mut String) -> Result<(), AllocError> {
         script.push_str(line.as_str())?;
     }
     Ok(())
-}
-
-// Numbers that look random, the same in each run.
-#[derive(Drop)]
-struct Random {
-    state: u64,
-}
-
-impl Random {
-    fn below(&mut self, limit: u64) -> u64
-        requires { 0 < limit }
-    {
-        self.state = self
-            .state
-            .wrapping_mul(6_364_136_223_846_793_005)
-            .wrapping_add(1_442_695_040_888_963_407);
-        (self.state >> 33) % limit
-    }
 }
 
 // What each query showed last, and how many lines were read.

@@ -10,14 +10,19 @@ use std::test::Fail;
 // ends.
 const EXACT: usize = 65_523;
 
+// Adds a body of so many bytes.
+fn add_body(bytes: &mut Vec<u8>, len: usize) -> Result<(), Fail> {
+    for i in 0..len {
+        bytes.push((i % 251) as u8)?;
+    }
+    Ok(())
+}
+
 // Adds a record whose body has so many bytes.
 fn add_record(file: &mut Vec<u8>, len: usize) -> Result<(), Fail> {
     file.push(OPEN_GATE)?;
     file.extend_from_slice(&u32::try_from(len).unwrap_or(0).to_be_bytes())?;
-    for i in 0..len {
-        file.push((i % 251) as u8)?;
-    }
-    Ok(())
+    add_body(file, len)
 }
 
 // A file of bodies with so many bytes each.
@@ -84,9 +89,7 @@ fn due_of(alloc: Global, lens: &[usize]) -> Result<Vec<u8>, Fail> {
     let mut all = Vec::new(alloc);
     for len in lens {
         all.extend_from_slice(&(*len as u64).to_be_bytes())?;
-        for i in 0..*len {
-            all.push((i % 251) as u8)?;
-        }
+        add_body(&mut all, *len)?;
     }
     Ok(all)
 }

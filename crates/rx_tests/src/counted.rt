@@ -1,0 +1,308 @@
+// Counts: by hand, and of random queries over random documents, which are the same by each index.
+use crate::case::{PIECE, play};
+use crate::indexed::INDEXES;
+use crate::random::Random;
+use crate::run::{RUN, Setting, run};
+use std::alloc::{AllocError, Global};
+use std::test::Fail;
+
+#[test]
+fn counts_by_hand_are_the_same_by_each_index(rt: HostRuntime) -> Result<(), Fail> {
+    let alloc = rt.alloc();
+    for indexes in INDEXES {
+        let mut facts = format!(in alloc; "> {}\n< made\n", COLLECTION)?
+            .as_str()
+            .replace(alloc, "INDEXES", indexes)?;
+        facts.push_str(FACTS)?;
+        play(alloc, PIECE, indexes, facts.as_str())?;
+    }
+    Ok(())
+}
+
+// Of 1,000 documents whose number is their place, and whose flag is set where it is odd.
+#[test]
+fn a_count_is_that_of_the_keys_between_its_bounds(rt: HostRuntime) -> Result<(), Fail> {
+    let alloc = rt.alloc();
+    let mut script = COLLECTION.replace(alloc, "INDEXES", r#"["s",["b","n"]]"#)?;
+    script.push_str("\n{\"do\":\"bulk\",\"in\":\"c\",\"docs\":[")?;
+    for i in 0..1_000u64 {
+        let comma = if i == 0 { "" } else { "," };
+        let is_odd = i % 2 == 1;
+        let doc = format!(in alloc; "{comma}{{\"id\":\"t{i}\",\"b\":{is_odd},\"n\":{i}}}")?;
+        script.push_str(doc.as_str())?;
+    }
+    script.push_str("]}\n")?;
+    script.push_str(SPANS)?;
+    let ran = run(alloc, &Setting::PLAIN, RUN, script.as_str().as_bytes(), &[])?;
+    let mut last = str::from_utf8(ran.output.as_slice())?.lines().rev();
+    assert_eq!(rt; last.next(), Some(r#"{"count":1,"line":4,"ok":"count"}"#));
+    assert_eq!(rt; last.next(), Some(r#"{"count":5,"line":3,"ok":"count"}"#));
+    Ok(())
+}
+
+const SPANS: &str = r#"{"do":"count","in":"c","query":{"selector":{"b":true,"n":{"$gte":990}}}}
+{"do":"count","in":"c","query":{"selector":{"id":"t5"}}}
+"#;
+
+const QUERIES: u64 = 300;
+
+// A script of writes and queries is answered the same by the indexes of each schema, and each count
+// is that of the rows that were found.
+#[test]
+fn random_queries_are_answered_the_same_by_each_index(rt: HostRuntime) -> Result<(), Fail> {
+    let alloc = rt.alloc();
+    let lines = random_lines(alloc)?;
+    let mut first = String::new(alloc);
+    for indexes in INDEXES {
+        let mut script = COLLECTION.replace(alloc, "INDEXES", indexes)?;
+        script.push_str(lines.as_str())?;
+        let ran = run(alloc, &Setting::PLAIN, RUN, script.as_str().as_bytes(), &[])?;
+        let output = str::from_utf8(ran.output.as_slice())?;
+        if first.is_empty() {
+            check_counts(output)?;
+            first.push_str(output)?;
+        }
+        compare(indexes, first.as_str(), output)?;
+    }
+    Ok(())
+}
+
+fn compare(indexes: &str, first: &str, output: &str) -> Result<(), Fail> {
+    let mut found = output.lines();
+    for due in first.lines() {
+        let line = found.next().unwrap_or("nothing");
+        if line != due {
+            return Err(Fail::new(format_args!("{indexes}: due is {due}, found {line}")));
+        }
+    }
+    match found.next() {
+        Some(line) => Err(Fail::new(format_args!("{indexes}: nothing is due for {line}"))),
+        None => Ok(()),
+    }
+}
+
+// Each count stands behind the rows that it counts.
+fn check_counts(output: &str) -> Result<(), Fail> {
+    let mut rows = 0;
+    let mut counts = 0u64;
+    for line in output.lines() {
+        if line.contains("\"ok\":\"find\"") {
+            rows = line.matches("\"id\":").count();
+        }
+        if let Some(rest) = line.strip_prefix("{\"count\":") {
+            let (count, _) = rest.split_once(',').unwrap_or((rest, ""));
+            let count: usize = count.parse()?;
+            if count != rows {
+                return Err(Fail::new(format_args!("{line}, of {rows} rows")));
+            }
+            counts = counts.saturating_add(1);
+        }
+    }
+    if counts != QUERIES {
+        return Err(Fail::new(format_args!("{counts} counts")));
+    }
+    Ok(())
+}
+
+// After each few writes a query, which is run and counted.
+fn random_lines(alloc: Global) -> Result<String, AllocError> {
+    let mut random = Random::new(36);
+    let mut lines = String::new(alloc);
+    lines.push('\n')?;
+    for _ in 0..QUERIES {
+        for _ in 0..random.below(4) {
+            lines.push_str(write(alloc, &mut random)?.as_str())?;
+        }
+        let query = query(alloc, &mut random)?;
+        for word in ["find", "count"] {
+            let line = format!(in alloc;
+                "{{\"do\":\"{word}\",\"in\":\"c\",\"query\":{}}}\n",
+                query.as_str()
+            )?;
+            lines.push_str(line.as_str())?;
+        }
+    }
+    Ok(lines)
+}
+
+// Fields of a document besides its key. Each of them may be missing.
+const FLAGS: [&str; 4] = ["", ",\"b\":true", ",\"b\":false", ",\"b\":true"];
+
+const NUMBERS: [&str; 6] = [
+    "",
+    ",\"n\":-1",
+    ",\"n\":0",
+    ",\"n\":1",
+    ",\"n\":2",
+    ",\"n\":7",
+];
+
+const TEXTS: [&str; 5] = [
+    "",
+    ",\"s\":\"\"",
+    ",\"s\":\"x\"",
+    ",\"s\":\"xy\"",
+    ",\"s\":\"y\"",
+];
+
+// A line that puts in a document or takes it out. Some are refused.
+fn write(alloc: Global, random: &mut Random) -> Result<String, AllocError> {
+    let key = random.below(40);
+    if random.below(4) == 0 {
+        return format!(in alloc; "{{\"do\":\"remove\",\"in\":\"c\",\"key\":\"k{key}\"}}\n");
+    }
+    let b = random.one_of(&FLAGS);
+    let n = random.one_of(&NUMBERS);
+    let s = random.one_of(&TEXTS);
+    format!(in alloc; "{{\"do\":\"upsert\",\"in\":\"c\",\"doc\":{{\"id\":\"k{key}\"{b}{n}{s}}}}}\n")
+}
+
+// What a selector asks of a field, with V and W for operands.
+const FORMS: [&str; 16] = [
+    "V",
+    "V",
+    "V",
+    r#"{"$eq":V}"#,
+    r#"{"$gt":V}"#,
+    r#"{"$gte":V}"#,
+    r#"{"$lt":V}"#,
+    r#"{"$lte":V}"#,
+    r#"{"$gt":V,"$lt":W}"#,
+    r#"{"$gte":V,"$lte":W}"#,
+    r#"{"$gt":V,"$gte":W}"#,
+    r#"{"$eq":V,"$lte":W}"#,
+    r#"{"$ne":V}"#,
+    r#"{"$in":[V,W]}"#,
+    r#"{"$exists":false}"#,
+    r#"{"$not":{"$gt":V}}"#,
+];
+
+const SORTS: [&str; 8] = [
+    "",
+    "",
+    r#","sort":[{"n":"asc"}]"#,
+    r#","sort":[{"n":"desc"}]"#,
+    r#","sort":[{"s":"asc"},{"n":"asc"}]"#,
+    r#","sort":[{"b":"asc"},{"n":"desc"}]"#,
+    r#","sort":[{"n":"asc"},{"id":"desc"}]"#,
+    r#","sort":[{"id":"desc"}]"#,
+];
+
+const WINDOWS: [&str; 8] = [
+    "",
+    "",
+    "",
+    r#","limit":1"#,
+    r#","limit":5"#,
+    r#","skip":3"#,
+    r#","skip":2,"limit":4"#,
+    r#","skip":30,"limit":30"#,
+];
+
+fn query(alloc: Global, random: &mut Random) -> Result<String, AllocError> {
+    let mut members = String::new(alloc);
+    add_member(alloc, random, "b", &["true", "false"], &mut members)?;
+    add_member(alloc, random, "n", &["-1", "0", "1", "5"], &mut members)?;
+    add_member(
+        alloc,
+        random,
+        "s",
+        &["\"\"", "\"x\"", "\"xy\"", "\"z\""],
+        &mut members,
+    )?;
+    if random.below(3) == 0 {
+        add_member(
+            alloc,
+            random,
+            "id",
+            &["\"k1\"", "\"k15\"", "\"k3\""],
+            &mut members,
+        )?;
+    }
+    let sort = random.one_of(&SORTS);
+    let window = random.one_of(&WINDOWS);
+    format!(in alloc; "{{\"selector\":{{{}}}{sort}{window}}}", members.as_str())
+}
+
+// Asks something of the field, or nothing.
+fn add_member(
+    alloc: Global,
+    random: &mut Random,
+    field: &str,
+    operands: &[&str],
+    members: &mut String,
+) -> Result<(), AllocError> {
+    if random.below(2) == 0 {
+        return Ok(());
+    }
+    let form = random.one_of(&FORMS);
+    let form = form.replace(alloc, "V", random.one_of(operands))?;
+    let form = form.as_str().replace(alloc, "W", random.one_of(operands))?;
+    let comma = if members.is_empty() { "" } else { "," };
+    let member = format!(in alloc; "{comma}\"{field}\":{}", form.as_str())?;
+    members.push_str(member.as_str())
+}
+
+// A collection with indexes to be named.
+const COLLECTION: &str =
+    r#"{"do":"collection","name":"c","schema":{"version":0,"primaryKey":"id","type":"object","properties":{"id":{"type":"string","maxLength":20},"b":{"type":"boolean"},"n":{"type":"integer","minimum":-1000,"maximum":1000,"multipleOf":1},"s":{"type":"string","maxLength":5}},"indexes":INDEXES}}"#;
+
+// Each field is missing somewhere, the text is empty once, and one document is taken out.
+const FACTS: &str =
+    r#"> {"do":"bulk","in":"c","docs":[{"b":true,"id":"a","n":1,"s":"x"},{"b":true,"id":"b","n":1},{"b":false,"id":"d","n":2,"s":""},{"b":true,"id":"e","s":"x"},{"id":"f","n":1,"s":"y"},{"b":false,"id":"g","n":2,"s":"x"},{"b":true,"id":"h","n":-3,"s":"y"}]}
+< {"line":L,"ok":"bulk","revs":["1-c","1-c","1-c","1-c","1-c","1-c","1-c"]}
+> {"do":"remove","in":"c","key":"g"}
+< {"line":L,"ok":"remove","rev":"2-c"}
+> {"do":"count","in":"c","query":{}}
+< {"count":6,"line":L,"ok":"count"}
+> {"do":"count","in":"c","query":{"selector":{"n":1}}}
+< {"count":3,"line":L,"ok":"count"}
+> {"do":"count","in":"c","query":{"selector":{"n":{"$lt":2}}}}
+< {"count":4,"line":L,"ok":"count"}
+> {"do":"count","in":"c","query":{"selector":{"n":{"$lte":-3}}}}
+< {"count":1,"line":L,"ok":"count"}
+> {"do":"count","in":"c","query":{"selector":{"n":{"$gt":1}}}}
+< {"count":1,"line":L,"ok":"count"}
+> {"do":"count","in":"c","query":{"selector":{"n":{"$gte":-3}}}}
+< {"count":5,"line":L,"ok":"count"}
+> {"do":"count","in":"c","query":{"selector":{"b":{"$gte":false}}}}
+< {"count":5,"line":L,"ok":"count"}
+> {"do":"count","in":"c","query":{"selector":{"b":{"$lt":true}}}}
+< {"count":1,"line":L,"ok":"count"}
+> {"do":"count","in":"c","query":{"selector":{"s":{"$gte":""}}}}
+< {"count":5,"line":L,"ok":"count"}
+> {"do":"count","in":"c","query":{"selector":{"s":{"$lt":"x"}}}}
+< {"count":1,"line":L,"ok":"count"}
+> {"do":"count","in":"c","query":{"selector":{"s":{"$lte":"x"}}}}
+< {"count":3,"line":L,"ok":"count"}
+> {"do":"count","in":"c","query":{"selector":{"b":true,"n":{"$gte":1}}}}
+< {"count":2,"line":L,"ok":"count"}
+> {"do":"count","in":"c","query":{"selector":{"b":true,"n":{"$lt":2}}}}
+< {"count":3,"line":L,"ok":"count"}
+> {"do":"count","in":"c","query":{"selector":{"b":true,"n":{"$gte":-3,"$lt":1}}}}
+< {"count":1,"line":L,"ok":"count"}
+> {"do":"count","in":"c","query":{"selector":{"b":true,"n":{"$gt":3,"$lt":1}}}}
+< {"count":0,"line":L,"ok":"count"}
+> {"do":"count","in":"c","query":{"selector":{"b":true,"s":"x"}}}
+< {"count":2,"line":L,"ok":"count"}
+> {"do":"count","in":"c","query":{"selector":{"b":true,"n":{"$gte":1},"s":"x"}}}
+< {"count":1,"line":L,"ok":"count"}
+> {"do":"count","in":"c","query":{"selector":{"n":{"$gt":0,"$gte":1,"$lt":2,"$lte":2}}}}
+< {"count":3,"line":L,"ok":"count"}
+> {"do":"count","in":"c","query":{"selector":{"n":{"$eq":1,"$gt":1}}}}
+< {"count":0,"line":L,"ok":"count"}
+> {"do":"count","in":"c","query":{"selector":{"n":{"$gte":1,"$ne":2}}}}
+< {"count":3,"line":L,"ok":"count"}
+> {"do":"count","in":"c","query":{"selector":{"id":{"$gt":"b"}}}}
+< {"count":4,"line":L,"ok":"count"}
+> {"do":"count","in":"c","query":{"selector":{"id":{"$lte":"b"}}}}
+< {"count":2,"line":L,"ok":"count"}
+> {"do":"count","in":"c","query":{"selector":{"n":1},"skip":1}}
+< {"count":2,"line":L,"ok":"count"}
+> {"do":"count","in":"c","query":{"selector":{"n":1},"limit":2}}
+< {"count":2,"line":L,"ok":"count"}
+> {"do":"count","in":"c","query":{"selector":{"n":1},"limit":9,"skip":2}}
+< {"count":1,"line":L,"ok":"count"}
+> {"do":"count","in":"c","query":{"skip":7,"sort":[{"n":"desc"}]}}
+< {"count":0,"line":L,"ok":"count"}
+"#;
