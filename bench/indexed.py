@@ -4,11 +4,11 @@
     bench/indexed.py [PROGRAM] [FOLDER]
 
 100,000 documents stand in an index by group and number. Both peers are asked for one document by its key, for a
-range of a group with a limit, for the first 20 of a group by number, and for the count of a group; then a mix of
-these and of upserts. sqlite3 has a database in the same folder, in WAL mode with synchronous=FULL, and gives
-rows as JSON too. What it takes to make the documents is taken off both; the two take turns, three runs each, and
-the best time counts. Then the cost of one upsert with 0, 1, 4 and 16 indexes as the collection grows, and what a
-document takes in memory with them.
+range of a group with a limit, for the first 20 of a group by number, for the count of a group, and for that of
+a group from a number on; then a mix of the first ones and of upserts. sqlite3 has a database in the same
+folder, in WAL mode with synchronous=FULL, and gives rows as JSON too. What it takes to make the documents is
+taken off both; the two take turns, three runs each, and the best times count. Then the cost of one upsert with
+0, 1, 4 and 16 indexes as the collection grows, and what a document takes in memory with them.
 """
 import os
 import random
@@ -82,6 +82,12 @@ def count(numbers):
     return line, f"SELECT count(*) FROM c WHERE g={group};"
 
 
+def count_from(numbers):
+    group, low = numbers.randrange(256), numbers.randrange(1_000_003)
+    line = compact({"do": "count", "in": "c", "query": {"selector": {"g": group, "n": {"$gte": low}}}})
+    return line, f"SELECT count(*) FROM c WHERE g={group} AND n>={low};"
+
+
 def upsert(numbers):
     key, group, n = f"k{numbers.randrange(COUNT)}", numbers.randrange(256), numbers.randrange(1_000_003)
     line = compact({"do": "upsert", "in": "c", "doc": {"id": key, "g": group, "n": n}})
@@ -97,14 +103,19 @@ def run(command, lines):
         return measure([*command, os.path.join(folder, "file")], lines)
 
 
+def added(whole, begun):
+    """The best time of the whole runs beyond the best of their beginnings, and the greatest peak."""
+    return min(whole)[0] - min(begun)[0], max(peak for _, peak in whole)
+
+
 def compare(load, one):
     numbers = random.Random(load)
     pairs = [one(numbers) for _ in range(LINES)]
     ours, theirs = [pair[0] for pair in pairs], [pair[1] for pair in pairs]
     rx, peer, start, start_in_sql = [program(), "run"], [sqlite(), "-batch"], made(), made_in_sql()
     rows = [(run(rx, start + ours), run(rx, start), run(peer, start_in_sql + theirs), run(peer, start_in_sql)) for _ in range(RUNS)]
-    seconds = report(load, "rx", LINES, [(whole[0] - begun[0], whole[1]) for whole, begun, _, _ in rows])
-    peer_seconds = report(load, "sqlite3", LINES, [(whole[0] - begun[0], whole[1]) for _, _, whole, begun in rows])
+    seconds = report(load, "rx", LINES, [added([row[0] for row in rows], [row[1] for row in rows])])
+    peer_seconds = report(load, "sqlite3", LINES, [added([row[2] for row in rows], [row[3] for row in rows])])
     print(f"{load}: rx takes {seconds / peer_seconds:.2f} times the time of sqlite3", flush=True)
 
 
@@ -135,7 +146,7 @@ def growth(indexes):
 
 
 def main():
-    for load, one in (("by key", point), ("range", part), ("first 20", first), ("count", count), ("mixed", mixed)):
+    for load, one in (("by key", point), ("range", part), ("first 20", first), ("count", count), ("count from", count_from), ("mixed", mixed)):
         compare(load, one)
     for indexes in (0, 1, 4, 16):
         growth(indexes)
