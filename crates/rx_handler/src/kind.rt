@@ -5,7 +5,7 @@ pub enum HandlerKind {
     MasterWins,
     /// The fork's.
     ForkWins,
-    /// The one with the greater number in a field, the master's where neither has.
+    /// The one with the greater number in a field; the master's on a tie, or where one has none.
     Greater,
     /// Both together: of each field the greater value.
     Join,
