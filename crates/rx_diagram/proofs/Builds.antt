@@ -147,14 +147,6 @@ is_later mid late old i k m nd level_is a b =
     side true = b.from
     side false = from_longer mid late b.grown (i + 1) nd.no a.from
 
--- where there are no nodes all is well
-pub no_nodes_reduced : IsReduced []
-no_nodes_reduced = record {
-  ordered = λ answer j k lt. absurd (omega arith);
-  two_edges = λ j lt. absurd (omega arith);
-  one_node = λ j k lt. absurd (omega arith);
-}
-
 -- an edge leads to one node alone
 to_other : (k j : ℕ) → k ≢ j → is_to j (To k) ≡ false
 to_other k j ne = grind (arith, nat_tests)

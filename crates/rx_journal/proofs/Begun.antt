@@ -11,79 +11,6 @@ use Rattle.rx_journal.specs.Windows.{place_of, left, LendAll, Begin}
 use Rattle.rx_journal.specs.declared.windows.Windows.{Windows}
 use Rattle.rx_journal.proofs.Holding.{none_held}
 
--- a file with a header holds its bodies behind it
-pub held_whole : (content bytes : List ℕ) (bodies : List (List ℕ)) → content ≡ header ++ bytes
-    → IsWhole content bodies → end_of bodies < 2 ^ 32 → Hold 8 bytes bodies
-held_whole content bytes bodies split whole short = record {
-  gate = whole.gate;
-  rest = whole.rest;
-  closed = whole.closed;
-  fit = whole.fit;
-  split = append_cancel_left header bytes (records bodies ++ whole.gate ∷ whole.rest) (sym split ∙ whole.split);
-  short = omega (arith, short);
-}
-
-pub whole_held : (content bytes : List ℕ) (bodies : List (List ℕ)) → content ≡ header ++ bytes
-    → Hold 8 bytes bodies → IsWhole content bodies × (end_of bodies < 2 ^ 32)
-whole_held content bytes bodies split h = (
-  record {
-    gate = h.gate;
-    rest = h.rest;
-    closed = h.closed;
-    fit = h.fit;
-    split = split ∙ ap (λ (l : List ℕ). header ++ l) h.split;
-  },
-  omega (arith, h.short),
-)
-
--- ---- a file with a header
-
-module _ (content bytes : List ℕ) (split : content ≡ header ++ bytes)
-    (begun : length content ≤ 9 → IsWhole content []) where
-  pub stands_held : (bodies : List (List ℕ)) → StandsFor content bodies → end_of bodies < 2 ^ 32
-      → Hold 8 bytes bodies
-  stands_held bodies (inr whole) short = held_whole content bytes bodies split whole short
-  stands_held bodies (inl brief) short =
-      held_whole content bytes bodies split
-      (subst (λ (bs : List (List ℕ)). IsWhole content bs) (sym brief.1) (begun brief.0)) short
-
-  pub held_stands : (bodies : List (List ℕ)) → Hold 8 bytes bodies
-      → StandsFor content bodies × (end_of bodies < 2 ^ 32)
-  held_stands bodies h =
-      let whole = whole_held content bytes bodies split h in
-      (inr whole.0, whole.1)
-
-pub found_all : (content : List ℕ) (w : Windows) → place_of w ≡ 8 → content ≡ header ++ left w content
-    → (length content ≤ 9 → IsWhole content []) → LendAll content content w
-found_all content w at split begun = record {
-  to_come = λ bodies stands short.
-      subst (λ (n : ℕ). Hold n (left w content) bodies) (sym at)
-      (stands_held content (left w content) split begun bodies stands short);
-  stood = λ bodies h.
-      held_stands content (left w content) split begun bodies
-      (subst (λ (n : ℕ). Hold n (left w content) bodies) at h);
-}
-
-module _ {D : Type 0} (d : Ghosts D) (old new : D) (w : Windows) (at : place_of w ≡ 8)
-    (same : d.content new ≡ d.content old) (split : d.content old ≡ header ++ left w (d.content old))
-    (begun : length (d.content old) ≤ 9 → IsWhole (d.content old) [])
-    (durable : Only (d.content old) (d.image new)) where
-  pub begins_found : Begin d old new w
-  begins_found = record {
-    all = subst (λ (l : List ℕ). LendAll (d.content old) l w) (sym same)
-        (found_all (d.content old) w at split begun);
-    none_yet = record {
-      fit = tt;
-      split = subst (λ (l : List ℕ). l ≡ header ++ left w l) (sym same) split;
-      at = at;
-      durable = λ c now. durable c now ∙ sym same;
-    };
-    stood = λ bodies whole. inr (subst (λ (l : List ℕ). IsWhole l bodies) same whole);
-    long = λ long. same;
-    begun = λ whole. same;
-    made = λ short none. absurd (none (begun short));
-  }
-
 -- ---- a file that isn't begun
 
 -- a closed gate is left, and nothing else
@@ -143,42 +70,13 @@ module _ {D : Type 0} (d : Ghosts D) (old new : D) (w : Windows) (at : place_of 
 
 -- ---- the first bytes of a file
 
--- what begins with a header and a closed gate
-pub closed_whole : (bytes : List ℕ) → take 8 bytes ≡ header → 8 < length bytes
-    → (get_or bytes 8 0 ≡ 1 → ⊥) → IsWhole bytes []
-closed_whole bytes starts long shut = record {
-  gate = get_or bytes 8 0;
-  rest = drop 9 bytes;
-  closed = shut;
-  fit = tt;
-  split = sym (take-append-drop 8 bytes) ∙ ap (λ (l : List ℕ). l ++ drop 8 bytes) starts
-      ∙ ap (λ (l : List ℕ). header ++ l) (drop_more bytes 8 0 long);
-}
-
 pub whole_begins : (bytes : List ℕ) (bodies : List (List ℕ)) → IsWhole bytes bodies → take 8 bytes ≡ header
 whole_begins bytes bodies whole = ap (λ (l : List ℕ). take 8 l) whole.split
-
-pub whole_long : (bytes : List ℕ) → IsWhole bytes [] → 8 < length bytes
-whole_long bytes whole = omega (arith, ap length whole.split)
-
-pub whole_closed : (bytes : List ℕ) → IsWhole bytes [] → get_or bytes 8 0 ≡ 1 → ⊥
-whole_closed bytes whole is = whole.closed (sym (ap (λ (l : List ℕ). get_or l 8 0) whole.split) ∙ is)
 
 -- the front of a file of which more than a header was read
 pub front_of : (content held behind : List ℕ) → held ++ behind ≡ content → 8 ≤ length held
     → take 8 held ≡ take 8 content
 front_of content held behind is long = sym (take-append-le 8 held behind long) ∙ ap (λ (l : List ℕ). take 8 l) is
-
--- a file that a window begins, and goes on behind the header
-pub behind_header : (content held : List ℕ) → held ++ drop (length held) content ≡ content → 8 ≤ length held
-    → take 8 held ≡ header → content ≡ header ++ (drop 8 held ++ drop (8 + length (drop 8 held)) content)
-behind_header content held is long starts =
-    sym is ∙ ap (λ (l : List ℕ). l ++ drop (length held) content) (sym (take-append-drop 8 held))
-    ∙ append_assoc (take 8 held) (drop 8 held) (drop (length held) content)
-    ∙ (λ i. starts i ++ (drop 8 held ++ drop (same i) content))
-  where
-    same : length held ≡ 8 + length (drop 8 held)
-    same = omega (arith, long, length-drop 8 held)
 
 -- what is ahead of an empty window at the start is the file
 pub whole_ahead : (content old : List ℕ) → old ≡ [] → old ++ drop (0 + length old) content ≡ content

@@ -81,15 +81,4 @@ module _ {D : Type 0} (d : Ghosts D) where
       let short : end_of bodies < 2 ^ 32 = omega (arith, ready.ends, journal.short) in
       started d disk (StandsForFront bodies more)
       (λ c left. none_yet bodies more c (stands disk journal bodies ready c (only_now c left)) short)
-
   -- an opening of a file that stands for the bodies, as all its images do
-  pub opening_grows : (old new : D) (bodies more : List (List ℕ)) → StandsFor (d.content old) bodies
-      → ((c : List ℕ) → d.image old c → StandsFor c bodies) → end_of bodies < 2 ^ 32
-      → LeavesOnly d old new (IsNoWorse d old) → Grows d old new bodies more
-  opening_grows old new bodies more stood alike short run =
-      weaker d old new _ _ (λ c left. none_yet bodies more c (still c left) short) run
-    where
-      still : (c : List ℕ) → IsNoWorse d old c → StandsFor c bodies
-      still c (inl before) = alike c before
-      still c (inr brief) =
-          inl (brief.1, stands_for_one (d.content old) bodies [] stood (inl (brief.0, refl)))

@@ -208,12 +208,6 @@ there_for a c q old (Some rows) same known is given =
 
 -- ---- a cold query
 
--- such rows are ready
-pub cold_inside : (q : Asked) (c : Change) (rows : List Row) → rows ≡ []
-    → OnlyMatchingInside q c rows
-cold_inside q c rows none =
-    subst (OnlyMatchingInside q c) (sym none) (λ inside. absurd (false≢true inside))
-
 module _ (w : Watched) (c x : Change) (is : x ≡ unknown c) (none : w.rows ≡ None) where
   -- it is told no more
   pub cold_action : action_at w.query x w.rows ≡ action_at w.query c w.rows

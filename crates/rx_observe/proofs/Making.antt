@@ -26,17 +26,6 @@ pub record IsTaking (documents : Documents) (left : List Stored) (i : Indexed) :
   pub left_are : left ≡ values_of rest
   pub held : Holds i taken
 
--- an index without keys has taken none
-pub none_taken : (documents : Documents) (i : Indexed) → i.keys ≡ []
-    → IsTaking documents (values_of documents) i
-none_taken documents i none = record {
-  taken = [];
-  rest = documents;
-  all = refl;
-  left_are = refl;
-  held = λ k always. ap (λ keys. has_key keys k) none;
-}
-
 -- what an index holds goes by what is found of each name
 held_found : (i : Indexed) (these those : Documents)
     → ((name : List ℕ) → named these name ≡ named those name) → Holds i these → Holds i those

@@ -15,11 +15,6 @@ all_in P [] h z i = absurd i
 all_in P (x ∷ xs) h z (inl e) = subst P (sym e) h.0
 all_in P (x ∷ xs) h z (inr i) = all_in P xs h.1 z i
 
-pub all_from_in : {X : Type 0} (P : X → Type 0) (xs : List X) → ((z : X) → In z xs → P z)
-    → AllByRecursion P xs
-all_from_in P [] h = tt
-all_from_in P (x ∷ xs) h = (h x (inl refl), all_from_in P xs (λ z i. h z (inr i)))
-
 pub in_filter : {X : Type 0} (p : X → Bool) (xs : List X) (z : X) → In z xs → p z ≡ true
     → In z (filter p xs)
 in_filter p [] z i h = absurd i

@@ -195,11 +195,6 @@ module _ (q : Asked) (documents : Documents) (n : ℕ) (all rows : List Stored)
   next_some d is =
       subst (λ o. StandsFor q n all rows (cons_option o (due_among q documents rest))) is next
 
-  pub next_none : if_due q (named documents id) ≡ None
-      → StandsFor q n all rows (due_among q documents rest)
-  next_none is =
-      subst (λ o. StandsFor q n all rows (cons_option o (due_among q documents rest))) is next
-
 module _ (q : Asked) (n : ℕ) (all rows rest : List Stored) (d : Stored)
     (s : StandsFor q n all rows (d ∷ rest)) where
   -- they do without one that comes after the first n
@@ -249,9 +244,3 @@ stand_settled q n all rows now rest s is =
       apart = top_apart q n rows rest s.apart;
       first = top_first q n rows rest s.apart ∙ s.first;
     })
-
--- where none are to come they are the first of all
-pub stand_end : (q : Asked) (n : ℕ) (all rows : List Stored) → StandsFor q n all rows []
-    → take n (sorted (stored_before q) rows) ≡ take n (sorted (stored_before q) all)
-stand_end q n all rows s =
-    ap (λ xs. take n (sorted (stored_before q) xs)) (sym (append-nil rows)) ∙ s.first

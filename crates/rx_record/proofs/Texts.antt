@@ -15,11 +15,6 @@ pub text_read : (bs more : List ℕ) (n : ℕ) → number_of w32 bs ≡ Ok (n, m
 text_read bs more n size long text =
     rw (size, le-leb n (length more) long, is_utf8-from_IsUtf8 (take n more) text) refl
 
-pub text_short : (bs more : List ℕ) (n : ℕ) → number_of w32 bs ≡ Ok (n, more) → length more < n
-    → text_of bs ≡ Err (length bs)
-text_short bs more n size short = elim (leb_tells n (length more)) as (λ _. text_of bs ≡ Err (length bs))
-    [ inl t ↦ absurd (omega (arith, t.1)) | inr t ↦ rw (size, t.0) refl ]
-
 not_utf8 : (bs : List ℕ) (b : Bool) → is_utf8 bs ≡ b → (IsUtf8 bs → ⊥) → is_utf8 bs ≡ false
 not_utf8 bs true is never = absurd (never (IsUtf8-from_is_utf8 bs is))
 not_utf8 bs false is _ = is

@@ -72,33 +72,6 @@ row_reads_back r height state last above fits more =
 abbrev pub StateReadsBack : State → Type 0
 StateReadsBack s = (last : Option (List ℕ)) → is_above last s.key ≡ true → ShortReadsBack state_bytes (state_of last) s
 
--- one that there is
-pub some_reads_back : {A : Type 0} (bytes : A → List ℕ) (of : List ℕ → Reading A) (x : A) → ShortReadsBack bytes of x
-    → ShortReadsBack (option_bytes bytes) (option_of of) (Some x)
-some_reads_back bytes of x back fits more =
-    ap (λ m. m ▸ λ z rest. Ok (Some z, rest)) (back (second_fits (flag_bytes true) (bytes x) fits) more)
-
--- and none
-pub none_reads_back : {A : Type 0} (bytes : A → List ℕ) (of : List ℕ → Reading A)
-    → ShortReadsBack (option_bytes bytes) (option_of of) None
-none_reads_back bytes of fits more = refl
-
--- a place that has a write time
-pub place_reads_back : (p : Place) → HasTime p → ReadsBack (number_bytes w64) (number_of w64) p.lwt
-    → ShortReadsBack text_bytes text_of p.id → ShortReadsBack place_bytes place_of p
-place_reads_back p time lwt id fits more =
-    let id_read = id (second_fits (number_bytes w64 p.lwt) (text_bytes p.id) fits) more in
-    ap place_of (append_assoc (number_bytes w64 p.lwt) (text_bytes p.id) more)
-    ∙ rw (lwt (text_bytes p.id ++ more), time, id_read) refl
-
--- a master in this journal, and one at a port
-pub local_reads_back : (name : List ℕ) → ShortReadsBack text_bytes text_of name → ShortReadsBack master_bytes master_of (Local name)
-local_reads_back name back fits more =
-    ap (λ m. m ▸ λ t rest. Ok (Local t, rest)) (back (second_fits (flag_bytes false) (text_bytes name) fits) more)
-
-pub port_reads_back : (port : ℕ) → ReadsBack (number_bytes w16) (number_of w16) port → ShortReadsBack master_bytes master_of (Port port)
-port_reads_back port back fits more = ap (λ m. m ▸ λ n rest. Ok (Port n, rest)) (back more)
-
 module _ {A : Type 0} (bytes name : A → List ℕ) (part : Option (List ℕ) → List ℕ → Reading A) where
   -- a thing is, where its name is above the last
   abbrev ThingReadsBack : A → Type 0
@@ -221,13 +194,6 @@ long_back n back fits = back
 
 -- ---- records
 
-pub collection_reads_back : (name schema : List ℕ) → ShortReadsBack text_bytes text_of name → ShortReadsBack text_bytes text_of schema
-    → ShortReadsBack content_bytes content_of (collection name schema)
-collection_reads_back name schema name_back schema_back fits =
-    then text_bytes text_of name _ (text_bytes schema) (collection name schema) name_back
-    (lastly text_bytes text_of schema (collection name) schema_back)
-    (behind_byte collection_kind (text_bytes name ++ text_bytes schema) fits)
-
 pub written_reads_back : (name : List ℕ) (lwt : ℕ) (written : List RowOut) → ShortReadsBack text_bytes text_of name
     → ReadsBack (number_bytes w64) (number_of w64) lwt → ShortReadsBack rows_bytes rows_of written
     → ShortReadsBack content_bytes content_of (rows name lwt written)
@@ -267,8 +233,3 @@ exchange_reads_back name lwt written known up down name_back lwt_back written_ba
     (then (option_bytes place_bytes) (option_of place_of) up _ (option_bytes place_bytes down) c up_back
     (lastly (option_bytes place_bytes) (option_of place_of) down (exchange name lwt written known up) down_back)))))
     (behind_byte exchange_kind (text_bytes name ++ (number_bytes w64 lwt ++ (rows_bytes written ++ (states_bytes known ++ places)))) fits)
-
-pub epoch_reads_back : (number : ℕ) → ReadsBack (number_bytes w64) (number_of w64) number
-    → ShortReadsBack content_bytes content_of (epoch number)
-epoch_reads_back number back fits =
-    lastly (number_bytes w64) (number_of w64) number epoch (long_back number back) (behind_byte epoch_kind (number_bytes w64 number) fits)

@@ -42,17 +42,6 @@ module _ {X : Type 0} where
         | false ↦ (λ h is. inr (key_among es k x is))
       ] refl at
 
-  pub among_key : (es : List (List ℕ × X)) (k : List ℕ) → AreRising es → Member k (keys_of es)
-      → (x : X) × (named es k ≡ Some x)
-  among_key es k rising m =
-      let e = from_keys es k m in (e.0.1, ap (named es) e.2 ∙ entry_named es e.0 rising e.1)
-    where
-      from_keys : (es : List (List ℕ × X)) (k : List ℕ) → Member k (keys_of es)
-          → (e : List ℕ × X) × Member e es × (k ≡ e.0)
-      from_keys [] k m = absurd m
-      from_keys (e ∷ es) k (inl is) = (e, inl refl, is)
-      from_keys (e ∷ es) k (inr m) = let r = from_keys es k m in (r.0, inr r.1, r.2)
-
   -- a key that comes before rising keys isn't among them
   not_before : (k l : List ℕ) (es : List (List ℕ × X)) (x : X) → text_cmp k l ≡ Less
       → AllByRecursion (λ y. text_cmp l y ≡ Less) (keys_of es) → named es k ≡ Some x → ⊥

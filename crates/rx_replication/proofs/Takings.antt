@@ -95,40 +95,6 @@ learnt_held fork known up ss sound s m = held_by (learn_at known ss s.key)
     held_by (inl o) = absurd (o.absent s m refl)
     held_by (inr n) = sound.holds s.key n.state n.held
 
--- down doesn't fall where the reply fits
-fits_risen : (down : Option Place) (ss : List State) (to : Option Place) → PlaceFits down ss to
-    → (p : Place) → down ≡ Some p → is_up_to p to ≡ true
-fits_risen down [] to fits p e =
-    subst (λ (z : Option Place). is_up_to p z ≡ true) (sym (fits ∙ e)) (up_to_itself p)
-fits_risen down (s ∷ ss) to fits p e =
-    subst (λ (z : Option Place). is_up_to p z ≡ true) (sym fits.1)
-    (up_to_other fits.0 p (ap (is_up_to fits.0) (sym e) ∙ fits.2))
-
-pub taking_down_risen : (resolve : Resolve) (fork : Documents) (known : KnownStates)
-    (up down : Option Place) (ask : AskKind) (body : Body) (t : Taking)
-    → IsCurrent fork known down ask → IsFitting ask body
-    → taking resolve fork up down ask body ≡ Some t
-    → (p : Place) → down ≡ Some p → is_up_to p t.down ≡ true
-taking_down_risen resolve fork known up down (Push rows) (Conflicts cs) t current fits is p e =
-    subst (λ (t : Taking). is_up_to p t.down ≡ true) (some_same is)
-    (subst (λ (z : Option Place). is_up_to p z ≡ true) (sym e) (up_to_itself p))
-taking_down_risen resolve fork known up down (Pull q b) (Docs ss to) t current fits is p e =
-    subst (λ (t : Taking). is_up_to p t.down ≡ true) (some_same is)
-    (fits_risen down ss to
-    (subst (λ (z : Option Place). PlaceFits z ss to) (pull_from q b current) fits.1) p e)
-  where
-    from_by : (rs : List PushRow) (q down : Option Place) (b n : ℕ)
-        → Pull q b ≡ push_or_pull rs down n → q ≡ down
-    from_by [] q down b n e = cc
-    from_by (r ∷ rs) q down b n e = absurd (cc)
-
-    pull_from : (q : Option Place) (b : ℕ) → IsCurrent fork known down (Pull q b) → q ≡ down
-    pull_from q b c = from_by (rows_of known (pushed fork known c.0)) q down b c.0 c.2
-taking_down_risen resolve fork known up down (Push rows) (Docs ss to) t current fits is p e =
-    not_none is
-taking_down_risen resolve fork known up down (Pull q b) (Conflicts cs) t current fits is p e =
-    not_none is
-
 -- ---- the master's side, where the reply is answered
 
 pub taking_master_side : (resolve : Resolve) (fork master : Documents) (known : KnownStates)

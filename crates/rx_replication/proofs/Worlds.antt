@@ -67,13 +67,3 @@ module _ (before after : Collections) (name : List ℕ) (ss : List State)
     fork_side = fork_after r s.fork_side (is_or_not r.fork name);
     master_side = master_after r.master r.known r.down s.master_side;
   }
-
-  -- an exchange: a commit on the fork, and what it knows anew
-  pub exchange_keeps : (r : Linked) (known : KnownStates) (up down : Option Place)
-      → r.fork ≡ name → IsForkSound w.new.documents known up
-      → HasSoundMaster before r.master known down
-      → IsSoundIn after (record r { known = known; up = up; down = down })
-  exchange_keeps r known up down is fork_side master_side = record {
-    fork_side = (w.new, ap (named after) is ∙ w.is, fork_side);
-    master_side = master_after r.master known down master_side;
-  }

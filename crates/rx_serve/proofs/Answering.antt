@@ -114,20 +114,6 @@ reply_at (Pull place batch) q old new before after reply Holds h = (
   λ then later. gives_reply (answered_at old 0 q) [] old new (λ c. then c later) reply h.1.gives,
 )
 
--- it holds over some commits after an answer
-some_at : (ask : AskKind) (q : Request) (old : Held) (before : List ℕ) (reply : Option Reply)
-    (new : Held) (after : List ℕ) (Holds : Commits → Type 0)
-    → AnswersAsk ask q old before reply new after Holds → HoldsForSome Holds
-some_at (Push rows) q old before reply new after Holds h =
-    (commit_at old h.0 q (Push rows), h.2.holds)
-some_at (Pull place batch) q old before reply new after Holds h =
-    (commit_at old 0 q (Pull place batch), h.1.holds)
-
-pub some_answered : (q : Request) (old : Held) (before : List ℕ) (reply : Option Reply) (new : Held)
-    (after : List ℕ) (Holds : Commits → Type 0) → Answers q old before reply new after Holds
-    → HoldsForSome Holds
-some_answered q = some_at q.ask q
-
 -- and moments joined
 joined_at : (ask : AskKind) (q : Request) (old : Held) (before : List ℕ) (reply : Option Reply)
     (new : Held) (after : List ℕ) (Holds : Commits → Type 0)
@@ -136,32 +122,12 @@ joined_at (Push rows) q old before reply new after Holds h = (h.0 ∷ [], h.1)
 joined_at (Pull place batch) q old before reply new after Holds h =
     ([], h.0 ∙ sym (append-nil before))
 
-pub joined_answered : (q : Request) (old : Held) (before : List ℕ) (reply : Option Reply)
-    (new : Held) (after : List ℕ) (Holds : Commits → Type 0)
-    → Answers q old before reply new after Holds → Continues before after
-joined_answered q = joined_at q.ask q
-
 -- the same after a stop
 some_stop : (ask : AskKind) (q : Request) (old : Held) (before after : List ℕ)
     (Holds : Commits → Commits → Type 0) → StopsAsk ask q old before after Holds → LeavesSome Holds
 some_stop (Push rows) q old before after Holds h =
     ⊎_elim (λ none. ([], [], none.1)) (λ one. ([], commit_at old one.0 q (Push rows), one.2)) h
 some_stop (Pull place batch) q old before after Holds h = ([], [], h.1)
-
-pub some_stopped : (q : Request) (old : Held) (before after : List ℕ)
-    (Holds : Commits → Commits → Type 0) → Stops q old before after Holds → LeavesSome Holds
-some_stopped q = some_stop q.ask q
-
-joined_stop : (ask : AskKind) (q : Request) (old : Held) (before after : List ℕ)
-    (Holds : Commits → Commits → Type 0) → StopsAsk ask q old before after Holds
-    → Continues before after
-joined_stop (Push rows) q old before after Holds h =
-    ⊎_elim (λ none. ([], none.0 ∙ sym (append-nil before))) (λ one. (one.0 ∷ [], one.1)) h
-joined_stop (Pull place batch) q old before after Holds h = ([], h.0 ∙ sym (append-nil before))
-
-pub joined_stopped : (q : Request) (old : Held) (before after : List ℕ)
-    (Holds : Commits → Commits → Type 0) → Stops q old before after Holds → Continues before after
-joined_stopped q = joined_stop q.ask q
 
 one_more : (k : ℕ) → 1 + k ≡ suc k
 one_more k = omega arith
@@ -283,6 +249,13 @@ module _
           answered = λ later. ap (λ (x : Served). x.replies) (served_then 0 later);
           after = λ later. ap (λ (x : Served). x.after) (served_then 0 later);
           committed = committed_one;
+          lines = 1;
+          within = λ later. (
+            front.1,
+            ap (λ (x : Served). x.due) (served_then 0 later)
+                ∙ append-nil (as_line (reply_text reply)) ∙ front.2,
+          );
+          replied = λ later. ap (λ (x : Served). x.replies) (served_then 0 later);
         }
 
         -- its reply was not sent, for want of memory
@@ -414,6 +387,9 @@ module _
       answered = λ later. refl;
       after = λ later. refl;
       committed = λ later. refl;
+      lines = 1;
+      within = λ later. (front.1, ap (λ (x : Served). x.due) (refused 0 later) ∙ front.2);
+      replied = λ later. ap (λ (x : Served). x.replies) (refused 0 later);
     }
 
     -- the peer was told, or the wire failed
@@ -498,4 +474,7 @@ breaks_unread c coming rest sent sent' moments Holds holds same = record {
   answered = λ later. refl;
   after = λ later. refl;
   committed = λ later. refl;
+  lines = 0;
+  within = λ later. ([], refl);
+  replied = λ later. refl;
 }

@@ -60,25 +60,12 @@ comes_end line s left line' after come none short =
     let is = whole line s left come none in
     (ap is_within is ∙ come.within, omega (arith, ap length is, short))
 
--- nothing came yet
-pub comes_first : (s : List ℕ) → Comes [] s s
-comes_first s = record { front = refl; within = refl }
-
 -- a byte more
 pub comes_byte : (line s left more : List ℕ) (b : ℕ) → Comes line s left → left ≡ b ∷ more
     → (b ≡ 10 → ⊥) → Comes (line ++ b ∷ []) s more
 comes_byte line s left more b come is other = record {
   front = come.front ∙ ap (λ v. line ++ v) is ∙ sym (append_assoc line (b ∷ []) more);
   within = within-append line (b ∷ []) come.within (within_byte b other);
-}
-
--- the line feed
-pub first_line : (line s left more : List ℕ) → Comes line s left → left ≡ 10 ∷ more
-    → length line ≤ longest_line → IsFirstLine line s more
-first_line line s left more come is short = record {
-  front = come.front ∙ ap (λ v. line ++ v) is;
-  within = come.within;
-  short = short;
 }
 
 -- the end before it

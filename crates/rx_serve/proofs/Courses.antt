@@ -250,6 +250,8 @@ module _ (i : ℕ) (H : Commits → Type 0) (a b : Standing) (first : Serves i H
         let joins = joins_more H I J join a b c first.joins second.joins in
         let joined = second.joins.joined in
         let front = second.front ((most_requests - i) - 1) [] in
+        let within = second.within [] in
+        let so_far = served_at (i + second.lines) second.lines joined refl in
         let P : Connection → Type 0 = λ v. IsCutOff (i + n) J v in
         subst P (same_parts a c joins.joined joins.bytes joins.moments joins.sent)
         (record {
@@ -278,6 +280,13 @@ module _ (i : ℕ) (H : Commits → Type 0) (a b : Standing) (first : Serves i H
                   (sym (ap (λ (x : Served). x.due) (first_at joined) ∙ append-nil replies)),
             ),
           );
+          lines = i + second.lines;
+          within = (
+            within.0,
+            ap (λ (x : Served). x.due) so_far ∙ ap (λ v. replies ++ v) within.1
+                ∙ sym (append_assoc replies second.joins.bytes within.0),
+          );
+          replied = ap (λ (x : Served). x.replies) so_far ∙ ap (λ m. i + m) (second.replied []);
         })
 
     -- it ended so

@@ -45,7 +45,7 @@ pub record EndsFor (why : Why) (Holds : Commits → Type 0) (old new : Standing)
       ≡ ends_here new.collection why joins.bytes
 
 -- It ends since the wire failed: so many more requests were answered, at most one, and a front of
--- the bytes due was sent.
+-- the bytes due was sent, of no further reply a byte.
 pub record Breaks (n : ℕ) (Holds : Commits → Type 0) (old new : Standing) : Type 0 where
   pub joins : Joins Holds old new
   pub few : n ≤ 1
@@ -58,6 +58,12 @@ pub record Breaks (n : ℕ) (Holds : Commits → Type 0) (old new : Standing) : 
       → (served_first n old.collection (joins.joined ++ later) old.coming).after ≡ new.collection
   pub committed : (later : List ℕ)
       → (served_first n old.collection (joins.joined ++ later) old.coming).commits ≡ joins.commits
+  pub lines : ℕ
+  pub within : (later : List ℕ)
+      → IsFront joins.bytes
+      (served_first lines old.collection (joins.joined ++ later) old.coming).due
+  pub replied : (later : List ℕ)
+      → (served_first lines old.collection (joins.joined ++ later) old.coming).replies ≡ n
 
 -- it ends so, after so many more requests
 abbrev pub EndsSo : Why → ℕ → (Commits → Type 0) → Standing → Standing → Type 0

@@ -33,8 +33,9 @@ pub record IsServed (why : Why) (n : ℕ) (Holds : Commits → Type 0) (c : Conn
   pub holds : Holds (served c.before c.moments c.coming).commits
 
 -- The wire failed: a front of the bytes due was sent, so many requests were answered, the
--- collection is that after them, it holds over their commits, and all their replies but the last
--- were sent whole.
+-- collection is that after them, and it holds over their commits. All their replies but the last
+-- were sent whole, and of no further reply was a byte sent: all that was sent is due on the first
+-- lines, on which no more replies are.
 pub record IsCutOff (n : ℕ) (Holds : Commits → Type 0) (c : Connection) : Type 0 where
   pub front : IsFront c.sent (served c.before c.moments c.coming).due
   pub answered : (served_first n c.before c.moments c.coming).replies ≡ n
@@ -42,6 +43,9 @@ pub record IsCutOff (n : ℕ) (Holds : Commits → Type 0) (c : Connection) : Ty
   pub holds : Holds (served_first n c.before c.moments c.coming).commits
   pub whole : (m : ℕ) × (m ≤ n) × (n ≤ m + 1)
       × IsFront (served_first m c.before c.moments c.coming).due c.sent
+  pub lines : ℕ
+  pub within : IsFront c.sent (served_first lines c.before c.moments c.coming).due
+  pub replied : (served_first lines c.before c.moments c.coming).replies ≡ n
 
 -- how it ended
 abbrev pub EndsBy : Why → ℕ → (Commits → Type 0) → Connection → Type 0

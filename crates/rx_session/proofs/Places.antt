@@ -66,14 +66,7 @@ module _ {X : Type 0} (test : X → Bool) where
         | true ↦ (λ is at. subst (λ z. test z ≡ true) (same_Some y x at) is)
         | false ↦ (λ is at. find_passes ys x at)
       ] refl at
-
   -- tests that agree find the same
-  pub find_alike : (other : X → Bool) → ((x : X) → test x ≡ other x) → (xs : List X)
-      → find test xs ≡ find other xs
-  find_alike other same [] = refl
-  find_alike other same (x ∷ xs) =
-      ap (λ b. cond b (Some x) (find test xs)) (same x)
-      ∙ ap (cond (other x) (Some x)) (find_alike other same xs)
 
 -- there is something
 pub there : {X : Type 0} (o : Option X) → IsSome o → (x : X) × (o ≡ Some x)
@@ -220,11 +213,6 @@ placed_found ls ps placed =
     (λ p h. found_in ls ps p placed.listed h.0 h.1) ps
     (all_both _ _ ps placed.held (all_listed ps))
 
--- without collections there are no queries
-pub queries_of_none : (ps : List Place) → queries_of [] ps ≡ []
-queries_of_none [] = refl
-queries_of_none (p ∷ ps) = queries_of_none ps
-
 -- ---- as many queries as places
 
 -- one query that is found, and the others
@@ -281,13 +269,6 @@ pub either_way : (k l : List ℕ) → bytes_eq k l ≡ bytes_eq l k
 either_way k l =
     one_answer (bytes_eq k l) (bytes_eq l k) (bytes_eq-Decides k l)
     (decides_as (bytes_eq l k) (bytes_eq-Decides l k) sym sym)
-
--- the same by the test the other way round
-pub place_named_turned : (name : List ℕ) (ps : List Place)
-    → find (λ p. bytes_eq p.name name) ps ≡ place_named name ps
-place_named_turned name ps =
-    find_alike (λ p. bytes_eq p.name name) (λ p. bytes_eq name p.name)
-    (λ p. either_way p.name name) ps
 
 -- the query of a place, where it is there
 abbrev pub query_at : Lives → Place → Option Observed

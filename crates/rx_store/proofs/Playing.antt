@@ -22,7 +22,7 @@ use Rattle.rx_world.specs.Holders.{Holders, holders_in, world_in}
 use Rattle.rx_world.specs.Replay.{played, replay_from, replay}
 use Rattle.rx_world.specs.Step.{epoch_after, step, legal}
 use Rattle.rx_world.specs.World.{World, empty}
-use Rattle.rx_world.proofs.Replays.{replay-append, replay_from-first, replay_from-none, replay_from-nothing, stepped-legal, stepped-illegal}
+use Rattle.rx_world.proofs.Replays.{replay-append, replay_from-first, replay_from-none, replay_from-nothing, stepped-legal}
 use Rattle.rx_store.specs.Made.{AreMade}
 use Rattle.rx_store.specs.Stops.{of_open}
 
@@ -120,19 +120,6 @@ ordered (exchange name lwt written known up down) w = record {
   down_has_time = timed down w.down_place;
 }
 ordered (epoch number) w = tt
-
--- what a body says is played where it is legal
-pub played_legal : (body : List ℕ) (c : Content) (w : World) → record_of body ≡ Ok c
-    → legal c w ≡ true → played (record_of body) w ≡ Some (step c w)
-played_legal body c w says is = ap (λ r. played r w) says ∙ stepped-legal c w is
-
-pub played_illegal : (body : List ℕ) (c : Content) (w : World) → record_of body ≡ Ok c
-    → legal c w ≡ false → played (record_of body) w ≡ None
-played_illegal body c w says is = ap (λ r. played r w) says ∙ stepped-illegal c w is
-
-pub played_fault : (body : List ℕ) (place : At) (w : World) → record_of body ≡ Err place
-    → played (record_of body) w ≡ None
-played_fault body place w says = ap (λ r. played r w) says
 
 -- a legal record leaves the epoch, or gives it the next number
 pub epoch_next : (c : Content) (w : World) → legal c w ≡ true → epoch_after c w.epoch ≤ w.epoch + 1

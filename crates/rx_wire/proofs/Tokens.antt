@@ -15,13 +15,6 @@ pub place_before : (place : Option Place) (more : Members)
 place_before None more = refl
 place_before (Some p) more = refl
 
--- and so does an assumed state
-pub assumed_before : (assumed : Option State) (more : Members)
-    → members_tokens (members_outline (with_assumed assumed more))
-    ≡ assumed_tokens assumed ++ members_tokens (members_outline more)
-assumed_before None more = refl
-assumed_before (Some state) more = refl
-
 -- what holds of a good answer makes another fact hold of it
 pub on_ok : {X E : Type 0} (r : Result X E) (P Q : Type 0) → (P → Q) → OnOk r P → OnOk r Q
 on_ok (Ok x) P Q f h = f h

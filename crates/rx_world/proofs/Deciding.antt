@@ -137,18 +137,6 @@ decides_known c lawful known p b is = (
     test : Stored → Bool
     test d = is_lt (place_cmp p (place_of d)) || is_state (named known d.state.key) d.state
 
--- a side without a checkpoint
-pub decides_none : (documents : Documents) (known : KnownStates) (b : Bool) → Decides b (HoldKnown documents known)
-    → Decides b (IsSoundSide documents known None)
-decides_none documents known b holds = (
-  λ yes. record {
-    settled = λ k d at below. absurd (true≢false (sym below));
-    holds = holds.0 yes;
-    reached = tt;
-  },
-  λ side. holds.1 side.holds,
-)
-
 -- one with a checkpoint that isn't above the last place
 pub decides_some : (documents : Documents) (known : KnownStates) (p : Place) (o : Option Place) (b : Bool)
     → o ≡ Some p → HoldKnown documents known → Reach documents (Some p)

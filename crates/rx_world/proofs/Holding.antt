@@ -51,12 +51,3 @@ none_made : {H : Type 0} (held : H → Held) (written : H → List Stored → H)
 none_made held written IsMadeFor lwt rs None old new after = after
 none_made held written IsMadeFor lwt [] (Some r) old new after = after
 none_made held written IsMadeFor lwt (row ∷ rs) (Some r) old new after = after
-
-pub exchange_after : {H : Type 0} (held : H → Held) (written : H → List Stored → H)
-    (IsMadeFor : Held → H → Type 0) (entry : Content) (w : World) (name : List ℕ) (lwt : ℕ) (rs : List RowOut) (known : List State)
-    (up down : Option Place) (old new : List (List ℕ × H)) → entry ≡ exchange name lwt rs known up down
-    → After held written (λ c h. Unit {0}) (exchange_touch lwt rs name w.replications) old new
-    → After held written IsMadeFor (touch entry w) old new
-exchange_after held written IsMadeFor entry w name lwt rs known up down old new is after =
-    subst (λ e. After held written IsMadeFor (touch e w) old new) (sym is)
-    (none_made held written IsMadeFor lwt rs (named w.replications name) old new after)

@@ -21,11 +21,6 @@ other_names k l apart =
 
 module _ {X : Type 0} where
   -- a thing that was put is named
-  pub named-put_same : (es : List (List ℕ × X)) (k : List ℕ) (x : X)
-      → named (put_named es k x) k ≡ Some x
-  named-put_same es k x =
-      named-put_named es k k x ∙ ap (λ b. cond b (Some x) (named es k)) (equal_names k)
-
   -- and another name names what it did
   pub named-put_other : (es : List (List ℕ × X)) (k q : List ℕ) (x : X) → q ≢ k
       → named (put_named es k x) q ≡ named es q

@@ -37,9 +37,6 @@ replay-append xs ys = replay_from-append (Some empty) xs ys
 pub stepped-legal : (c : Content) (w : World) → legal c w ≡ true → stepped c w ≡ Some (step c w)
 stepped-legal c w is = ap (λ b. cond b (Some (step c w)) None) is
 
-pub stepped-illegal : (c : Content) (w : World) → legal c w ≡ false → stepped c w ≡ None
-stepped-illegal c w is = ap (λ b. cond b (Some (step c w)) None) is
-
 -- one body more
 pub replay-more : (bodies : List (List ℕ)) (body : List ℕ) (c : Content) (w : World)
     → replay bodies ≡ Some w → record_of body ≡ Ok c → legal c w ≡ true
