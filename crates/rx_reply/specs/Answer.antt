@@ -8,11 +8,14 @@ use Rattle.rx_document.specs.declared.stored.Stored.{Stored}
 use Rattle.rx_table.specs.declared.counts.Counts.{Counts}
 use Rattle.rx_reply.specs.declared.refusal.Refusal.{Refusal}
 use Rattle.rx_reply.specs.declared.reply.Reply.{Reply}
-use Rattle.rx_reply.specs.declared.reply.Reply.TheVariants.{Collection, Insert, Upsert, Patch, Remove, Bulk, Get, Find, Count, Observe, Unobserve, Explain, Changes, Tick, Restart, Digest, Refused}
+use Rattle.rx_reply.specs.declared.reply.Reply.TheVariants.{Collection, Insert, Upsert, Patch, Remove, Bulk, Get, Find, Count, Observe, Unobserve, Explain, Replicate, Turn, Changes, Tick, Restart, Digest, Refused}
+use Rattle.rx_reply.specs.declared.turn.Exchanged.{Exchanged}
+use Rattle.rx_reply.specs.declared.turn.TurnEnd.{TurnEnd}
 
 -- a collection is there, new or not; a document is written; documents are written, read, found,
--- counted; a query is observed, no more observed, explained; states are listed up to a place; the
--- clock is set; an epoch begins; states are counted and have that digest; or the line is refused
+-- counted; a query is observed, no more observed, explained; a replication begins; a turn made these
+-- exchanges and ended so; states are listed up to a place; the clock is set; an epoch begins; states
+-- are counted and have that digest; or the line is refused
 pub data Answer : Type 0 where
   collection : Bool → Answer
   insert : List ℕ → Answer
@@ -26,6 +29,8 @@ pub data Answer : Type 0 where
   observe : Answer
   unobserve : Answer
   explain : Counts → Answer
+  replicate : Answer
+  turn : List Exchanged → TurnEnd → Answer
   changes : List State → Option Place → Answer
   tick : Answer
   restart : ℕ → Answer
@@ -54,6 +59,8 @@ answer_of (Count n) = count n
 answer_of Observe = observe
 answer_of Unobserve = unobserve
 answer_of (Explain counts) = explain counts.now
+answer_of Replicate = replicate
+answer_of (Turn exchanges ended) = turn exchanges ended
 answer_of (Changes docs place) = changes (states_of docs.items) place
 answer_of Tick = tick
 answer_of (Restart epoch) = restart epoch

@@ -19,7 +19,7 @@ use Rattle.rx_reply.specs.declared.refusal.Cause.TheVariants as cause
 use Rattle.rx_reply.specs.declared.refusal.DocumentFault.{DocumentFault}
 use Rattle.rx_reply.specs.declared.refusal.DocumentFault.TheVariants.{Fields, Invalid, Key, Conflict}
 use Rattle.rx_reply.specs.declared.refusal.Refusal.{Refusal}
-use Rattle.rx_reply.specs.declared.refusal.Refusal.TheVariants.{Line, Exists, NoCollection, Schema, SchemaDiffers, Document, NoDocument, Query, NoQuery, Clock, TooMany, Twice}
+use Rattle.rx_reply.specs.declared.refusal.Refusal.TheVariants.{Line, Exists, NoCollection, Schema, SchemaDiffers, Document, NoDocument, Query, NoQuery, NoReplication, NoHandler, Chain, Clock, TooMany, Twice}
 
 -- its code and its word, and what else there is to say
 pub record Form : Type 0 where
@@ -83,7 +83,6 @@ line_form (line.Unexpected name) = named_form 6 (codes "unexpected") name
 line_form (line.WrongType name) = named_form 7 (codes "wrong_type") name
 line_form (line.Name name) = named_form 8 (codes "name") name
 line_form (line.Batch name) = named_form 20 (codes "batch") name
-line_form line.NotYet = plain_form 27 (codes "not_yet")
 line_form line.Memory = plain_form 0 (codes "memory")
 
 abbrev pub schema_reason : SchemaFault → Reason
@@ -150,6 +149,9 @@ form_of (Document fault row) = record (document_form fault) { row = row }
 form_of NoDocument = plain_form 15 (codes "no_document")
 form_of (Query fault) = caused_form 16 (codes "query") (query_reason fault)
 form_of NoQuery = plain_form 17 (codes "no_query")
+form_of NoReplication = plain_form 18 (codes "no_replication")
+form_of NoHandler = plain_form 19 (codes "no_handler")
+form_of Chain = plain_form 21 (codes "chain")
 form_of Clock = plain_form 22 (codes "clock")
 form_of TooMany = plain_form 23 (codes "too_many")
 form_of (Twice row) = record (plain_form 25 (codes "twice")) { row = Some row }

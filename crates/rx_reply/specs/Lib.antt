@@ -2,5 +2,6 @@ pub mod Answer
 pub mod Writing
 pub mod Form
 pub mod Explain
+pub mod Turn
 pub mod Reply
 pub mod Emission

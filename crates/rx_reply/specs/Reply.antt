@@ -1,13 +1,15 @@
--- The line of output of an answer.
-use Rattle.std.specs.Prelude.{ℕ, List, codes, Bool, true, false, option_map}
+-- The lines of output of an answer.
+use Rattle.std.specs.Prelude.{ℕ, List, [], ◌++◌, length, codes, Bool, true, false, option_map}
 use Rattle.serde_json.specs.Data.{Data, boolean, string, object, Members, no_members, member}
 use Rattle.rx_value.specs.State.{state_data}
 use Rattle.rx_value.specs.Writing.{fields_data}
 use Rattle.rx_document.specs.Revision.{revision_text}
-use Rattle.rx_reply.specs.Answer.{Answer, collection, insert, upsert, patch, remove, bulk, get, find, count, observe, unobserve, explain, changes, tick, restart, digest, refused}
+use Rattle.rx_reply.specs.Answer.{Answer, collection, insert, upsert, patch, remove, bulk, get, find, count, observe, unobserve, explain, replicate, turn, changes, tick, restart, digest, refused}
 use Rattle.rx_reply.specs.Explain.{explain_data}
 use Rattle.rx_reply.specs.Form.{form_of, form_data}
+use Rattle.rx_reply.specs.Turn.{end_word, exchange_lines}
 use Rattle.rx_reply.specs.Writing.{number_data, list_data, place_data, optional_member, output_line}
+use Rattle.rx_reply.specs.declared.turn.TurnEnd.{TurnEnd}
 
 -- the members that begin with what was done
 abbrev pub ok_members : List ℕ → Members → Members
@@ -21,6 +23,13 @@ line_object line more = object (member (codes "line") (number_data line) more)
 abbrev pub written_data : ℕ → List ℕ → List ℕ → Data
 written_data line ok rev =
     line_object line (ok_members ok (member (codes "rev") (string rev) no_members))
+
+-- a turn made so many exchanges, and ended so
+abbrev pub turn_data : ℕ → ℕ → TurnEnd → Data
+turn_data line exchanges ended = object
+    (member (codes "end") (string (end_word ended))
+    (member (codes "exchanges") (number_data exchanges)
+    (member (codes "line") (number_data line) (ok_members (codes "turn") no_members))))
 
 -- the object of an answer to the line of that number
 abbrev pub answer_data : ℕ → Answer → Data
@@ -45,6 +54,8 @@ answer_data line (count n) = object
 answer_data line observe = line_object line (ok_members (codes "observe") no_members)
 answer_data line unobserve = line_object line (ok_members (codes "unobserve") no_members)
 answer_data line (explain counts) = explain_data line counts
+answer_data line replicate = line_object line (ok_members (codes "replicate") no_members)
+answer_data line (turn exchanges ended) = turn_data line (length exchanges) ended
 answer_data line (changes states place) = object
     (member (codes "docs") (list_data state_data states)
     (member (codes "line") (number_data line)
@@ -60,8 +71,15 @@ answer_data line (digest n text) = object
     (member (codes "line") (number_data line) (ok_members (codes "digest") no_members))))
 answer_data line (refused refusal) = form_data line (form_of refusal)
 
-abbrev pub answer_line : ℕ → Answer → List ℕ
-answer_line line answer = output_line (answer_data line answer)
+-- A turn has a line for each of its exchanges before its own, numbered from 1; every other answer is
+-- one line.
+abbrev pub lines_before : Answer → List ℕ
+lines_before (turn exchanges ended) = exchange_lines 1 exchanges
+lines_before _ = []
+
+-- what is printed of an answer to the line of that number
+abbrev pub answer_lines : ℕ → Answer → List ℕ
+answer_lines line answer = lines_before answer ++ output_line (answer_data line answer)
 
 -- the line changed nothing
 abbrev pub is_refusal : Answer → Bool

@@ -3,7 +3,7 @@ ghost use Rattle.json.specs.Tree.{json_tokens};
 ghost use Rattle.serde_json.specs.Written.{outline};
 ghost use Rattle.rx_reply.specs.Emission.{emission_data, emission_line, rows_fields};
 
-use crate::writing::{finish_line, put_results, put_text};
+use crate::writing::{finish_line, line_after, put_results, put_text};
 use json::Writer;
 use rx_query::Results;
 use std::alloc::{AllocError, Global};
@@ -12,7 +12,7 @@ use std::alloc::{AllocError, Global};
 pub fn emission_line(alloc: Global, name: &str, rows: &Results) -> Result<String, AllocError>
     ensures { IfOk result (λ t. string_bytes t ≡ emission_line name.now (rows_fields rows.now)) }
 {
-    let mut writer = Writer::new(Vec::new(alloc));
+    let mut writer = line_after(String::new(alloc));
     put_emission(&mut writer, name, rows)?;
     finish_line(writer)
 }

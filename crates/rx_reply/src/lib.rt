@@ -1,5 +1,6 @@
 //! What the lines of a script are answered, and the lines of output. They are printed token by
-//! token from what an answer lends, so no document is copied and no JSON tree is made.
+//! token from what an answer lends, so no document is copied and no JSON tree is made. The parts of
+//! lines that others print are here too.
 #![tactic(auto)]
 
 mod emission;
@@ -14,3 +15,6 @@ pub use emission::emission_line;
 pub use refusal::{Cause, DocumentFault, Refusal};
 pub use reply::Reply;
 pub use turn::{Exchanged, Lost, TurnEnd};
+pub use writing::{
+    finish_line, line_after, put_maybe_number, put_maybe_text, put_number, put_text,
+};

@@ -13,13 +13,13 @@ use rx_value::{RxText, ValueFault};
 pub enum Refusal {
     /// The line asks nothing.
     Line(LineFault),
-    /// The name of an observed query is taken.
+    /// The name of an observed query, or of a replication, is taken.
     Exists,
     NoCollection {
         name: RxText,
     },
     Schema(SchemaFault),
-    /// The collection is held with another schema.
+    /// The collection, or the master of the fork, is held with another schema.
     SchemaDiffers,
     /// A document can't be written. Of several documents it is the one of that row, counted from 0.
     Document {
@@ -29,6 +29,11 @@ pub enum Refusal {
     NoDocument,
     Query(QueryFault),
     NoQuery,
+    NoReplication,
+    /// There is no handler of that name, or its field isn't what it takes.
+    NoHandler,
+    /// The fork can't follow that master.
+    Chain,
     /// There is no later write time.
     Clock,
     TooMany,
@@ -78,6 +83,9 @@ impl Refusal {
             Refusal::NoDocument => Form::plain(15, "no_document"),
             Refusal::Query(fault) => Form::caused(16, "query", query_reason(fault)),
             Refusal::NoQuery => Form::plain(17, "no_query"),
+            Refusal::NoReplication => Form::plain(18, "no_replication"),
+            Refusal::NoHandler => Form::plain(19, "no_handler"),
+            Refusal::Chain => Form::plain(21, "chain"),
             Refusal::Clock => Form::plain(22, "clock"),
             Refusal::TooMany => Form::plain(23, "too_many"),
             Refusal::Twice { row } => Form {
@@ -134,7 +142,6 @@ fn line_form(fault: &LineFault) -> Form<'_>
         LineFault::WrongType(name) => Form::named(7, "wrong_type", name),
         LineFault::Name(name) => Form::named(8, "name", name),
         LineFault::Batch(name) => Form::named(20, "batch", name),
-        LineFault::NotYet => Form::plain(27, "not_yet"),
         LineFault::Memory => Form::plain(0, "memory"),
     }
 }

@@ -4,17 +4,18 @@ ghost use Rattle.serde_json.specs.Data.{no_members};
 ghost use Rattle.serde_json.specs.Written.{outline};
 ghost use Rattle.rx_reply.specs.Answer as answer;
 ghost use Rattle.rx_reply.specs.Answer.{answer_of, rows_of, states_of};
-ghost use Rattle.rx_reply.specs.Reply.{line_object, ok_members, written_data, answer_data, answer_line, is_refusal};
+ghost use Rattle.rx_reply.specs.Reply.{line_object, ok_members, written_data, turn_data, answer_data, lines_before, answer_lines, is_refusal};
 
 use crate::explain::put_explain;
 use crate::refusal::Refusal;
+use crate::turn::{Exchanged, TurnEnd, exchange_lines};
 use crate::writing::{
-    finish_line, put_maybe_place, put_number, put_rows, put_states, put_text, put_texts,
+    finish_line, line_after, put_maybe_place, put_number, put_rows, put_states, put_text, put_texts,
 };
 use json::Writer;
 use rx_document::{Place, Stored};
 use rx_table::Counts;
-use rx_value::{RxText, put_fields};
+use rx_value::{RxList, RxText, put_fields};
 use std::alloc::{AllocError, Global};
 
 /// What a line is answered.
@@ -56,6 +57,13 @@ pub enum Reply<'a> {
     Explain {
         counts: &'a Counts,
     },
+    /// A replication begins.
+    Replicate,
+    /// The exchanges that a turn made, and how it ended.
+    Turn {
+        exchanges: RxList<Exchanged>,
+        end: TurnEnd,
+    },
     /// The documents above a place in the order of writing, and the place that they go up to: the
     /// last one's, or the one asked from.
     Changes {
@@ -82,13 +90,23 @@ impl Reply<'_> {
         matches!(self, Reply::Refused(_))
     }
 
-    /// The line of output that answers the line of that number.
-    pub fn line(&self, alloc: Global, number: u64) -> Result<String, AllocError>
-        ensures { IfOk result (λ t. string_bytes t ≡ answer_line number (answer_of self.now)) }
+    /// The lines of output that answer the line of that number: one, and before it one for each
+    /// exchange of a turn.
+    pub fn lines(&self, alloc: Global, number: u64) -> Result<String, AllocError>
+        ensures { IfOk result (λ t. string_bytes t ≡ answer_lines number (answer_of self.now)) }
     {
-        let mut writer = Writer::new(Vec::new(alloc));
+        let mut writer = line_after(self.lines_before(alloc)?);
         self.put(alloc, &mut writer, number)?;
         finish_line(writer)
+    }
+
+    fn lines_before(&self, alloc: Global) -> Result<String, AllocError>
+        ensures { IfOk result (λ t. string_bytes t ≡ lines_before (answer_of self.now)) }
+    {
+        match self {
+            Reply::Turn { exchanges, .. } => exchange_lines(alloc, exchanges.as_slice()),
+            _ => Ok(String::new(alloc)),
+        }
     }
 
     fn put(&self, alloc: Global, writer: &mut Writer, number: u64) -> Result<(), AllocError>
@@ -109,6 +127,8 @@ impl Reply<'_> {
             Reply::Observe => put_plain(writer, number, "observe"),
             Reply::Unobserve => put_plain(writer, number, "unobserve"),
             Reply::Explain { counts } => put_explain(writer, number, counts),
+            Reply::Replicate => put_plain(writer, number, "replicate"),
+            Reply::Turn { exchanges, end } => put_turn(writer, number, exchanges.len(), *end),
             Reply::Changes { docs, place } => put_changes(writer, number, docs.as_slice(), place),
             Reply::Tick => put_plain(writer, number, "tick"),
             Reply::Restart { epoch } => put_restart(writer, number, *epoch),
@@ -207,6 +227,24 @@ fn put_counted(writer: &mut Writer, number: u64, count: u64) -> Result<(), Alloc
     put_number(writer, "count", count)?;
     put_number(writer, "line", number)?;
     put_text(writer, "ok", "count")?;
+    writer.end_object()
+}
+
+fn put_turn(
+    writer: &mut Writer,
+    number: u64,
+    exchanges: usize,
+    end: TurnEnd,
+) -> Result<(), AllocError>
+    ensures tokens { OnOk result (writer.new.tokens ≡ writer.old.tokens
+        ++ json_tokens (outline (turn_data number exchanges end))) }
+    ensures before { writer.new.before ≡ writer.old.before }
+{
+    writer.begin_object()?;
+    put_text(writer, "end", end.word())?;
+    put_number(writer, "exchanges", exchanges as u64)?;
+    put_number(writer, "line", number)?;
+    put_text(writer, "ok", "turn")?;
     writer.end_object()
 }
 

@@ -1,5 +1,6 @@
 // The parts that lines of output have in common, as tokens after those that a writer has.
 ghost use Rattle.std.specs.Prelude.{◌≡◌, ◌∷◌, [], ◌++◌, IfOk, OnOk, option_map, string_bytes};
+ghost use Rattle.std.specs.Str.{IsUtf8};
 ghost use Rattle.json.specs.Token.{key};
 ghost use Rattle.json.specs.Tree.{json_tokens};
 ghost use Rattle.serde_json.specs.Data.{Data, string};
@@ -16,11 +17,20 @@ use rx_query::Results;
 use rx_value::{RxText, put_fields, put_state};
 use std::alloc::AllocError;
 
-// The line of what was written.
-pub(crate) fn finish_line(writer: Writer) -> Result<String, AllocError>
-    requires { writer.before ≡ [] }
+/// A writer of a line behind a text.
+pub fn line_after(text: String) -> Writer
+    ensures before { result.before ≡ string_bytes text }
+    ensures tokens { result.tokens ≡ [] }
+    ensures utf8 { IsUtf8 result.before }
+{
+    Writer::new(text.into_bytes())
+}
+
+/// The line of what was written, behind what stood there before.
+pub fn finish_line(writer: Writer) -> Result<String, AllocError>
+    requires { IsUtf8 writer.before }
     ensures { (d : Data) → writer.tokens ≡ json_tokens (outline d)
-        → IfOk result (λ t. string_bytes t ≡ output_line d) }
+        → IfOk result (λ t. string_bytes t ≡ writer.before ++ output_line d) }
 {
     // A writer gives UTF-8.
     let mut text = unsafe { String::from_utf8_unchecked(writer.into_inner()) };
@@ -28,7 +38,8 @@ pub(crate) fn finish_line(writer: Writer) -> Result<String, AllocError>
     Ok(text)
 }
 
-pub(crate) fn put_number(writer: &mut Writer, name: &str, number: u64) -> Result<(), AllocError>
+/// A member that is a number.
+pub fn put_number(writer: &mut Writer, name: &str, number: u64) -> Result<(), AllocError>
     ensures tokens { OnOk result (writer.new.tokens
         ≡ writer.old.tokens ++ key name.now ∷ json_tokens (outline (number_data number))) }
     ensures before { writer.new.before ≡ writer.old.before }
@@ -37,7 +48,8 @@ pub(crate) fn put_number(writer: &mut Writer, name: &str, number: u64) -> Result
     writer.u64(number)
 }
 
-pub(crate) fn put_text(writer: &mut Writer, name: &str, text: &str) -> Result<(), AllocError>
+/// A member that is a text.
+pub fn put_text(writer: &mut Writer, name: &str, text: &str) -> Result<(), AllocError>
     ensures tokens { OnOk result (writer.new.tokens
         ≡ writer.old.tokens ++ key name.now ∷ json_tokens (outline (string text.now))) }
     ensures before { writer.new.before ≡ writer.old.before }
@@ -46,7 +58,8 @@ pub(crate) fn put_text(writer: &mut Writer, name: &str, text: &str) -> Result<()
     writer.string(text)
 }
 
-pub(crate) fn put_maybe_number(
+/// A number, if there is one.
+pub fn put_maybe_number(
     writer: &mut Writer,
     name: &str,
     number: Option<u64>,
@@ -61,11 +74,8 @@ pub(crate) fn put_maybe_number(
     }
 }
 
-pub(crate) fn put_maybe_text(
-    writer: &mut Writer,
-    name: &str,
-    text: Option<&str>,
-) -> Result<(), AllocError>
+/// A text, if there is one.
+pub fn put_maybe_text(writer: &mut Writer, name: &str, text: Option<&str>) -> Result<(), AllocError>
     ensures tokens { OnOk result (writer.new.tokens
         ≡ writer.old.tokens ++ member_tokens name.now (option_map (λ t. string t.now) text.entry)) }
     ensures before { writer.new.before ≡ writer.old.before }

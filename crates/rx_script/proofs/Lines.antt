@@ -5,7 +5,7 @@ use Rattle.std.proofs.lemmas.Str.{IsUtf8-from_is_utf8, is_utf8-from_IsUtf8}
 use Rattle.std.specs.Str.{IsUtf8, is_utf8}
 use Rattle.serde_json.specs.Data.{Data}
 use Rattle.serde_json.specs.Read.{read}
-use Rattle.rx_script.specs.Asked.{is_object}
+use Rattle.rx_script.specs.Member.{is_object}
 use Rattle.rx_script.specs.Line.{object_of, max_line_bytes}
 use Rattle.rx_script.specs.declared.fault.LineFault.TheVariants.{NotJson, NotObject}
 

@@ -5,8 +5,7 @@ use Rattle.std.specs.List.{list_all}
 use Rattle.serde_json.proofs.Views.{view-Array}
 use Rattle.serde_json.specs.View.{view, items_view}
 use Rattle.serde_json.specs.declared.value.Value.{Value, Array}
-use Rattle.rx_script.specs.Asked.{is_object}
-use Rattle.rx_script.specs.Line.{listed, items_of}
+use Rattle.rx_script.specs.Member.{is_object, listed, items_of}
 
 listed-items_view : (vs : List Value) → listed (items_view vs) ≡ map view vs
 listed-items_view [] = refl

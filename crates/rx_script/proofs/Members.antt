@@ -5,7 +5,7 @@ use Rattle.serde_json.specs.Data.{Data, null, boolean, number, string, array, ob
 use Rattle.serde_json.specs.Find.{get, get_member, as_object}
 use Rattle.serde_json.specs.View.{view}
 use Rattle.serde_json.specs.declared.value.Value.{Value, Null, the_lemmas}
-use Rattle.rx_script.specs.Line.{json_at}
+use Rattle.rx_script.specs.Member.{json_at}
 
 -- a look-up in an object goes to its members
 pub get-object : (name : List ℕ) (d : Data) (ms : Members) → Some ms ≡ as_object d

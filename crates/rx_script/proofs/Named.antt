@@ -4,7 +4,8 @@ use Rattle.std.proofs.lemmas.Slice.Eq.{bytes_eq-Decides}
 use Rattle.serde_json.specs.Data.{Data}
 use Rattle.rx_value.specs.Form.{text_at}
 use Rattle.rx_value.specs.Named.{named}
-use Rattle.rx_script.specs.Line.{has_needed, forms, form_of}
+use Rattle.rx_script.specs.Line.{forms, form_of}
+use Rattle.rx_script.specs.Member.{has_needed}
 use Rattle.rx_script.specs.declared.fault.LineFault.TheVariants.{UnknownDo}
 
 abbrev Differs : {X : Type 0} → List (List ℕ × X) → List ℕ → Type 0

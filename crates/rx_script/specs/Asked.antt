@@ -1,14 +1,18 @@
 -- What a line asks, with the JSON in it as the data that it stands for.
-use Rattle.std.specs.Prelude.{◌≡◌, ◌≤◌, ⊤, ℕ, List, map, Bool, true, Option, is_some, IfSome}
-use Rattle.std.specs.List.{list_all}
+use Rattle.std.specs.Prelude.{◌≡◌, ◌≤◌, ⊤, ℕ, List, map, true, Option, option_map, IfSome}
+use Rattle.std.specs.List.{list_all, AllByRecursion}
 use Rattle.serde_json.specs.Data.{Data}
-use Rattle.serde_json.specs.Find.{as_object}
 use Rattle.serde_json.specs.View.{view}
 use Rattle.rx_value.specs.Name.{is_name}
 use Rattle.rx_value.specs.Value.{largest}
+use Rattle.rx_script.specs.Link.{IsHappening}
+use Rattle.rx_script.specs.Member.{is_object}
+use Rattle.rx_script.specs.Target.{IsTarget}
+use Rattle.rx_script.specs.declared.happening.Happening.{Happening}
 use Rattle.rx_script.specs.declared.line.Line.{Line}
 use Rattle.rx_script.specs.declared.line.Line.TheVariants as line
 use Rattle.rx_script.specs.declared.since.Since.{Since}
+use Rattle.rx_script.specs.declared.target.Target.{Target}
 
 pub data Asked : Type 0 where
   Collection : (name : List ℕ) (schema : Data) → Asked
@@ -23,6 +27,9 @@ pub data Asked : Type 0 where
   Observe : (name coll : List ℕ) (query : Data) → Asked
   Unobserve : (name : List ℕ) → Asked
   Explain : (name : List ℕ) → Asked
+  Replicate : (name fork : List ℕ) (master : Target) (handler : List ℕ) (field : Option (List ℕ))
+      → Asked
+  Turn : (name : List ℕ) (batch budget : ℕ) (link : Option (List Happening)) → Asked
   Changes : (coll : List ℕ) (since : Option Since) (batch : ℕ) → Asked
   Tick : (at : ℕ) → Asked
   Restart : Asked
@@ -41,20 +48,27 @@ asked (line.Count coll query) = Count coll (view query)
 asked (line.Observe name coll query) = Observe name coll (view query)
 asked (line.Unobserve name) = Unobserve name
 asked (line.Explain name) = Explain name
+asked (line.Replicate name fork master handler field) = Replicate name fork master handler field
+asked (line.Turn name batch budget link) = Turn name batch budget (option_map (λ l. l.items) link)
 asked (line.Changes coll since batch) = Changes coll since batch
 asked (line.Tick at) = Tick at
 asked line.Restart = Restart
 asked (line.Digest coll) = Digest coll
 
-abbrev pub is_object : Data → Bool
-is_object d = is_some (as_object d)
-
 -- the most documents of a batch
 abbrev pub max_batch : ℕ
 max_batch = 100
 
--- names are names, documents are objects, a moment and a write time are numbers of a script, and a
--- batch is within its limits
+-- the most exchanges of a turn
+abbrev pub max_budget : ℕ
+max_budget = 100000
+
+-- and as many as it may make where no number is given
+abbrev pub usual_budget : ℕ
+usual_budget = 1000
+
+-- names are names, documents are objects, a moment and a write time are numbers of a script, and
+-- ports, batches, budgets and late requests are within their limits
 abbrev pub IsLawful : Asked → Type 0
 IsLawful (Collection name schema) = is_name name ≡ true
 IsLawful (Insert coll doc) = (is_name coll ≡ true) × (is_object doc ≡ true)
@@ -68,6 +82,11 @@ IsLawful (Count coll query) = is_name coll ≡ true
 IsLawful (Observe name coll query) = (is_name name ≡ true) × (is_name coll ≡ true)
 IsLawful (Unobserve name) = is_name name ≡ true
 IsLawful (Explain name) = is_name name ≡ true
+IsLawful (Replicate name fork master handler field) =
+    (is_name name ≡ true) × (is_name fork ≡ true) × IsTarget master
+IsLawful (Turn name batch budget link) =
+    (is_name name ≡ true) × (1 ≤ batch) × (batch ≤ max_batch)
+    × (1 ≤ budget) × (budget ≤ max_budget) × IfSome link (AllByRecursion IsHappening)
 IsLawful (Changes coll since batch) =
     (is_name coll ≡ true) × IfSome since (λ s. s.lwt ≤ largest) × (1 ≤ batch) × (batch ≤ max_batch)
 IsLawful (Tick at) = at ≤ largest

@@ -1,3 +1,6 @@
+pub mod Member
+pub mod Target
+pub mod Link
 pub mod Asked
 pub mod Since
 pub mod Line

@@ -1,96 +1,21 @@
 -- Reading a line: what it asks, or the first fault.
-use Rattle.std.specs.Prelude.{⊤, ℕ, List, [], ◌∷◌, length, codes, Bool, ◌&&◌, ◌||◌, is_some, is_none, nat_le, if◌then◌else◌, Option, Some, None, option_map, unwrap_or, Result, Ok, Err}
-use Rattle.std.specs.List.{list_all}
+use Rattle.std.specs.Prelude.{ℕ, List, [], ◌∷◌, length, codes, nat_le, if◌then◌else◌, Option, None, Result, Ok}
 use Rattle.std.specs.Str.{is_utf8}
-use Rattle.serde_json.specs.Data.{Data, null, Items, no_items, item}
-use Rattle.serde_json.specs.Find.{get, as_array}
+use Rattle.serde_json.specs.Data.{Data}
 use Rattle.serde_json.specs.Read.{read}
-use Rattle.rx_value.specs.Due.{◌>>◌, or_fault, unless}
-use Rattle.rx_value.specs.Form.{missing, unexpected, text_at, whole_at, whole_within}
-use Rattle.rx_value.specs.Name.{is_name}
+use Rattle.rx_value.specs.Due.{◌>>◌, demand, or_fault}
 use Rattle.rx_value.specs.Named.{named}
-use Rattle.rx_value.specs.Value.{largest}
-use Rattle.rx_script.specs.Asked.{Asked, is_object, max_batch, Collection, Insert, Bulk, Upsert, Patch, Remove, Get, Find, Count, Observe, Unobserve, Explain, Changes, Tick, Restart, Digest}
+use Rattle.rx_script.specs.Asked.{Asked, max_batch, max_budget, usual_budget, Collection, Insert, Bulk, Upsert, Patch, Remove, Get, Find, Count, Observe, Unobserve, Explain, Replicate, Turn, Changes, Tick, Restart, Digest}
+use Rattle.rx_script.specs.Link.{maybe_link}
+use Rattle.rx_script.specs.Member.{has_needed, has_form, is_object, json_at, items_of, a_text, maybe_text, an_object, objects, a_moment, maybe_whole, a_name, a_count}
 use Rattle.rx_script.specs.Since.{maybe_since}
+use Rattle.rx_script.specs.Target.{target_member, a_target, a_target_name}
 use Rattle.rx_script.specs.declared.fault.LineFault.{LineFault}
 use Rattle.rx_script.specs.declared.fault.LineFault.TheVariants as fault
 
 -- the most bytes that a line may have
 abbrev pub max_line_bytes : ℕ
 max_line_bytes = 1048576
-
--- ---- which members there are
-
--- each of the needed ones is there
-abbrev pub has_needed : List (List ℕ) → Data → Result ⊤ LineFault
-has_needed needed d = unless fault.Missing (missing needed d) (Ok tt)
-
--- and there is no other but those that may be missing
-abbrev pub has_form : List (List ℕ) → List (List ℕ) → Data → Result ⊤ LineFault
-has_form needed optional d =
-    has_needed needed d >> λ _.
-    unless fault.Unexpected (unexpected needed optional d) (Ok tt)
-
--- ---- of which kind a member is
-
--- the test holds, or that fault
-abbrev pub demand : Bool → LineFault → Result ⊤ LineFault
-demand b fault = if b then Ok tt else Err fault
-
--- what stands at a name; null where nothing does
-abbrev pub json_at : List ℕ → Data → Data
-json_at name d = unwrap_or (get name d) null
-
-abbrev pub listed : Items → List Data
-listed no_items = []
-listed (item d ds) = d ∷ listed ds
-
--- the items of a list; what is none has none
-abbrev pub items_of : Data → List Data
-items_of d = unwrap_or (option_map listed (as_array d)) []
-
--- a list of objects
-abbrev pub are_objects : Data → Bool
-are_objects d = is_some (as_array d) && list_all is_object (items_of d)
-
--- a text
-abbrev pub a_text : List ℕ → Data → Result (List ℕ) LineFault
-a_text name d = or_fault (fault.WrongType name) (text_at name d)
-
--- a text that may be missing
-abbrev pub maybe_text : List ℕ → Data → Result (Option (List ℕ)) LineFault
-maybe_text name d =
-    if is_none (get name d) then Ok None else (a_text name d >> λ text. Ok (Some text))
-
--- an object
-abbrev pub an_object : List ℕ → Data → Result ⊤ LineFault
-an_object name d = demand (is_object (json_at name d)) (fault.WrongType name)
-
--- a list of objects
-abbrev pub objects : List ℕ → Data → Result ⊤ LineFault
-objects name d = demand (are_objects (json_at name d)) (fault.WrongType name)
-
--- a moment
-abbrev pub a_moment : List ℕ → Data → Result ℕ LineFault
-a_moment name d = or_fault (fault.WrongType name) (whole_within name 0 largest d)
-
--- a whole number, however great, that may be missing
-abbrev pub maybe_whole : List ℕ → Data → Result ⊤ LineFault
-maybe_whole name d =
-    demand (is_none (get name d) || is_some (whole_at name d)) (fault.WrongType name)
-
--- ---- the text of a member is a name
-
-abbrev pub a_name : List ℕ → List ℕ → Result ⊤ LineFault
-a_name member text = demand (is_name text) (fault.Name member)
-
--- ---- the number of a member is within its limits
-
--- from 1 to the most; where it is missing, the number that is meant
-abbrev pub a_count : List ℕ → ℕ → ℕ → Data → Result ℕ LineFault
-a_count name most meant d =
-    if is_none (get name d) then Ok meant
-    else or_fault (fault.Batch name) (whole_within name 1 most d)
 
 -- ---- the forms: which members, of which kinds, which of them names, which within limits
 
@@ -162,6 +87,26 @@ name_of d =
     a_name (codes "name") name >> λ _.
     Ok name
 
+abbrev pub replicate_of : Data → Result Asked LineFault
+replicate_of d =
+    has_form
+    (codes "do" ∷ codes "name" ∷ codes "fork" ∷ target_member d ∷ codes "handler" ∷ [])
+    (codes "field" ∷ []) d >> λ _.
+    a_text (codes "name") d >> λ name. a_text (codes "fork") d >> λ fork. a_target d >> λ master.
+    a_text (codes "handler") d >> λ handler. maybe_text (codes "field") d >> λ field.
+    a_name (codes "name") name >> λ _. a_name (codes "fork") fork >> λ _. a_target_name master >> λ _.
+    Ok (Replicate name fork master handler field)
+
+abbrev pub turn_of : Data → Result Asked LineFault
+turn_of d =
+    has_form (codes "do" ∷ codes "name" ∷ []) (codes "batch" ∷ codes "budget" ∷ codes "link" ∷ []) d >> λ _.
+    a_text (codes "name") d >> λ name. maybe_whole (codes "batch") d >> λ _.
+    maybe_whole (codes "budget") d >> λ _. maybe_link (codes "link") d >> λ link.
+    a_name (codes "name") name >> λ _.
+    a_count (codes "batch") max_batch max_batch d >> λ batch.
+    a_count (codes "budget") max_budget usual_budget d >> λ budget.
+    Ok (Turn name batch budget link)
+
 abbrev pub changes_of : Data → Result Asked LineFault
 changes_of d =
     has_form (codes "do" ∷ codes "in" ∷ []) (codes "since" ∷ codes "batch" ∷ []) d >> λ _.
@@ -187,10 +132,6 @@ digest_of d =
     a_name (codes "in") coll >> λ _.
     Ok (Digest coll)
 
--- a form that has not come
-abbrev pub not_yet : Data → Result Asked LineFault
-not_yet d = Err fault.NotYet
-
 -- each form by what `do` says
 abbrev pub forms : List (List ℕ × (Data → Result Asked LineFault))
 forms =
@@ -206,8 +147,8 @@ forms =
     ∷ (codes "observe", observe_of)
     ∷ (codes "unobserve", λ d. name_of d >> λ name. Ok (Unobserve name))
     ∷ (codes "explain", λ d. name_of d >> λ name. Ok (Explain name))
-    ∷ (codes "replicate", not_yet)
-    ∷ (codes "turn", not_yet)
+    ∷ (codes "replicate", replicate_of)
+    ∷ (codes "turn", turn_of)
     ∷ (codes "changes", changes_of)
     ∷ (codes "tick", tick_of)
     ∷ (codes "restart", restart_of)

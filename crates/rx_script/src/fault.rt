@@ -25,9 +25,6 @@ pub enum LineFault {
     Name(RxText),
     #[error("a number out of its limits")]
     Batch(RxText),
-    /// Lines of this kind are not played yet.
-    #[error("the line is not played yet")]
-    NotYet,
     #[error("memory is wanting")]
     Memory,
 }

@@ -3,17 +3,20 @@ ghost use Rattle.std.specs.Prelude.{◌≡◌, true, IfOk};
 ghost use Rattle.serde_json.specs.View.{view};
 ghost use Rattle.rx_value.specs.Due.{Due, DueBy};
 ghost use Rattle.rx_value.specs.Name.{is_name};
-ghost use Rattle.rx_script.specs.Asked.{asked, is_object, IsLawful};
-ghost use Rattle.rx_script.specs.Line.{collection_of, document_of, bulk_of, patch_of, remove_of, get_of, query_of, observe_of, name_of, changes_of, tick_of, restart_of, digest_of, form_of};
+ghost use Rattle.rx_script.specs.Asked.{asked, IsLawful};
+ghost use Rattle.rx_script.specs.Line.{collection_of, document_of, bulk_of, patch_of, remove_of, get_of, query_of, observe_of, name_of, replicate_of, turn_of, changes_of, tick_of, restart_of, digest_of, form_of};
+ghost use Rattle.rx_script.specs.Member.{is_object};
 ghost use Rattle.rx_script.specs.declared.fault.LineFault.TheVariants.{Memory};
 
 use crate::fault::LineFault;
-use crate::line::{Line, MAX_BATCH};
+use crate::line::{Line, MAX_BATCH, MAX_BUDGET, USUAL_BUDGET};
+use crate::link::read_maybe_link;
 use crate::member::{
     check_form, check_maybe_whole, check_name, check_needed, check_object, check_objects,
     read_count, read_maybe_text, read_moment, read_text, take_items, take_json,
 };
 use crate::since::read_maybe_since;
+use crate::target::{check_target, read_target, target_member};
 use rx_value::{RxText, text_at};
 use serde_json::Value as Json;
 use std::alloc::Global;
@@ -53,11 +56,12 @@ pub(crate) fn read_form(alloc: Global, json: Json) -> Result<Line, LineFault>
         Some("explain") => Ok(Line::Explain {
             name: read_name(alloc, json)?,
         }),
+        Some("replicate") => read_replicate(alloc, json),
+        Some("turn") => read_turn(alloc, json),
         Some("changes") => read_changes(alloc, json),
         Some("tick") => read_tick(alloc, json),
         Some("restart") => read_restart(alloc, json),
         Some("digest") => read_digest(alloc, json),
-        Some("replicate" | "turn") => Err(LineFault::NotYet),
         Some(word) => Err(LineFault::UnknownDo(RxText::new(alloc, word)?)),
         None => Err(LineFault::WrongType(RxText::new(alloc, "do")?)),
     }
@@ -174,6 +178,54 @@ fn read_name(alloc: Global, json: Json) -> Result<RxText, LineFault>
     let name = read_text(alloc, &json, "name")?;
     check_name(alloc, "name", &name)?;
     Ok(name)
+}
+
+fn read_replicate(alloc: Global, json: Json) -> Result<Line, LineFault>
+    ensures exact { DueBy Memory asked result (replicate_of (view json)) }
+    ensures lawful { IfOk result (λ line. IsLawful (asked line)) }
+{
+    let master = target_member(&json);
+    check_form(
+        alloc,
+        &json,
+        &["do", "name", "fork", master, "handler"],
+        &["field"],
+    )?;
+    let name = read_text(alloc, &json, "name")?;
+    let fork = read_text(alloc, &json, "fork")?;
+    let master = read_target(alloc, &json)?;
+    let handler = read_text(alloc, &json, "handler")?;
+    let field = read_maybe_text(alloc, &json, "field")?;
+    check_name(alloc, "name", &name)?;
+    check_name(alloc, "fork", &fork)?;
+    check_target(alloc, &master)?;
+    Ok(Line::Replicate {
+        name,
+        fork,
+        master,
+        handler,
+        field,
+    })
+}
+
+fn read_turn(alloc: Global, json: Json) -> Result<Line, LineFault>
+    ensures exact { DueBy Memory asked result (turn_of (view json)) }
+    ensures lawful { IfOk result (λ line. IsLawful (asked line)) }
+{
+    check_form(alloc, &json, &["do", "name"], &["batch", "budget", "link"])?;
+    let name = read_text(alloc, &json, "name")?;
+    check_maybe_whole(alloc, &json, "batch")?;
+    check_maybe_whole(alloc, &json, "budget")?;
+    let link = read_maybe_link(alloc, &json, "link")?;
+    check_name(alloc, "name", &name)?;
+    let batch = read_count(alloc, &json, "batch", MAX_BATCH, MAX_BATCH)?;
+    let budget = read_count(alloc, &json, "budget", MAX_BUDGET, USUAL_BUDGET)?;
+    Ok(Line::Turn {
+        name,
+        batch,
+        budget,
+        link,
+    })
 }
 
 fn read_changes(alloc: Global, json: Json) -> Result<Line, LineFault>

@@ -16,31 +16,40 @@
 //! | `observe` | `name`, `in`, `query` |
 //! | `unobserve` | `name` |
 //! | `explain` | `name` |
+//! | `replicate` | `name`, `fork`, `master` or `port`, `handler`, and maybe `field` |
+//! | `turn` | `name`, and maybe `batch`, `budget` and `link` |
 //! | `changes` | `in`, and maybe `since` and `batch` |
 //! | `tick` | `at` |
 //! | `restart` | |
 //! | `digest` | `in` |
 //!
-//! `in` and `name` are names, `key` and `rev` are texts, `doc` and `set` are objects, `docs` is a
-//! list of objects, `at` is a whole number from 0 to 2^53 - 1, and `schema` and `query` are any
-//! JSON. `since` is an object of exactly the text `id` and a number `lwt` such as `at`, and `batch`
-//! a whole number, 100 where it is missing. The lines `replicate` and `turn` are known and not read
-//! yet.
+//! `in`, `name`, `fork` and `master` are names, `key`, `rev`, `handler` and `field` are texts,
+//! `doc` and `set` are objects, `docs` is a list of objects, `at` is a whole number from 0 to
+//! 2^53 - 1, and `schema` and `query` are any JSON. `since` is an object of exactly the text `id`
+//! and a number `lwt` such as `at`. `port` is a whole number from 1 to 65,535, and stands only
+//! where `master` doesn't. `batch` and `budget` are whole numbers, 100 and 1,000 where they are
+//! missing. `link` is a list of what happens to the exchanges of a turn, each one of the texts
+//! `ok`, `lose_request`, `lose_reply`, `twice` and `stale`, or an object of exactly the member
+//! `late`, a whole number from 1 to 16.
 //!
 //! The first fault counts: the line's length, its JSON, that it is an object; then `do`; then
-//! whether a member is missing, in the order of the table, or is none of these, by its bytes; then
-//! the kinds of the members in the order of the table, then the names in that order, and last
-//! whether a batch is from 1 to 100.
+//! whether a member is missing, in the order of the table, where `master` is one unless `port` is
+//! there, or is none of these, by its bytes; then the kinds of the members in the order of the
+//! table, then the names in that order, and last whether a batch is from 1 to 100 and a budget
+//! from 1 to 100,000.
 #![tactic(auto)]
 
 mod fault;
 mod forms;
 mod happening;
 mod line;
+mod link;
 mod member;
 mod since;
+mod target;
 
 pub use fault::LineFault;
 pub use happening::Happening;
-pub use line::{Line, MAX_BATCH, MAX_LINE_BYTES};
+pub use line::{Line, MAX_BATCH, MAX_BUDGET, MAX_LINE_BYTES, USUAL_BUDGET};
 pub use since::Since;
+pub use target::Target;

@@ -7,7 +7,9 @@ ghost use Rattle.rx_script.specs.declared.fault.LineFault.TheVariants.{Memory};
 
 use crate::fault::LineFault;
 use crate::forms::read_form;
+use crate::happening::Happening;
 use crate::since::Since;
+use crate::target::Target;
 use rx_value::RxText;
 use serde_json::Value as Json;
 use std::alloc::Global;
@@ -17,6 +19,12 @@ pub const MAX_LINE_BYTES: usize = 1_048_576;
 
 /// The most documents of a batch, and as many as it has where no number is given.
 pub const MAX_BATCH: u32 = 100;
+
+/// The most exchanges of a turn.
+pub const MAX_BUDGET: u32 = 100_000;
+
+/// As many as a turn may make where no number is given.
+pub const USUAL_BUDGET: u32 = 1_000;
 
 /// What a line asks. Names are read; schemas, documents and queries are left as the JSON that
 /// they are, since only the session can judge them. `coll` is the member `in`.
@@ -71,6 +79,19 @@ pub enum Line {
     },
     Explain {
         name: RxText,
+    },
+    Replicate {
+        name: RxText,
+        fork: RxText,
+        master: Target,
+        handler: RxText,
+        field: Option<RxText>,
+    },
+    Turn {
+        name: RxText,
+        batch: u32,
+        budget: u32,
+        link: Option<Vec<Happening>>,
     },
     Changes {
         coll: RxText,

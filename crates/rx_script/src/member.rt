@@ -6,8 +6,7 @@ ghost use Rattle.rx_value.specs.Due.{Due};
 ghost use Rattle.rx_value.specs.Form.{texts};
 ghost use Rattle.rx_value.specs.Name.{is_name};
 ghost use Rattle.rx_value.specs.Value.{largest};
-ghost use Rattle.rx_script.specs.Asked.{is_object};
-ghost use Rattle.rx_script.specs.Line.{has_needed, has_form, a_text, maybe_text, an_object, objects, a_moment, maybe_whole, a_count, a_name, json_at, items_of, are_objects};
+ghost use Rattle.rx_script.specs.Member.{has_needed, has_form, is_object, a_text, maybe_text, an_object, objects, a_moment, maybe_whole, a_count, a_name, json_at, items_of, are_objects};
 ghost use Rattle.rx_script.specs.declared.fault.LineFault.TheVariants.{Memory};
 
 use crate::fault::LineFault;

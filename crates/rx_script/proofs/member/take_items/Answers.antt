@@ -1,5 +1,5 @@
 use Rattle.std.proofs.Common.{◌∙◌, ap, sym}
-use Rattle.rx_script.specs.Line.{items_of}
+use Rattle.rx_script.specs.Member.{items_of}
 use Rattle.rx_script.proofs.Lists.{items_of_array}
 use Rattle.rx_script.proofs.member.take_items.Goals as goal
 

@@ -1,0 +1,18 @@
+use Rattle.std.proofs.Common.{append_assoc, ◌∙◌}
+use Rattle.rx_reply.proofs.Tokens.{on_ok, one_more}
+use Rattle.rx_reply.proofs.turn.put_pulled.Goals as goal
+
+pub returns-clause-tokens : goal.returns-clause-tokens
+returns-clause-tokens c =
+    on_ok c.end_object.result
+    (λ last. last ∙ rw (
+      c.in_ok-put_text.ensures.tokens,
+      c.in_ok-put_texts.ensures.tokens,
+      c.in_ok-key.ensures.ok,
+      c.in_ok-put_maybe_place.ensures.tokens,
+      c.in_ok-put_number.ensures.tokens,
+      c.in_ok-begin_object.ensures.ok,
+      one_more,
+    )
+    (simp append_assoc))
+    c.end_object.ensures.ok
