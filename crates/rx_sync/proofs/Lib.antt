@@ -1,4 +1,5 @@
 mod Examples
+mod BoundExamples
 pub mod Worlds
 pub mod Masters
 pub mod Staying
@@ -13,3 +14,7 @@ pub mod Repeats
 pub mod Turns
 pub mod Calls
 pub mod Refusals
+pub mod Leaves
+pub mod Steps
+pub mod Bound
+pub mod AnyReply

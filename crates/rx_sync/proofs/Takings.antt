@@ -74,7 +74,7 @@ fit_of false true batch count is = refl
 fit_of false false batch count is = not_none (sym is)
 
 -- down doesn't fall
-down_risen : (by : Resolve) (w : Held) (up down : Option Place) (ask : AskKind) (body : Body)
+pub down_risen : (by : Resolve) (w : Held) (up down : Option Place) (ask : AskKind) (body : Body)
     (t : Taking) → bad_reply down ask body ≡ None
     → taking by w.documents up down ask body ≡ Some t
     → (p : Place) → down ≡ Some p → is_up_to p t.down ≡ true
@@ -90,7 +90,7 @@ down_risen by w up down (Pull q b) (Docs ss to) t fits is p e =
 down_risen by w up down (Push rows) (Docs ss to) t fits is p e = not_none is
 down_risen by w up down (Pull q b) (Conflicts cs) t fits is p e = not_none is
 
-rises_by : (old new : Option Place) → ((p : Place) → old ≡ Some p → is_up_to p new ≡ true)
+pub rises_by : (old new : Option Place) → ((p : Place) → old ≡ Some p → is_up_to p new ≡ true)
     → stays_or_rises old new ≡ true
 rises_by None new risen = refl
 rises_by (Some p) new risen = risen p refl
@@ -108,7 +108,7 @@ taken_times by fork up down (Pull q b) (Docs ss to) t times has_up has_down has 
 taken_times by fork up down (Push rows) (Docs ss to) t times has_up has_down has is = not_none is
 taken_times by fork up down (Pull q b) (Conflicts cs) t times has_up has_down has is = not_none is
 
-answer_differs : (body : Body) → KeysDiffer (answer_states body) → AnswerDiffers body
+pub answer_differs : (body : Body) → KeysDiffer (answer_states body) → AnswerDiffers body
 answer_differs (Conflicts cs) apart = apart
 answer_differs (Docs ss to) apart = apart
 
@@ -138,7 +138,7 @@ module _ (w : World) (made : IsMadeWorld w) (sound : IsSoundWorld w) (name : Lis
       fork_sound
       asked.request.ask reply.body t.of.taken current apart t.of.is
 
-  learnt_same : with_learnt r.side.known plan.known ≡ with_learnt r.side.known t.of.taken.known
+  pub learnt_same : with_learnt r.side.known plan.known ≡ with_learnt r.side.known t.of.taken.known
   learnt_same =
       ap (with_learnt r.side.known) t.of.known
       ∙ learn-by_key r.side.known t.of.taken.known (linked_at w made name r at).by_key.rising

@@ -6,3 +6,5 @@ pub mod Exchange
 pub mod Turn
 pub mod Shown
 pub mod Laws
+pub mod Bound
+pub mod AnyReply

@@ -1,3 +1,5 @@
+ghost use Rattle.rx_sync.specs.AnyReply.{ChangesNothingElse, EveryTaking, LosesNoUpdate, LowersNoCheckpoint, MayBeKept, StaysForkSound, StaysMade, StaysSoundAtPort, StaysValid};
+ghost use Rattle.rx_sync.specs.Bound.{EachLowersLeft, EndsInTime, EveryOkTurn, PushesAtMostTwice, TurnsEndInTime};
 ghost use Rattle.rx_sync.specs.Laws.{EveryTurn, IsTurnSound, MayTurnAgain, QuietIsLevel, RefusedByTheClockAlone, TwiceIsOnce};
 
 /// States what holds of every turn of every replication that may make one, whatever its link does,
@@ -13,4 +15,38 @@ pub fn turn_laws()
     ensures twice { TwiceIsOnce }
     // A reply of the master is refused only where no write time is left.
     ensures clock { RefusedByTheClockAlone }
+{}
+
+/// States how many exchanges are enough where the link does nothing to them, for every handler, and
+/// does nothing. An exchange that finds no write time ends its turn, and isn't counted.
+pub fn bound_laws()
+    // An exchange lowers the pushes left by the documents that it pushes at least. A pull, which
+    // pushes none, doesn't raise them.
+    ensures lowered { EveryOkTurn EachLowersLeft }
+    // A turn pushes what is pending before it at most twice, and nothing else.
+    ensures twice { EveryOkTurn PushesAtMostTwice }
+    // For P pending documents and K keys a budget of 2 P + K + 1 is enough to end quiet, unless a
+    // commit finds no write time.
+    ensures in_time { EveryOkTurn EndsInTime }
+    // So many exchanges are also enough for turns that follow each other, with P and K from before
+    // the first, up to and with the first that is quiet or finds no write time.
+    ensures in_time_over_turns { TurnsEndInTime }
+{}
+
+/// States what a fork keeps whatever it is answered, where a taking is due and the states of the
+/// reply are valid, and does nothing. Nothing is asked of the master, which may be elsewhere.
+pub fn any_reply_laws()
+    // The records may come where they come.
+    ensures may_come { EveryTaking MayBeKept }
+    ensures no_checkpoint_falls { EveryTaking LowersNoCheckpoint }
+    // What the fork holds and knows is valid.
+    ensures valid { EveryTaking StaysValid }
+    ensures sound_without_the_master { EveryTaking StaysForkSound }
+    // A document that is to be pushed changes only by the handler's answer on its conflict.
+    ensures no_lost_update { EveryTaking LosesNoUpdate }
+    ensures nothing_else { EveryTaking ChangesNothingElse }
+    // So another reply may be taken: the world is one that records made, and where the master is
+    // elsewhere it stays sound.
+    ensures made { EveryTaking StaysMade }
+    ensures sound_at_port { EveryTaking StaysSoundAtPort }
 {}

@@ -21,5 +21,5 @@ pub use earlier::late;
 pub use exchanging::{Planned, exchange};
 pub use fault::TakeFault;
 pub use handling::{Handled, handle};
-pub use laws::turn_laws;
+pub use laws::{any_reply_laws, bound_laws, turn_laws};
 pub use taking::take;
