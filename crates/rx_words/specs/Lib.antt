@@ -1,0 +1,4 @@
+pub mod Number
+pub mod Given
+pub mod Parsed
+pub mod Words
