@@ -1,0 +1,4 @@
+pub mod Drawing
+pub mod Printing
+pub mod Lines
+pub mod Summary
