@@ -53,24 +53,10 @@ pub writes_one : (c : Held) (ss : List State) (now : ℕ) (r : Content) → 0 < 
 writes_one c [] now r some is = absurd (omega (arith, some))
 writes_one c (s ∷ ss) now r some is = written_at c (s ∷ ss) r (stamp c.documents now) is
 
--- there is none where there are no states
-pub writes_none : (c : Held) (ss : List State) (now : ℕ) → length ss ≡ 0
-    → Writes c (commit_of c ss now) (write c ss now) None
-writes_none c [] now none = (refl, refl)
-writes_none c (s ∷ ss) now none = absurd (omega (arith, none))
-
 no_time : {X Y : Type 0} (f : ℕ → X) (g : ℕ → Y) (o : Option ℕ) → option_map f o ≡ None
     → option_map g o ≡ None
 no_time f g None is = refl
 no_time f g (Some lwt) is = absurd (cc)
-
--- and none where no write time is left
-pub clock_ended : (c : Held) (ss : List State) (now : ℕ) → 0 < length ss
-    → commit_to c.name ss now c ≡ None → write c ss now ≡ None
-clock_ended c [] now some is = absurd (omega (arith, some))
-clock_ended c (s ∷ ss) now some is =
-    no_time (λ lwt. rows c.name lwt (map out_of (rows_of c (s ∷ ss) lwt)))
-    (λ lwt. with_rows c (rows_of c (s ∷ ss) lwt)) (stamp c.documents now) is
 
 -- ---- the states
 

@@ -7,3 +7,5 @@ pub mod Moments
 pub mod Hosting
 pub mod Laws
 pub mod Serving
+pub mod Connections
+pub mod Outside

@@ -1,5 +1,5 @@
 // A master over a disk and a clock, as what a connection asks.
-ghost use Rattle.std.specs.Prelude.{◌≡◌, ◌≤◌, ◌∷◌, ℕ, List, [], None, Some, IfOk, OnOk, OnErr};
+ghost use Rattle.std.specs.Prelude.{◌≡◌, ◌≤◌, ◌∷◌, ℕ, List, [], None, Some, IfOk, IsOk, OnErr};
 ghost use Rattle.rx_host.specs.Moments.{HasMoment, Ticks};
 
 use crate::engine::MasterEngine;
@@ -77,8 +77,8 @@ impl<'a, D: Disk, C: Clock> Answer for Host<'a, D, C, Hosting> {
     ghost holds = { λ a b sure more. (b.disk.ghost_name ≡ a.disk.ghost_name)
         × (b.clock.ghost_name ≡ a.clock.ghost_name)
         × Hosts D.Disk a.disk.now b.disk.now a.state.work b.state.work sure more
-        × (stop_in b.state.work ≡ None → Ticks C.tells (C.given a.clock.now)
-        (C.given b.clock.now) a.state.moments.items b.state.moments.items)
+        × Ticks C.tells (stop_in b.state.work ≡ None) (C.given a.clock.now) (C.given b.clock.now)
+        a.state.moments.items b.state.moments.items
         × (C.faults a.clock.now ≤ C.faults b.clock.now) };
 
     fn answer(&mut self, request: &Request) -> Result<Option<Reply>, Stop> {
@@ -111,7 +111,8 @@ impl<'a, D: Disk, C: Clock> Answer for Host<'a, D, C, Hosting> {
       refl,
       refl,
       hosts_none _ (λ disk c told left. D.only_now disk c told left) a.disk.now a.state.work going,
-      λ still. ticks_none C.tells (C.given a.clock.now) a.state.moments.items,
+      ticks_none C.tells (stop_in a.state.work ≡ None) (C.given a.clock.now)
+          a.state.moments.items,
       later (C.faults a.clock.now),
     ) };
 
@@ -120,8 +121,9 @@ impl<'a, D: Disk, C: Clock> Answer for Host<'a, D, C, Hosting> {
       k.1 ∙ h.1,
       hosts_on _ a.disk.now b.disk.now c.disk.now a.state.work b.state.work c.state.work
           first second more going h.2 k.2,
-      λ still. ticks_on C.tells (C.given a.clock.now) (C.given b.clock.now) (C.given c.clock.now)
-          a.state.moments.items b.state.moments.items c.state.moments.items (h.3 going) (k.3 still),
+      ticks_on C.tells (stop_in b.state.work ≡ None) (stop_in c.state.work ≡ None)
+          (C.given a.clock.now) (C.given b.clock.now) (C.given c.clock.now)
+          a.state.moments.items b.state.moments.items c.state.moments.items going h.3 k.3,
       at_most (C.faults a.clock.now) (C.faults b.clock.now) (C.faults c.clock.now) h.4 k.4,
     ) };
 }
@@ -129,16 +131,18 @@ impl<'a, D: Disk, C: Clock> Answer for Host<'a, D, C, Hosting> {
 // The moment of a push, by the clock. A pull needs none.
 fn moment<C: Clock>(ask: &AskKind, clock: &mut C, moments: &mut Vec<u64>) -> Result<u64, AllocError>
     ensures moment { IfOk result (λ now. HasMoment ask.now now moments.old.items moments.new.items) }
-    ensures ticks { OnOk result (Ticks C.tells (C.given clock.old) (C.given clock.new)
-        moments.old.items moments.new.items) }
+    ensures ticks { Ticks C.tells (IsOk result) (C.given clock.old) (C.given clock.new)
+        moments.old.items moments.new.items }
     ensures kept { OnErr result (moments.new.items ≡ moments.old.items) }
     ensures count { C.faults clock.old ≤ C.faults clock.new }
 {
     match ask {
         AskKind::Push(_) => {
             let now = clock.now();
-            moments.push(now)?;
-            Ok(now)
+            match moments.push(now) {
+                Ok(()) => Ok(now),
+                Err(_) => Err(AllocError),
+            }
         }
         AskKind::Pull { .. } => Ok(0),
     }

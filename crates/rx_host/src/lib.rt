@@ -3,10 +3,13 @@
 //! holds of a journal at each moment rx_store's.
 #![tactic(auto)]
 
+mod connections;
 mod engine;
 mod host;
+mod lines;
 mod planning;
 mod serving;
 
+pub use connections::{ServeFault, serve_connections};
 pub use engine::MasterEngine;
 pub use host::{Host, Hosting, Work};

@@ -33,26 +33,29 @@ impl MasterEngine {
 
         // What is served at the moments that the clock gave was served, and the disk has the
         // records of its commits.
-        ensures served { W.tells → IfOk result (λ p. (moments : List ℕ)
+        ensures served { IfOk result (λ p. (moments : List ℕ)
             × (C.tells → GivesMoments (C.given clock.old) (C.given clock.new) moments)
-            × EndsBy p.1.why p.1.requests (HasKept D.Disk disk.old disk.new self p.0) (record {
+            × (W.tells → EndsBy p.1.why p.1.requests (HasKept D.Disk disk.old disk.new self p.0)
+            (record {
               before = collection_of self;
               after = collection_of p.0;
               moments = moments;
               coming = W.left wire.old;
               sent = joined_since (W.sent wire.old) (W.sent wire.new);
-            })) }
+            }))) }
 
-        // A stop came: no record is missing of a reply of which a byte was sent.
-        ensures stopped { W.tells → IfErr result (λ why. (moments : List ℕ)
-            × (after : Held) × (stop : Option Stop) × IsStopOf why stop
+        // A stop came: no record is missing of a reply of which a byte was sent. A moment may be
+        // given that no push has.
+        ensures stopped { IfErr result (λ why. (moments : List ℕ) × (spare : List ℕ)
+            × (C.tells → GivesMoments (C.given clock.old) (C.given clock.new) (moments ++ spare))
+            × (W.tells → (after : Held) × (stop : Option Stop) × IsStopOf why stop
             × IsStopped (HasStopped D.Disk disk.old disk.new self stop) (record {
               before = collection_of self;
               after = after;
               moments = moments;
               coming = W.left wire.old;
               sent = joined_since (W.sent wire.old) (W.sent wire.new);
-            })) }
+            }))) }
 
         // Whatever the wire gave, the disk has the records of some commits.
         ensures kept { IfOk result (λ p. (commits : Commits)

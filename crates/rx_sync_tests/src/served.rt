@@ -24,7 +24,7 @@ use std::test::Fail;
 const SCHEMA: &str =
     r#"{"version":0,"primaryKey":"id","type":"object","properties":{"id":{"type":"string","maxLength":20},"n":{"type":"integer"}},"required":["id"]}"#;
 
-const LIMIT: u64 = 268_435_456;
+pub(crate) const LIMIT: u64 = 268_435_456;
 
 const CASES: &str = r#"
 == a request, and the same with a space too many
@@ -194,7 +194,7 @@ fn serve(
 }
 
 // A journal that holds the collection.
-fn journal(alloc: Global) -> Result<MemoryDisk, Fail> {
+pub(crate) fn journal(alloc: Global) -> Result<MemoryDisk, Fail> {
     let schema = schema(alloc)?;
     let entry = Record::Collection {
         name: RxText::new(alloc, "c")?,
@@ -216,7 +216,7 @@ fn schema(alloc: Global) -> Result<Schema, Fail> {
 }
 
 // Its hash as JSON.
-fn hash(alloc: Global) -> Result<String, Fail> {
+pub(crate) fn hash(alloc: Global) -> Result<String, Fail> {
     let schema = schema(alloc)?;
     let hash = schema.hash().as_str();
     Ok(format!(in alloc; "\"{hash}\"")?)

@@ -1,4 +1,4 @@
-use Rattle.std.proofs.Common.{◌≡◌, ◌∙◌, ℕ, List, [], None, Some, refl, sym, ap, subst, rules}
+use Rattle.std.proofs.Common.{◌≡◌, ◌∙◌, ◌++◌, ℕ, List, [], None, Some, refl, sym, ap, subst, append-nil, rules}
 use Rattle.rx_collection.specs.Held.{Held}
 use Rattle.rx_serve.specs.Answered.{Commits}
 use Rattle.rx_serve.specs.Ends.{EndsBy, IsStopped, joined_since}
@@ -13,8 +13,15 @@ use Rattle.rx_host.proofs.Ends.{ends_too, stopped_too}
 use Rattle.rx_host.proofs.Hosts.{cause_err, cause_ok, kept_from, lawful_err, stopped_from}
 use Rattle.rx_host.proofs.engine.MasterEngine.serve.Goals as goal
 
+-- the same clock at another name
+gave : {C : Type 0} (given : C → List ℕ) (x x' y y' : C) (moments : List ℕ) → x ≡ x' → y ≡ y'
+    → GivesMoments (given x) (given y) moments → GivesMoments (given x') (given y') moments
+gave given x x' y y' moments same same' gives =
+    subst (λ v. GivesMoments (given x') (given v) moments) same'
+    (subst (λ v. GivesMoments (given v) (given y) moments) same gives)
+
 pub returns-in-Ok-Going-clause-served : goal.returns-in-Ok-Going-clause-served
-returns-in-Ok-Going-clause-served g c = λ told.
+returns-in-Ok-Going-clause-served g c =
     let a = c.new-host.result in
     let b = c.serve-ended.new.answer in
     let engine = c.in-Ok-Going.engine in
@@ -27,9 +34,9 @@ returns-in-Ok-Going-clause-served g c = λ told.
     let clock' : b.clock.now ≡ c.clock-1.given.0 = search rules in
     let going : stop_in b.state.work ≡ None = ap stop_in work' in
     let kept = rw c.in-Ok-Going.is-0 at c.serve-ended.ensures.keeps in
-    let ticks = kept.1.3 going in
+    let ticks = kept.1.3 in
     let moments = joined_since a.state.moments.items b.state.moments.items in
-    let ends = rw c.in-Ok-Going.is-0 at c.serve-ended.ensures.served told in
+    let ends = rw c.in-Ok-Going.is-0 at c.serve-ended.ensures.served in
     let K : Commits → Type 0 = λ commits.
     HasKept g.D.Disk c.args.disk.now c.disk-1.given.0 c.args.self engine commits in
     let sent = joined_since (g.W.Wire.sent c.args.wire.now) (g.W.Wire.sent c.serve-ended.new.wire) in
@@ -47,20 +54,20 @@ returns-in-Ok-Going-clause-served g c = λ told.
       coming = g.W.Wire.left c.args.wire.now;
       sent = sent;
     }) in
-    let here : P (collection_in a.state.work) = ends_too _ K
+    let here : g.W.Wire.tells → P (collection_in a.state.work) = λ told. ends_too _ K
     (λ commits holds. kept_from g.D.Disk a.disk.now c.args.disk.now b.disk.now c.disk-1.given.0
     a.state.work b.state.work c.args.self disk disk' work engine work' commits holds.2)
-    _ ended.why ended.requests ends in
+    _ ended.why ended.requests (ends told) in
     let R : List ℕ → Type 0 = λ v. g.C.Clock.tells
     → GivesMoments (g.C.Clock.given c.args.clock.now) (g.C.Clock.given c.clock-1.given.0) v in
     let given : R ticks.joined = λ told.
-    subst (λ v. GivesMoments (g.C.Clock.given c.args.clock.now) (g.C.Clock.given v) ticks.joined)
-    clock'
-    (subst (λ v. GivesMoments (g.C.Clock.given v) (g.C.Clock.given b.clock.now) ticks.joined) clock
-    (ticks.of_clock told)) in (
+    subst (λ v. GivesMoments (g.C.Clock.given c.args.clock.now) (g.C.Clock.given c.clock-1.given.0) v)
+    (ap (λ v. ticks.joined ++ v) (ticks.none_spare going) ∙ append-nil ticks.joined)
+    (gave (g.C.Clock.given) a.clock.now c.args.clock.now b.clock.now c.clock-1.given.0
+    (ticks.joined ++ ticks.spare) clock clock' (ticks.of_clock told)) in (
       moments,
       subst R (sym (since a.state.moments.items b.state.moments.items ticks.joined ticks.more)) given,
-      subst Q (ap collection_in work') (subst P (ap collection_in work) here),
+      λ told. subst Q (ap collection_in work') (subst P (ap collection_in work) (here told)),
     )
 
 pub returns-in-Ok-Going-clause-kept : goal.returns-in-Ok-Going-clause-kept
@@ -160,7 +167,7 @@ returns-clause-not_journal g c =
     b.state.work c.args.self disk disk' work c.in-Err-default.stop left.0 left.1 of left.2.2
 
 pub returns-clause-stopped : goal.returns-clause-stopped
-returns-clause-stopped g c = λ told.
+returns-clause-stopped g c =
     let a = c.new-host.result in
     let b = c.serve-ended.new.answer in
     let work : a.state.work ≡ Going c.args.self = search rules in
@@ -168,7 +175,10 @@ returns-clause-stopped g c = λ told.
     let disk' : b.disk.now ≡ c.disk-1.given.0 = search rules in
     let moments = joined_since a.state.moments.items b.state.moments.items in
     let after = collection_in b.state.work in
-    let stopped = rw c.in-Err-default.is-0 at c.serve-ended.ensures.stopped told in
+    let clock : a.clock.now ≡ c.args.clock.now = search rules in
+    let clock' : b.clock.now ≡ c.clock-1.given.0 = search rules in
+    let stopped = rw c.in-Err-default.is-0 at c.serve-ended.ensures.stopped in
+    let ticks = (rw c.in-Err-default.is-0 at c.serve-ended.ensures.leaves).2.3 in
     let K : Commits → Commits → Type 0 = λ sure more.
     HasStopped g.D.Disk c.args.disk.now c.disk-1.given.0 c.args.self (stop_in b.state.work) sure more in
     let P : Held → Type 0 = λ h. IsStopped K (record {
@@ -178,9 +188,18 @@ returns-clause-stopped g c = λ told.
       coming = g.W.Wire.left c.args.wire.now;
       sent = joined_since (g.W.Wire.sent c.args.wire.now) (g.W.Wire.sent c.serve-ended.new.wire);
     }) in
-    let here : P (collection_in a.state.work) = stopped_too _ K
+    let here : g.W.Wire.tells → P (collection_in a.state.work) = λ told. stopped_too _ K
     (λ sure more holds. stopped_from g.D.Disk a.disk.now c.args.disk.now b.disk.now
     c.disk-1.given.0 a.state.work b.state.work c.args.self disk disk' work sure more holds.2)
-    _ stopped in
+    _ (stopped told) in
     let of = rw c.in-Err-default.is-0 at c.serve-ended.ensures.stop in
-    (moments, after, stop_in b.state.work, of, subst P (ap collection_in work) here)
+    let R : List ℕ → Type 0 = λ v. g.C.Clock.tells → GivesMoments
+    (g.C.Clock.given c.args.clock.now) (g.C.Clock.given c.clock-1.given.0) (v ++ ticks.spare) in
+    let given : R ticks.joined = λ told.
+    gave (g.C.Clock.given) a.clock.now c.args.clock.now b.clock.now c.clock-1.given.0
+    (ticks.joined ++ ticks.spare) clock clock' (ticks.of_clock told) in (
+      moments,
+      ticks.spare,
+      subst R (sym (since a.state.moments.items b.state.moments.items ticks.joined ticks.more)) given,
+      λ told. (after, stop_in b.state.work, of, subst P (ap collection_in work) (here told)),
+    )

@@ -10,6 +10,7 @@ use Rattle.rx_host.specs.Moments.{Ticks}
 use Rattle.rx_host.specs.declared.host.Work.{Work}
 use Rattle.rx_host.specs.declared.host.Work.TheVariants.{Going, Stopped}
 use Rattle.rx_host.proofs.Answers.{answers_by, stops_by, stops_early}
+use Rattle.rx_host.proofs.Ends.{ticks_as}
 use Rattle.rx_host.proofs.Hosts.{hosts_going, hosts_stopped, hosts_untouched, not_still}
 use Rattle.rx_host.proofs.host.HostHostingAnswer.answer.Goals as goal
 
@@ -21,8 +22,8 @@ returns-in_default-moment-clause-keeps g c =
     let Holds : Commits → Commits → Type 0 = λ sure more.
     (a.disk.ghost_name ≡ a.disk.ghost_name) × (clock'.ghost_name ≡ a.clock.ghost_name)
     × Hosts g.D.Disk a.disk.now a.disk.now a.state.work work' sure more
-    × (stop_in work' ≡ None → Ticks g.C.Clock.tells (g.C.Clock.given a.clock.now)
-    (g.C.Clock.given clock'.now) a.state.moments.items c.moment.new.moments.items)
+    × Ticks g.C.Clock.tells (stop_in work' ≡ None) (g.C.Clock.given a.clock.now)
+    (g.C.Clock.given clock'.now) a.state.moments.items c.moment.new.moments.items
     × (g.C.Clock.faults a.clock.now ≤ g.C.Clock.faults clock'.now) in
     let same : c.moment.new.moments.items ≡ a.state.moments.items = search rules in
     let named : clock'.ghost_name ≡ a.clock.ghost_name = search rules in
@@ -34,7 +35,8 @@ returns-in_default-moment-clause-keeps g c =
       named,
       hosts_untouched g.D.Disk (λ disk i told left. g.met.D.Disk.only_now disk i told left)
           a.disk.now a.state.work work' c.in-Going.engine work stopped,
-      λ still. absurd (not_still work' Memory stopped still),
+      ticks_as _ _ _ _ _ _ _ (λ still. absurd (not_still work' Memory stopped still))
+          c.moment.ensures.ticks,
       count,
     ) in
     stops_early c.args.request.now.ask c.args.request.now (collection_in a.state.work)
@@ -69,10 +71,10 @@ returns-in-Ok-answer-clause-answers g c =
     let Done : Type 0 = (disk'.ghost_name ≡ a.disk.ghost_name)
     × (clock'.ghost_name ≡ a.clock.ghost_name)
     × Hosts g.D.Disk a.disk.now disk'.now a.state.work (Going engine) commits []
-    × (stop_in (Going engine) ≡ None → Ticks g.C.Clock.tells (g.C.Clock.given a.clock.now)
-    (g.C.Clock.given clock'.now) a.state.moments.items c.moment.new.moments.items)
+    × Ticks g.C.Clock.tells (stop_in (Going engine) ≡ None) (g.C.Clock.given a.clock.now)
+    (g.C.Clock.given clock'.now) a.state.moments.items c.moment.new.moments.items
     × (g.C.Clock.faults a.clock.now ≤ g.C.Clock.faults clock'.now) in
-    let done : Done = (named_disk, named, hosts', λ still. c.in-Ok.ensures.ticks, count) in
+    let done : Done = (named_disk, named, hosts', ticks_as _ _ _ _ _ _ _ (λ still. refl) c.in-Ok.ensures.ticks, count) in
     answers_by q.ask q coll (collection_of engine) a.state.moments.items
     c.moment.new.moments.items c.in-Ok-answer.reply now _ c.in-Ok.ensures.moment
     (subst (λ (h : Held). Gives (answered_at h now q) h c.in-Ok-answer.reply (collection_of engine))
@@ -93,8 +95,8 @@ returns-in-Err-clause-keeps g c =
     let Holds : Commits → Commits → Type 0 = λ sure more.
     (disk'.ghost_name ≡ a.disk.ghost_name) × (clock'.ghost_name ≡ a.clock.ghost_name)
     × Hosts g.D.Disk a.disk.now disk'.now a.state.work (Stopped why) sure more
-    × (stop_in (Stopped why) ≡ None → Ticks g.C.Clock.tells (g.C.Clock.given a.clock.now)
-    (g.C.Clock.given clock'.now) a.state.moments.items c.moment.new.moments.items)
+    × Ticks g.C.Clock.tells (stop_in (Stopped why) ≡ None) (g.C.Clock.given a.clock.now)
+    (g.C.Clock.given clock'.now) a.state.moments.items c.moment.new.moments.items
     × (g.C.Clock.faults a.clock.now ≤ g.C.Clock.faults clock'.now) in
     let work : a.state.work ≡ Going first = search rules in
     let there : collection_of first ≡ coll = sym (ap collection_in work) in
@@ -116,6 +118,6 @@ returns-in-Err-clause-keeps g c =
     subst (λ (h : Held). Hosts g.D.Disk a.disk.now disk'.now a.state.work (Stopped why) []
     (commit_at h now q q.ask)) there copied in
     let holds : Holds [] commits =
-    (named_disk, named, hosts', λ still. absurd (cc), count) in
+    (named_disk, named, hosts', ticks_as _ _ _ _ _ _ _ (λ still. refl) c.in-Ok.ensures.ticks, count) in
     stops_by q.ask q coll a.state.moments.items c.moment.new.moments.items now Holds
     c.in-Ok.ensures.moment holds

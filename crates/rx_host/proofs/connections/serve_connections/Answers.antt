@@ -1,0 +1,169 @@
+use Rattle.std.proofs.Common.{◌≡◌, ◌∙◌, ℕ, ◌+◌, List, [], ◌∷◌, ◌++◌, length, Option, None, inl, refl, sym, append-nil, arith, rules, length-append}
+use Rattle.rx_outside.specs.declared.stop.Stop.{Stop}
+use Rattle.rx_serve.specs.Answered.{Commits}
+use Rattle.rx_host.specs.Connections.{ServedConnection}
+use Rattle.rx_host.specs.Engine.{collection_of}
+use Rattle.rx_host.specs.Laws.{gives_on}
+use Rattle.rx_host.specs.Moments.{GivesMoments}
+use Rattle.rx_host.specs.Outside.{Outside}
+use Rattle.rx_host.specs.Serving.{HasKept, HasStopped}
+use Rattle.rx_host.proofs.Halting.{halts_on}
+use Rattle.rx_host.proofs.InTurn.{have_none, have_on}
+use Rattle.rx_host.proofs.Kept.{kept_left, kept_none, kept_on, stopped_on}
+use Rattle.rx_host.proofs.connections.serve_connections.Goals as goal
+
+-- ---- the door didn't open
+
+pub returns-in_default-clause-halted : goal.returns-in_default-clause-halted
+returns-in_default-clause-halted g c = record {
+  conns = [];
+  few = omega arith;
+  each = λ told. tt;
+  last = record {
+    talks = λ told.
+        c.in_default.ensures.same_talks ∙ sym (append-nil (g.L.Listen.talks c.args.door.now));
+    written = λ told. sym (append-nil (g.K.Sink.written c.args.out.now));
+    moments = λ told. inl (sym (append-nil (g.C.Clock.given c.args.clock.now)));
+    kept = λ told.
+        kept_left g.D.Disk c.args.disk.now c.args.disk.now c.args.first c.args.first []
+        (kept_none g.D.Disk (λ disk i tells left. g.met.D.Disk.only_now disk i tells left)
+        c.args.disk.now c.args.first);
+  };
+}
+
+pub returns-in_default-clause-left : goal.returns-in_default-clause-left
+returns-in_default-clause-left g c = (
+  [],
+  [],
+  None,
+  refl,
+  kept_left g.D.Disk c.args.disk.now c.args.disk.now c.args.first c.args.first []
+      (kept_none g.D.Disk (λ disk i tells left. g.met.D.Disk.only_now disk i tells left)
+      c.args.disk.now c.args.first),
+)
+
+-- ---- one connection after another
+
+pub connections-init : goal.connections-init
+connections-init g c =
+    let only_now = kept_none g.D.Disk
+    (λ disk i tells left. g.met.D.Disk.only_now disk i tells left) c.args.disk.now c.args.first in
+    record {
+      served = (
+        [],
+        refl,
+        have_none g.L.W.Wire.tells g.K.Sink.tells 1 (collection_of c.args.first) _ _ _ _
+            (λ told. c.in-Ok.ensures.same_talks) (λ told. refl)
+            (λ told. inl (sym (append-nil (g.C.Clock.given c.args.clock.now)))) only_now,
+      );
+      kept = ([], only_now);
+      listens = c.in-Ok.ensures.opens;
+      name = refl;
+      limit = refl;
+      door_count = c.in-Ok.ensures.count;
+      sink_count = omega arith;
+      disk_count = omega arith;
+    }
+
+pub returns-in-Err-clause-halted : goal.returns-in-Err-clause-halted
+returns-in-Err-clause-halted g c =
+    let inv = c.connections.invariant in
+    let conns = inv.served.0 in
+    let first = g.C.Clock.given c.args.clock.now in
+    let mid = g.C.Clock.given c.connections.clock in
+    let last = g.C.Clock.given c.serve_next.new.clock in
+    let number : c.connections.i + 1 ≡ 1 + length conns = omega (arith, inv.served.1) in
+    halts_on g.L.W.Wire.tells g.K.Sink.tells 1 (c.connections.i + 1) (collection_of c.args.first)
+    (collection_of c.connections.engine) conns
+    (record {
+      talks = g.L.Listen.talks c.args.door.now;
+      written = g.K.Sink.written c.args.out.now;
+    })
+    (record {
+      talks = g.L.Listen.talks c.connections.door;
+      written = g.K.Sink.written c.connections.out;
+    })
+    (record {
+      talks = g.L.Listen.talks c.serve_next.new.door;
+      written = g.K.Sink.written c.serve_next.new.out;
+    })
+    (λ moments. g.C.Clock.tells → GivesMoments first mid moments)
+    (λ moments. g.C.Clock.tells → GivesMoments mid last moments)
+    (λ moments. g.C.Clock.tells → GivesMoments first last moments)
+    (HasKept g.D.Disk c.args.disk.now c.connections.disk c.args.first c.connections.engine)
+    (HasStopped g.D.Disk c.connections.disk c.serve_next.new.disk c.connections.engine)
+    (HasStopped g.D.Disk c.args.disk.now c.serve_next.new.disk c.args.first) inv.served.2 number
+    (λ a b early later told. gives_on first mid last a b (early told) (later told))
+    (λ stop a sure more kept left.
+    stopped_on g.D.Disk c.args.disk.now c.connections.disk c.serve_next.new.disk c.args.first
+    c.connections.engine inv.name inv.limit a kept stop sure more left)
+    c.in-Err.fault c.args.connections (omega (arith, inv.served.1, c.connections-test.true))
+    c.in-Err.ensures.halted
+
+pub returns-in-Err-clause-left : goal.returns-in-Err-clause-left
+returns-in-Err-clause-left g c =
+    let inv = c.connections.invariant in
+    let left = c.in-Err.ensures.left in (
+      inv.kept.0 ++ left.0,
+      left.1,
+      left.2,
+      left.3,
+      stopped_on g.D.Disk c.args.disk.now c.connections.disk c.serve_next.new.disk c.args.first
+          c.connections.engine inv.name inv.limit inv.kept.0 inv.kept.1 left.2 left.0 left.1 left.4,
+    )
+
+pub connections-preserved : goal.connections-preserved
+connections-preserved g c =
+    let inv = c.connections.invariant in
+    let conns = inv.served.0 in
+    let one = c.in-Ok-serve_next.ensures.served in
+    let more = c.in-Ok-serve_next.ensures.kept in
+    let first = g.C.Clock.given c.args.clock.now in
+    let mid = g.C.Clock.given c.connections.clock in
+    let last = g.C.Clock.given c.serve_next.new.clock in
+    let number : c.connections.i + 1 ≡ 1 + length conns = omega (arith, inv.served.1) in
+    let Keeps : Commits → Type 0 =
+    HasKept g.D.Disk c.args.disk.now c.serve_next.new.disk c.args.first c.in-Ok-serve_next.engine in
+    let keeps = λ (a : Commits) (b : Commits)
+    (kept : HasKept g.D.Disk c.args.disk.now c.connections.disk c.args.first c.connections.engine a)
+    (next : HasKept g.D.Disk c.connections.disk c.serve_next.new.disk c.connections.engine
+    c.in-Ok-serve_next.engine b).
+    kept_on g.D.Disk c.args.disk.now c.connections.disk c.serve_next.new.disk c.args.first
+    c.connections.engine inv.name inv.limit a kept c.in-Ok-serve_next.engine b next in
+    record {
+      served = (
+        conns ++ one.0 ∷ [],
+        omega (arith, inv.served.1, length-append conns (one.0 ∷ [])),
+        have_on g.L.W.Wire.tells g.K.Sink.tells 1 (c.connections.i + 1)
+            (collection_of c.args.first) (collection_of c.connections.engine)
+            (collection_of c.in-Ok-serve_next.engine) conns (one.0 ∷ [])
+            (record {
+              talks = g.L.Listen.talks c.args.door.now;
+              written = g.K.Sink.written c.args.out.now;
+            })
+            (record {
+              talks = g.L.Listen.talks c.connections.door;
+              written = g.K.Sink.written c.connections.out;
+            })
+            (record {
+              talks = g.L.Listen.talks c.serve_next.new.door;
+              written = g.K.Sink.written c.serve_next.new.out;
+            })
+            (λ moments. g.C.Clock.tells → GivesMoments first mid moments)
+            (λ moments. g.C.Clock.tells → GivesMoments mid last moments)
+            (λ moments. g.C.Clock.tells → GivesMoments first last moments)
+            (HasKept g.D.Disk c.args.disk.now c.connections.disk c.args.first
+            c.connections.engine)
+            (HasKept g.D.Disk c.connections.disk c.serve_next.new.disk c.connections.engine
+            c.in-Ok-serve_next.engine)
+            Keeps inv.served.2 one.1 number
+            (λ a b early later told. gives_on first mid last a b (early told) (later told)) keeps,
+      );
+      kept = (inv.kept.0 ++ more.0, keeps inv.kept.0 more.0 inv.kept.1 more.1);
+      listens = c.in-Ok-serve_next.ensures.stays_open;
+      name = c.in-Ok-serve_next.ensures.name ∙ inv.name;
+      limit = c.in-Ok-serve_next.ensures.limit ∙ inv.limit;
+      door_count = omega (arith, inv.door_count, c.in-Ok-serve_next.ensures.door_count);
+      sink_count = omega (arith, inv.sink_count, c.in-Ok-serve_next.ensures.sink_count);
+      disk_count = omega (arith, inv.disk_count, c.in-Ok-serve_next.ensures.disk_count);
+    }

@@ -1,0 +1,178 @@
+// Connections to a master, one after another.
+ghost use Rattle.std.specs.Prelude.{◌≡◌, ◌≤◌, ◌++◌, ◌∷◌, ℕ, List, [], length, Option, IfOk, IfErr, OnOk, IsErrOf};
+ghost use Rattle.rx_host.specs.Connections.{ServedConnection, connection_line};
+ghost use Rattle.rx_host.specs.Engine.{IsAt, collection_of, limit_of, name_of};
+ghost use Rattle.rx_host.specs.Moments.{GivesMoments};
+ghost use Rattle.rx_host.specs.Outside.{HaltsAfter, HaltsBy, HaveServed, IsStopBy};
+ghost use Rattle.rx_host.specs.Serving.{HasKept, HasStopped};
+ghost use Rattle.rx_outside.specs.Failed.{Rises};
+ghost use Rattle.rx_outside.specs.Sink.{WritesFront};
+ghost use Rattle.rx_outside.specs.declared.stop.Stop.{Stop as Stopping};
+ghost use Rattle.rx_outside.specs.declared.stop.Stop.TheVariants as Stop;
+ghost use Rattle.rx_serve.specs.Answered.{Commits};
+
+use crate::engine::MasterEngine;
+use crate::lines::connection_line;
+use rx_disk::Disk;
+use rx_outside::{Clock, Listen, Sink, Stop, write_all};
+use rx_serve::Ended;
+use std::alloc::Global;
+use thiserror::Error;
+
+/// Why no more connections are served.
+#[derive(Debug, Drop, Error)]
+pub enum ServeFault {
+    /// The work of the master stopped, or memory is wanting.
+    #[error("the work stopped")]
+    Stopped(Stop),
+    #[error("the door failed")]
+    Door,
+    #[error("the sink failed")]
+    Sink,
+}
+
+/// Opens the door on a port and serves so many connections, one after another, each to its end.
+/// Each wire is handed back, and then a line is written that tells how its connection ended. The
+/// master is spent on a fault.
+pub fn serve_connections<L: Listen, D: Disk, C: Clock, K: Sink>(
+    alloc: Global,
+    first: MasterEngine,
+    port: u16,
+    connections: u64,
+    door: &mut L,
+    disk: &mut D,
+    clock: &mut C,
+    out: &mut K,
+) -> Result<MasterEngine, ServeFault>
+    requires at { D.tells → (bodies : List (List ℕ)) × IsAt D.Disk disk.old first bodies }
+
+    // So many were served and told of, and the disk keeps the records of their commits.
+    ensures served { IfOk result (λ m. (conns : List ServedConnection)
+        × (length conns ≡ connections)
+        × HaveServed L.W.tells K.tells 1 (collection_of first) (collection_of m) conns
+        (record { talks = L.talks door.old; written = K.written out.old })
+        (record { talks = L.talks door.new; written = K.written out.new })
+        (λ moments. C.tells → GivesMoments (C.given clock.old) (C.given clock.new) moments)
+        (HasKept D.Disk disk.old disk.new first m)) }
+
+    // Some were, and then it halted.
+    ensures halted { IfErr result (λ fault.
+        HaltsAfter fault connections L.W.tells K.tells 1 (collection_of first)
+        (record { talks = L.talks door.old; written = K.written out.old })
+        (record { talks = L.talks door.new; written = K.written out.new })
+        (λ moments. C.tells → GivesMoments (C.given clock.old) (C.given clock.new) moments)
+        (HasStopped D.Disk disk.old disk.new first)) }
+
+    // Whatever the wires gave, the disk has the records of some commits.
+    ensures kept { IfOk result (λ m. (commits : Commits)
+        × HasKept D.Disk disk.old disk.new first m commits) }
+    ensures left { IfErr result (λ fault. (sure : Commits) × (more : Commits)
+        × (stop : Option Stopping) × IsStopBy fault stop
+        × HasStopped D.Disk disk.old disk.new first stop sure more) }
+
+    ensures name { IfOk result (λ m. name_of m ≡ name_of first) }
+    ensures limit { IfOk result (λ m. limit_of m ≡ limit_of first) }
+    ensures door { IsErrOf result ServeFault.Door → Rises (L.faults door.old) (L.faults door.new) }
+    ensures sink { IsErrOf result ServeFault.Sink → Rises (K.faults out.old) (K.faults out.new) }
+    ensures disk_only { IsErrOf result (ServeFault.Stopped Stop.Disk)
+        → Rises (D.faults disk.old) (D.faults disk.new) }
+    ensures not_journal { IsErrOf result (ServeFault.Stopped Stop.NotJournal) → ⊥ }
+    ensures door_count { L.faults door.old ≤ L.faults door.new }
+    ensures sink_count { K.faults out.old ≤ K.faults out.new }
+    ensures disk_count { D.faults disk.old ≤ D.faults disk.new }
+{
+    let Ok(()) = door.open(port) else {
+        return Err(ServeFault::Door);
+    };
+    let mut engine = first;
+    'connections: for i in 0..connections {
+        engine = match serve_next(alloc, engine, i + 1, door, disk, clock, out) {
+            Ok(engine) => engine,
+            Err(fault) => return Err(fault),
+        };
+    }
+    Ok(engine)
+}
+
+// Serves the connection of that number, and tells of it once its wire is handed back.
+fn serve_next<L: Listen, D: Disk, C: Clock, K: Sink>(
+    alloc: Global,
+    engine: MasterEngine,
+    number: u64,
+    door: &mut L,
+    disk: &mut D,
+    clock: &mut C,
+    out: &mut K,
+) -> Result<MasterEngine, ServeFault>
+    requires listens { L.is_open door.old }
+    requires at { D.tells → (bodies : List (List ℕ)) × IsAt D.Disk disk.old engine bodies }
+    ensures served { IfOk result (λ m. (s : ServedConnection)
+        × HaveServed L.W.tells K.tells number (collection_of engine) (collection_of m) (s ∷ [])
+        (record { talks = L.talks door.old; written = K.written out.old })
+        (record { talks = L.talks door.new; written = K.written out.new })
+        (λ moments. C.tells → GivesMoments (C.given clock.old) (C.given clock.new) moments)
+        (HasKept D.Disk disk.old disk.new engine m)) }
+    ensures halted { IfErr result (λ fault.
+        HaltsBy fault L.W.tells K.tells number (collection_of engine)
+        (record { talks = L.talks door.old; written = K.written out.old })
+        (record { talks = L.talks door.new; written = K.written out.new })
+        (λ moments. C.tells → GivesMoments (C.given clock.old) (C.given clock.new) moments)
+        (HasStopped D.Disk disk.old disk.new engine)) }
+    ensures kept { IfOk result (λ m. (commits : Commits)
+        × HasKept D.Disk disk.old disk.new engine m commits) }
+    ensures left { IfErr result (λ fault. (sure : Commits) × (more : Commits)
+        × (stop : Option Stopping) × IsStopBy fault stop
+        × HasStopped D.Disk disk.old disk.new engine stop sure more) }
+    ensures stays_open { L.is_open door.new }
+    ensures name { IfOk result (λ m. name_of m ≡ name_of engine) }
+    ensures limit { IfOk result (λ m. limit_of m ≡ limit_of engine) }
+    ensures door { IsErrOf result ServeFault.Door → Rises (L.faults door.old) (L.faults door.new) }
+    ensures sink { IsErrOf result ServeFault.Sink → Rises (K.faults out.old) (K.faults out.new) }
+    ensures disk_only { IsErrOf result (ServeFault.Stopped Stop.Disk)
+        → Rises (D.faults disk.old) (D.faults disk.new) }
+    ensures not_journal { IsErrOf result (ServeFault.Stopped Stop.NotJournal) → ⊥ }
+    ensures door_count { L.faults door.old ≤ L.faults door.new }
+    ensures sink_count { K.faults out.old ≤ K.faults out.new }
+    ensures disk_count { D.faults disk.old ≤ D.faults disk.new }
+{
+    let Ok(mut wire) = door.accept() else {
+        return Err(ServeFault::Door);
+    };
+    let served = engine.serve(alloc, &mut wire, disk, clock);
+    let Ok(()) = door.close(wire) else {
+        return Err(ServeFault::Stopped(Stop::Memory));
+    };
+    match served {
+        Ok((engine, ended)) => match write_line(alloc, number, &ended, out) {
+            Ok(()) => Ok(engine),
+            Err(fault) => Err(fault),
+        },
+        Err(stop) => Err(ServeFault::Stopped(stop)),
+    }
+}
+
+// Writes the line of a connection.
+fn write_line<K: Sink>(
+    alloc: Global,
+    number: u64,
+    ended: &Ended,
+    out: &mut K,
+) -> Result<(), ServeFault>
+    ensures ok { K.tells → OnOk result
+        (K.written out.new ≡ K.written out.old ++ connection_line number ended.now) }
+    ensures front { K.tells → IsErrOf result ServeFault.Sink
+        → WritesFront (K.written out.old) (K.written out.new) (connection_line number ended.now) }
+    ensures none { (why : Stopping) → IsErrOf result (ServeFault.Stopped why)
+        → (why ≡ Stop.Memory) × (out.new ≡ out.old) }
+    ensures no_door { IsErrOf result ServeFault.Door → ⊥ }
+    ensures failed { IsErrOf result ServeFault.Sink → Rises (K.faults out.old) (K.faults out.new) }
+    ensures count { K.faults out.old ≤ K.faults out.new }
+{
+    let Ok(line) = connection_line(alloc, number, ended) else {
+        return Err(ServeFault::Stopped(Stop::Memory));
+    };
+    match write_all(out, line.as_bytes()) {
+        Ok(()) => Ok(()),
+        Err(_) => Err(ServeFault::Sink),
+    }
+}
