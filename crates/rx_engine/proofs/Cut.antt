@@ -3,15 +3,14 @@ use Rattle.std.proofs.Common.{◌≡◌, ℕ, ◌+◌, ◌<◌, List, length, ta
 use Rattle.std.proofs.Math.Dec.{leb}
 use Rattle.std.proofs.lemmas.Bool.{leb-true, leb-false, lt-leb}
 use Rattle.std.proofs.lemmas.List.{take_all, length-take-le}
-use Rattle.rx_value.specs.Due.{◌>>◌, lifted, or_fault}
-use Rattle.rx_script.specs.Asked.{is_object}
-use Rattle.rx_script.specs.Line.{max_line_bytes, demand, json_of, form_of, line_of}
+use Rattle.rx_value.specs.Due.{◌>>◌, demand, lifted, or_fault}
+use Rattle.rx_script.specs.Line.{max_line_bytes, json_of, form_of, line_of}
+use Rattle.rx_script.specs.Member.{is_object}
 use Rattle.rx_script.specs.declared.fault.LineFault.TheVariants as fault
-use Rattle.rx_session.specs.Session.{Session}
 use Rattle.rx_engine.specs.Faults.{of_line}
-use Rattle.rx_engine.specs.Lines.{asked_outcome}
-use Rattle.rx_engine.specs.Meaning.{meaning, meaning_of}
-use Rattle.rx_engine.specs.Outcome.{outcome_or_refusal}
+use Rattle.rx_engine.specs.Lines.{asked_task, task_or_refusal}
+use Rattle.rx_engine.specs.Meaning.{meaning, task_meaning}
+use Rattle.rx_engine.specs.Standing.{Standing}
 
 -- a line that is too long is nothing else
 too_long : (line : List ℕ) → max_line_bytes < length line → line_of line ≡ Err fault.TooLong
@@ -33,9 +32,9 @@ same_when_long k above line =
           too_long (take k line) (omega arith) ∙ sym (too_long line (omega arith)))
     ] refl
 
-pub same_when_cut : (n : ℕ) (line : List ℕ) (s : Session)
+pub same_when_cut : (n : ℕ) (line : List ℕ) (s : Standing)
     → meaning n (take (max_line_bytes + 1) line) s ≡ meaning n line s
 unfolding meaning
 same_when_cut n line s =
-    ap (λ read. meaning_of n (outcome_or_refusal (lifted of_line read >> λ ask. asked_outcome ask s)) s)
+    ap (λ read. task_meaning n (task_or_refusal (lifted of_line read >> λ ask. asked_task s.kinds ask s.session)) s)
     (same_when_long (max_line_bytes + 1) (omega arith) line)

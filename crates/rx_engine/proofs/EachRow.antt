@@ -1,6 +1,6 @@
 -- Rows of a bulk, one after another.
 use Rattle.std.specs.Prelude.{⊤}
-use Rattle.std.proofs.Common.{length, ◌≤◌, drop, append-nil, ◌≡◌, ℕ, ◌+◌, List, [], ◌∷◌, ◌++◌, map, Bool, true, false, not, cond, Option, Some, None, is_some, Result, Ok, Err, refl, sym, ap, ◌∙◌, subst, append_assoc}
+use Rattle.std.proofs.Common.{length, ◌≤◌, drop, append-nil, ◌≡◌, ℕ, ◌+◌, List, [], ◌∷◌, ◌++◌, map, Bool, true, false, not, cond, Option, Some, None, is_some, Result, Ok, Err, refl, sym, ap, ◌∙◌, subst}
 use Rattle.std.specs.List.{AllByRecursion, IsDistinct}
 use Rattle.std.specs.Str.{bytes_eq}
 use Rattle.std.proofs.lemmas.Cmp.{nat_list_eq_equiv}
@@ -157,30 +157,6 @@ module _ (c : Held) where
       → AllByRecursion (IsValidState c.schema) ss × IsDistinct bytes_eq (map (λ s. s.key) ss)
   rows_given row seen ds ss h =
       let fit = rows_fit row seen ds ss h in (all_valid seen ss fit.0, fit.1)
-
-  -- ---- one row, and then the others
-
-  joined : (done : List State) (s : State) (r : Result (List State) Fault)
-      → after done (r >> λ states. Ok (s ∷ states)) ≡ after (done ++ s ∷ []) r
-  joined done s (Ok more) = ap Ok (sym (append_assoc done (s ∷ []) more))
-  joined done s (Err e) = refl
-
-  -- a state is read
-  pub one_more : (done : List State) (row : ℕ) (seen : Keys) (d : Data) (ds : List Data) (s : State)
-      → row_state c row seen d ≡ Ok s
-      → after done (rows_states c row seen (d ∷ ds))
-      ≡ after (done ++ s ∷ []) (rows_states c (row + 1) (put_in_order seen s.key tt) ds)
-  one_more done row seen d ds s h =
-      ap (λ r. after done (r >> λ state.
-      rows_states c (row + 1) (put_in_order seen state.key tt) ds >> λ states. Ok (state ∷ states))) h
-      ∙ joined done s (rows_states c (row + 1) (put_in_order seen s.key tt) ds)
-
-  -- a row is at fault
-  pub fault_here : (done : List State) (row : ℕ) (seen : Keys) (d : Data) (ds : List Data) (e : Fault)
-      → row_state c row seen d ≡ Err e → after done (rows_states c row seen (d ∷ ds)) ≡ Err e
-  fault_here done row seen d ds e h =
-      ap (λ r. after done (r >> λ state.
-      rows_states c (row + 1) (put_in_order seen state.key tt) ds >> λ states. Ok (state ∷ states))) h
 
   -- no row is left
   pub all_read : (docs : List Json) (row : ℕ) (seen : Keys) (states : List State)

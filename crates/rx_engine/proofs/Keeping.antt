@@ -1,5 +1,5 @@
 -- What may be done goes to the disk as it is.
-use Rattle.std.proofs.Common.{◌≡◌, ℕ, List, Result, ap, ◌∙◌, subst}
+use Rattle.std.proofs.Common.{ap, ◌∙◌}
 use Rattle.rx_record.specs.Content.{epoch}
 use Rattle.rx_world.specs.Made.{IsMadeWorld}
 use Rattle.rx_world.specs.Sound.{IsSoundWorld}
@@ -7,10 +7,6 @@ use Rattle.rx_world.specs.Step.{legal}
 use Rattle.rx_world.proofs.Making.{made_step}
 use Rattle.rx_world.proofs.Sounds.{sound_step}
 use Rattle.rx_world.proofs.Steps.{epoch_legal}
-use Rattle.rx_disk.specs.declared.disk.Disk.{Ghosts}
-use Rattle.rx_outside.specs.declared.stop.Stop.{Stop}
-use Rattle.rx_store.specs.Safe.{IsCrashSafe}
-use Rattle.rx_engine.specs.Meaning.{bodies_of, records_of}
 use Rattle.rx_session.specs.Doing.{Doing, nothing, set_clock, write, watch, unwatch, restart, after, MayDo}
 use Rattle.rx_session.specs.Session.{Session}
 use Rattle.rx_engine.specs.Shown.{HasOrder, WritesNoExchange}
@@ -25,14 +21,16 @@ has_order (unwatch name) s may = tt
 has_order (restart number) s may = tt
 
 -- a world that records made stays one
-pub made_then : (d : Doing) (s : Session) → MayDo d s → IsMadeWorld s.world → IsMadeWorld (after d s).world
+pub made_then : (d : Doing) (s : Session) → MayDo d s → IsMadeWorld s.world
+    → IsMadeWorld (after d s).world
 made_then nothing s may made = made
 made_then (set_clock at) s may made = made
 made_then (write c) s may made = made_step c s.world may.0 may.1 made
 made_then (watch name coll q) s may made = made
 made_then (unwatch name) s may made = made
 made_then (restart number) s may made =
-    made_step (epoch number) s.world (ap (λ n. legal (epoch n) s.world) may ∙ epoch_legal s.world) tt made
+    made_step (epoch number) s.world (ap (λ n. legal (epoch n) s.world) may
+    ∙ epoch_legal s.world) tt made
 
 -- and a sound one stays sound
 pub sound_then : (d : Doing) (s : Session) → MayDo d s → WritesNoExchange d → IsMadeWorld s.world
@@ -43,11 +41,3 @@ sound_then (write c) s may apart made sound = sound_step c s.world may.0 may.1 a
 sound_then (watch name coll q) s may apart made sound = sound
 sound_then (unwatch name) s may apart made sound = sound
 sound_then (restart number) s may apart made sound = sound
-
--- the records of the same doing
-pub by_doing : {D A : Type 0} (d : Ghosts D) (old new : D) (bodies : List (List ℕ)) (limit : ℕ)
-    (P : A → List (List ℕ) → Type 0) (r : Result A Stop) (this that : Doing) → this ≡ that
-    → IsCrashSafe d old new bodies (bodies_of (records_of this)) limit P r
-    → IsCrashSafe d old new bodies (bodies_of (records_of that)) limit P r
-by_doing d old new bodies limit P r this that same safe =
-    subst (λ (x : Doing). IsCrashSafe d old new bodies (bodies_of (records_of x)) limit P r) same safe

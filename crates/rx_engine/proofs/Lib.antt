@@ -1,6 +1,10 @@
 pub mod Cut
-pub mod Idle
+pub mod Meanings
 pub mod Keeping
+pub mod Remembering
+pub mod CanTurns
+pub mod AfterTurns
+pub mod Stops
 pub mod Opened
 pub mod Outcomes
 pub mod Setting
@@ -10,3 +14,7 @@ pub mod EachRow
 pub mod Reading
 pub mod Rows
 pub mod Lines
+pub mod Plays
+pub mod Carrying
+pub mod Turnings
+pub mod Rooms

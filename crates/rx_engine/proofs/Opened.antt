@@ -11,7 +11,7 @@ use Rattle.rx_outside.specs.declared.stop.Stop.TheVariants.{Memory}
 use Rattle.rx_record.specs.Content.{epoch, content_bytes}
 use Rattle.rx_session.specs.Placed.{AreUnwatched, IsUnwatched}
 use Rattle.rx_store.specs.Holds.{Holds, IsLegalFile, StandsLegally}
-use Rattle.rx_store.specs.Made.{AreMade, IsMade}
+use Rattle.rx_store.specs.Made.{AreMade}
 use Rattle.rx_store.specs.Safe.{IsCrashSafe}
 use Rattle.rx_store.proofs.Crashes.{ran_out, then}
 use Rattle.rx_store.proofs.Growing.{held_alike, none_yet}

@@ -1,5 +1,5 @@
 -- What no line does but the one that is asked for it.
-use Rattle.std.proofs.Common.{◌≡◌, ◌⊎◌, inl, inr, ℕ, length, not, nat_lt, List, ◌∷◌, [], map, Bool, true, false, true≢false, cond, Option, Some, None, option_map, Result, Ok, Err, refl, sym, ◌∙◌, ap, subst}
+use Rattle.std.proofs.Common.{◌≡◌, ◌⊎◌, inl, inr, ℕ, length, not, nat_lt, codes, is_none, List, ◌∷◌, [], map, Bool, true, false, true≢false, Option, Some, None, option_map, Result, Ok, Err, refl, sym, ◌∙◌, ap, subst}
 use Rattle.serde_json.specs.Data.{Data}
 use Rattle.rx_value.specs.Due.{◌>>◌, demand, lifted, or_fault}
 use Rattle.rx_value.specs.Named.{named}
@@ -11,26 +11,34 @@ use Rattle.rx_collection.specs.Since.{since}
 use Rattle.rx_digest.specs.Digest.{digest_of}
 use Rattle.rx_collection.specs.Commit.{rows_of}
 use Rattle.rx_collection.specs.Time.{stamp}
-use Rattle.rx_record.specs.Content.{Content, rows}
+use Rattle.rx_record.specs.Content.{Content, replication, rows}
+use Rattle.rx_record.specs.declared.record.MasterName.{MasterName}
 use Rattle.rx_record.specs.declared.record.RowOut.{RowOut}
-use Rattle.rx_reply.specs.Answer.{Answer, insert, upsert, patch, remove, bulk, get, find, count, observe, unobserve, explain, tick, digest}
-use Rattle.rx_reply.specs.declared.refusal.Refusal.TheVariants.{Exists, NoQuery, TooMany}
+use Rattle.rx_handler.specs.Handlers.{Kinds}
+use Rattle.rx_query.specs.Asked.{Asked as Query}
+use Rattle.rx_reply.specs.Answer.{Answer, refused, insert, upsert, patch, remove, get, find, count, observe, unobserve, explain, replicate, tick, digest}
+use Rattle.rx_reply.specs.declared.refusal.Refusal.{Refusal}
+use Rattle.rx_reply.specs.declared.refusal.Refusal.TheVariants.{Chain, Clock, Exists, Line, NoHandler, NoQuery, SchemaDiffers, TooMany}
 use Rattle.rx_reply.specs.Reply.{is_refusal}
-use Rattle.rx_script.specs.Asked.{Asked, Collection, Insert, Bulk, Upsert, Patch, Remove, Get, Find, Count, Observe, Unobserve, Explain, Changes, Tick, Restart, Digest}
+use Rattle.rx_script.specs.Asked.{Asked, Collection, Insert, Bulk, Upsert, Patch, Remove, Get, Find, Count, Observe, Unobserve, Explain, Replicate, Turn, Changes, Tick, Restart, Digest}
 use Rattle.rx_script.specs.Line.{line_of}
 use Rattle.rx_script.specs.declared.fault.LineFault.{LineFault}
-use Rattle.rx_session.specs.Doing.{Doing, nothing, restart, set_clock, unwatch, watch}
+use Rattle.rx_script.specs.declared.fault.LineFault.TheVariants.{Unexpected}
+use Rattle.rx_session.specs.Doing.{Doing, nothing, restart, set_clock, unwatch, watch, write}
 use Rattle.rx_session.specs.Session.{Session, counts_of, is_observed}
-use Rattle.rx_world.specs.World.{World}
+use Rattle.rx_world.specs.Chain.{may_follow}
+use Rattle.rx_world.specs.World.{World, max_replications}
 use Rattle.rx_world.specs.Commit.{commit_to, out_of}
 use Rattle.rx_world.proofs.Sounds.{IsNoExchange}
 use Rattle.rx_engine.specs.Shown.{WritesNoExchange}
 use Rattle.rx_engine.specs.Documents.{document_at, next_revision}
 use Rattle.rx_engine.specs.Faults.{of_line, of_schema}
-use Rattle.rx_engine.specs.Lines.{IsIdle, IsRestart, outcome, asked_outcome, line_outcome}
+use Rattle.rx_engine.specs.Lines.{IsRestart, Task, answered, turns, asked_outcome, asked_task, task, task_or_refusal}
 use Rattle.rx_engine.specs.Listing.{changes_answer, place_named}
-use Rattle.rx_engine.specs.Outcome.{Outcome, answer_alone, collection_at, outcome_or_refusal, write_outcome}
-use Rattle.rx_engine.specs.Queries.{max_queries, query_on, rows_found}
+use Rattle.rx_engine.specs.Outcome.{Outcome, answer_alone, collection_at, write_outcome}
+use Rattle.rx_engine.specs.Replicate.{has_handler, has_schema, is_here, master_at, master_of, replicate_line}
+use Rattle.rx_engine.specs.Turning.{Turn as ToTurn, turn_line}
+use Rattle.rx_engine.specs.Queries.{max_queries, observe_line, query_on, rows_found}
 use Rattle.rx_engine.specs.Writes.{collection_with, commit_all, commit_one, insert_state, patch_state, remove_state, rows_states, upsert_state}
 use Rattle.rx_engine.specs.declared.fault.Fault.{Fault}
 use Rattle.rx_engine.specs.declared.fault.Fault.TheVariants.{Refused, Memory}
@@ -67,7 +75,11 @@ outcome_or o (Err e) = o
 just : (o : Outcome) → is_refusal o.answer ≡ false → is_restart o.doing ≡ false
     → WritesNoExchange o.doing → ArePlain (Ok o)
 just o answers stays apart p is =
-    subst IsPlain (ap (outcome_or o) is) (record { answers = answers; stays = stays; apart = apart })
+    subst IsPlain (ap (outcome_or o) is) (record {
+      answers = answers;
+      stays = stays;
+      apart = apart;
+    })
 
 -- ---- what the lines do
 
@@ -105,156 +117,249 @@ alone_plain : (answer : Answer) → is_refusal answer ≡ false → ArePlain (Ok
 alone_plain answer plain = just (answer_alone answer) plain refl tt
 
 one_plain : (coll : List ℕ) (answer : List ℕ → Answer) (c : Held) (state : State) (s : Session)
-    → is_refusal (answer (next_revision c state.key)) ≡ false → ArePlain (commit_one coll answer c state s)
+    → is_refusal (answer (next_revision c state.key)) ≡ false
+    → ArePlain (commit_one coll answer c state s)
 one_plain coll answer c state s plain =
-    written_plain (answer (next_revision c state.key)) (commit_to coll (state ∷ []) s.moment c) plain
-    (committed coll (state ∷ []) s.moment c)
+    written_plain (answer (next_revision c state.key)) (commit_to coll (state ∷ []) s.moment c)
+    plain (committed coll (state ∷ []) s.moment c)
+
+-- a line that writes one state
+one_state : (coll : List ℕ) (answer : List ℕ → Answer) (reads : Held → Result State Fault)
+    (s : Session) → ((rev : List ℕ) → is_refusal (answer rev) ≡ false)
+    → ArePlain (collection_at coll s >> λ c. reads c >> λ state. commit_one coll answer c state s)
+one_state coll answer reads s plain =
+    after (collection_at coll s) (λ c. reads c >> λ state. commit_one coll answer c state s)
+    (λ c. after (reads c) (λ state. commit_one coll answer c state s)
+    (λ state. one_plain coll answer c state s (plain (next_revision c state.key))))
+
+-- a line that is told something of a collection
+told : {A : Type 0} (coll : List ℕ) (reads : Held → Result A Fault) (says : Held → A → Answer)
+    (s : Session) → ((c : Held) (x : A) → is_refusal (says c x) ≡ false)
+    → ArePlain (collection_at coll s >> λ c. reads c >> λ x. Ok (answer_alone (says c x)))
+told coll reads says s plain =
+    after (collection_at coll s) (λ c. reads c >> λ x. Ok (answer_alone (says c x)))
+    (λ c. after (reads c) (λ x. Ok (answer_alone (says c x)))
+    (λ x. alone_plain (says c x) (plain c x)))
+
+-- a query is observed, once all that it needs was seen
+module _ (name coll : List ℕ) (query : Data) (s : Session) where
+  abbrev observes : Query → Outcome
+  observes q = record { doing = watch name coll q; answer = observe }
+
+  abbrev with_place : Query → Result Outcome Fault
+  with_place q =
+      demand (nat_lt (length s.queries) max_queries) (Refused TooMany) >> λ _. Ok (observes q)
+
+  abbrev with_query : Held → Result Outcome Fault
+  with_query c = query_on c query >> λ q. with_place q
+
+  abbrev with_free : Held → Result Outcome Fault
+  with_free c = demand (not (is_observed name s)) (Refused Exists) >> λ _. with_query c
+
+  observed_plain : ArePlain (observe_line name coll query s)
+  observed_plain =
+      after (collection_at coll s) (λ c. with_free c)
+      (λ c. after (demand (not (is_observed name s)) (Refused Exists)) (λ _. with_query c)
+      (λ _. after (query_on c query) (λ q. with_place q)
+      (λ q. after (demand (nat_lt (length s.queries) max_queries) (Refused TooMany))
+      (λ _. Ok (observes q)) (λ _. just (observes q) refl refl tt))))
+
+-- a replication begins, once all that it needs was seen
+module _ (kinds : Kinds) (name fork : List ℕ) (master : MasterName) (handler : List ℕ)
+    (field : Option (List ℕ)) (s : Session) where
+  abbrev begins : Outcome
+  begins = record { doing = write (replication name fork master handler field); answer = replicate }
+
+  abbrev with_room : Result Outcome Fault
+  with_room =
+      demand (nat_lt (length s.world.replications) max_replications) (Refused TooMany)
+      >> λ _. Ok begins
+
+  abbrev with_schema : Held → Option Held → Result Outcome Fault
+  with_schema c held = demand (has_schema c held) (Refused SchemaDiffers) >> λ _. with_room
+
+  abbrev with_chain : Held → Option Held → Result Outcome Fault
+  with_chain c held =
+      demand (may_follow s.world.replications fork master) (Refused Chain)
+      >> λ _. with_schema c held
+
+  abbrev with_handler : Held → Option Held → Result Outcome Fault
+  with_handler c held =
+      demand (has_handler kinds c.schema handler field) (Refused NoHandler)
+      >> λ _. with_chain c held
+
+  abbrev with_master : Held → Result Outcome Fault
+  with_master c = master_at master s >> λ held. with_handler c held
+
+  abbrev with_fork : Result Outcome Fault
+  with_fork = collection_at fork s >> λ c. with_master c
+
+  abbrev with_name : Result Outcome Fault
+  with_name =
+      demand (is_none (named s.world.replications name)) (Refused Exists) >> λ _. with_fork
+
+  begun_plain : ArePlain (replicate_line kinds name fork master handler field s)
+  begun_plain =
+      after (demand (is_here master) (Refused (Line (Unexpected (codes "port"))))) (λ _. with_name)
+      (λ _. after (demand (is_none (named s.world.replications name)) (Refused Exists))
+      (λ _. with_fork)
+      (λ _. after (collection_at fork s) (λ c. with_master c)
+      (λ c. after (master_at master s) (λ held. with_handler c held)
+      (λ held. after (demand (has_handler kinds c.schema handler field) (Refused NoHandler))
+      (λ _. with_chain c held)
+      (λ _. after (demand (may_follow s.world.replications fork master) (Refused Chain))
+      (λ _. with_schema c held)
+      (λ _. after (demand (has_schema c held) (Refused SchemaDiffers)) (λ _. with_room)
+      (λ _. after (demand (nat_lt (length s.world.replications) max_replications) (Refused TooMany))
+      (λ _. Ok begins) (λ _. just begins refl refl tt))))))))
 
 -- a restart alone opens the journal again
-plain_but : (ask : Asked) (s : Session) → (ask ≡ Restart) ⊎ ArePlain (asked_outcome ask s)
-plain_but (Collection name schema) s =
+plain_but : (kinds : Kinds) (ask : Asked) (s : Session)
+    → (ask ≡ Restart) ⊎ ArePlain (asked_outcome kinds ask s)
+plain_but kinds (Collection name schema) s =
     inr (after (lifted of_schema (schema_of schema))
     (λ shape. collection_with name shape (named s.world.collections name) s.world)
     (λ shape. made_plain name shape (named s.world.collections name) s.world))
-plain_but (Insert coll doc) s =
-    inr (after (collection_at coll s) (λ c. insert_state c doc >> λ state. commit_one coll insert c state s)
-    (λ c. after (insert_state c doc) (λ state. commit_one coll insert c state s)
-    (λ state. one_plain coll insert c state s refl)))
-plain_but (Bulk coll docs) s =
+plain_but kinds (Insert coll doc) s =
+    inr (one_state coll insert (λ c. insert_state c doc) s (λ rev. refl))
+plain_but kinds (Bulk coll docs) s =
     inr (after (collection_at coll s)
     (λ c. rows_states c 0 [] docs >> λ states. commit_all coll c states s)
     (λ c. after (rows_states c 0 [] docs) (λ states. commit_all coll c states s)
     (λ states. all_plain coll c states s)))
-plain_but (Upsert coll doc) s =
-    inr (after (collection_at coll s) (λ c. upsert_state c doc >> λ state. commit_one coll upsert c state s)
-    (λ c. after (upsert_state c doc) (λ state. commit_one coll upsert c state s)
-    (λ state. one_plain coll upsert c state s refl)))
-plain_but (Patch coll key set rev) s =
-    inr (after (collection_at coll s) (λ c. patch_state c key set rev >> λ state. commit_one coll patch c state s)
-    (λ c. after (patch_state c key set rev) (λ state. commit_one coll patch c state s)
-    (λ state. one_plain coll patch c state s refl)))
-plain_but (Remove coll key rev) s =
-    inr (after (collection_at coll s) (λ c. remove_state c key rev >> λ state. commit_one coll remove c state s)
-    (λ c. after (remove_state c key rev) (λ state. commit_one coll remove c state s)
-    (λ state. one_plain coll remove c state s refl)))
-plain_but (Get coll key) s =
-    inr (after (collection_at coll s) (λ c. document_at c key >> λ d. Ok (answer_alone (get d)))
-    (λ c. after (document_at c key) (λ d. Ok (answer_alone (get d))) (λ d. alone_plain (get d) refl)))
-plain_but (Find coll query) s =
-    inr (after (collection_at coll s)
-    (λ c. query_on c query >> λ q. Ok (answer_alone (find (rows_found q c.documents))))
-    (λ c. after (query_on c query) (λ q. Ok (answer_alone (find (rows_found q c.documents))))
-    (λ q. alone_plain (find (rows_found q c.documents)) refl)))
-plain_but (Count coll query) s =
-    inr (after (collection_at coll s)
-    (λ c. query_on c query >> λ q. Ok (answer_alone (count (length (rows_found q c.documents)))))
-    (λ c. after (query_on c query) (λ q. Ok (answer_alone (count (length (rows_found q c.documents)))))
-    (λ q. alone_plain (count (length (rows_found q c.documents))) refl)))
-plain_but (Observe name coll query) s =
-    inr (after (collection_at coll s)
-    (λ c. demand (not (is_observed name s)) (Refused Exists) >> λ _. query_on c query >> λ q.
-    demand (nat_lt (length s.queries) max_queries) (Refused TooMany) >> λ _. Ok (record { doing = watch name coll q; answer = observe }))
-    (λ c. after (demand (not (is_observed name s)) (Refused Exists))
-    (λ _. query_on c query >> λ q.
-    demand (nat_lt (length s.queries) max_queries) (Refused TooMany) >> λ _. Ok (record { doing = watch name coll q; answer = observe }))
-    (λ _. after (query_on c query)
-    (λ q. demand (nat_lt (length s.queries) max_queries) (Refused TooMany) >> λ _. Ok (record { doing = watch name coll q; answer = observe }))
-    (λ q. after (demand (nat_lt (length s.queries) max_queries) (Refused TooMany)) (λ _. Ok (record { doing = watch name coll q; answer = observe }))
-    (λ _. just (record { doing = watch name coll q; answer = observe }) refl refl tt)))))
-plain_but (Unobserve name) s =
+plain_but kinds (Upsert coll doc) s =
+    inr (one_state coll upsert (λ c. upsert_state c doc) s (λ rev. refl))
+plain_but kinds (Patch coll key set rev) s =
+    inr (one_state coll patch (λ c. patch_state c key set rev) s (λ rev. refl))
+plain_but kinds (Remove coll key rev) s =
+    inr (one_state coll remove (λ c. remove_state c key rev) s (λ rev. refl))
+plain_but kinds (Get coll key) s =
+    inr (told coll (λ c. document_at c key) (λ c d. get d) s (λ c d. refl))
+plain_but kinds (Find coll query) s =
+    inr (told coll (λ c. query_on c query) (λ c q. find (rows_found q c.documents)) s (λ c q. refl))
+plain_but kinds (Count coll query) s =
+    inr (told coll (λ c. query_on c query) (λ c q. count (length (rows_found q c.documents))) s
+    (λ c q. refl))
+plain_but kinds (Observe name coll query) s = inr (observed_plain name coll query s)
+plain_but kinds (Unobserve name) s =
     inr (after (demand (is_observed name s) (Refused NoQuery))
     (λ _. Ok (record { doing = unwatch name; answer = unobserve }))
     (λ _. just (record { doing = unwatch name; answer = unobserve }) refl refl tt))
-plain_but (Explain name) s =
-    inr (after (or_fault (Refused NoQuery) (counts_of name s)) (λ counts. Ok (answer_alone (explain counts)))
-    (λ counts. alone_plain (explain counts) refl))
-plain_but (Changes coll asked batch) s =
+plain_but kinds (Explain name) s =
+    inr (after (or_fault (Refused NoQuery) (counts_of name s))
+    (λ counts. Ok (answer_alone (explain counts))) (λ counts. alone_plain (explain counts) refl))
+plain_but kinds (Replicate name fork master handler field) s =
+    inr (begun_plain kinds name fork (master_of master) handler field s)
+plain_but kinds (Turn name batch budget link) s = inr (none _)
+plain_but kinds (Changes coll asked batch) s =
     let from = option_map place_named asked in
     inr (after (collection_at coll s)
     (λ c. Ok (answer_alone (changes_answer from (since c.documents from batch))))
     (λ c. alone_plain (changes_answer from (since c.documents from batch)) refl))
-plain_but (Digest coll) s =
+plain_but kinds (Digest coll) s =
     inr (after (collection_at coll s)
     (λ c. Ok (answer_alone (digest (length c.documents) (digest_of c.documents))))
     (λ c. alone_plain (digest (length c.documents) (digest_of c.documents)) refl))
-plain_but (Tick at) s = inr (just (record { doing = set_clock at; answer = tick }) refl refl tt)
-plain_but Restart s = inl refl
+plain_but kinds (Tick at) s =
+    inr (just (record { doing = set_clock at; answer = tick }) refl refl tt)
+plain_but kinds Restart s = inl refl
 
--- ---- refusals
-
--- a refusal, where no other outcome is one
-idle_by : (r : Result Outcome Fault) → ((o : Outcome) → r ≡ Ok o → is_refusal o.answer ≡ false)
-    → is_refusal (outcome_or_refusal r).answer ≡ true → (outcome_or_refusal r).doing ≡ nothing
-idle_by (Ok o) plain refused = absurd (true≢false (sym refused ∙ plain o refl))
-idle_by (Err (Refused refusal)) plain refused = refl
-idle_by (Err Memory) plain refused = refl
-
-restarted : (s : Session) (o : Outcome) → asked_outcome Restart s ≡ Ok o → is_refusal o.answer ≡ false
-restarted s o is = subst (λ (o : Outcome). is_refusal o.answer ≡ false) (ap (outcome_or o) is) refl
-
-no_refusals : (ask : Asked) (s : Session) → (ask ≡ Restart) ⊎ ArePlain (asked_outcome ask s) → (o : Outcome)
-    → asked_outcome ask s ≡ Ok o → is_refusal o.answer ≡ false
-no_refusals ask s (inl same) o is = restarted s o (sym (ap (λ (a : Asked). asked_outcome a s) same) ∙ is)
-no_refusals ask s (inr plain) o is = (plain o is).answers
-
-performed_plain : (read : Result Asked LineFault) (s : Session) (o : Outcome)
-    → (lifted of_line read >> λ ask. asked_outcome ask s) ≡ Ok o → is_refusal o.answer ≡ false
-performed_plain (Ok ask) s o is = no_refusals ask s (plain_but ask s) o is
-performed_plain (Err fault) s o is = absurd (cc)
-
--- a refused line changes nothing
-pub refused_idle : (line : List ℕ) (s : Session) → is_refusal (outcome line s).answer ≡ true
-    → IsIdle line s
-refused_idle line s refused =
-    idle_by (line_outcome line s) (performed_plain (line_of line) s) refused
-
--- ---- restarts
+-- ---- tasks
 
 no_restart : (d : Doing) (n : ℕ) → is_restart d ≡ false → d ≡ restart n → ⊥
 no_restart d n stays is = true≢false (sym (ap is_restart is) ∙ stays)
 
-stays_by : (r : Result Outcome Fault) (n : ℕ) → ArePlain r → (outcome_or_refusal r).doing ≡ restart n → ⊥
-stays_by (Ok o) n plain is = no_restart o.doing n (plain o refl).stays is
-stays_by (Err (Refused refusal)) n plain is = no_restart nothing n refl is
-stays_by (Err Memory) n plain is = no_restart nothing n refl is
+-- What holds of what a line does and is answered: a refused one does nothing, one that opens the
+-- journal again is asked to, and none writes an exchange.
+pub record IsLawfulOutcome (Restarts : Type 0) (o : Outcome) : Type 0 where
+  pub idle : is_refusal o.answer ≡ true → o.doing ≡ nothing
+  pub restarts : (n : ℕ) → o.doing ≡ restart n → Restarts
+  pub apart : WritesNoExchange o.doing
 
-restart_by : (ask : Asked) (s : Session) (n : ℕ) → (ask ≡ Restart) ⊎ ArePlain (asked_outcome ask s)
-    → (outcome_or_refusal (asked_outcome ask s)).doing ≡ restart n → ask ≡ Restart
-restart_by ask s n (inl same) is = same
-restart_by ask s n (inr plain) is = absurd (stays_by (asked_outcome ask s) n plain is)
+plain_lawful : (R : Type 0) (o : Outcome) → IsPlain o → IsLawfulOutcome R o
+plain_lawful R o plain = record {
+  idle = λ refused. absurd (true≢false (sym refused ∙ plain.answers));
+  restarts = λ n is. absurd (no_restart o.doing n plain.stays is);
+  apart = plain.apart;
+}
 
-read_restart : (read : Result Asked LineFault) (s : Session) (n : ℕ)
-    → (outcome_or_refusal (lifted of_line read >> λ ask. asked_outcome ask s)).doing ≡ restart n → read ≡ Ok Restart
-read_restart (Err fault) s n is = absurd (stays_by (Err (of_line fault)) n (none _) is)
-read_restart (Ok ask) s n is =
-    ap (λ (a : Asked). Ok a) (restart_by ask s n (plain_but ask s) is)
+alone_lawful : (R : Type 0) (r : Refusal) → IsLawfulOutcome R (answer_alone (refused r))
+alone_lawful R r = record {
+  idle = λ is. refl;
+  restarts = λ n is. absurd (no_restart nothing n refl is);
+  apart = tt;
+}
 
--- a line that opens the journal again is a restart
-pub restarts_only : (line : List ℕ) (s : Session) (n : ℕ) → (outcome line s).doing ≡ restart n
-    → IsRestart line
-restarts_only line s n is = read_restart (line_of line) s n is
+ask_lawful : (kinds : Kinds) (ask : Asked) (s : Session) (o : Outcome)
+    → (ask ≡ Restart) ⊎ ArePlain (asked_outcome kinds ask s) → asked_outcome kinds ask s ≡ Ok o
+    → IsLawfulOutcome (ask ≡ Restart) o
+ask_lawful kinds ask s o (inl same) is =
+    subst (IsLawfulOutcome (ask ≡ Restart))
+    (ap (outcome_or o) (sym (ap (λ (a : Asked). asked_outcome kinds a s) same) ∙ is))
+    (record { idle = λ r. absurd (cc); restarts = λ n _. same; apart = tt })
+ask_lawful kinds ask s o (inr plain) is = plain_lawful (ask ≡ Restart) o (plain o is)
 
--- ---- exchanges
+-- an outcome is that of what was asked
+does_is : (r : Result Outcome Fault) (o : Outcome)
+    → (r >> λ x. Ok (answered x)) ≡ Ok (answered o) → r ≡ Ok o
+does_is (Ok x) o is = let same : x ≡ o = cc in ap Ok same
+does_is (Err fault) o is = absurd (cc)
 
-apart_by : (r : Result Outcome Fault) → ((o : Outcome) → r ≡ Ok o → WritesNoExchange o.doing)
-    → WritesNoExchange (outcome_or_refusal r).doing
-apart_by (Ok o) apart = apart o refl
-apart_by (Err (Refused refusal)) apart = tt
-apart_by (Err Memory) apart = tt
+no_turn : (r : Result ToTurn Fault) (o : Outcome) → (r >> λ t. Ok (turns t)) ≡ Ok (answered o) → ⊥
+no_turn (Ok t) o is = cc
+no_turn (Err fault) o is = cc
 
-restart_apart : (s : Session) (o : Outcome) → asked_outcome Restart s ≡ Ok o → WritesNoExchange o.doing
-restart_apart s o is = subst (λ (o : Outcome). WritesNoExchange o.doing) (ap (outcome_or o) is) tt
+answered_is : (kinds : Kinds) (ask : Asked) (s : Session) (o : Outcome)
+    → asked_task kinds ask s ≡ Ok (answered o) → asked_outcome kinds ask s ≡ Ok o
+answered_is kinds (Collection name schema) s o is = does_is _ o is
+answered_is kinds (Insert coll doc) s o is = does_is _ o is
+answered_is kinds (Bulk coll docs) s o is = does_is _ o is
+answered_is kinds (Upsert coll doc) s o is = does_is _ o is
+answered_is kinds (Patch coll key set rev) s o is = does_is _ o is
+answered_is kinds (Remove coll key rev) s o is = does_is _ o is
+answered_is kinds (Get coll key) s o is = does_is _ o is
+answered_is kinds (Find coll query) s o is = does_is _ o is
+answered_is kinds (Count coll query) s o is = does_is _ o is
+answered_is kinds (Observe name coll query) s o is = does_is _ o is
+answered_is kinds (Unobserve name) s o is = does_is _ o is
+answered_is kinds (Explain name) s o is = does_is _ o is
+answered_is kinds (Replicate name fork master handler field) s o is = does_is _ o is
+answered_is kinds (Turn name batch budget link) s o is =
+    absurd (no_turn (turn_line kinds name batch budget link s) o is)
+answered_is kinds (Changes coll since batch) s o is = does_is _ o is
+answered_is kinds (Tick at) s o is = does_is (asked_outcome kinds (Tick at) s) o is
+answered_is kinds Restart s o is = does_is (asked_outcome kinds Restart s) o is
+answered_is kinds (Digest coll) s o is = does_is _ o is
 
-ask_apart : (ask : Asked) (s : Session) → (ask ≡ Restart) ⊎ ArePlain (asked_outcome ask s) → (o : Outcome)
-    → asked_outcome ask s ≡ Ok o → WritesNoExchange o.doing
-ask_apart ask s (inl same) o is = restart_apart s o (sym (ap (λ (a : Asked). asked_outcome a s) same) ∙ is)
-ask_apart ask s (inr plain) o is = (plain o is).apart
+fault_lawful : (R : Type 0) (fault : Fault) (o : Outcome)
+    → task_or_refusal (Err fault) ≡ answered o → IsLawfulOutcome R o
+fault_lawful R (Refused r) o is =
+    let same : answer_alone (refused r) ≡ o = cc in
+    subst (IsLawfulOutcome R) same (alone_lawful R r)
+fault_lawful R Memory o is =
+    let same : answer_alone (refused Clock) ≡ o = cc in
+    subst (IsLawfulOutcome R) same (alone_lawful R Clock)
 
-read_apart : (read : Result Asked LineFault) (s : Session) (o : Outcome)
-    → (lifted of_line read >> λ ask. asked_outcome ask s) ≡ Ok o → WritesNoExchange o.doing
-read_apart (Ok ask) s o is = ask_apart ask s (plain_but ask s) o is
-read_apart (Err fault) s o is = absurd (cc)
+task_lawful : (kinds : Kinds) (ask : Asked) (s : Session) (r : Result Task Fault) (o : Outcome)
+    → asked_task kinds ask s ≡ r → task_or_refusal r ≡ answered o
+    → IsLawfulOutcome (ask ≡ Restart) o
+task_lawful kinds ask s (Ok t) o at is =
+    ask_lawful kinds ask s o (plain_but kinds ask s) (answered_is kinds ask s o (at ∙ ap Ok is))
+task_lawful kinds ask s (Err fault) o at is = fault_lawful (ask ≡ Restart) fault o is
 
--- no line writes an exchange
-pub writes_no_exchange : (line : List ℕ) (s : Session) → WritesNoExchange (outcome line s).doing
-writes_no_exchange line s = apart_by (line_outcome line s) (read_apart (line_of line) s)
+read_lawful : (kinds : Kinds) (read : Result Asked LineFault) (s : Session) (o : Outcome)
+    → task_or_refusal (lifted of_line read >> λ ask. asked_task kinds ask s) ≡ answered o
+    → IsLawfulOutcome (read ≡ Ok Restart) o
+read_lawful kinds (Ok ask) s o is =
+    let l = task_lawful kinds ask s (asked_task kinds ask s) o refl is in
+    record {
+      idle = l.idle;
+      restarts = λ n at. ap (λ (a : Asked). Ok a) (l.restarts n at);
+      apart = l.apart;
+    }
+read_lawful kinds (Err fault) s o is = fault_lawful (Err fault ≡ Ok Restart) (of_line fault) o is
+
+-- so it is of what a line comes to, if it is no turn
+pub lawful_outcome : (kinds : Kinds) (line : List ℕ) (s : Session) (o : Outcome)
+    → task kinds line s ≡ answered o → IsLawfulOutcome (IsRestart line) o
+lawful_outcome kinds line s o is = read_lawful kinds (line_of line) s o is

@@ -1,16 +1,36 @@
 -- An engine and its disk.
-use Rattle.std.specs.Prelude.{◌≡◌, ℕ, List, [], string_bytes}
+use Rattle.std.specs.Prelude.{◌≡◌, ℕ, List, [], None, string_bytes}
 use Rattle.rx_disk.specs.declared.disk.Disk.{Ghosts}
 use Rattle.rx_store.specs.Holds.{Holds}
-use Rattle.rx_reply.specs.Reply.{answer_line}
+use Rattle.rx_reply.specs.Reply.{answer_lines}
+use Rattle.rx_handler.specs.Handlers.{Kinds}
+use Rattle.rx_reply.specs.declared.turn.TurnEnd.TheVariants.{Quiet}
+use Rattle.rx_session.specs.Emissions.{emissions, settled_session}
 use Rattle.rx_session.specs.Session.{Session}
-use Rattle.rx_engine.specs.Lines.{outcome}
+use Rattle.rx_sync.specs.Asks.{Asks}
+use Rattle.rx_sync.specs.Laws.{IsLevel}
+use Rattle.rx_sync.specs.Turn.{Turned}
+use Rattle.rx_value.specs.Named.{put_named}
+use Rattle.rx_engine.specs.Lines.{answered, turns, task}
 use Rattle.rx_engine.specs.Meaning.{Meaning, meaning}
+use Rattle.rx_engine.specs.Outcome.{Outcome}
+use Rattle.rx_engine.specs.Standing.{Standing, standing_with}
+use Rattle.rx_engine.specs.Turning.{Turn, turned, written}
+use Rattle.rx_engine.specs.declared.changing.AfterTurn.{AfterTurn}
 use Rattle.rx_engine.specs.declared.engine.Engine.{Engine}
-use Rattle.rx_engine.specs.declared.engine.Output.{Output}
+use Rattle.rx_engine.specs.declared.output.Output.{Output}
 
+-- the session of an engine
 unfoldable pub session_of : Engine → Session
-session_of e = e.session
+session_of e = e.session.session
+
+-- what it remembers of requests, by the names of their replications
+unfoldable pub asks_in : Engine → List (List ℕ × Asks)
+asks_in e = e.session.asks
+
+-- how things stand with an engine, where conflicts are resolved so
+unfoldable pub standing_of : Kinds → Engine → Standing
+standing_of kinds e = standing_with (session_of e) (asks_in e) kinds
 
 abbrev pub limit_of : Engine → ℕ
 limit_of e = e.journal.limit
@@ -19,15 +39,38 @@ limit_of e = e.journal.limit
 abbrev pub IsAt : {D : Type 0} → Ghosts D → D → Engine → List (List ℕ) → Type 0
 IsAt d disk e bodies = Holds d disk e.journal bodies (session_of e).world
 
--- an engine and an output are those of a meaning
-pub record Answers (m : Meaning) (e : Engine) (o : Output) : Type 0 where
-  pub session : session_of e ≡ m.session
+-- an engine and an output are those of a meaning, where conflicts are resolved so
+pub record Answers (kinds : Kinds) (m : Meaning) (e : Engine) (o : Output) : Type 0 where
+  pub next : standing_of kinds e ≡ m.next
   pub reply : string_bytes o.text ≡ m.reply
+  pub emissions : o.emissions ≡ m.emissions
   pub refused : o.refused ≡ m.refused
+  pub ended : o.end ≡ m.ended
 
--- a line left the session: it has no records and no emissions, and its output is its answer alone
-pub record LeavesSession (number : ℕ) (line : List ℕ) (s : Session) (e : Engine) (o : Output)
+-- a line left how things stand: it has no records and no emissions, and its output is its answer
+-- alone
+pub record LeavesAll (number : ℕ) (line : List ℕ) (s : Standing) (e : Engine) (o : Output)
     : Type 0 where
+  pub outcome : Outcome
+  pub is : task s.kinds line s.session ≡ answered outcome
   pub records : (meaning number line s).records ≡ []
-  pub session : session_of e ≡ s
-  pub reply : string_bytes o.text ≡ answer_line number (outcome line s).answer
+  pub next : standing_of s.kinds e ≡ s
+  pub reply : string_bytes o.text ≡ answer_lines number outcome.answer
+  pub emissions : o.emissions ≡ 0
+  pub ended : o.end ≡ None
+
+-- an engine is as it is after a turn of the replication of a name, the emissions are those due then,
+-- and the exchanges and the end are the turn's
+pub record IsAfterTurn (name : List ℕ) (t : Turned) (s : Standing) (m : AfterTurn) : Type 0 where
+  pub session : session_of m.engine ≡ settled_session (written t.records s.session)
+  pub asks : asks_in m.engine ≡ put_named s.asks name t.asks
+  pub due : m.emissions.items ≡ emissions (written t.records s.session)
+  pub exchanges : m.exchanges ≡ t.exchanges
+  pub ended : m.ended ≡ t.ended
+
+-- where the line is a turn that ends quiet, its fork and its master have the same states in the
+-- engine
+abbrev pub QuietIsLevel : List ℕ → Standing → Engine → Type 0
+QuietIsLevel line s e =
+    (t : Turn) → task s.kinds line s.session ≡ turns t → (turned t s).ended ≡ Quiet
+    → IsLevel (session_of e).world t.name

@@ -12,7 +12,6 @@ use Rattle.rx_script.specs.declared.fault.LineFault.TheVariants as line
 use Rattle.rx_reply.specs.declared.refusal.Cause.TheVariants as cause
 use Rattle.rx_reply.specs.declared.refusal.DocumentFault.{DocumentFault}
 use Rattle.rx_reply.specs.declared.refusal.DocumentFault.TheVariants as document
-use Rattle.rx_reply.specs.declared.refusal.Refusal.{Refusal}
 use Rattle.rx_reply.specs.declared.refusal.Refusal.TheVariants as refusal
 use Rattle.rx_world.specs.declared.fault.StepFault.{StepFault}
 use Rattle.rx_world.specs.declared.fault.StepFault.TheVariants as step

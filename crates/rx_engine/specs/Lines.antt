@@ -1,17 +1,23 @@
 -- What a line does, by what it asks.
-use Rattle.std.specs.Prelude.{◌≡◌, ℕ, ◌+◌, List, Result, Ok}
+use Rattle.std.specs.Prelude.{◌≡◌, ℕ, ◌+◌, List, Result, Ok, Err}
 use Rattle.rx_value.specs.Due.{◌>>◌, lifted}
-use Rattle.rx_reply.specs.Answer.{tick, restart}
-use Rattle.rx_script.specs.Asked.{Asked, Collection, Insert, Bulk, Upsert, Patch, Remove, Get, Find, Count, Observe, Unobserve, Explain, Changes, Tick, Restart, Digest}
+use Rattle.rx_handler.specs.Handlers.{Kinds}
+use Rattle.rx_reply.specs.Answer.{tick, restart, refused}
+use Rattle.rx_reply.specs.declared.refusal.Refusal.TheVariants.{Clock, NoReplication}
+use Rattle.rx_script.specs.Asked.{Asked, Collection, Insert, Bulk, Upsert, Patch, Remove, Get, Find, Count, Observe, Unobserve, Explain, Replicate, Turn, Changes, Tick, Restart, Digest}
 use Rattle.rx_script.specs.Line.{line_of}
 use Rattle.rx_session.specs.Doing.{nothing, set_clock, restart as open_again}
 use Rattle.rx_session.specs.Session.{Session}
 use Rattle.rx_engine.specs.Faults.{of_line}
 use Rattle.rx_engine.specs.Listing.{changes_line, digest_line}
-use Rattle.rx_engine.specs.Outcome.{Outcome, outcome_or_refusal}
+use Rattle.rx_engine.specs.Outcome.{Outcome, answer_alone}
 use Rattle.rx_engine.specs.Queries.{get_line, find_line, count_line, observe_line, unobserve_line, explain_line}
 use Rattle.rx_engine.specs.Writes.{collection_line, insert_line, upsert_line, patch_line, remove_line, bulk_line}
+use Rattle.rx_engine.specs.Replicate.{master_of, replicate_line}
+use Rattle.rx_engine.specs.Standing.{Standing}
+use Rattle.rx_engine.specs.Turning.{Turn as ToTurn, turn_line}
 use Rattle.rx_engine.specs.declared.fault.Fault.{Fault}
+use Rattle.rx_engine.specs.declared.fault.Fault.TheVariants.{Refused, Memory}
 
 -- the present moment is set, and may go back
 abbrev pub tick_line : ℕ → Result Outcome Fault
@@ -24,34 +30,59 @@ restart_line s = Ok (record {
   answer = restart (s.world.epoch + 1);
 })
 
-abbrev pub asked_outcome : Asked → Session → Result Outcome Fault
-asked_outcome (Collection name schema) s = collection_line name schema s
-asked_outcome (Insert coll doc) s = insert_line coll doc s
-asked_outcome (Bulk coll docs) s = bulk_line coll docs s
-asked_outcome (Upsert coll doc) s = upsert_line coll doc s
-asked_outcome (Patch coll key set rev) s = patch_line coll key set rev s
-asked_outcome (Remove coll key rev) s = remove_line coll key rev s
-asked_outcome (Get coll key) s = get_line coll key s
-asked_outcome (Find coll query) s = find_line coll query s
-asked_outcome (Count coll query) s = count_line coll query s
-asked_outcome (Observe name coll query) s = observe_line name coll query s
-asked_outcome (Unobserve name) s = unobserve_line name s
-asked_outcome (Explain name) s = explain_line name s
-asked_outcome (Changes coll since batch) s = changes_line coll since batch s
-asked_outcome (Tick at) s = tick_line at
-asked_outcome Restart s = restart_line s
-asked_outcome (Digest coll) s = digest_line coll s
+-- what a line does and is answered; a turn is none of these
+abbrev pub asked_outcome : Kinds → Asked → Session → Result Outcome Fault
+asked_outcome kinds (Collection name schema) s = collection_line name schema s
+asked_outcome kinds (Insert coll doc) s = insert_line coll doc s
+asked_outcome kinds (Bulk coll docs) s = bulk_line coll docs s
+asked_outcome kinds (Upsert coll doc) s = upsert_line coll doc s
+asked_outcome kinds (Patch coll key set rev) s = patch_line coll key set rev s
+asked_outcome kinds (Remove coll key rev) s = remove_line coll key rev s
+asked_outcome kinds (Get coll key) s = get_line coll key s
+asked_outcome kinds (Find coll query) s = find_line coll query s
+asked_outcome kinds (Count coll query) s = count_line coll query s
+asked_outcome kinds (Observe name coll query) s = observe_line name coll query s
+asked_outcome kinds (Unobserve name) s = unobserve_line name s
+asked_outcome kinds (Explain name) s = explain_line name s
+asked_outcome kinds (Replicate name fork master handler field) s =
+    replicate_line kinds name fork (master_of master) handler field s
+asked_outcome kinds (Turn name batch budget link) s = Err (Refused NoReplication)
+asked_outcome kinds (Changes coll since batch) s = changes_line coll since batch s
+asked_outcome kinds (Tick at) s = tick_line at
+asked_outcome kinds Restart s = restart_line s
+asked_outcome kinds (Digest coll) s = digest_line coll s
 
--- what a line does, or why it is refused
-abbrev pub line_outcome : List ℕ → Session → Result Outcome Fault
-line_outcome line s = lifted of_line (line_of line) >> λ ask. asked_outcome ask s
+-- what a line comes to: an outcome, or a turn, which is answered once it is made
+pub data Task : Type 0 where
+  answered : Outcome → Task
+  turns : ToTurn → Task
 
-abbrev pub outcome : List ℕ → Session → Outcome
-outcome line s = outcome_or_refusal (line_outcome line s)
+abbrev pub asked_task : Kinds → Asked → Session → Result Task Fault
+asked_task kinds (Turn name batch budget link) s =
+    turn_line kinds name batch budget link s >> λ t. Ok (turns t)
+asked_task kinds other s = asked_outcome kinds other s >> λ o. Ok (answered o)
 
--- the line changes nothing: it is refused, or tells what there is
-abbrev pub IsIdle : List ℕ → Session → Type 0
-IsIdle line s = (outcome line s).doing ≡ nothing
+-- what it comes to, or why it is refused
+abbrev pub line_task : Kinds → List ℕ → Session → Result Task Fault
+line_task kinds line s = lifted of_line (line_of line) >> λ ask. asked_task kinds ask s
+
+-- a refused line is answered, and does nothing. Want of memory is no task.
+abbrev pub task_or_refusal : Result Task Fault → Task
+task_or_refusal (Ok t) = t
+task_or_refusal (Err (Refused r)) = answered (answer_alone (refused r))
+task_or_refusal (Err Memory) = answered (answer_alone (refused Clock))
+
+abbrev pub task : Kinds → List ℕ → Session → Task
+task kinds line s = task_or_refusal (line_task kinds line s)
+
+-- it changes nothing: it is refused, or tells what there is
+abbrev pub IsIdleTask : Task → Type 0
+IsIdleTask (answered o) = o.doing ≡ nothing
+IsIdleTask (turns t) = ⊥
+
+-- so it is of a line
+abbrev pub IsIdle : List ℕ → Standing → Type 0
+IsIdle line s = IsIdleTask (task s.kinds line s.session)
 
 -- the line is a restart
 abbrev pub IsRestart : List ℕ → Type 0

@@ -1,10 +1,8 @@
 -- The lines that list the changes of a collection, and tell its digest.
 use Rattle.std.specs.Prelude.{ℕ, List, [], ◌∷◌, length, map, Option, Some, option_map, Result, Ok}
 use Rattle.rx_value.specs.Due.{◌>>◌}
-use Rattle.rx_value.specs.declared.state.State.{State}
 use Rattle.rx_document.specs.declared.place.Place.{Place}
 use Rattle.rx_document.specs.declared.stored.Stored.{Stored}
-use Rattle.rx_collection.specs.Held.{Held}
 use Rattle.rx_collection.specs.Since.{place_of, since}
 use Rattle.rx_digest.specs.Digest.{digest_of}
 use Rattle.rx_reply.specs.Answer.{Answer, changes, digest}

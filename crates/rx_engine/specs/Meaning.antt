@@ -1,22 +1,31 @@
 -- What a line means.
-use Rattle.std.specs.Prelude.{ℕ, List, [], ◌∷◌, ◌++◌, map, Bool}
+use Rattle.std.specs.Prelude.{ℕ, List, [], ◌∷◌, ◌++◌, length, map, Bool, false, Option, Some, None}
 use Rattle.std.specs.List.{flat_map}
 use Rattle.rx_record.specs.Content.{Content, epoch, content_bytes}
 use Rattle.rx_observe.specs.declared.emission.Emission.{Emission}
+use Rattle.rx_value.specs.Named.{put_named}
+use Rattle.rx_reply.specs.Answer.{turn}
 use Rattle.rx_reply.specs.Emission.{emission_line, rows_fields}
-use Rattle.rx_reply.specs.Reply.{answer_line, is_refusal}
+use Rattle.rx_reply.specs.Reply.{answer_lines, is_refusal}
+use Rattle.rx_reply.specs.declared.turn.TurnEnd.{TurnEnd}
 use Rattle.rx_session.specs.Doing.{Doing, write, restart, after}
 use Rattle.rx_session.specs.Emissions.{emissions, settled_session}
-use Rattle.rx_session.specs.Session.{Session}
-use Rattle.rx_engine.specs.Lines.{outcome}
+use Rattle.rx_sync.specs.Asks.{Asks}
+use Rattle.rx_sync.specs.Turn.{Turned}
+use Rattle.rx_engine.specs.Lines.{Task, answered, turns, task}
 use Rattle.rx_engine.specs.Outcome.{Outcome}
+use Rattle.rx_engine.specs.Standing.{Standing}
+use Rattle.rx_engine.specs.Turning.{turned, written}
 
--- the records, the reply with the emissions after it, whether it is a refusal, and the next session
+-- the records, the reply with the emissions after it, how many these are, whether the line is
+-- refused, how its turn ended, if it made one, and how things stand then
 pub record Meaning : Type 0 where
   pub records : List Content
   pub reply : List ℕ
+  pub emissions : ℕ
   pub refused : Bool
-  pub session : Session
+  pub ended : Option TurnEnd
+  pub next : Standing
 
 -- the bodies of records
 abbrev pub bodies_of : List Content → List (List ℕ)
@@ -32,14 +41,45 @@ records_of _ = []
 abbrev pub lines_of : List Emission → List ℕ
 lines_of es = flat_map (λ e. emission_line e.name (rows_fields e.rows)) es
 
-abbrev pub meaning_of : ℕ → Outcome → Session → Meaning
+-- what is remembered of requests: nothing, once the journal is opened again
+abbrev pub asks_kept : Doing → List (List ℕ × Asks) → List (List ℕ × Asks)
+asks_kept (restart number) asks = []
+asks_kept other asks = asks
+
+-- of an outcome
+abbrev pub meaning_of : ℕ → Outcome → Standing → Meaning
 meaning_of number o s = record {
   records = records_of o.doing;
-  reply = answer_line number o.answer ++ lines_of (emissions (after o.doing s));
+  reply = answer_lines number o.answer ++ lines_of (emissions (after o.doing s.session));
+  emissions = length (emissions (after o.doing s.session));
   refused = is_refusal o.answer;
-  session = settled_session (after o.doing s);
+  ended = None;
+  next = record s {
+    session = settled_session (after o.doing s.session);
+    asks = asks_kept o.doing s.asks;
+  };
 }
 
+-- of a turn of the replication of that name, by what it comes to
+abbrev pub turn_meaning : ℕ → List ℕ → Turned → Standing → Meaning
+turn_meaning number name t s = record {
+  records = t.records;
+  reply = answer_lines number (turn t.exchanges t.ended)
+      ++ lines_of (emissions (written t.records s.session));
+  emissions = length (emissions (written t.records s.session));
+  refused = false;
+  ended = Some t.ended;
+  next = record s {
+    session = settled_session (written t.records s.session);
+    asks = put_named s.asks name t.asks;
+  };
+}
+
+-- of what a line comes to
+abbrev pub task_meaning : ℕ → Task → Standing → Meaning
+task_meaning number (answered o) s = meaning_of number o s
+task_meaning number (turns t) s = turn_meaning number t.name (turned t s) s
+
 -- what a line of that number means
-unfoldable pub meaning : ℕ → List ℕ → Session → Meaning
-meaning number line s = meaning_of number (outcome line s) s
+unfoldable pub meaning : ℕ → List ℕ → Standing → Meaning
+meaning number line s = task_meaning number (task s.kinds line s.session) s

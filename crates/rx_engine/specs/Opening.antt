@@ -3,7 +3,9 @@ use Rattle.std.specs.Prelude.{ℕ, ◌+◌, List, []}
 use Rattle.rx_record.specs.Content.{epoch, content_bytes}
 use Rattle.rx_world.specs.World.{World}
 use Rattle.rx_world.specs.Step.{step}
+use Rattle.rx_handler.specs.Handlers.{Kinds}
 use Rattle.rx_session.specs.Session.{Session}
+use Rattle.rx_engine.specs.Standing.{Standing, standing_with}
 
 -- the record of the next epoch
 abbrev pub epoch_body : World → List ℕ
@@ -17,6 +19,6 @@ session_on w = record { world = w; moment = 0; queries = [] }
 abbrev pub next_epoch : World → World
 next_epoch w = step (epoch (w.epoch + 1)) w
 
--- the session after an opening
-unfoldable pub opened : World → Session
-opened w = session_on (next_epoch w)
+-- how things stand after an opening
+unfoldable pub opened : Kinds → World → Standing
+opened kinds w = standing_with (session_on (next_epoch w)) [] kinds

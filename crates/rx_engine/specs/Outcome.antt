@@ -2,7 +2,7 @@
 use Rattle.std.specs.Prelude.{ℕ, List, Result, Ok, Err, Option, Some, None}
 use Rattle.rx_collection.specs.Held.{Held}
 use Rattle.rx_record.specs.Content.{Content}
-use Rattle.rx_reply.specs.Answer.{Answer, refused}
+use Rattle.rx_reply.specs.Answer.{Answer}
 use Rattle.rx_reply.specs.declared.refusal.Refusal.TheVariants.{Clock, NoCollection}
 use Rattle.rx_value.specs.Named.{named}
 use Rattle.rx_value.specs.declared.state.State.{State}
@@ -11,7 +11,7 @@ use Rattle.rx_world.specs.Commit.{commit_to}
 use Rattle.rx_session.specs.Doing.{Doing, nothing, write}
 use Rattle.rx_session.specs.Session.{Session}
 use Rattle.rx_engine.specs.declared.fault.Fault.{Fault}
-use Rattle.rx_engine.specs.declared.fault.Fault.TheVariants.{Refused, Memory}
+use Rattle.rx_engine.specs.declared.fault.Fault.TheVariants.{Refused}
 
 pub record Outcome : Type 0 where
   pub doing : Doing
@@ -20,12 +20,6 @@ pub record Outcome : Type 0 where
 -- an answer that changes nothing
 abbrev pub answer_alone : Answer → Outcome
 answer_alone answer = record { doing = nothing; answer = answer }
-
--- what a line does, or the refusal of it. Want of memory is no outcome.
-abbrev pub outcome_or_refusal : Result Outcome Fault → Outcome
-outcome_or_refusal (Ok o) = o
-outcome_or_refusal (Err (Refused r)) = answer_alone (refused r)
-outcome_or_refusal (Err Memory) = answer_alone (refused Clock)
 
 -- the collection of a name, which is to be held
 abbrev pub collection_at : List ℕ → Session → Result Held Fault

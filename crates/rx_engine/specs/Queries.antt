@@ -34,7 +34,8 @@ query_on c d = lifted of_query (query_of (kinds_of c.schema.properties) c.schema
 
 abbrev pub find_line : List ℕ → Data → Session → Result Outcome Fault
 find_line coll d s =
-    collection_at coll s >> λ c. query_on c d >> λ q. Ok (answer_alone (find (rows_found q c.documents)))
+    collection_at coll s >> λ c. query_on c d >> λ q.
+    Ok (answer_alone (find (rows_found q c.documents)))
 
 abbrev pub count_line : List ℕ → Data → Session → Result Outcome Fault
 count_line coll d s =

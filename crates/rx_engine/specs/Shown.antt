@@ -1,13 +1,19 @@
 -- What a line does, as the code has it.
-use Rattle.std.specs.Prelude.{⊤}
+use Rattle.std.specs.Prelude.{⊤, ◌≤◌}
 use Rattle.rx_record.specs.Writable.{IsOrdered}
 use Rattle.rx_reply.specs.Answer.{answer_of}
-use Rattle.rx_session.specs.Doing.{Doing, write, restart}
+use Rattle.rx_session.specs.Doing.{Doing, write, restart, MayDo}
+use Rattle.rx_session.specs.Session.{Session}
 use Rattle.rx_session.specs.Shown.{done_by}
+use Rattle.rx_engine.specs.Lines.{Task, answered, turns}
 use Rattle.rx_world.proofs.Sounds.{IsNoExchange}
 use Rattle.rx_engine.specs.Outcome.{Outcome}
+use Rattle.rx_engine.specs.Turning.{Turn}
 use Rattle.rx_engine.specs.declared.outcome.Outcome.{Outcome as Planned}
 use Rattle.rx_engine.specs.declared.outcome.LineDoing.{LineDoing}
+use Rattle.rx_engine.specs.declared.outcome.Task.{Task as ToDo}
+use Rattle.rx_engine.specs.declared.outcome.Task.TheVariants.{Answered, Turns}
+use Rattle.rx_engine.specs.declared.turning.Turn.{Turn as Made}
 use Rattle.rx_engine.specs.declared.outcome.LineDoing.TheVariants.{InSession, Restart}
 
 abbrev pub doing_of : LineDoing → Doing
@@ -26,3 +32,15 @@ WritesNoExchange _ = ⊤
 abbrev pub HasOrder : Doing → Type 0
 HasOrder (write c) = IsOrdered c
 HasOrder _ = ⊤
+
+abbrev pub turn_of : Made → Turn
+turn_of t = record { name = t.name; batch = t.batch; budget = t.budget; link = t.link.items }
+
+abbrev pub task_of : ToDo → Task
+task_of (Answered p) = answered (outcome_of p)
+task_of (Turns t) = turns (turn_of t)
+
+-- it may be done in a session; an exchange is of one document at least
+abbrev pub MayDoTask : ToDo → Session → Type 0
+MayDoTask (Answered p) s = MayDo (doing_of p.doing) s
+MayDoTask (Turns t) s = 1 ≤ t.batch

@@ -29,7 +29,8 @@ use Rattle.rx_engine.specs.declared.fault.Fault.TheVariants.{Refused}
 -- a collection of that schema: it is there with the same one, or there is room for it
 abbrev pub collection_with : List ℕ → Shape → Option Held → World → Result Outcome Fault
 collection_with name shape (Some held) w =
-    demand (bytes_eq (canonical_text held.schema) (canonical_text shape)) (Refused SchemaDiffers) >> λ _.
+    demand (bytes_eq (canonical_text held.schema) (canonical_text shape)) (Refused SchemaDiffers)
+    >> λ _.
     Ok (answer_alone (collection false))
 collection_with name shape None w =
     demand (nat_lt (length w.collections) max_collections) (Refused TooMany) >> λ _.
@@ -84,7 +85,8 @@ upsert_line coll d s =
 
 abbrev pub patch_line : List ℕ → List ℕ → Data → Option (List ℕ) → Session → Result Outcome Fault
 patch_line coll key set rev s =
-    collection_at coll s >> λ c. patch_state c key set rev >> λ state. commit_one coll patch c state s
+    collection_at coll s >> λ c. patch_state c key set rev >> λ state.
+    commit_one coll patch c state s
 
 abbrev pub remove_line : List ℕ → List ℕ → Option (List ℕ) → Session → Result Outcome Fault
 remove_line coll key rev s =
@@ -124,7 +126,8 @@ rows_states c row seen (d ∷ ds) =
 -- states are written at once; where there are none, nothing is, but a write time is to be left
 abbrev pub commit_all : List ℕ → Held → List State → Session → Result Outcome Fault
 commit_all coll c [] s =
-    demand (is_some (stamp c.documents s.moment)) (Refused Clock) >> λ _. Ok (answer_alone (bulk []))
+    demand (is_some (stamp c.documents s.moment)) (Refused Clock) >> λ _.
+    Ok (answer_alone (bulk []))
 commit_all coll c (state ∷ states) s =
     commit coll (state ∷ states) (bulk (map (λ s. next_revision c s.key) (state ∷ states))) c s
 

@@ -1,56 +1,99 @@
 // What a line is to do.
 ghost use Rattle.std.specs.Prelude.{◌≡◌, IfOk};
 ghost use Rattle.rx_value.specs.Due.{DueBy};
+ghost use Rattle.rx_handler.specs.Shown.{kinds_of};
 ghost use Rattle.rx_reply.specs.Answer as answer;
 ghost use Rattle.rx_script.specs.Asked.{asked, IsLawful};
 ghost use Rattle.rx_session.specs.Doing.{set_clock, MayDo};
-ghost use Rattle.rx_engine.specs.Lines.{line_outcome, asked_outcome, restart_line, outcome};
-ghost use Rattle.rx_engine.specs.Shown.{doing_of, outcome_of};
+ghost use Rattle.rx_engine.specs.Lines.{line_task, asked_outcome, asked_task, restart_line, task};
+ghost use Rattle.rx_engine.specs.Shown.{doing_of, outcome_of, task_of, MayDoTask};
 ghost use Rattle.rx_engine.specs.declared.fault.Fault.TheVariants.{Memory};
 
 use crate::fault::Fault;
 use crate::listing::{changes_line, digest_line};
-use crate::outcome::{LineDoing, Outcome};
+use crate::outcome::{LineDoing, Outcome, Task};
 use crate::queries::{
     answer_alone, count_line, explain_line, find_line, get_line, observe_line, unobserve_line,
 };
+use crate::replicate::{Wanted, master_of, replicate_line};
+use crate::turn_line::turn_line;
 use crate::writes::{
     bulk_line, collection_line, insert_line, patch_line, remove_line, upsert_line,
 };
-use rx_reply::Reply;
+use rx_handler::Handlers;
+use rx_reply::{Refusal, Reply};
 use rx_script::Line;
 use rx_session::{Doing, Session};
 use std::alloc::{AllocError, Global};
 
-/// What a line that isn't blank is to do.
+/// What a line that isn't blank comes to.
 pub(crate) fn plan<'a>(
     alloc: Global,
     session: &'a Session,
+    handlers: &Handlers,
     text: &[u8],
-) -> Result<Outcome<'a>, AllocError>
-    ensures exact { IfOk result (λ p. outcome_of p ≡ outcome text.now session.now) }
-    ensures may { IfOk result (λ p. MayDo (doing_of p.doing) session.now) }
+) -> Result<Task<'a>, AllocError>
+    ensures exact { IfOk result
+        (λ p. task_of p ≡ task (kinds_of handlers.now) text.now session.now) }
+    ensures may { IfOk result (λ p. MayDoTask p session.now) }
 {
-    match plan_text(alloc, session, text) {
+    match plan_text(alloc, session, handlers, text) {
         Ok(plan) => Ok(plan),
-        Err(Fault::Refused(refusal)) => Ok(answer_alone(Reply::Refused(refusal))),
+        Err(Fault::Refused(refusal)) => {
+            Ok(Task::Answered(answer_alone(Reply::Refused(refusal))))
+        }
         Err(Fault::Memory) => Err(AllocError),
     }
 }
 
-// What the text does, or why it is refused.
-fn plan_text<'a>(alloc: Global, session: &'a Session, text: &[u8]) -> Result<Outcome<'a>, Fault>
-    ensures exact { DueBy Memory outcome_of result (line_outcome text.now session.now) }
-    ensures may { IfOk result (λ p. MayDo (doing_of p.doing) session.now) }
+// What the text comes to, or why it is refused.
+fn plan_text<'a>(
+    alloc: Global,
+    session: &'a Session,
+    handlers: &Handlers,
+    text: &[u8],
+) -> Result<Task<'a>, Fault>
+    ensures exact { DueBy Memory task_of result
+        (line_task (kinds_of handlers.now) text.now session.now) }
+    ensures may { IfOk result (λ p. MayDoTask p session.now) }
 {
     let line = Line::read(alloc, text)?;
-    plan_line(alloc, session, line)
+    plan_task(alloc, session, handlers, line)
+}
+
+// What a line that was read comes to, or why it is refused.
+fn plan_task<'a>(
+    alloc: Global,
+    session: &'a Session,
+    handlers: &Handlers,
+    line: Line,
+) -> Result<Task<'a>, Fault>
+    requires { IsLawful (asked line) }
+    ensures exact { DueBy Memory task_of result
+        (asked_task (kinds_of handlers.now) (asked line) session.now) }
+    ensures may { IfOk result (λ p. MayDoTask p session.now) }
+{
+    match line {
+        Line::Turn {
+            name,
+            batch,
+            budget,
+            link,
+        } => Ok(Task::Turns(turn_line(alloc, session, handlers, name, batch, budget, link)?)),
+        line => Ok(Task::Answered(plan_line(alloc, session, handlers, line)?)),
+    }
 }
 
 // What a line that was read does, or why it is refused.
-fn plan_line<'a>(alloc: Global, session: &'a Session, line: Line) -> Result<Outcome<'a>, Fault>
+fn plan_line<'a>(
+    alloc: Global,
+    session: &'a Session,
+    handlers: &Handlers,
+    line: Line,
+) -> Result<Outcome<'a>, Fault>
     requires { IsLawful (asked line) }
-    ensures exact { DueBy Memory outcome_of result (asked_outcome (asked line) session.now) }
+    ensures exact { DueBy Memory outcome_of result
+        (asked_outcome (kinds_of handlers.now) (asked line) session.now) }
     ensures may { IfOk result (λ p. MayDo (doing_of p.doing) session.now) }
 {
     match line {
@@ -71,6 +114,26 @@ fn plan_line<'a>(alloc: Global, session: &'a Session, line: Line) -> Result<Outc
         Line::Observe { name, coll, query } => observe_line(alloc, session, name, coll, &query),
         Line::Unobserve { name } => unobserve_line(session, name),
         Line::Explain { name } => explain_line(session, &name),
+        Line::Replicate {
+            name,
+            fork,
+            master,
+            handler,
+            field,
+        } => replicate_line(
+            alloc,
+            session,
+            handlers,
+            Wanted {
+                name,
+                fork,
+                master: master_of(master),
+                handler,
+                field,
+            },
+        ),
+        // A turn is no outcome, and is planned before.
+        Line::Turn { .. } => Err(Fault::Refused(Refusal::NoReplication)),
         Line::Changes { coll, since, batch } => changes_line(alloc, session, &coll, since, batch),
         Line::Tick { at } => Ok(tick(at)),
         Line::Restart => restart_line(session),

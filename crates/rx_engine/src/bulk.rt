@@ -49,7 +49,8 @@ fn read_row(
     seen: &BTreeMap<String, ()>,
     doc: &Json,
 ) -> Result<State, Fault>
-    ensures { Due Memory result (row_state collection.now row (by_bytes seen.now.entries) (view doc.now)) }
+    ensures { Due Memory result
+        (row_state collection.now row (by_bytes seen.now.entries) (view doc.now)) }
 {
     let schema = collection.schema();
     let state = in_row(row, read_state(alloc, schema.primary(), doc))?;

@@ -23,7 +23,8 @@ use std::alloc::{AllocError, Global};
 /// The state that a document says.
 pub(crate) fn read_state(alloc: Global, primary: &str, doc: &Json) -> Result<State, Fault>
     ensures exact { Due Memory result (state_of primary.now (view doc.now)) }
-    ensures carries { IfOk result (λ state. named state.fields primary.now ≡ Some (Text state.key)) }
+    ensures carries { IfOk result
+        (λ state. named state.fields primary.now ≡ Some (Text state.key)) }
 {
     let fields = read_fields(alloc, doc)?;
     let key = key_in(alloc, primary, &fields)?;

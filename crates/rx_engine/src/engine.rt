@@ -1,56 +1,46 @@
-ghost use Rattle.std.specs.Prelude.{◌≡◌, ◌≤◌, ◌<◌, ◌^◌, ℕ, List, [], ◌∷◌, ◌++◌, true, IfOk, OnOk, IsErrOf, option_map, string_bytes};
+// A journal in a run, from its opening on, line by line.
+ghost use Rattle.std.specs.Prelude.{◌≡◌, ◌≤◌, ◌<◌, ◌^◌, ℕ, List, [], ◌∷◌, true, IfOk, IsErrOf, option_map};
 ghost use Rattle.rx_digest.specs.Digest.{digest_of};
+ghost use Rattle.rx_handler.specs.Handlers.{Kinds};
+ghost use Rattle.rx_handler.specs.Shown.{kinds_of};
 ghost use Rattle.rx_journal.specs.Reading.{IsUntouched};
 ghost use Rattle.rx_outside.specs.declared.stop.Stop.TheVariants as Stop;
-ghost use Rattle.rx_reply.specs.Reply.{answer_line, is_refusal};
-ghost use Rattle.rx_session.specs.Doing.{nothing, restart, after, MayDo};
-ghost use Rattle.rx_session.specs.Emissions.{emissions, settled_session};
-ghost use Rattle.rx_session.specs.Shown.{done_by};
-ghost use Rattle.rx_value.specs.Named.{named};
-ghost use Rattle.rx_world.specs.World.{World};
 ghost use Rattle.rx_store.specs.Holds.{IsIllegalFile, IsJournalOfSome, IsLegalFile};
 ghost use Rattle.rx_store.specs.Safe.{HasDiskCause, IsCrashSafe};
-ghost use Rattle.rx_engine.specs.Lines.{outcome, IsIdle, IsRestart};
-ghost use Rattle.rx_engine.specs.Meaning.{meaning, bodies_of, records_of};
+ghost use Rattle.rx_value.specs.Named.{named};
+ghost use Rattle.rx_world.specs.World.{World};
+ghost use Rattle.rx_engine.specs.Lines.{IsIdle, IsRestart};
+ghost use Rattle.rx_engine.specs.Meaning.{meaning, bodies_of};
 ghost use Rattle.rx_engine.specs.Opening.{epoch_body, opened};
-ghost use Rattle.rx_engine.specs.Shown.{doing_of, WritesNoExchange};
 
-use crate::asking::plan;
-use crate::emitting::add_lines;
-use crate::keep::keep_doing;
-use crate::opening::{Opened, is_next, open};
-use crate::outcome::{LineDoing, Outcome};
+use crate::judging::{Judged, judge};
+use crate::opening::{Opened, open};
+use crate::output::Output;
 use crate::sound_session::SoundSession;
+use indexmap::IndexMap;
 use rx_collection::Holder;
 use rx_diagram::Diagram;
 use rx_digest::digest;
 use rx_disk::Disk;
+use rx_handler::Handlers;
 use rx_journal::Journal;
-use rx_observe::Emission;
 use rx_outside::Stop;
-use rx_session::{Doing, Session};
+use rx_session::Session;
 use rx_value::RxText;
 use std::alloc::{AllocError, Global};
 use std::rc::Rc;
 
-/// What a line is answered: its reply and the emissions after it, each ended by a line feed.
-#[derive(Debug, Drop)]
-pub struct Output {
-    pub text: String,
-    pub refused: bool,
-}
-
-/// A journal, and the session that its records make. Its world is sound.
+/// A journal, and the session that its records make.
 #[derive(Drop)]
 pub struct Engine {
-    journal: Journal,
-    session: SoundSession,
+    pub(crate) journal: Journal,
+    pub(crate) session: SoundSession,
     /// Built once, for the journal opened again too.
-    diagram: Rc<Diagram>,
+    pub(crate) diagram: Rc<Diagram>,
 }
 
 impl Engine {
-    ghost use Rattle.rx_engine.specs.Engine.{IsAt, Answers, LeavesSession, session_of, limit_of};
+    ghost use Rattle.rx_engine.specs.Engine.{IsAt, Answers, LeavesAll, QuietIsLevel, session_of, standing_of, limit_of};
 
     /// Opens a journal, plays its records, and begins a new epoch.
     pub fn open<D: Disk>(alloc: Global, disk: &mut D, limit: u64) -> Result<Engine, Stop>
@@ -63,8 +53,9 @@ impl Engine {
             → IsJournalOfSome (D.content disk.old) }
         ensures opened { D.tells → (bodies : List (List ℕ)) (w : World)
             → IsLegalFile (D.content disk.old) bodies w
-            → IfOk result (λ engine. session_of engine ≡ opened w) }
-        ensures begun { IfOk result (λ engine. (w : World) × (session_of engine ≡ opened w)) }
+            → IfOk result (λ engine. (kinds : Kinds) → standing_of kinds engine ≡ opened kinds w) }
+        ensures begun { IfOk result (λ engine. (w : World)
+            × ((kinds : Kinds) → standing_of kinds engine ≡ opened kinds w)) }
         ensures limit { IfOk result (λ engine. limit_of engine ≡ limit) }
 
         // Over a legal file: what holds at each moment, at `Ok`, and at `Full`.
@@ -83,7 +74,8 @@ impl Engine {
         let share = diagram.clone()?;
         let Opened { journal, world } = open(alloc, disk, limit, &diagram)?;
         let session = Session::new(alloc, world, share);
-        let sound = SoundSession::new(session);
+        let asks = IndexMap::new(alloc);
+        let sound = SoundSession::new(session, asks);
         Ok(Engine {
             journal,
             session: sound,
@@ -97,38 +89,41 @@ impl Engine {
         self,
         alloc: Global,
         disk: &mut D,
+        handlers: &Handlers,
         text: &[u8],
         number: u64,
     ) -> Result<(Engine, Output), Stop>
         requires { D.tells → (bodies : List (List ℕ)) × IsAt D.Disk disk.old self bodies }
         ensures answers { IfOk result (λ p.
-            Answers (meaning number text.now (session_of self)) p.0 p.1) }
+            Answers (kinds_of handlers.now)
+            (meaning number text.now (standing_of (kinds_of handlers.now) self)) p.0 p.1) }
         ensures limit { IfOk result (λ p. limit_of p.0 ≡ limit_of self) }
+
+        // Where a turn ends quiet, its fork and its master have the same states.
+        ensures quiet { IfOk result (λ p.
+            QuietIsLevel text.now (standing_of (kinds_of handlers.now) self) p.0) }
 
         // The line's records: what holds at each moment, at `Ok`, and at `Full`.
         ensures safe { D.tells → (bodies : List (List ℕ)) → IsAt D.Disk disk.old self bodies
             → IsCrashSafe D.Disk disk.old disk.new bodies
-            (bodies_of (meaning number text.now (session_of self)).records) (limit_of self)
-            (λ p. IsAt D.Disk disk.new p.0) result }
+            (bodies_of (meaning number text.now (standing_of (kinds_of handlers.now) self)).records)
+            (limit_of self) (λ p. IsAt D.Disk disk.new p.0) result }
 
         // A refused line leaves the session and the disk, and so does one that tells what there is.
         ensures refused { IfOk result (λ p. p.1.refused ≡ true → (disk.new ≡ disk.old)
-            × LeavesSession number text.now (session_of self) p.0 p.1) }
-        ensures idle { IsIdle text.now (session_of self) → (disk.new ≡ disk.old)
-            × IfOk result (λ p. LeavesSession number text.now (session_of self) p.0 p.1) }
+            × LeavesAll number text.now (standing_of (kinds_of handlers.now) self) p.0 p.1) }
+        ensures idle { IsIdle text.now (standing_of (kinds_of handlers.now) self)
+            → (disk.new ≡ disk.old) × IfOk result (λ p.
+            LeavesAll number text.now (standing_of (kinds_of handlers.now) self) p.0 p.1) }
 
         // Only where a journal is opened again, it may be none any more.
         ensures not_journal { IsErrOf result Stop.NotJournal → IsRestart text.now }
         ensures cause { HasDiskCause (D.faults disk.old) (D.faults disk.new) result }
     {
-        let Printed {
-            doing,
-            mut text,
-            refused,
-        } = print_reply(alloc, &self.session, text, number)?;
-        let (engine, emissions) = self.carry_out(alloc, disk, doing)?;
-        add_lines(alloc, emissions.as_slice(), &mut text)?;
-        Ok((engine, Output { text, refused }))
+        match judge(alloc, self.session.session(), handlers, text, number)? {
+            Judged::Printed(printed) => self.answer(alloc, disk, printed),
+            Judged::Turns(turn) => self.answer_turn(alloc, disk, handlers, &turn, number),
+        }
     }
 
     /// The digest of a collection's states, where the collection is held.
@@ -142,135 +137,4 @@ impl Engine {
             None => Ok(None),
         }
     }
-
-    // The engine after what a line does, and the emissions that are due then.
-    fn carry_out<D: Disk>(
-        self,
-        alloc: Global,
-        disk: &mut D,
-        doing: LineDoing,
-    ) -> Result<(Engine, Vec<Emission>), Stop>
-        requires at { D.tells → (bodies : List (List ℕ)) × IsAt D.Disk disk.old self bodies }
-        requires may { MayDo (doing_of doing) (session_of self) }
-        requires apart { WritesNoExchange (doing_of doing) }
-        ensures session { IfOk result (λ p. session_of p.0
-            ≡ settled_session (after (doing_of doing) (session_of self))) }
-        ensures emissions { IfOk result (λ p. p.1.items
-            ≡ emissions (after (doing_of doing) (session_of self))) }
-        ensures limit { IfOk result (λ p. limit_of p.0 ≡ limit_of self) }
-        ensures safe { D.tells → (bodies : List (List ℕ)) → IsAt D.Disk disk.old self bodies
-            → IsCrashSafe D.Disk disk.old disk.new bodies (bodies_of (records_of (doing_of doing)))
-            (limit_of self) (λ p. IsAt D.Disk disk.new p.0) result }
-        ensures idle_disk { doing_of doing ≡ nothing → disk.new ≡ disk.old }
-        ensures idle { doing_of doing ≡ nothing → IfOk result (λ p.
-            (session_of p.0 ≡ session_of self) × (p.1.items ≡ [])) }
-        ensures not_journal { IsErrOf result Stop.NotJournal
-            → (number : ℕ) × (doing_of doing ≡ restart number) }
-        ensures cause { HasDiskCause (D.faults disk.old) (D.faults disk.new) result }
-    {
-        match doing {
-            LineDoing::InSession(doing) => self.change_session(alloc, disk, doing),
-            LineDoing::Restart(epoch) => { Ok((self.reopen(alloc, disk, epoch)?, Vec::new(alloc))) }
-        }
-    }
-
-    // The engine after something was done to its session, and the emissions that are due then.
-    fn change_session<D: Disk>(
-        self,
-        alloc: Global,
-        disk: &mut D,
-        doing: Doing,
-    ) -> Result<(Engine, Vec<Emission>), Stop>
-        requires at { D.tells → (bodies : List (List ℕ)) × IsAt D.Disk disk.old self bodies }
-        requires may { MayDo (done_by doing) (session_of self) }
-        requires apart { WritesNoExchange (done_by doing) }
-        ensures session { IfOk result (λ p. session_of p.0
-            ≡ settled_session (after (done_by doing) (session_of self))) }
-        ensures emissions { IfOk result (λ p. p.1.items
-            ≡ emissions (after (done_by doing) (session_of self))) }
-        ensures limit { IfOk result (λ p. limit_of p.0 ≡ limit_of self) }
-        ensures safe { D.tells → (bodies : List (List ℕ)) → IsAt D.Disk disk.old self bodies
-            → IsCrashSafe D.Disk disk.old disk.new bodies (bodies_of (records_of (done_by doing)))
-            (limit_of self) (λ p. IsAt D.Disk disk.new p.0) result }
-        ensures idle_disk { done_by doing ≡ nothing → disk.new ≡ disk.old }
-        ensures idle { done_by doing ≡ nothing → IfOk result (λ p.
-            (session_of p.0 ≡ session_of self) × (p.1.items ≡ [])) }
-        ensures not_journal { IsErrOf result Stop.NotJournal → ⊥ }
-        ensures cause { HasDiskCause (D.faults disk.old) (D.faults disk.new) result }
-    {
-        let Engine {
-            journal,
-            session,
-            diagram,
-        } = self;
-        let session = session.release();
-        let journal = keep_doing(alloc, journal, disk, &doing)?;
-        let (session, emissions) = session.next(alloc, doing)?;
-        let engine = Engine {
-            journal,
-            session: SoundSession::new(session),
-            diagram,
-        };
-        Ok((engine, emissions))
-    }
-
-    // The engine on the journal opened again, which is to give the collections that there are.
-    fn reopen<D: Disk>(self, alloc: Global, disk: &mut D, epoch: u64) -> Result<Engine, Stop>
-        requires at { D.tells → (bodies : List (List ℕ)) × IsAt D.Disk disk.old self bodies }
-        requires next { MayDo (restart epoch) (session_of self) }
-        ensures session { IfOk result (λ e. session_of e
-            ≡ settled_session (after (restart epoch) (session_of self))) }
-        ensures quiet { OnOk result (emissions (after (restart epoch) (session_of self)) ≡ []) }
-        ensures limit { IfOk result (λ e. limit_of e ≡ limit_of self) }
-        ensures safe { D.tells → (bodies : List (List ℕ)) → IsAt D.Disk disk.old self bodies
-            → IsCrashSafe D.Disk disk.old disk.new bodies (bodies_of (records_of (restart epoch)))
-            (limit_of self) (IsAt D.Disk disk.new) result }
-        ensures cause { HasDiskCause (D.faults disk.old) (D.faults disk.new) result }
-    {
-        let Engine {
-            journal,
-            session,
-            diagram,
-        } = self;
-        let session = session.release();
-        let Opened { journal, world } = open(alloc, disk, journal.limit, &diagram)?;
-        if !is_next(&session, &world, epoch) {
-            return Err(Stop::NotJournal);
-        }
-        let session = session.reopen(alloc, world)?;
-        Ok(Engine {
-            journal,
-            session: SoundSession::new(session),
-            diagram,
-        })
-    }
-}
-
-// What a line does, and the line of its reply.
-#[derive(Drop)]
-struct Printed {
-    doing: LineDoing,
-    text: String,
-    refused: bool,
-}
-
-fn print_reply(
-    alloc: Global,
-    session: &SoundSession,
-    text: &[u8],
-    number: u64,
-) -> Result<Printed, AllocError>
-    ensures doing { IfOk result (λ p. doing_of p.doing ≡ (outcome text.now session.now).doing) }
-    ensures may { IfOk result (λ p. MayDo (doing_of p.doing) session.now) }
-    ensures reply { IfOk result (λ p. string_bytes p.text
-        ≡ answer_line number (outcome text.now session.now).answer) }
-    ensures refused { IfOk result (λ p. p.refused
-        ≡ is_refusal (outcome text.now session.now).answer) }
-{
-    let Outcome { doing, reply } = plan(alloc, session.session(), text)?;
-    Ok(Printed {
-        doing,
-        text: reply.line(alloc, number)?,
-        refused: reply.is_refusal(),
-    })
 }

@@ -25,14 +25,15 @@ pub(crate) fn keep_doing<D: Disk>(
     disk: &mut D,
     doing: &Doing,
 ) -> Result<Journal, Stop>
-    requires holds { D.tells → (bodies : List (List ℕ)) × (w : World) × Holds D.Disk disk.old journal bodies w }
+    requires holds { D.tells → (bodies : List (List ℕ)) × (w : World)
+        × Holds D.Disk disk.old journal bodies w }
     requires ordered { HasOrder (done_by doing.now) }
     ensures safe { D.tells → (bodies : List (List ℕ)) (s : Session)
         → Holds D.Disk disk.old journal bodies s.world → MayDo (done_by doing.now) s
         → IsSoundWorld (after (done_by doing.now) s).world
         → IsCrashSafe D.Disk disk.old disk.new bodies (bodies_of (records_of (done_by doing.now)))
-        journal.limit (λ kept all. Holds D.Disk disk.new kept all (after (done_by doing.now) s).world)
-        result }
+        journal.limit
+        (λ kept all. Holds D.Disk disk.new kept all (after (done_by doing.now) s).world) result }
     ensures limit { IfOk result (λ kept. kept.limit ≡ journal.limit) }
     ensures idle { done_by doing.now ≡ nothing → disk.new ≡ disk.old }
     ensures not_journal { IsErrOf result Stop.NotJournal → ⊥ }

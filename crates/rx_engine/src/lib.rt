@@ -2,19 +2,29 @@
 //! a journal is, and what holds of it at each moment, is rx_store's.
 #![tactic(auto)]
 
+mod answering;
 mod asking;
 mod bulk;
+mod changing;
 mod documents;
-mod emitting;
 mod engine;
+mod exchanging;
 mod fault;
+mod judging;
 mod keep;
 mod listing;
 mod lookup;
 mod opening;
 mod outcome;
+mod output;
+mod play;
 mod queries;
+mod replicate;
+mod requests;
 mod sound_session;
+mod turn_line;
+mod turning;
 mod writes;
 
-pub use engine::{Engine, Output};
+pub use engine::Engine;
+pub use output::Output;

@@ -20,7 +20,8 @@ pub(crate) fn find_live<'a>(
     session: &'a Session,
     coll: &RxText,
 ) -> Result<&'a Live, Fault>
-    ensures exact { DueBy Memory (λ l. l.now.collection) result (collection_at coll.now session.now) }
+    ensures exact { DueBy Memory (λ l. l.now.collection) result
+        (collection_at coll.now session.now) }
     ensures held { IfOk result (λ l. named session.now.world.collections coll.now
         ≡ Some l.now.collection) }
     ensures called { IfOk result (λ l. l.now.collection.name ≡ coll.now) }

@@ -1,3 +1,4 @@
+use crate::turning::Turn;
 use rx_reply::Reply;
 use rx_session::Doing;
 
@@ -13,4 +14,11 @@ pub(crate) enum LineDoing {
 pub(crate) struct Outcome<'a> {
     pub doing: LineDoing,
     pub reply: Reply<'a>,
+}
+
+/// What a line comes to: an outcome, or a turn, which is answered once it is made.
+#[derive(Drop)]
+pub(crate) enum Task<'a> {
+    Answered(Outcome<'a>),
+    Turns(Turn),
 }

@@ -1,51 +1,60 @@
 // A session whose world is sound.
 ghost use Rattle.std.specs.Prelude.{◌≡◌};
+ghost use Rattle.rx_value.specs.Named.{by_bytes};
 ghost use Rattle.rx_world.specs.Made.{IsMadeWorld};
 ghost use Rattle.rx_world.specs.Sound.{IsSoundWorld};
+ghost use Rattle.rx_engine.specs.Remembered.{AreRemembered};
+ghost use Rattle.rx_engine.specs.SoundSession.{with_asks};
 
+use indexmap::IndexMap;
 use rx_session::Session;
+use rx_sync::Asks;
 use std::marker::Model;
 
-/// A session whose world is one that records made, and sound.
+/// A session whose world is one that records made, and sound, with what is remembered of the
+/// requests of its replications, by their names.
 #[derive(Drop)]
 pub(crate) struct SoundSession {
     session: Session,
+    asks: IndexMap<String, Asks>,
 }
 
 impl Model for SoundSession {
-    ghost use Rattle.rx_session.specs.Codes.{session_code};
-    ghost use Rattle.rx_session.specs.Session.{Session as SeenSession};
-    ghost use Rattle.rx_engine.specs.SoundSession.{HasSoundWorld};
+    ghost use Rattle.rx_value.specs.Named.{by_bytes};
+    ghost use Rattle.rx_engine.specs.SoundSession.{HasSoundWorld, SessionWithAsks, with_asks, with_asks_code};
 
-    ghost Value = { SeenSession };
+    ghost Value = { SessionWithAsks };
 
-    ghost coded = { session_code };
+    ghost coded = { with_asks_code };
 
-    ghost view = { λ s. s.session };
+    ghost view = { λ s. with_asks s.session (by_bytes s.asks.entries) };
 
-    ghost invariant = { λ s. HasSoundWorld s.session };
+    ghost invariant = { λ s. HasSoundWorld (with_asks s.session (by_bytes s.asks.entries)) };
 }
 
 impl SoundSession {
-    pub(crate) fn new(session: Session) -> SoundSession
+    pub(crate) fn new(session: Session, asks: IndexMap<String, Asks>) -> SoundSession
         requires made { IsMadeWorld session.world }
         requires sound { IsSoundWorld session.world }
-        ensures { result ≡ session }
+        requires remembered { AreRemembered session.world (by_bytes asks.entries) }
+        ensures { result ≡ with_asks session (by_bytes asks.entries) }
     {
-        SoundSession { session }
+        SoundSession { session, asks }
     }
 
     pub(crate) fn session(&self) -> &Session
-        ensures { result.now ≡ self.now }
+        ensures { result.now ≡ self.now.session }
     {
         &self.session
     }
 
-    pub(crate) fn release(self) -> Session
-        ensures same { result ≡ self }
-        ensures made { IsMadeWorld self.world }
-        ensures sound { IsSoundWorld self.world }
+    pub(crate) fn release(self) -> (Session, IndexMap<String, Asks>)
+        ensures same { result.0 ≡ self.session }
+        ensures asks { by_bytes result.1.entries ≡ self.asks }
+        ensures made { IsMadeWorld self.session.world }
+        ensures sound { IsSoundWorld self.session.world }
+        ensures remembered { AreRemembered self.session.world self.asks }
     {
-        self.session
+        (self.session, self.asks)
     }
 }

@@ -33,7 +33,8 @@ use rx_world::MAX_COLLECTIONS;
 use serde_json::Value as Json;
 use std::alloc::Global;
 
-/// A collection of that name and that schema: it is there with the same one, or there is room for it.
+/// A collection of that name and that schema: it is there with the same one, or there is room for
+/// it.
 pub(crate) fn collection_line<'a>(
     alloc: Global,
     session: &'a Session,
@@ -41,7 +42,8 @@ pub(crate) fn collection_line<'a>(
     schema: &Json,
 ) -> Result<Outcome<'a>, Fault>
     requires { is_name name ≡ true }
-    ensures exact { DueBy Memory outcome_of result (collection_line name (view schema.now) session.now) }
+    ensures exact { DueBy Memory outcome_of result
+        (collection_line name (view schema.now) session.now) }
     ensures may { IfOk result (λ p. MayDo (doing_of p.doing) session.now) }
 {
     let schema = Schema::read(alloc, schema)?;
@@ -147,8 +149,9 @@ fn plan_write<'a>(
     requires some { 0 < length states.items }
     requires distinct { IsDistinct bytes_eq (map (λ s. s.key) states.items) }
     requires valid { AllByRecursion (IsValidState collection.now.schema) states.items }
-    ensures exact { DueBy Memory outcome_of result (commit collection.now.name states.items (answer_of reply.entry)
-        collection.now session.now) }
+    ensures exact { DueBy Memory outcome_of result
+        (commit collection.now.name states.items (answer_of reply.entry) collection.now
+        session.now) }
     ensures may { IfOk result (λ p. MayDo (doing_of p.doing) session.now) }
 {
     let entry = session.commit(alloc, collection, states)?;
@@ -169,8 +172,9 @@ fn plan_one_write<'a>(
     requires held { named session.now.world.collections collection.now.name
         ≡ Some collection.now }
     requires valid { IsValidState collection.now.schema state }
-    ensures exact { DueBy Memory outcome_of result (commit collection.now.name (state ∷ []) (answer_of reply.entry)
-        collection.now session.now) }
+    ensures exact { DueBy Memory outcome_of result
+        (commit collection.now.name (state ∷ []) (answer_of reply.entry) collection.now
+        session.now) }
     ensures may { IfOk result (λ p. MayDo (doing_of p.doing) session.now) }
 {
     let states = vec![in alloc; state]?;

@@ -1,4 +1,4 @@
-use Rattle.std.proofs.Common.{◌++◌, Ok, sym, subst}
+use Rattle.std.proofs.Common.{sym, subst}
 use Rattle.rx_session.specs.Doing.{after, MayDo}
 use Rattle.rx_session.specs.Shown.{done_by}
 use Rattle.rx_session.specs.declared.doing.Doing.{Doing}

@@ -1,4 +1,4 @@
-use Rattle.std.proofs.Common.{Option, sym, ap, ◌∙◌}
+use Rattle.std.proofs.Common.{Option, ap, ◌∙◌}
 use Rattle.rx_collection.specs.Since.{since}
 use Rattle.rx_document.specs.declared.place.Place.{Place}
 use Rattle.rx_engine.specs.Shown.{outcome_of}

@@ -1,5 +1,4 @@
 use Rattle.std.proofs.Common.{◌≡◌, ℕ, ◌+◌, [], ◌∷◌, ◌++◌, Ok, Err, ◌∙◌, ap, sym, subst, rules}
-use Rattle.rx_record.specs.Content.{epoch, content_bytes}
 use Rattle.rx_session.specs.Placed.{world_of}
 use Rattle.rx_store.specs.Holds.{Holds}
 use Rattle.rx_store.proofs.Crashes.{answered, ran_out, same_stop, sooner}

@@ -1,124 +1,165 @@
-use Rattle.std.proofs.Common.{◌≡◌, ℕ, List, ◌++◌, string_bytes, Err, ◌∙◌, ap, sym, subst, rules}
-use Rattle.rx_observe.specs.declared.emission.Emission.{Emission}
-use Rattle.rx_reply.specs.Reply.{answer_line}
-use Rattle.rx_outside.specs.declared.stop.Stop.TheVariants.{Memory}
-use Rattle.rx_session.specs.Doing.{Doing, after}
-use Rattle.rx_session.specs.Emissions.{emissions, settled_session}
-use Rattle.rx_store.proofs.Crashes.{answered, ran_out, same_stop}
+use Rattle.std.proofs.Common.{◌∙◌, sym, subst, List, IfOk}
+use Rattle.rx_handler.specs.Shown.{kinds_of}
+use Rattle.rx_record.specs.Content.{Content}
+use Rattle.rx_store.specs.Safe.{IsCrashSafe}
+use Rattle.rx_store.proofs.Crashes.{ran_out}
 use Rattle.rx_store.proofs.Growing.{stays}
-use Rattle.rx_engine.specs.Engine.{session_of, limit_of}
-use Rattle.rx_engine.specs.Lines.{outcome}
-use Rattle.rx_engine.specs.Meaning.{meaning, lines_of}
-use Rattle.rx_engine.specs.Shown.{doing_of, WritesNoExchange}
-use Rattle.rx_engine.proofs.Idle.{alone, leaves, no_answer}
-use Rattle.rx_engine.proofs.Keeping.{by_doing}
-use Rattle.rx_engine.proofs.Outcomes.{refused_idle, restarts_only, writes_no_exchange}
+use Rattle.rx_engine.specs.Engine.{Answers, IsAt, asks_in, limit_of, session_of, standing_of}
+use Rattle.rx_engine.specs.Lines.{IsIdleTask}
+use Rattle.rx_engine.specs.Meaning.{Meaning, bodies_of}
+use Rattle.rx_engine.specs.Shown.{WritesNoExchange, turn_of}
+use Rattle.rx_engine.proofs.CanTurns.{can_turn}
+use Rattle.rx_engine.proofs.Meanings.{answers_so, busy_so, left_so, level_so, may_do, no_turn_so, printed_is, records_so, refused_so, turn_is, turn_so}
+use Rattle.rx_engine.proofs.Outcomes.{lawful_outcome}
+use Rattle.rx_engine.proofs.Stops.{memory_stop}
 use Rattle.rx_engine.proofs.engine.Engine.line.Goals as goal
 
-pub returns-in_err-doing-clause-safe : goal.returns-in_err-doing-clause-safe
-returns-in_err-doing-clause-safe g c told bodies at =
+pub returns-in_err-printed-clause-safe : goal.returns-in_err-printed-clause-safe
+returns-in_err-printed-clause-safe g c told bodies at =
     ran_out g.D.Disk c.args.disk.now c.args.disk.now bodies _ (limit_of c.args.self) _
-    c.from_residual.result (search rules)
-    (λ alike. stays g.D.Disk c.args.disk.now c.args.self.journal bodies _ (session_of c.args.self).world at
-    (λ left e. g.met.D.Disk.only_now c.args.disk.now left told e))
+    c.from_residual.result (memory_stop c.from_residual.result c.from_residual.ensures.1)
+    (λ alike. stays g.D.Disk c.args.disk.now c.args.self.journal bodies _
+    (session_of c.args.self).world
+    at (λ left e. g.met.D.Disk.only_now c.args.disk.now left told e))
 
-pub carry_out-requires-clause-may : goal.carry_out-requires-clause-may
+-- ---- what is done is answered already
+
+pub answer-requires-clause-may : goal.answer-requires-clause-may
 unfolding session_of
-carry_out-requires-clause-may g c = c.in_ok-doing.ensures.may
+answer-requires-clause-may g c =
+    may_do c.session.result.now c.args.self.session.session c.session.ensures
+    c.in_ok-printed.field-0 c.in-Printed.printed c.in-Printed.is c.in_ok-printed.ensures.may
 
-pub carry_out-requires-clause-apart : goal.carry_out-requires-clause-apart
-unfolding session_of
-carry_out-requires-clause-apart g c =
-    subst WritesNoExchange (sym c.in_ok-doing.ensures.doing)
-    (writes_no_exchange c.args.text.now c.args.self.session)
+pub answer-requires-clause-apart : goal.answer-requires-clause-apart
+unfolding session_of asks_in standing_of
+answer-requires-clause-apart g c =
+    let s = standing_of (kinds_of c.args.handlers.now) c.args.self in
+    let p = c.in-Printed.printed in
+    let j = printed_is c.args.number s.kinds c.args.text.now c.session.result.now s.session
+    c.session.ensures c.in_ok-printed.field-0 p c.in-Printed.is c.in_ok-printed.ensures.judged in
+    subst WritesNoExchange (sym j.2.doing)
+    (lawful_outcome s.kinds c.args.text.now s.session j.0 j.1).apart
 
-pub returns-in_err-engine-clause-safe : goal.returns-in_err-engine-clause-safe
-unfolding meaning session_of
-returns-in_err-engine-clause-safe g c told bodies at =
-    same_stop g.D.Disk c.args.disk.now c.carry_out.new.disk bodies _ (limit_of c.args.self) _ _
-    c.in_err-engine.field-0.0 c.from_residual-in_err-engine.result (search rules)
-    (by_doing g.D.Disk c.args.disk.now c.carry_out.new.disk bodies (limit_of c.args.self) _ _ _ _
-    c.in_ok-doing.ensures.doing (c.in_err-engine.ensures.safe told bodies at))
+pub returns-in-Printed-clause-answers : goal.returns-in-Printed-clause-answers
+unfolding session_of asks_in standing_of
+returns-in-Printed-clause-answers g c =
+    let s = standing_of (kinds_of c.args.handlers.now) c.args.self in
+    let p = c.in-Printed.printed in
+    let j = printed_is c.args.number s.kinds c.args.text.now c.session.result.now s.session
+    c.session.ensures c.in_ok-printed.field-0 p c.in-Printed.is c.in_ok-printed.ensures.judged in
+    let e = c.answer.ensures in
+    answers_so c.args.number c.args.text.now s j.0 p j.1 j.2 c.answer.result
+    e.session e.asks e.text e.emitted e.refused e.end
 
-pub returns-in_err-engine-clause-not_journal : goal.returns-in_err-engine-clause-not_journal
-unfolding session_of
-returns-in_err-engine-clause-not_journal g c err =
-    let again = c.in_err-engine.ensures.not_journal (search rules) in
-    restarts_only c.args.text.now c.args.self.session again.0 (sym c.in_ok-doing.ensures.doing ∙ again.1)
+pub returns-in-Printed-clause-quiet : goal.returns-in-Printed-clause-quiet
+unfolding session_of asks_in standing_of
+returns-in-Printed-clause-quiet g c =
+    let s = standing_of (kinds_of c.args.handlers.now) c.args.self in
+    let p = c.in-Printed.printed in
+    let j = printed_is c.args.number s.kinds c.args.text.now c.session.result.now s.session
+    c.session.ensures c.in_ok-printed.field-0 p c.in-Printed.is c.in_ok-printed.ensures.judged in
+    no_turn_so c.args.number c.args.text.now s j.0 p j.1 j.2 c.answer.result
 
-pub returns-in_err-engine-clause-idle : goal.returns-in_err-engine-clause-idle
-unfolding session_of
-returns-in_err-engine-clause-idle g c idle = (
-  c.carry_out.ensures.idle_disk (c.in_ok-doing.ensures.doing ∙ idle),
-  no_answer c.from_residual-in_err-engine.result c.in_err-engine.field-0.0 _ (search rules),
-)
+pub returns-in-Printed-clause-safe : goal.returns-in-Printed-clause-safe
+unfolding session_of asks_in standing_of
+returns-in-Printed-clause-safe g c told bodies at =
+    let s = standing_of (kinds_of c.args.handlers.now) c.args.self in
+    let p = c.in-Printed.printed in
+    let j = printed_is c.args.number s.kinds c.args.text.now c.session.result.now s.session
+    c.session.ensures c.in_ok-printed.field-0 p c.in-Printed.is c.in_ok-printed.ensures.judged in
+    subst (λ (cs : List Content). IsCrashSafe g.D.Disk c.args.disk.now c.answer.new.disk bodies
+    (bodies_of cs) (limit_of c.args.self) (λ x. IsAt g.D.Disk c.answer.new.disk x.0)
+    c.answer.result)
+    (records_so c.args.number c.args.text.now s j.0 p j.1 j.2)
+    (c.answer.ensures.safe told bodies at)
 
-pub returns-in_err-add_lines-clause-safe : goal.returns-in_err-add_lines-clause-safe
-unfolding meaning session_of
-returns-in_err-add_lines-clause-safe g c told bodies at =
-    let is : c.from_residual-in_err-add_lines.result ≡ Err Memory =
-    search (rules, c.from_residual-in_err-add_lines.ensures) in
-    let safe = by_doing g.D.Disk c.args.disk.now c.carry_out.new.disk bodies (limit_of c.args.self) _ _ _ _
-    c.in_ok-doing.ensures.doing (c.in_ok-engine.ensures.safe told bodies at) in
-    ran_out g.D.Disk c.args.disk.now c.carry_out.new.disk bodies _ (limit_of c.args.self) _
-    c.from_residual-in_err-add_lines.result is safe.moments
+pub returns-in-Printed-clause-refused : goal.returns-in-Printed-clause-refused
+unfolding session_of asks_in standing_of
+returns-in-Printed-clause-refused g c =
+    let s = standing_of (kinds_of c.args.handlers.now) c.args.self in
+    let p = c.in-Printed.printed in
+    let j = printed_is c.args.number s.kinds c.args.text.now c.session.result.now s.session
+    c.session.ensures c.in_ok-printed.field-0 p c.in-Printed.is c.in_ok-printed.ensures.judged in
+    let e = c.answer.ensures in
+    refused_so c.args.number c.args.text.now s j.0 p j.1 j.2
+    (lawful_outcome s.kinds c.args.text.now s.session j.0 j.1).idle e.idle_disk c.answer.result
+    e.refused
+    (λ idle. left_so c.args.number c.args.text.now s j.0 p j.1 j.2 c.answer.result
+    (e.idle (j.2.doing ∙ idle)) e.asks e.end idle)
 
-pub returns-in_err-add_lines-clause-idle : goal.returns-in_err-add_lines-clause-idle
-unfolding session_of
-returns-in_err-add_lines-clause-idle g c idle = (
-  c.carry_out.ensures.idle_disk (c.in_ok-doing.ensures.doing ∙ idle),
-  no_answer c.from_residual-in_err-add_lines.result Memory _ (search rules),
-)
-
-pub returns-clause-answers : goal.returns-clause-answers
-unfolding meaning session_of
-returns-clause-answers g c =
-    let s = c.args.self.session in
-    let o = outcome c.args.text.now s in
-    let doing = c.in_ok-doing.field-0.doing in
-    let text = c.in_ok-doing.field-0.text in
-    let does : doing_of doing ≡ o.doing = c.in_ok-doing.ensures.doing in
-    record {
-      session = c.in_ok-engine.ensures.session ∙ ap (λ (d : Doing). settled_session (after d s)) does;
-      reply = c.in_ok-add_lines.ensures
-          ∙ ap (λ (es : List Emission). string_bytes text ++ lines_of es)
-          (c.as_slice.ensures.value ∙ c.in_ok-engine.ensures.emissions)
-          ∙ ap (λ (t : List ℕ). t ++ lines_of (emissions (after (doing_of doing) s))) c.in_ok-doing.ensures.reply
-          ∙ ap (λ (d : Doing). answer_line c.args.number o.answer ++ lines_of (emissions (after d s))) does;
-      refused = c.in_ok-doing.ensures.refused;
-    }
-
-pub returns-clause-safe : goal.returns-clause-safe
-unfolding meaning session_of
-returns-clause-safe g c told bodies at =
-    let safe = by_doing g.D.Disk c.args.disk.now c.carry_out.new.disk bodies (limit_of c.args.self) _ _ _ _
-    c.in_ok-doing.ensures.doing (c.in_ok-engine.ensures.safe told bodies at) in
-    answered g.D.Disk c.args.disk.now c.carry_out.new.disk bodies _ (limit_of c.args.self) _
-    _ _ _ safe (λ holds. holds)
-
-pub returns-clause-refused : goal.returns-clause-refused
-unfolding session_of
-returns-clause-refused g c refused =
-    let s = c.args.self.session in
-    let idle = refused_idle c.args.text.now s (sym c.in_ok-doing.ensures.refused ∙ refused) in
-    let nothing = c.in_ok-doing.ensures.doing ∙ idle in
-    let left = c.in_ok-engine.ensures.idle nothing in (
-      c.carry_out.ensures.idle_disk nothing,
-      leaves c.args.number c.args.text.now s c.in_ok-engine.engine _ idle left.0
-          (c.in_ok-add_lines.ensures
-          ∙ alone (string_bytes c.in_ok-doing.field-0.text) _ (c.as_slice.ensures.value ∙ left.1)
-          ∙ c.in_ok-doing.ensures.reply),
+pub returns-in-Printed-clause-idle : goal.returns-in-Printed-clause-idle
+unfolding session_of asks_in standing_of
+returns-in-Printed-clause-idle g c is_idle =
+    let s = standing_of (kinds_of c.args.handlers.now) c.args.self in
+    let p = c.in-Printed.printed in
+    let j = printed_is c.args.number s.kinds c.args.text.now c.session.result.now s.session
+    c.session.ensures c.in_ok-printed.field-0 p c.in-Printed.is c.in_ok-printed.ensures.judged in
+    let e = c.answer.ensures in
+    let idle = subst IsIdleTask j.1 is_idle in (
+      e.idle_disk (j.2.doing ∙ idle),
+      left_so c.args.number c.args.text.now s j.0 p j.1 j.2 c.answer.result
+          (e.idle (j.2.doing ∙ idle)) e.asks e.end idle,
     )
 
-pub returns-clause-idle : goal.returns-clause-idle
-unfolding session_of
-returns-clause-idle g c idle =
-    let s = c.args.self.session in
-    let nothing = c.in_ok-doing.ensures.doing ∙ idle in
-    let left = c.in_ok-engine.ensures.idle nothing in (
-      c.carry_out.ensures.idle_disk nothing,
-      leaves c.args.number c.args.text.now s c.in_ok-engine.engine _ idle left.0
-          (c.in_ok-add_lines.ensures
-          ∙ alone (string_bytes c.in_ok-doing.field-0.text) _ (c.as_slice.ensures.value ∙ left.1)
-          ∙ c.in_ok-doing.ensures.reply),
-    )
+pub returns-in-Printed-clause-not_journal : goal.returns-in-Printed-clause-not_journal
+unfolding session_of asks_in standing_of
+returns-in-Printed-clause-not_journal g c stopped =
+    let s = standing_of (kinds_of c.args.handlers.now) c.args.self in
+    let p = c.in-Printed.printed in
+    let j = printed_is c.args.number s.kinds c.args.text.now c.session.result.now s.session
+    c.session.ensures c.in_ok-printed.field-0 p c.in-Printed.is c.in_ok-printed.ensures.judged in
+    let again = c.answer.ensures.not_journal stopped in
+    (lawful_outcome s.kinds c.args.text.now s.session j.0 j.1).restarts again.0
+    (sym j.2.doing ∙ again.1)
+
+-- ---- a turn
+
+pub answer_turn-requires-clause-can : goal.answer_turn-requires-clause-can
+unfolding session_of asks_in standing_of
+answer_turn-requires-clause-can g c =
+    let s = standing_of (kinds_of c.args.handlers.now) c.args.self in
+    let m = c.in-Turns.turn in
+    let is = turn_is c.args.number s.kinds c.args.text.now c.session.result.now s.session
+    c.session.ensures c.in_ok-printed.field-0 m c.in-Turns.is c.in_ok-printed.ensures.judged in
+    can_turn s.kinds c.args.text.now s.session (turn_of m) is
+
+pub returns-in-Turns-clause-answers : goal.returns-in-Turns-clause-answers
+unfolding session_of asks_in standing_of
+returns-in-Turns-clause-answers g c =
+    let s = standing_of (kinds_of c.args.handlers.now) c.args.self in
+    let m = c.in-Turns.turn in
+    let is = turn_is c.args.number s.kinds c.args.text.now c.session.result.now s.session
+    c.session.ensures c.in_ok-printed.field-0 m c.in-Turns.is c.in_ok-printed.ensures.judged in
+    subst (λ (x : Meaning). IfOk c.answer_turn.result (λ r. Answers s.kinds x r.0 r.1))
+    (turn_so c.args.number c.args.text.now s (turn_of m) is) c.answer_turn.ensures.answers
+
+pub returns-in-Turns-clause-quiet : goal.returns-in-Turns-clause-quiet
+unfolding session_of asks_in standing_of
+returns-in-Turns-clause-quiet g c =
+    let s = standing_of (kinds_of c.args.handlers.now) c.args.self in
+    let m = c.in-Turns.turn in
+    let is = turn_is c.args.number s.kinds c.args.text.now c.session.result.now s.session
+    c.session.ensures c.in_ok-printed.field-0 m c.in-Turns.is c.in_ok-printed.ensures.judged in
+    level_so c.args.number c.args.text.now s (turn_of m) is c.answer_turn.result
+    c.answer_turn.ensures.quiet
+
+pub returns-in-Turns-clause-safe : goal.returns-in-Turns-clause-safe
+unfolding session_of asks_in standing_of
+returns-in-Turns-clause-safe g c told bodies at =
+    let s = standing_of (kinds_of c.args.handlers.now) c.args.self in
+    let m = c.in-Turns.turn in
+    let is = turn_is c.args.number s.kinds c.args.text.now c.session.result.now s.session
+    c.session.ensures c.in_ok-printed.field-0 m c.in-Turns.is c.in_ok-printed.ensures.judged in
+    subst (λ (x : Meaning). IsCrashSafe g.D.Disk c.args.disk.now c.answer_turn.new.disk bodies
+    (bodies_of x.records) (limit_of c.args.self) (λ r. IsAt g.D.Disk c.answer_turn.new.disk r.0)
+    c.answer_turn.result) (turn_so c.args.number c.args.text.now s (turn_of m) is)
+    (c.answer_turn.ensures.safe told bodies at)
+
+pub returns-in-Turns-clause-idle : goal.returns-in-Turns-clause-idle
+unfolding session_of asks_in standing_of
+returns-in-Turns-clause-idle g c idle =
+    let s = standing_of (kinds_of c.args.handlers.now) c.args.self in
+    let m = c.in-Turns.turn in
+    let is = turn_is c.args.number s.kinds c.args.text.now c.session.result.now s.session
+    c.session.ensures c.in_ok-printed.field-0 m c.in-Turns.is c.in_ok-printed.ensures.judged in
+    absurd (busy_so c.args.number c.args.text.now s (turn_of m) is idle)

@@ -1,10 +1,14 @@
-use Rattle.std.proofs.Common.{◌++◌, ◌∷◌, [], Ok, Err, ◌∙◌, ap, sym, subst, rules}
+use Rattle.std.proofs.Common.{◌++◌, ◌∷◌, [], ◌∙◌, ap, sym, subst, rules}
 use Rattle.rx_session.specs.Session.{Session}
 use Rattle.rx_store.specs.Holds.{Holds}
 use Rattle.rx_store.proofs.Crashes.{answered, same_stop}
 use Rattle.rx_world.specs.Made.{IsMadeWorld}
 use Rattle.rx_world.specs.Sound.{IsSoundWorld}
-use Rattle.rx_engine.specs.Engine.{IsAt, session_of}
+use Rattle.rx_value.specs.Named.{by_bytes}
+use Rattle.rx_engine.specs.Engine.{IsAt, asks_in, session_of, standing_of}
+use Rattle.rx_engine.specs.Remembered.{AreRemembered}
+use Rattle.rx_engine.specs.SoundSession.{SessionWithAsks}
+use Rattle.rx_engine.proofs.Meanings.{standing_same}
 use Rattle.rx_engine.specs.Opening.{epoch_body, session_on, opened}
 use Rattle.rx_engine.proofs.Opened.{not_begun, untouched}
 use Rattle.rx_engine.proofs.engine.Engine.open.Goals as goal
@@ -17,27 +21,43 @@ returns-in_err-journal-clause-safe g c told bodies w lawful =
 
 pub new-sound-requires-clause-made : goal.new-sound-requires-clause-made
 new-sound-requires-clause-made g c =
-    subst IsMadeWorld (sym (ap (λ (x : Session). x.world) c.new-session.ensures)) c.in_ok-journal.ensures.made
+    subst IsMadeWorld (sym (ap (λ (x : Session). x.world) c.new-session.ensures))
+    c.in_ok-journal.ensures.made
 
 pub new-sound-requires-clause-sound : goal.new-sound-requires-clause-sound
 new-sound-requires-clause-sound g c =
-    subst IsSoundWorld (sym (ap (λ (x : Session). x.world) c.new-session.ensures)) c.in_ok-journal.ensures.sound
+    subst IsSoundWorld (sym (ap (λ (x : Session). x.world) c.new-session.ensures))
+    c.in_ok-journal.ensures.sound
+
+pub new-sound-requires-clause-remembered : goal.new-sound-requires-clause-remembered
+new-sound-requires-clause-remembered g c =
+    subst (AreRemembered c.new-session.result.world) (sym (ap by_bytes c.new-asks.ensures.empty)) tt
 
 pub returns-clause-opened : goal.returns-clause-opened
-unfolding session_of opened
-returns-clause-opened g c told bodies w lawful =
-    c.new-sound.ensures ∙ c.new-session.ensures ∙ ap session_on (c.in_ok-journal.ensures.opened told bodies w lawful)
+unfolding session_of asks_in standing_of opened
+returns-clause-opened g c told bodies w lawful kinds =
+    standing_same kinds _ _ _ _
+    (ap (λ (x : SessionWithAsks). x.session) c.new-sound.ensures ∙ c.new-session.ensures
+    ∙ ap session_on (c.in_ok-journal.ensures.opened told bodies w lawful))
+    (ap (λ (x : SessionWithAsks). x.asks) c.new-sound.ensures
+    ∙ ap by_bytes c.new-asks.ensures.empty)
 
 pub returns-clause-begun : goal.returns-clause-begun
-unfolding session_of opened
+unfolding session_of asks_in standing_of opened
 returns-clause-begun g c =
-    let begun = c.in_ok-journal.ensures.begun in
-    (begun.0, c.new-sound.ensures ∙ c.new-session.ensures ∙ ap session_on begun.1)
+    let begun = c.in_ok-journal.ensures.begun in (
+      begun.0,
+      λ kinds. standing_same kinds _ _ _ _
+          (ap (λ (x : SessionWithAsks). x.session) c.new-sound.ensures ∙ c.new-session.ensures
+          ∙ ap session_on begun.1) (ap (λ (x : SessionWithAsks). x.asks) c.new-sound.ensures
+          ∙ ap by_bytes c.new-asks.ensures.empty),
+    )
 
 pub returns-clause-safe : goal.returns-clause-safe
 unfolding session_of opened
 returns-clause-safe g c told bodies w lawful =
-    let session = c.new-sound.ensures ∙ c.new-session.ensures ∙ ap session_on (c.in_ok-journal.ensures.opened told bodies w lawful) in
+    let session = ap (λ (x : SessionWithAsks). x.session) c.new-sound.ensures
+    ∙ c.new-session.ensures ∙ ap session_on (c.in_ok-journal.ensures.opened told bodies w lawful) in
     answered g.D.Disk c.args.disk.now c.open.new.disk bodies (epoch_body w ∷ []) c.args.limit _
     (IsAt g.D.Disk c.open.new.disk) _ _ (c.in_ok-journal.ensures.safe told bodies w lawful)
     (λ holds. subst (λ (s : Session). Holds g.D.Disk c.open.new.disk c.in_ok-journal.field-0.journal
@@ -55,7 +75,8 @@ returns-in_err-built-clause-illegal g c told illegal =
 pub returns-in_err-diagram-clause-safe : goal.returns-in_err-diagram-clause-safe
 returns-in_err-diagram-clause-safe g c told bodies w lawful =
     not_begun g.D.Disk c.args.disk.now (λ left e. g.met.D.Disk.only_now c.args.disk.now left told e)
-    bodies (epoch_body w ∷ []) w c.args.limit _ c.from_residual-in_err-diagram.result (search rules) lawful
+    bodies (epoch_body w ∷ []) w c.args.limit _ c.from_residual-in_err-diagram.result
+    (search rules) lawful
 
 pub returns-in_err-diagram-clause-illegal : goal.returns-in_err-diagram-clause-illegal
 returns-in_err-diagram-clause-illegal g c told illegal =
@@ -64,7 +85,8 @@ returns-in_err-diagram-clause-illegal g c told illegal =
 pub returns-in_err-share-clause-safe : goal.returns-in_err-share-clause-safe
 returns-in_err-share-clause-safe g c told bodies w lawful =
     not_begun g.D.Disk c.args.disk.now (λ left e. g.met.D.Disk.only_now c.args.disk.now left told e)
-    bodies (epoch_body w ∷ []) w c.args.limit _ c.from_residual-in_err-share.result (search rules) lawful
+    bodies (epoch_body w ∷ []) w c.args.limit _ c.from_residual-in_err-share.result
+    (search rules) lawful
 
 pub returns-in_err-share-clause-illegal : goal.returns-in_err-share-clause-illegal
 returns-in_err-share-clause-illegal g c told illegal =

@@ -5,7 +5,6 @@ use Rattle.rx_session.specs.Emissions.{emissions, settled_session}
 use Rattle.rx_session.specs.Placed.{world_of}
 use Rattle.rx_session.specs.Session.{Session}
 use Rattle.rx_store.specs.Holds.{Holds}
-use Rattle.rx_store.specs.Safe.{IsCrashSafe}
 use Rattle.rx_store.proofs.Crashes.{answered, ran_out, same_stop}
 use Rattle.rx_store.proofs.Growing.{held_legal}
 use Rattle.rx_world.specs.Made.{IsMadeWorld}
@@ -13,114 +12,140 @@ use Rattle.rx_world.specs.Sound.{IsSoundWorld}
 use Rattle.rx_world.specs.Step.{step}
 use Rattle.rx_engine.proofs.Keeping.{made_then}
 use Rattle.rx_world.specs.World.{World}
-use Rattle.rx_engine.specs.Engine.{IsAt, session_of}
+use Rattle.rx_engine.specs.Engine.{IsAt, asks_in, session_of}
+use Rattle.rx_value.specs.Named.{by_bytes}
+use Rattle.rx_engine.specs.Remembered.{AreRemembered}
+use Rattle.rx_engine.specs.SoundSession.{SessionWithAsks}
 use Rattle.rx_engine.proofs.Opened.{by_number}
 use Rattle.rx_engine.proofs.engine.Engine.reopen.Goals as goal
 
 pub returns-in_err-journal-clause-safe : goal.returns-in_err-journal-clause-safe
-unfolding session_of
+unfolding session_of asks_in
 returns-in_err-journal-clause-safe g c told bodies at =
     let d = g.D.Disk in
     let old = c.args.self.journal in
-    let w = c.args.self.session.world in
+    let w = c.args.self.session.session.world in
     let legal = held_legal d c.args.disk.now old bodies w at in
-    same_stop d c.args.disk.now c.open.new.disk bodies (content_bytes (epoch c.args.epoch) ∷ []) old.limit _ _
+    same_stop d c.args.disk.now c.open.new.disk bodies (content_bytes
+    (epoch c.args.epoch) ∷ []) old.limit _ _
     c.in_err-journal.field-0.0 c.from_residual.result (search rules)
     (by_number d c.args.disk.now c.open.new.disk bodies w c.args.epoch old.limit c.requires.next _
     (Err c.in_err-journal.field-0.0) (c.in_err-journal.ensures.safe told bodies w legal))
 
 pub returns-then-not-is_next-clause-safe : goal.returns-then-not-is_next-clause-safe
-unfolding session_of
+unfolding session_of asks_in
 returns-then-not-is_next-clause-safe g c told bodies at =
-    let w = c.args.self.session.world in
+    let w = c.args.self.session.session.world in
     let legal = held_legal g.D.Disk c.args.disk.now c.args.self.journal bodies w at in
     let opened = c.in_ok-journal.ensures.opened told bodies w legal in
     let goes : c.is_next.result ≡ true =
     c.is_next.ensures.1 (opened ∙ ap (λ (n : ℕ). step (epoch n) w) (sym c.requires.next)
-    ∙ sym (ap (λ (x : Session). step (epoch c.args.epoch) x.world) c.release-session.ensures.same)) in
+    ∙ sym (ap (λ (x : Session). step (epoch c.args.epoch) x.world) c.release-parts.ensures.same)) in
     let not : c.is_next.result ≡ false = search rules in
     absurd (true≢false (sym goes ∙ not))
 
 pub returns-in_err-session-clause-safe : goal.returns-in_err-session-clause-safe
-unfolding session_of
+unfolding session_of asks_in
 returns-in_err-session-clause-safe g c told bodies at =
     let d = g.D.Disk in
     let old = c.args.self.journal in
-    let w = c.args.self.session.world in
+    let w = c.args.self.session.session.world in
     let legal = held_legal d c.args.disk.now old bodies w at in
-    let safe = by_number d c.args.disk.now c.open.new.disk bodies w c.args.epoch old.limit c.requires.next _ _
+    let safe = by_number d c.args.disk.now c.open.new.disk bodies w c.args.epoch old.limit
+    c.requires.next _ _
     (c.in_ok-journal.ensures.safe told bodies w legal) in
-    ran_out d c.args.disk.now c.open.new.disk bodies (content_bytes (epoch c.args.epoch) ∷ []) old.limit _
+    ran_out d c.args.disk.now c.open.new.disk bodies (content_bytes
+    (epoch c.args.epoch) ∷ []) old.limit _
     c.from_residual-in_err-session.result (search rules) safe.moments
 
 -- the world is the one before, in its next epoch
 pub new-requires-clause-made : goal.new-requires-clause-made
-unfolding session_of
+unfolding session_of asks_in
 new-requires-clause-made g c =
-    let s = c.args.self.session in
+    let s = c.args.self.session.session in
     let goes : c.is_next.result ≡ true = search rules in
     let number : (world_of c.in_ok-journal.field-0.world).epoch ≡ c.args.epoch =
     ap (λ (x : World). x.epoch) (c.is_next.ensures.0 goes) in
     let is = ap (λ (x : Session). x.world) (c.in_ok-session.ensures.session
-    ∙ ap (λ (n : ℕ). settled_session (after (restart n) c.release-session.result)) number
-    ∙ ap (λ (x : Session). settled_session (after (restart c.args.epoch) x)) c.release-session.ensures.same) in
-    subst IsMadeWorld (sym is) (made_then (restart c.args.epoch) s c.requires.next c.release-session.ensures.made)
+    ∙ ap (λ (n : ℕ). settled_session (after (restart n) c.release-parts.result.0)) number
+    ∙ ap (λ (x : Session). settled_session (after
+    (restart c.args.epoch) x)) c.release-parts.ensures.same) in
+    subst IsMadeWorld (sym is) (made_then (restart c.args.epoch) s c.requires.next
+    c.release-parts.ensures.made)
 
 pub new-requires-clause-sound : goal.new-requires-clause-sound
-unfolding session_of
+unfolding session_of asks_in
 new-requires-clause-sound g c =
     let goes : c.is_next.result ≡ true = search rules in
     let number : (world_of c.in_ok-journal.field-0.world).epoch ≡ c.args.epoch =
     ap (λ (x : World). x.epoch) (c.is_next.ensures.0 goes) in
     let is = ap (λ (x : Session). x.world) (c.in_ok-session.ensures.session
-    ∙ ap (λ (n : ℕ). settled_session (after (restart n) c.release-session.result)) number
-    ∙ ap (λ (x : Session). settled_session (after (restart c.args.epoch) x)) c.release-session.ensures.same) in
-    subst IsSoundWorld (sym is) c.release-session.ensures.sound
+    ∙ ap (λ (n : ℕ). settled_session (after (restart n) c.release-parts.result.0)) number
+    ∙ ap (λ (x : Session). settled_session (after
+    (restart c.args.epoch) x)) c.release-parts.ensures.same) in
+    subst IsSoundWorld (sym is) c.release-parts.ensures.sound
+
+pub new-requires-clause-remembered : goal.new-requires-clause-remembered
+new-requires-clause-remembered g c =
+    subst (AreRemembered c.in_ok-session.session.world) (sym
+    (ap by_bytes c.new-asks.ensures.empty)) tt
+
+pub returns-clause-asks : goal.returns-clause-asks
+unfolding session_of asks_in
+returns-clause-asks g c =
+    ap (λ (x : SessionWithAsks). x.asks) c.new.ensures ∙ ap by_bytes c.new-asks.ensures.empty
 
 pub returns-clause-session : goal.returns-clause-session
-unfolding session_of
+unfolding session_of asks_in
 returns-clause-session g c =
-    let s = c.args.self.session in
+    let s = c.args.self.session.session in
     let goes : c.is_next.result ≡ true = search rules in
     let number : (world_of c.in_ok-journal.field-0.world).epoch ≡ c.args.epoch =
     ap (λ (x : World). x.epoch) (c.is_next.ensures.0 goes) in
-    c.new.ensures ∙ c.in_ok-session.ensures.session
-    ∙ ap (λ (x : Session). settled_session (after (restart (world_of c.in_ok-journal.field-0.world).epoch) x))
-    c.release-session.ensures.same ∙ ap (λ (n : ℕ). settled_session (after (restart n) s)) number
+    ap (λ (x : SessionWithAsks). x.session) c.new.ensures ∙ c.in_ok-session.ensures.session
+    ∙ ap (λ (x : Session). settled_session (after (restart
+    (world_of c.in_ok-journal.field-0.world).epoch) x))
+    c.release-parts.ensures.same ∙ ap (λ (n : ℕ). settled_session (after (restart n) s)) number
 
 pub returns-clause-quiet : goal.returns-clause-quiet
-unfolding session_of
+unfolding session_of asks_in
 returns-clause-quiet g c =
-    let s = c.args.self.session in
+    let s = c.args.self.session.session in
     let goes : c.is_next.result ≡ true = search rules in
     let number : (world_of c.in_ok-journal.field-0.world).epoch ≡ c.args.epoch =
     ap (λ (x : World). x.epoch) (c.is_next.ensures.0 goes) in
     sym (ap (λ (n : ℕ). emissions (after (restart n) s)) number)
-    ∙ sym (ap (λ (x : Session). emissions (after (restart (world_of c.in_ok-journal.field-0.world).epoch) x))
-    c.release-session.ensures.same) ∙ c.in_ok-session.ensures.emissions
+    ∙ sym (ap (λ (x : Session). emissions (after (restart
+    (world_of c.in_ok-journal.field-0.world).epoch) x))
+    c.release-parts.ensures.same) ∙ c.in_ok-session.ensures.emissions
 
 pub returns-clause-safe : goal.returns-clause-safe
-unfolding session_of
+unfolding session_of asks_in
 returns-clause-safe g c told bodies at =
     let d = g.D.Disk in
     let old = c.args.self.journal in
     let new = c.in_ok-journal.field-0.journal in
-    let s = c.args.self.session in
+    let s = c.args.self.session.session in
     let legal = held_legal d c.args.disk.now old bodies s.world at in
     let goes : c.is_next.result ≡ true = search rules in
     let number : (world_of c.in_ok-journal.field-0.world).epoch ≡ c.args.epoch =
     ap (λ (x : World). x.epoch) (c.is_next.ensures.0 goes) in
-    let session : c.new.result ≡ settled_session (after (restart c.args.epoch) s) =
-    c.new.ensures ∙ c.in_ok-session.ensures.session
-    ∙ ap (λ (x : Session). settled_session (after (restart (world_of c.in_ok-journal.field-0.world).epoch) x))
-    c.release-session.ensures.same ∙ ap (λ (n : ℕ). settled_session (after (restart n) s)) number in
-    let safe = by_number d c.args.disk.now c.open.new.disk bodies s.world c.args.epoch old.limit c.requires.next _ _
+    let session : c.new.result.session ≡ settled_session (after (restart c.args.epoch) s) =
+    ap (λ (x : SessionWithAsks). x.session) c.new.ensures ∙ c.in_ok-session.ensures.session
+    ∙ ap (λ (x : Session). settled_session (after (restart
+    (world_of c.in_ok-journal.field-0.world).epoch) x))
+    c.release-parts.ensures.same ∙ ap (λ (n : ℕ). settled_session (after (restart n) s)) number in
+    let safe = by_number d c.args.disk.now c.open.new.disk bodies s.world c.args.epoch old.limit
+    c.requires.next _ _
     (c.in_ok-journal.ensures.safe told bodies s.world legal) in
-    answered d c.args.disk.now c.open.new.disk bodies (content_bytes (epoch c.args.epoch) ∷ []) old.limit _
+    answered d c.args.disk.now c.open.new.disk bodies (content_bytes
+    (epoch c.args.epoch) ∷ []) old.limit _
     (IsAt d c.open.new.disk) _ _ safe
-    (λ holds. subst (λ (x : Session). Holds d c.open.new.disk new (bodies ++ content_bytes (epoch c.args.epoch) ∷ []) x.world)
+    (λ holds. subst (λ (x : Session). Holds d c.open.new.disk new (bodies ++ content_bytes
+    (epoch c.args.epoch) ∷ []) x.world)
     (sym session)
-    (subst (λ (n : ℕ). Holds d c.open.new.disk new (bodies ++ content_bytes (epoch c.args.epoch) ∷ []) (step (epoch n) s.world))
+    (subst (λ (n : ℕ). Holds d c.open.new.disk new (bodies ++ content_bytes
+    (epoch c.args.epoch) ∷ []) (step (epoch n) s.world))
     (sym c.requires.next) holds))
 
 pub returns-clause-cause : goal.returns-clause-cause

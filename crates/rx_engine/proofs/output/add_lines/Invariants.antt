@@ -1,6 +1,6 @@
 use Rattle.std.proofs.Common.{◌≡◌, ◌++◌, drop, string_bytes}
 use Rattle.rx_engine.specs.Meaning.{lines_of}
-use Rattle.rx_engine.proofs.emitting.add_lines.Given as goal
+use Rattle.rx_engine.proofs.output.add_lines.Given as goal
 
 -- with the lines to come it is what it shall be
 abbrev pub invariant-loop-emission : goal.invariant-loop-emission

@@ -1,0 +1,204 @@
+-- What was done and answered is what the line means.
+use Rattle.std.proofs.Common.{◌≡◌, ℕ, List, [], ◌++◌, length, string_bytes, true, false, Some, None, Result, Ok, Err, IfOk, refl, sym, ap, ◌∙◌, subst, append-nil}
+use Rattle.rx_handler.specs.Handlers.{Kinds}
+use Rattle.rx_observe.specs.declared.emission.Emission.{Emission}
+use Rattle.rx_outside.specs.declared.stop.Stop.{Stop}
+use Rattle.rx_reply.specs.Answer.{turn}
+use Rattle.rx_reply.specs.Reply.{answer_lines, is_refusal}
+use Rattle.rx_reply.specs.declared.turn.Exchanged.{Exchanged}
+use Rattle.rx_reply.specs.declared.turn.TurnEnd.{TurnEnd}
+use Rattle.rx_reply.specs.declared.turn.TurnEnd.TheVariants.{Quiet}
+use Rattle.rx_session.specs.Doing.{Doing, MayDo, nothing, after}
+use Rattle.rx_session.specs.Emissions.{emissions, settled_session}
+use Rattle.rx_session.specs.Session.{Session}
+use Rattle.rx_sync.specs.Asks.{Asks}
+use Rattle.rx_sync.specs.Laws.{IsLevel}
+use Rattle.rx_sync.specs.Turn.{Turned}
+use Rattle.rx_engine.specs.Engine.{Answers, IsAfterTurn, LeavesAll, QuietIsLevel, asks_in, session_of, standing_of}
+use Rattle.rx_engine.specs.Judged.{IsJudged, IsPrinted, MayDoJudged}
+use Rattle.rx_engine.specs.Lines.{IsIdleTask, Task, answered, turns, task}
+use Rattle.rx_engine.specs.Meaning.{Meaning, asks_kept, lines_of, meaning, meaning_of, records_of, task_meaning, turn_meaning}
+use Rattle.rx_engine.specs.Outcome.{Outcome}
+use Rattle.rx_engine.specs.Shown.{doing_of, turn_of}
+use Rattle.rx_engine.specs.Standing.{Standing, standing_with}
+use Rattle.rx_engine.specs.Turning.{Turn as ToTurn, turned}
+use Rattle.rx_engine.specs.declared.changing.AfterTurn.{AfterTurn}
+use Rattle.rx_engine.specs.declared.engine.Engine.{Engine}
+use Rattle.rx_engine.specs.declared.judging.Judged.{Judged}
+use Rattle.rx_engine.specs.declared.judging.Judged.TheVariants as judged
+use Rattle.rx_engine.specs.declared.judging.Printed.{Printed}
+use Rattle.rx_engine.specs.declared.output.Output.{Output}
+use Rattle.rx_engine.specs.declared.turning.Turn.{Turn}
+
+-- ---- what a line was judged to be
+
+is_printed : (number : ℕ) (p : Printed) (t : Task) → IsJudged number (judged.Printed p) t
+    → (o : Outcome) × (t ≡ answered o) × IsPrinted number p o
+is_printed number p (answered o) j = (o, refl, j)
+is_printed number p (turns u) j = absurd j
+
+is_turn : (number : ℕ) (m : Turn) (t : Task) → IsJudged number (judged.Turns m) t
+    → t ≡ turns (turn_of m)
+is_turn number m (answered o) j = absurd j
+is_turn number m (turns u) j = ap turns (sym j)
+
+-- by the session that was lent for it
+module _ (number : ℕ) (kinds : Kinds) (line : List ℕ) (seen session : Session)
+    (same : seen ≡ session) (x : Judged) where
+  pub printed_is : (p : Printed) → x ≡ judged.Printed p → IsJudged number x (task kinds line seen)
+      → (o : Outcome) × (task kinds line session ≡ answered o) × IsPrinted number p o
+  printed_is p is j =
+      is_printed number p (task kinds line session)
+      (subst (λ (x : Judged). IsJudged number x (task kinds line session)) is
+      (subst (λ (s : Session). IsJudged number x (task kinds line s)) same j))
+
+  pub turn_is : (m : Turn) → x ≡ judged.Turns m → IsJudged number x (task kinds line seen)
+      → task kinds line session ≡ turns (turn_of m)
+  turn_is m is j =
+      is_turn number m (task kinds line session)
+      (subst (λ (x : Judged). IsJudged number x (task kinds line session)) is
+      (subst (λ (s : Session). IsJudged number x (task kinds line s)) same j))
+
+pub may_do : (seen session : Session) → seen ≡ session → (x : Judged) (p : Printed)
+    → x ≡ judged.Printed p → MayDoJudged x seen → MayDo (doing_of p.doing) session
+may_do seen session same x p is may =
+    subst (λ (s : Session). MayDo (doing_of p.doing) s) same
+    (subst (λ (x : Judged). MayDoJudged x seen) is may)
+
+-- ---- parts and wholes
+
+-- no emissions have no lines
+pub alone : (text : List ℕ) (es : List Emission) → es ≡ [] → text ++ lines_of es ≡ text
+alone text es none = ap (λ (es : List Emission). text ++ lines_of es) none ∙ append-nil text
+
+-- equal parts make equal wholes
+pub standing_same : (kinds : Kinds) (a b : Session) (x y : List (List ℕ × Asks)) → a ≡ b → x ≡ y
+    → standing_with a x kinds ≡ standing_with b y kinds
+standing_same kinds a b x y sessions asks =
+    ap (λ (s : Session). standing_with s x kinds) sessions
+    ∙ ap (λ (l : List (List ℕ × Asks)). standing_with b l kinds) asks
+
+-- ---- a line that was printed
+
+module _ (number : ℕ) (line : List ℕ) (s : Standing) (o : Outcome) (p : Printed)
+    (is : task s.kinds line s.session ≡ answered o) (printed : IsPrinted number p o) where
+  same_meaning : task_meaning number (task s.kinds line s.session) s ≡ meaning_of number o s
+  same_meaning = ap (λ (t : Task). task_meaning number t s) is
+
+  -- its records are the line's
+  pub records_so : records_of (doing_of p.doing) ≡ (meaning number line s).records
+  unfolding meaning
+  records_so =
+      ap (λ (d : Doing). records_of d) printed.doing
+      ∙ sym (ap (λ (m : Meaning). m.records) same_meaning)
+
+  -- and so is what is due after it
+  due_so : emissions (after (doing_of p.doing) s.session) ≡ emissions (after o.doing s.session)
+  due_so = ap (λ (d : Doing). emissions (after d s.session)) printed.doing
+
+  -- the engine and the output are those of its meaning
+  pub answers_so : (r : Result (Engine × Output) Stop)
+      → IfOk r (λ x. session_of x.0 ≡ settled_session (after (doing_of p.doing) s.session))
+      → IfOk r (λ x. asks_in x.0 ≡ asks_kept (doing_of p.doing) s.asks)
+      → IfOk r (λ x. string_bytes x.1.text
+      ≡ string_bytes p.text ++ lines_of (emissions (after (doing_of p.doing) s.session)))
+      → IfOk r (λ x. x.1.emissions ≡ length (emissions (after (doing_of p.doing) s.session)))
+      → IfOk r (λ x. x.1.refused ≡ p.refused) → IfOk r (λ x. x.1.end ≡ None)
+      → IfOk r (λ x. Answers s.kinds (meaning number line s) x.0 x.1)
+  unfolding meaning standing_of
+  answers_so (Err stop) session asks text emitted refused end = tt
+  answers_so (Ok x) session asks text emitted refused end =
+      subst (λ (m : Meaning). Answers s.kinds m x.0 x.1) (sym same_meaning) (record {
+        next = standing_same s.kinds _ _ _ _
+            (session ∙ ap (λ (d : Doing). settled_session (after d s.session)) printed.doing)
+            (asks ∙ ap (λ (d : Doing). asks_kept d s.asks) printed.doing);
+        reply = text
+            ∙ ap (λ (t : List ℕ). t ++ lines_of (emissions (after (doing_of p.doing) s.session)))
+            printed.text
+            ∙ ap (λ (es : List Emission). answer_lines number o.answer ++ lines_of es) due_so;
+        emissions = emitted ∙ ap (λ (es : List Emission). length es) due_so;
+        refused = refused ∙ printed.refused;
+        ended = end;
+      })
+
+  -- where it does nothing, it leaves all, and its output is its answer alone
+  pub left_so : (r : Result (Engine × Output) Stop)
+      → IfOk r (λ x. (session_of x.0 ≡ s.session) × (string_bytes x.1.text ≡ string_bytes p.text)
+      × (x.1.emissions ≡ 0))
+      → IfOk r (λ x. asks_in x.0 ≡ asks_kept (doing_of p.doing) s.asks)
+      → IfOk r (λ x. x.1.end ≡ None) → o.doing ≡ nothing
+      → IfOk r (λ x. LeavesAll number line s x.0 x.1)
+  unfolding meaning standing_of
+  left_so (Err stop) left asks end idle = tt
+  left_so (Ok x) left asks end idle = record {
+    outcome = o;
+    is = is;
+    records = ap (λ (m : Meaning). m.records) same_meaning ∙ ap (λ (d : Doing). records_of d) idle;
+    next = standing_same s.kinds _ _ _ _ left.0
+        (asks ∙ ap (λ (d : Doing). asks_kept d s.asks) (printed.doing ∙ idle));
+    reply = left.1 ∙ printed.text;
+    emissions = left.2;
+    ended = end;
+  }
+
+  -- a refused one does nothing
+  pub refused_so : {Stays : Type 0} → (is_refusal o.answer ≡ true → o.doing ≡ nothing)
+      → (doing_of p.doing ≡ nothing → Stays) → (r : Result (Engine × Output) Stop)
+      → IfOk r (λ x. x.1.refused ≡ p.refused)
+      → (o.doing ≡ nothing → IfOk r (λ x. LeavesAll number line s x.0 x.1))
+      → IfOk r (λ x. x.1.refused ≡ true → Stays × LeavesAll number line s x.0 x.1)
+  refused_so idle stays (Err stop) refused left = tt
+  refused_so idle stays (Ok x) refused left = λ yes.
+      let none = idle (sym printed.refused ∙ sym refused ∙ yes) in
+      (stays (printed.doing ∙ none), left none)
+
+  -- it is no turn
+  pub no_turn_so : (r : Result (Engine × Output) Stop) → IfOk r (λ x. QuietIsLevel line s x.0)
+  no_turn_so (Err stop) = tt
+  no_turn_so (Ok x) = λ t at quiet. absurd (cc)
+
+-- ---- a line that makes a turn
+
+-- the engine and the output are those of the turn's meaning
+pub turned_so : (number : ℕ) (name : List ℕ) (t : Turned) (s : Standing) (m : AfterTurn)
+    (o : Output)
+    → IsAfterTurn name t s m
+    → string_bytes o.text
+    ≡ answer_lines number (turn m.exchanges m.ended) ++ lines_of m.emissions.items
+    → o.emissions ≡ length m.emissions.items → o.refused ≡ false → o.end ≡ Some m.ended
+    → Answers s.kinds (turn_meaning number name t s) m.engine o
+unfolding standing_of
+turned_so number name t s m o made text emitted refused end = record {
+  next = standing_same s.kinds _ _ _ _ made.session made.asks;
+  reply = text
+      ∙ ap (λ (es : List Exchanged).
+      answer_lines number (turn es m.ended) ++ lines_of m.emissions.items) made.exchanges
+      ∙ ap (λ (e : TurnEnd).
+      answer_lines number (turn t.exchanges e) ++ lines_of m.emissions.items) made.ended
+      ∙ ap (λ (es : List Emission).
+      answer_lines number (turn t.exchanges t.ended) ++ lines_of es) made.due;
+  emissions = emitted ∙ ap (λ (es : List Emission). length es) made.due;
+  refused = refused;
+  ended = end ∙ ap (λ (e : TurnEnd). Some e) made.ended;
+}
+
+module _ (number : ℕ) (line : List ℕ) (s : Standing) (u : ToTurn)
+    (is : task s.kinds line s.session ≡ turns u) where
+  -- its meaning is the line's
+  pub turn_so : turn_meaning number u.name (turned u s) s ≡ meaning number line s
+  unfolding meaning
+  turn_so = sym (ap (λ (t : Task). task_meaning number t s) is)
+
+  -- where it ends quiet, fork and master are level
+  pub level_so : (r : Result (Engine × Output) Stop)
+      → IfOk r (λ x. (turned u s).ended ≡ Quiet → IsLevel (session_of x.0).world u.name)
+      → IfOk r (λ x. QuietIsLevel line s x.0)
+  level_so (Err stop) level = tt
+  level_so (Ok x) level = λ t at quiet.
+      let same : u ≡ t = cc in
+      subst (λ (t : ToTurn). IsLevel (session_of x.0).world t.name) same
+      (level (ap (λ (t : ToTurn). (turned t s).ended) same ∙ quiet))
+
+  -- it isn't idle
+  pub busy_so : IsIdleTask (task s.kinds line s.session) → ⊥
+  busy_so idle = subst IsIdleTask is idle

@@ -1,0 +1,28 @@
+-- Stops, whatever else might have been answered.
+use Rattle.std.proofs.Common.{◌≡◌, ◌∙◌, ap, sym, subst, ℕ, Result, Ok, Err}
+use Rattle.std.specs.Result.{IsErrAnd}
+use Rattle.std.proofs.lemmas.Result.{err_from_is_err_and}
+use Rattle.rx_outside.specs.declared.stop.Stop.{Stop}
+use Rattle.rx_outside.specs.declared.stop.Stop.TheVariants.{Disk, Memory}
+use Rattle.rx_store.proofs.Crashes.{other_stop}
+use Rattle.rx_store.specs.Safe.{HasDiskCause}
+
+-- where memory ran out, that is the stop
+pub memory_stop : {A : Type 0} (r : Result A Stop) → IsErrAnd r (λ e. e ≡ Memory) → r ≡ Err Memory
+memory_stop r is =
+    let err = err_from_is_err_and r is in err.1 ∙ ap (λ (stop : Stop). Err stop) err.2
+
+-- a stop by the disk shows in its count
+pub same_cause : {A B : Type 0} (before now : ℕ) (stop : Stop) (r : Result B Stop) → r ≡ Err stop
+    → HasDiskCause {A = A} before now (Err stop) → HasDiskCause {A = B} before now r
+same_cause {A} {B} before now stop r is cause =
+    let moved : HasDiskCause {A = B} before now (Err stop) = record {
+      later = cause.later;
+      failed = λ h. cause.failed (other_stop {A = B} {B = A} stop Disk h);
+    } in
+    subst (λ (r : Result B Stop). HasDiskCause before now r) (sym is) moved
+
+-- what was answered is no stop
+pub done_cause : {A B : Type 0} (before now : ℕ) (x : A) (y : B) → HasDiskCause before now (Ok x)
+    → HasDiskCause before now (Ok y)
+done_cause before now x y cause = record { later = cause.later; failed = λ is. absurd (cc) }

@@ -1,0 +1,44 @@
+use Rattle.std.proofs.Common.{◌≡◌, ◌∙◌, ℕ, Result, Ok, ap, refl}
+use Rattle.rx_value.specs.Due.{◌>>◌}
+use Rattle.rx_handler.specs.Handlers.{Kinds}
+use Rattle.rx_handler.specs.Shown.{kinds_of}
+use Rattle.rx_script.specs.Asked.{asked}
+use Rattle.rx_script.specs.declared.line.Line.{Line}
+use Rattle.rx_script.specs.declared.line.Line.TheVariants.{Collection, Insert, Bulk, Upsert, Patch, Remove, Get, Find, Count, Observe, Unobserve, Explain, Replicate, Turn, Changes, Tick, Restart, Digest}
+use Rattle.rx_session.specs.Session.{Session}
+use Rattle.rx_engine.specs.Lines.{Task, answered, asked_outcome, asked_task}
+use Rattle.rx_engine.specs.Outcome.{Outcome}
+use Rattle.rx_engine.specs.declared.fault.Fault.{Fault}
+use Rattle.rx_engine.proofs.asking.plan_task.Goals as goal
+
+abbrev as_task : Result Outcome Fault → Result Task Fault
+as_task r = r >> λ o. Ok (answered o)
+
+-- a line that is no turn comes to its outcome
+no_turn : (kinds : Kinds) (line : Line) (s : Session)
+    → ((name : _) (batch budget : ℕ) (link : _) → line ≡ Turn name batch budget link → ⊥)
+    → asked_task kinds (asked line) s ≡ as_task (asked_outcome kinds (asked line) s)
+no_turn kinds (Collection name schema) s other = refl
+no_turn kinds (Insert coll doc) s other = refl
+no_turn kinds (Bulk coll docs) s other = refl
+no_turn kinds (Upsert coll doc) s other = refl
+no_turn kinds (Patch coll key set rev) s other = refl
+no_turn kinds (Remove coll key rev) s other = refl
+no_turn kinds (Get coll key) s other = refl
+no_turn kinds (Find coll query) s other = refl
+no_turn kinds (Count coll query) s other = refl
+no_turn kinds (Observe name coll query) s other = refl
+no_turn kinds (Unobserve name) s other = refl
+no_turn kinds (Explain name) s other = refl
+no_turn kinds (Replicate name fork master handler field) s other = refl
+no_turn kinds (Turn name batch budget link) s other = absurd (other name batch budget link refl)
+no_turn kinds (Changes coll since batch) s other = refl
+no_turn kinds (Tick at) s other = refl
+no_turn kinds Restart s other = refl
+no_turn kinds (Digest coll) s other = refl
+
+pub returns-in_ok-plan_line-in_default-clause-exact :
+    goal.returns-in_ok-plan_line-in_default-clause-exact
+returns-in_ok-plan_line-in_default-clause-exact g c =
+    no_turn (kinds_of c.args.handlers.now) c.args.line c.args.session.now c.in_default.not-Turn
+    ∙ ap as_task c.in_ok-plan_line-in_default.ensures.exact

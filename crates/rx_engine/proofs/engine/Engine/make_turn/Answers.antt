@@ -1,0 +1,192 @@
+use Rattle.std.proofs.Common.{◌∙◌, ◌++◌, ap, sym, subst, rules}
+use Rattle.rx_value.specs.Named.{by_bytes, put_named}
+use Rattle.rx_handler.specs.Shown.{kinds_of}
+use Rattle.rx_session.specs.Emissions.{emissions, settled_session}
+use Rattle.rx_session.specs.Session.{Session}
+use Rattle.rx_store.specs.Holds.{Holds}
+use Rattle.rx_store.proofs.Crashes.{answered, ran_out, same_stop}
+use Rattle.rx_sync.specs.Laws.{IsLevel}
+use Rattle.rx_world.specs.Made.{IsMadeWorld}
+use Rattle.rx_world.specs.Sound.{IsSoundWorld}
+use Rattle.rx_engine.specs.Engine.{IsAt, asks_in, session_of, standing_of}
+use Rattle.rx_engine.specs.Meaning.{bodies_of}
+use Rattle.rx_engine.specs.Remembered.{AreRemembered}
+use Rattle.rx_engine.specs.Shown.{turn_of}
+use Rattle.rx_engine.specs.SoundSession.{SessionWithAsks}
+use Rattle.rx_engine.specs.Turning.{turned}
+use Rattle.rx_engine.proofs.AfterTurns.{level_then, made_here, made_then, may, may_here, remembered_then, safe_here, sound_then}
+use Rattle.rx_engine.proofs.Stops.{done_cause, memory_stop}
+use Rattle.rx_engine.proofs.engine.Engine.make_turn.Goals as goal
+
+pub turn_by_name-requires-clause-at : goal.turn_by_name-requires-clause-at
+unfolding session_of
+turn_by_name-requires-clause-at g c told =
+    let at = c.requires.at told in
+    let session = c.begin.ensures.same ∙ c.release-parts.ensures.same in (
+      at.0,
+      subst (λ (x : Session). Holds g.D.Disk c.args.disk.now c.args.self.journal at.0 x.world)
+          (sym session) at.1,
+    )
+
+pub turn_by_name-requires-clause-may : goal.turn_by_name-requires-clause-may
+unfolding session_of asks_in standing_of
+turn_by_name-requires-clause-may g c =
+    let s = standing_of (kinds_of c.args.handlers.now) c.args.self in
+    let u = turn_of c.args.wanted.now in
+    let parts = c.release-parts.ensures in
+    may_here u s c.begin.result c.moment-now.result (by_bytes c.release-parts.result.1.entries)
+    (c.begin.ensures.same ∙ parts.same)
+    (c.moment-now.ensures ∙ ap (λ (x : Session). x.moment) parts.same) parts.asks
+    (may u s c.requires.batch parts.made parts.sound c.requires.can parts.remembered)
+
+pub returns-in_err-made-clause-safe : goal.returns-in_err-made-clause-safe
+unfolding session_of asks_in standing_of
+returns-in_err-made-clause-safe g c told bodies at =
+    let s = standing_of (kinds_of c.args.handlers.now) c.args.self in
+    let u = turn_of c.args.wanted.now in
+    let parts = c.release-parts.ensures in
+    let session = c.begin.ensures.same ∙ parts.same in
+    same_stop g.D.Disk c.args.disk.now c.turn_by_name.new.disk bodies
+    (bodies_of (turned u s).records)
+    c.args.self.journal.limit _ _ c.in_err-made.field-0.0 c.from_residual.result (search rules)
+    (safe_here u s c.begin.result c.moment-now.result (by_bytes c.release-parts.result.1.entries)
+    session (c.moment-now.ensures ∙ ap (λ (x : Session). x.moment) parts.same) parts.asks
+    g.D.Disk c.args.disk.now c.turn_by_name.new.disk bodies c.args.self.journal.limit _ _
+    (c.in_err-made.ensures.safe told bodies
+    (subst (λ (x : Session). Holds g.D.Disk c.args.disk.now c.args.self.journal bodies x.world)
+    (sym session) at)))
+
+pub returns-in_err-session-clause-safe : goal.returns-in_err-session-clause-safe
+unfolding session_of asks_in standing_of
+returns-in_err-session-clause-safe g c told bodies at =
+    let s = standing_of (kinds_of c.args.handlers.now) c.args.self in
+    let u = turn_of c.args.wanted.now in
+    let parts = c.release-parts.ensures in
+    let session = c.begin.ensures.same ∙ parts.same in
+    let now = c.moment-now.ensures ∙ ap (λ (x : Session). x.moment) parts.same in
+    ran_out g.D.Disk c.args.disk.now c.turn_by_name.new.disk bodies (bodies_of (turned u s).records)
+    c.args.self.journal.limit _ c.from_residual-in_err-session.result
+    (memory_stop c.from_residual-in_err-session.result c.from_residual-in_err-session.ensures.1)
+    (safe_here u s c.begin.result c.moment-now.result (by_bytes c.release-parts.result.1.entries)
+    session now parts.asks g.D.Disk c.args.disk.now c.turn_by_name.new.disk bodies
+    c.args.self.journal.limit _ _
+    (c.in_ok-made.ensures.safe told bodies
+    (subst (λ (x : Session). Holds g.D.Disk c.args.disk.now c.args.self.journal bodies x.world)
+    (sym session) at))).moments
+
+-- the session's world stays one that records made, and sound
+pub new-requires-clause-made : goal.new-requires-clause-made
+unfolding session_of asks_in standing_of
+new-requires-clause-made g c =
+    let s = standing_of (kinds_of c.args.handlers.now) c.args.self in
+    let u = turn_of c.args.wanted.now in
+    let parts = c.release-parts.ensures in
+    let session = c.begin.ensures.same ∙ parts.same in
+    let now = c.moment-now.ensures ∙ ap (λ (x : Session). x.moment) parts.same in
+    let made = made_here u s c.begin.result c.moment-now.result
+    (by_bytes c.release-parts.result.1.entries) session now parts.asks c.in_ok-made.made
+    (by_bytes c.turn_by_name.new.asks.entries) c.in_ok-made.ensures.turned in
+    let settled = c.in_ok-session.ensures.session
+    ∙ ap (λ (x : Session). settled_session x) made.session in
+    subst (λ (x : Session). IsMadeWorld x.world) (sym settled)
+    (made_then u s c.requires.batch parts.made parts.sound c.requires.can parts.remembered)
+
+pub new-requires-clause-sound : goal.new-requires-clause-sound
+unfolding session_of asks_in standing_of
+new-requires-clause-sound g c =
+    let s = standing_of (kinds_of c.args.handlers.now) c.args.self in
+    let u = turn_of c.args.wanted.now in
+    let parts = c.release-parts.ensures in
+    let session = c.begin.ensures.same ∙ parts.same in
+    let now = c.moment-now.ensures ∙ ap (λ (x : Session). x.moment) parts.same in
+    let made = made_here u s c.begin.result c.moment-now.result
+    (by_bytes c.release-parts.result.1.entries) session now parts.asks c.in_ok-made.made
+    (by_bytes c.turn_by_name.new.asks.entries) c.in_ok-made.ensures.turned in
+    let settled = c.in_ok-session.ensures.session
+    ∙ ap (λ (x : Session). settled_session x) made.session in
+    subst (λ (x : Session). IsSoundWorld x.world) (sym settled)
+    (sound_then u s c.requires.batch parts.made parts.sound c.requires.can parts.remembered)
+
+pub new-requires-clause-remembered : goal.new-requires-clause-remembered
+unfolding session_of asks_in standing_of
+new-requires-clause-remembered g c =
+    let s = standing_of (kinds_of c.args.handlers.now) c.args.self in
+    let u = turn_of c.args.wanted.now in
+    let parts = c.release-parts.ensures in
+    let session = c.begin.ensures.same ∙ parts.same in
+    let now = c.moment-now.ensures ∙ ap (λ (x : Session). x.moment) parts.same in
+    let made = made_here u s c.begin.result c.moment-now.result
+    (by_bytes c.release-parts.result.1.entries) session now parts.asks c.in_ok-made.made
+    (by_bytes c.turn_by_name.new.asks.entries) c.in_ok-made.ensures.turned in
+    let settled = c.in_ok-session.ensures.session
+    ∙ ap (λ (x : Session). settled_session x) made.session in
+    subst (AreRemembered c.in_ok-session.session.world) (sym made.asks)
+    (subst (λ (x : Session). AreRemembered x.world (put_named s.asks u.name (turned u s).asks))
+    (sym settled)
+    (remembered_then u s c.requires.batch parts.made parts.sound c.requires.can parts.remembered))
+
+pub returns-clause-turned : goal.returns-clause-turned
+unfolding session_of asks_in standing_of
+returns-clause-turned g c =
+    let s = standing_of (kinds_of c.args.handlers.now) c.args.self in
+    let u = turn_of c.args.wanted.now in
+    let parts = c.release-parts.ensures in
+    let session = c.begin.ensures.same ∙ parts.same in
+    let now = c.moment-now.ensures ∙ ap (λ (x : Session). x.moment) parts.same in
+    let made = made_here u s c.begin.result c.moment-now.result
+    (by_bytes c.release-parts.result.1.entries) session now parts.asks c.in_ok-made.made
+    (by_bytes c.turn_by_name.new.asks.entries) c.in_ok-made.ensures.turned in
+    let settled = c.in_ok-session.ensures.session
+    ∙ ap (λ (x : Session). settled_session x) made.session in
+    record {
+      session = ap (λ (x : SessionWithAsks). x.session) c.new.ensures ∙ settled;
+      asks = ap (λ (x : SessionWithAsks). x.asks) c.new.ensures ∙ made.asks;
+      due = c.in_ok-session.ensures.emissions ∙ ap (λ (x : Session). emissions x) made.session;
+      exchanges = made.exchanges;
+      ended = made.ended;
+    }
+
+pub returns-clause-safe : goal.returns-clause-safe
+unfolding session_of asks_in standing_of
+returns-clause-safe g c told bodies at =
+    let s = standing_of (kinds_of c.args.handlers.now) c.args.self in
+    let u = turn_of c.args.wanted.now in
+    let parts = c.release-parts.ensures in
+    let session = c.begin.ensures.same ∙ parts.same in
+    let now = c.moment-now.ensures ∙ ap (λ (x : Session). x.moment) parts.same in
+    let settled = ap (λ (x : SessionWithAsks). x.session) c.new.ensures
+    ∙ c.in_ok-session.ensures.session in
+    answered g.D.Disk c.args.disk.now c.turn_by_name.new.disk bodies
+    (bodies_of (turned u s).records)
+    c.args.self.journal.limit _ (λ m. IsAt g.D.Disk c.turn_by_name.new.disk m.engine) _ _
+    (safe_here u s c.begin.result c.moment-now.result (by_bytes c.release-parts.result.1.entries)
+    session now parts.asks g.D.Disk c.args.disk.now c.turn_by_name.new.disk bodies
+    c.args.self.journal.limit _ _
+    (c.in_ok-made.ensures.safe told bodies
+    (subst (λ (x : Session). Holds g.D.Disk c.args.disk.now c.args.self.journal bodies x.world)
+    (sym session) at)))
+    (λ holds. subst (λ (x : Session). Holds g.D.Disk c.turn_by_name.new.disk
+    c.in_ok-made.made.play.journal
+    (bodies ++ bodies_of (turned u s).records) x.world) (sym settled) holds)
+
+pub returns-clause-quiet : goal.returns-clause-quiet
+unfolding session_of asks_in standing_of
+returns-clause-quiet g c quiet =
+    let s = standing_of (kinds_of c.args.handlers.now) c.args.self in
+    let u = turn_of c.args.wanted.now in
+    let parts = c.release-parts.ensures in
+    let session = c.begin.ensures.same ∙ parts.same in
+    let now = c.moment-now.ensures ∙ ap (λ (x : Session). x.moment) parts.same in
+    let made = made_here u s c.begin.result c.moment-now.result
+    (by_bytes c.release-parts.result.1.entries) session now parts.asks c.in_ok-made.made
+    (by_bytes c.turn_by_name.new.asks.entries) c.in_ok-made.ensures.turned in
+    let settled = c.in_ok-session.ensures.session
+    ∙ ap (λ (x : Session). settled_session x) made.session in
+    subst (λ (x : Session). IsLevel x.world u.name)
+    (sym (ap (λ (x : SessionWithAsks). x.session) c.new.ensures ∙ settled))
+    (level_then u s c.requires.batch parts.made parts.sound c.requires.can parts.remembered quiet)
+
+pub returns-clause-cause : goal.returns-clause-cause
+returns-clause-cause g c =
+    done_cause (g.D.Disk.faults c.args.disk.now) (g.D.Disk.faults c.turn_by_name.new.disk)
+    c.in_ok-made.made _ c.in_ok-made.ensures.cause

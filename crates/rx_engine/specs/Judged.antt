@@ -1,0 +1,29 @@
+-- What a line was judged to be.
+use Rattle.std.specs.Prelude.{◌≡◌, ◌≤◌, ℕ, string_bytes}
+use Rattle.rx_reply.specs.Reply.{answer_lines, is_refusal}
+use Rattle.rx_session.specs.Doing.{MayDo}
+use Rattle.rx_session.specs.Session.{Session}
+use Rattle.rx_engine.specs.Lines.{Task, answered, turns}
+use Rattle.rx_engine.specs.Outcome.{Outcome}
+use Rattle.rx_engine.specs.Shown.{doing_of, turn_of}
+use Rattle.rx_engine.specs.declared.judging.Judged.{Judged}
+use Rattle.rx_engine.specs.declared.judging.Judged.TheVariants as judged
+use Rattle.rx_engine.specs.declared.judging.Printed.{Printed}
+
+-- what was printed is an outcome: what it does, and the lines of its answer
+pub record IsPrinted (number : ℕ) (p : Printed) (o : Outcome) : Type 0 where
+  pub doing : doing_of p.doing ≡ o.doing
+  pub text : string_bytes p.text ≡ answer_lines number o.answer
+  pub refused : p.refused ≡ is_refusal o.answer
+
+-- what was judged is that task
+abbrev pub IsJudged : ℕ → Judged → Task → Type 0
+IsJudged number (judged.Printed p) (answered o) = IsPrinted number p o
+IsJudged number (judged.Turns t) (turns u) = turn_of t ≡ u
+IsJudged number (judged.Printed p) (turns u) = ⊥
+IsJudged number (judged.Turns t) (answered o) = ⊥
+
+-- it may be done in a session; an exchange is of one document at least
+abbrev pub MayDoJudged : Judged → Session → Type 0
+MayDoJudged (judged.Printed p) s = MayDo (doing_of p.doing) s
+MayDoJudged (judged.Turns t) s = 1 ≤ t.batch

@@ -1,0 +1,77 @@
+-- The line that makes a turn.
+use Rattle.std.specs.Prelude.{◌≡◌, Some, ℕ, List, [], ◌∷◌, Bool, false, slice_index_or, unwrap_or, Option, Result, Ok}
+use Rattle.std.specs.Option.{option_map_or}
+use Rattle.rx_value.specs.Due.{◌>>◌, demand, or_fault}
+use Rattle.rx_value.specs.Named.{named}
+use Rattle.rx_handler.specs.Handlers.{Kinds}
+use Rattle.rx_handler.specs.declared.kind.HandlerKind.{HandlerKind}
+use Rattle.rx_record.specs.Content.{Content}
+use Rattle.rx_reply.specs.declared.refusal.Refusal.TheVariants.{NoReplication, NoHandler}
+use Rattle.rx_script.specs.declared.happening.Happening.{Happening}
+use Rattle.rx_script.specs.declared.happening.Happening.TheVariants as link
+use Rattle.rx_session.specs.Doing.{write, after}
+use Rattle.rx_session.specs.Session.{Session}
+use Rattle.rx_sync.specs.Exchange.{Terms}
+use Rattle.rx_sync.specs.Laws.{HasMasterHere}
+use Rattle.rx_sync.specs.Turn.{Turned, turn}
+use Rattle.rx_world.specs.declared.replication.Replication.{Replication}
+use Rattle.rx_engine.specs.Replicate.{has_handler, is_here}
+use Rattle.rx_engine.specs.Standing.{Standing, asks_of}
+use Rattle.rx_engine.specs.declared.fault.Fault.{Fault}
+use Rattle.rx_engine.specs.declared.fault.Fault.TheVariants.{Refused}
+
+-- ---- whether a turn is made
+
+-- exchanges of the replication of a name: of so many documents, so many at most, over such a link
+pub record Turn : Type 0 where
+  pub name : List ℕ
+  pub batch : ℕ
+  pub budget : ℕ
+  pub link : List Happening
+
+-- the replication of a name; one whose master is elsewhere makes no turns yet
+abbrev pub turned_at : List ℕ → Session → Result Replication Fault
+turned_at name s =
+    or_fault (Refused NoReplication) (named s.world.replications name) >> λ r.
+    demand (is_here r.master) (Refused NoReplication) >> λ _. Ok r
+
+-- its handler is there, and takes its field
+abbrev pub is_handled : Kinds → Session → Replication → Bool
+is_handled kinds s r =
+    option_map_or (λ fork. has_handler kinds fork.schema r.handler r.field)
+    (named s.world.collections r.fork) false
+
+-- the turn that is made, or why none is
+abbrev pub turn_line : Kinds → List ℕ → ℕ → ℕ → Option (List Happening) → Session
+    → Result Turn Fault
+turn_line kinds name batch budget link s =
+    turned_at name s >> λ r.
+    demand (is_handled kinds s r) (Refused NoHandler) >> λ _.
+    Ok (record { name = name; batch = batch; budget = budget; link = unwrap_or link [] })
+
+-- ---- what it does
+
+-- a session after records, one after another
+abbrev pub written : List Content → Session → Session
+written [] s = s
+written (c ∷ cs) s = written cs (after (write c) s)
+
+-- what stays through a turn
+abbrev pub terms : List ℕ → ℕ → Kinds → Terms
+terms name now kinds = record { name = name; now = now; kinds = kinds }
+
+-- its records, its exchanges, and how it ended
+abbrev pub turned : Turn → Standing → Turned
+turned t s =
+    turn (terms t.name s.session.moment s.kinds) t.batch t.budget t.link s.session.world
+    (asks_of t.name s.asks)
+
+-- what the link does to an exchange, which is handled and answered where nothing is said
+abbrev pub happening_at : ℕ → List Happening → Happening
+happening_at i over = slice_index_or over i link.Ok
+
+-- the replication of a name is there, its master is of this journal, and so is its handler
+pub record CanTurn (kinds : Kinds) (s : Session) (name : List ℕ) : Type 0 where
+  pub here : HasMasterHere s.world name
+  pub kind : HandlerKind
+  pub handler : named kinds here.replication.handler ≡ Some kind

@@ -1,0 +1,114 @@
+// Does what a line was judged to be, and answers it.
+ghost use Rattle.std.specs.Prelude.{◌≡◌, ◌≤◌, ◌++◌, ℕ, List, None, length, IfOk, IsErrOf, string_bytes};
+ghost use Rattle.rx_handler.specs.Shown.{kinds_of};
+ghost use Rattle.rx_outside.specs.declared.stop.Stop.TheVariants as Stop;
+ghost use Rattle.rx_reply.specs.declared.turn.TurnEnd.TheVariants.{Quiet};
+ghost use Rattle.rx_session.specs.Doing.{nothing, restart, after, MayDo};
+ghost use Rattle.rx_session.specs.Emissions.{emissions, settled_session};
+ghost use Rattle.rx_store.specs.Safe.{HasDiskCause, IsCrashSafe};
+ghost use Rattle.rx_sync.specs.Laws.{IsLevel};
+ghost use Rattle.rx_engine.specs.Meaning.{asks_kept, turn_meaning, bodies_of, lines_of, records_of};
+ghost use Rattle.rx_engine.specs.Shown.{doing_of, turn_of, WritesNoExchange};
+ghost use Rattle.rx_engine.specs.Turning.{CanTurn, turned};
+
+use crate::changing::AfterTurn;
+use crate::engine::Engine;
+use crate::judging::Printed;
+use crate::output::Output;
+use crate::turning::Turn;
+use rx_disk::Disk;
+use rx_handler::Handlers;
+use rx_outside::Stop;
+use rx_reply::Reply;
+use std::alloc::Global;
+
+impl Engine {
+    ghost use Rattle.rx_engine.specs.Engine.{IsAt, Answers, asks_in, session_of, standing_of, limit_of};
+
+    /// The engine after what a line does, and the reply with the emissions that are due then.
+    pub(crate) fn answer<D: Disk>(
+        self,
+        alloc: Global,
+        disk: &mut D,
+        printed: Printed,
+    ) -> Result<(Engine, Output), Stop>
+        requires at { D.tells → (bodies : List (List ℕ)) × IsAt D.Disk disk.old self bodies }
+        requires may { MayDo (doing_of printed.doing) (session_of self) }
+        requires apart { WritesNoExchange (doing_of printed.doing) }
+        ensures session { IfOk result (λ p. session_of p.0
+            ≡ settled_session (after (doing_of printed.doing) (session_of self))) }
+        ensures asks { IfOk result (λ p. asks_in p.0
+            ≡ asks_kept (doing_of printed.doing) (asks_in self)) }
+        ensures text { IfOk result (λ p. string_bytes p.1.text ≡ string_bytes printed.text
+            ++ lines_of (emissions (after (doing_of printed.doing) (session_of self)))) }
+        ensures emitted { IfOk result (λ p. p.1.emissions
+            ≡ length (emissions (after (doing_of printed.doing) (session_of self)))) }
+        ensures refused { IfOk result (λ p. p.1.refused ≡ printed.refused) }
+        ensures end { IfOk result (λ p. p.1.end ≡ None) }
+        ensures limit { IfOk result (λ p. limit_of p.0 ≡ limit_of self) }
+        ensures safe { D.tells → (bodies : List (List ℕ)) → IsAt D.Disk disk.old self bodies
+            → IsCrashSafe D.Disk disk.old disk.new bodies
+            (bodies_of (records_of (doing_of printed.doing))) (limit_of self)
+            (λ p. IsAt D.Disk disk.new p.0) result }
+        ensures idle_disk { doing_of printed.doing ≡ nothing → disk.new ≡ disk.old }
+        ensures idle { doing_of printed.doing ≡ nothing → IfOk result (λ p.
+            (session_of p.0 ≡ session_of self) × (string_bytes p.1.text ≡ string_bytes printed.text)
+            × (p.1.emissions ≡ 0)) }
+        ensures not_journal { IsErrOf result Stop.NotJournal
+            → (number : ℕ) × (doing_of printed.doing ≡ restart number) }
+        ensures cause { HasDiskCause (D.faults disk.old) (D.faults disk.new) result }
+    {
+        let Printed {
+            doing,
+            text,
+            refused,
+        } = printed;
+        let (engine, emissions) = self.carry_out(alloc, disk, doing)?;
+        let output = Output::new(alloc, text, emissions.as_slice(), refused, None)?;
+        Ok((engine, output))
+    }
+
+    /// The engine after a turn, and the line of each exchange, that of the turn, and the emissions
+    /// that are due then.
+    pub(crate) fn answer_turn<D: Disk>(
+        self,
+        alloc: Global,
+        disk: &mut D,
+        handlers: &Handlers,
+        wanted: &Turn,
+        number: u64,
+    ) -> Result<(Engine, Output), Stop>
+        requires at { D.tells → (bodies : List (List ℕ)) × IsAt D.Disk disk.old self bodies }
+        requires batch { 1 ≤ wanted.now.batch }
+        requires can { CanTurn (kinds_of handlers.now) (session_of self) wanted.now.name }
+        ensures answers { IfOk result (λ p. Answers (kinds_of handlers.now)
+            (turn_meaning number wanted.now.name
+            (turned (turn_of wanted.now) (standing_of (kinds_of handlers.now) self))
+            (standing_of (kinds_of handlers.now) self)) p.0 p.1) }
+        ensures limit { IfOk result (λ p. limit_of p.0 ≡ limit_of self) }
+        ensures safe { D.tells → (bodies : List (List ℕ)) → IsAt D.Disk disk.old self bodies
+            → IsCrashSafe D.Disk disk.old disk.new bodies
+            (bodies_of (turned (turn_of wanted.now)
+            (standing_of (kinds_of handlers.now) self)).records) (limit_of self)
+            (λ p. IsAt D.Disk disk.new p.0) result }
+        ensures quiet { IfOk result (λ p.
+            (turned (turn_of wanted.now) (standing_of (kinds_of handlers.now) self)).ended ≡ Quiet
+            → IsLevel (session_of p.0).world wanted.now.name) }
+        ensures not_journal { IsErrOf result Stop.NotJournal → ⊥ }
+        ensures cause { HasDiskCause (D.faults disk.old) (D.faults disk.new) result }
+    {
+        let AfterTurn {
+            engine,
+            emissions,
+            exchanges,
+            ended,
+        } = self.make_turn(alloc, disk, handlers, wanted)?;
+        let reply = Reply::Turn {
+            exchanges,
+            end: ended,
+        };
+        let text = reply.lines(alloc, number)?;
+        let output = Output::new(alloc, text, emissions.as_slice(), false, Some(ended))?;
+        Ok((engine, output))
+    }
+}

@@ -1,0 +1,211 @@
+// What a line does to an engine.
+ghost use Rattle.std.specs.Prelude.{◌≡◌, ◌≤◌, ℕ, List, [], IfOk, OnOk, IsErrOf};
+ghost use Rattle.rx_handler.specs.Shown.{kinds_of};
+ghost use Rattle.rx_outside.specs.declared.stop.Stop.TheVariants as Stop;
+ghost use Rattle.rx_reply.specs.declared.turn.TurnEnd.TheVariants.{Quiet};
+ghost use Rattle.rx_session.specs.Doing.{nothing, restart, after, MayDo};
+ghost use Rattle.rx_session.specs.Emissions.{emissions, settled_session};
+ghost use Rattle.rx_session.specs.Shown.{done_by};
+ghost use Rattle.rx_store.specs.Safe.{HasDiskCause, IsCrashSafe};
+ghost use Rattle.rx_sync.specs.Laws.{IsLevel};
+ghost use Rattle.rx_engine.specs.Meaning.{asks_kept, bodies_of, records_of};
+ghost use Rattle.rx_engine.specs.Shown.{doing_of, turn_of, WritesNoExchange};
+ghost use Rattle.rx_engine.specs.Turning.{CanTurn, turned};
+
+use crate::engine::Engine;
+use crate::keep::keep_doing;
+use crate::opening::{Opened, is_next, open};
+use crate::outcome::LineDoing;
+use crate::play::Play;
+use crate::requests::turn_by_name;
+use crate::sound_session::SoundSession;
+use crate::turning::{Turn, Turned};
+use indexmap::IndexMap;
+use rx_disk::Disk;
+use rx_handler::Handlers;
+use rx_observe::Emission;
+use rx_outside::Stop;
+use rx_reply::{Exchanged, TurnEnd};
+use rx_session::Doing;
+use rx_value::RxList;
+use std::alloc::Global;
+
+/// The engine after a turn, the emissions that are due then, and what the turn came to.
+#[derive(Drop)]
+pub(crate) struct AfterTurn {
+    pub engine: Engine,
+    pub emissions: Vec<Emission>,
+    pub exchanges: RxList<Exchanged>,
+    pub ended: TurnEnd,
+}
+
+impl Engine {
+    ghost use Rattle.rx_engine.specs.Engine.{IsAt, IsAfterTurn, asks_in, session_of, standing_of, limit_of};
+
+    /// The engine after what a line does, and the emissions that are due then.
+    pub(crate) fn carry_out<D: Disk>(
+        self,
+        alloc: Global,
+        disk: &mut D,
+        doing: LineDoing,
+    ) -> Result<(Engine, Vec<Emission>), Stop>
+        requires at { D.tells → (bodies : List (List ℕ)) × IsAt D.Disk disk.old self bodies }
+        requires may { MayDo (doing_of doing) (session_of self) }
+        requires apart { WritesNoExchange (doing_of doing) }
+        ensures session { IfOk result (λ p. session_of p.0
+            ≡ settled_session (after (doing_of doing) (session_of self))) }
+        ensures emissions { IfOk result (λ p. p.1.items
+            ≡ emissions (after (doing_of doing) (session_of self))) }
+        ensures asks { IfOk result (λ p. asks_in p.0 ≡ asks_kept (doing_of doing) (asks_in self)) }
+        ensures limit { IfOk result (λ p. limit_of p.0 ≡ limit_of self) }
+        ensures safe { D.tells → (bodies : List (List ℕ)) → IsAt D.Disk disk.old self bodies
+            → IsCrashSafe D.Disk disk.old disk.new bodies (bodies_of (records_of (doing_of doing)))
+            (limit_of self) (λ p. IsAt D.Disk disk.new p.0) result }
+        ensures idle_disk { doing_of doing ≡ nothing → disk.new ≡ disk.old }
+        ensures idle { doing_of doing ≡ nothing → IfOk result (λ p.
+            (session_of p.0 ≡ session_of self) × (p.1.items ≡ [])) }
+        ensures not_journal { IsErrOf result Stop.NotJournal
+            → (number : ℕ) × (doing_of doing ≡ restart number) }
+        ensures cause { HasDiskCause (D.faults disk.old) (D.faults disk.new) result }
+    {
+        match doing {
+            LineDoing::InSession(doing) => self.change_session(alloc, disk, doing),
+            LineDoing::Restart(epoch) => { Ok((self.reopen(alloc, disk, epoch)?, Vec::new(alloc))) }
+        }
+    }
+
+    // The engine after something was done to its session, and the emissions that are due then.
+    fn change_session<D: Disk>(
+        self,
+        alloc: Global,
+        disk: &mut D,
+        doing: Doing,
+    ) -> Result<(Engine, Vec<Emission>), Stop>
+        requires at { D.tells → (bodies : List (List ℕ)) × IsAt D.Disk disk.old self bodies }
+        requires may { MayDo (done_by doing) (session_of self) }
+        requires apart { WritesNoExchange (done_by doing) }
+        ensures session { IfOk result (λ p. session_of p.0
+            ≡ settled_session (after (done_by doing) (session_of self))) }
+        ensures emissions { IfOk result (λ p. p.1.items
+            ≡ emissions (after (done_by doing) (session_of self))) }
+        ensures asks { IfOk result (λ p. asks_in p.0 ≡ asks_in self) }
+        ensures limit { IfOk result (λ p. limit_of p.0 ≡ limit_of self) }
+        ensures safe { D.tells → (bodies : List (List ℕ)) → IsAt D.Disk disk.old self bodies
+            → IsCrashSafe D.Disk disk.old disk.new bodies (bodies_of (records_of (done_by doing)))
+            (limit_of self) (λ p. IsAt D.Disk disk.new p.0) result }
+        ensures idle_disk { done_by doing ≡ nothing → disk.new ≡ disk.old }
+        ensures idle { done_by doing ≡ nothing → IfOk result (λ p.
+            (session_of p.0 ≡ session_of self) × (p.1.items ≡ [])) }
+        ensures not_journal { IsErrOf result Stop.NotJournal → ⊥ }
+        ensures cause { HasDiskCause (D.faults disk.old) (D.faults disk.new) result }
+    {
+        let Engine {
+            journal,
+            session,
+            diagram,
+        } = self;
+        let parts = session.release();
+        let (session, asks) = parts;
+        let journal = keep_doing(alloc, journal, disk, &doing)?;
+        let (session, emissions) = session.next(alloc, doing)?;
+        let engine = Engine {
+            journal,
+            session: SoundSession::new(session, asks),
+            diagram,
+        };
+        Ok((engine, emissions))
+    }
+
+    // The engine on the journal opened again, which is to give the collections that there are.
+    fn reopen<D: Disk>(self, alloc: Global, disk: &mut D, epoch: u64) -> Result<Engine, Stop>
+        requires at { D.tells → (bodies : List (List ℕ)) × IsAt D.Disk disk.old self bodies }
+        requires next { MayDo (restart epoch) (session_of self) }
+        ensures session { IfOk result (λ e. session_of e
+            ≡ settled_session (after (restart epoch) (session_of self))) }
+        ensures quiet { OnOk result (emissions (after (restart epoch) (session_of self)) ≡ []) }
+        ensures asks { IfOk result (λ e. asks_in e ≡ []) }
+        ensures limit { IfOk result (λ e. limit_of e ≡ limit_of self) }
+        ensures safe { D.tells → (bodies : List (List ℕ)) → IsAt D.Disk disk.old self bodies
+            → IsCrashSafe D.Disk disk.old disk.new bodies (bodies_of (records_of (restart epoch)))
+            (limit_of self) (IsAt D.Disk disk.new) result }
+        ensures cause { HasDiskCause (D.faults disk.old) (D.faults disk.new) result }
+    {
+        let Engine {
+            journal,
+            session,
+            diagram,
+        } = self;
+        let parts = session.release();
+        let (session, _forgotten) = parts;
+        let Opened { journal, world } = open(alloc, disk, journal.limit, &diagram)?;
+        if !is_next(&session, &world, epoch) {
+            return Err(Stop::NotJournal);
+        }
+        let session = session.reopen(alloc, world)?;
+        let asks = IndexMap::new(alloc);
+        Ok(Engine {
+            journal,
+            session: SoundSession::new(session, asks),
+            diagram,
+        })
+    }
+
+    /// The engine after a turn, all of whose records are on the disk.
+    pub(crate) fn make_turn<D: Disk>(
+        self,
+        alloc: Global,
+        disk: &mut D,
+        handlers: &Handlers,
+        wanted: &Turn,
+    ) -> Result<AfterTurn, Stop>
+        requires at { D.tells → (bodies : List (List ℕ)) × IsAt D.Disk disk.old self bodies }
+        requires batch { 1 ≤ wanted.now.batch }
+        requires can { CanTurn (kinds_of handlers.now) (session_of self) wanted.now.name }
+        ensures turned { IfOk result (IsAfterTurn wanted.now.name
+            (turned (turn_of wanted.now) (standing_of (kinds_of handlers.now) self))
+            (standing_of (kinds_of handlers.now) self)) }
+        ensures limit { IfOk result (λ m. limit_of m.engine ≡ limit_of self) }
+        ensures safe { D.tells → (bodies : List (List ℕ)) → IsAt D.Disk disk.old self bodies
+            → IsCrashSafe D.Disk disk.old disk.new bodies
+            (bodies_of (turned (turn_of wanted.now)
+            (standing_of (kinds_of handlers.now) self)).records) (limit_of self)
+            (λ m. IsAt D.Disk disk.new m.engine) result }
+        ensures quiet { IfOk result (λ m.
+            (turned (turn_of wanted.now) (standing_of (kinds_of handlers.now) self)).ended ≡ Quiet
+            → IsLevel (session_of m.engine).world wanted.now.name) }
+        ensures not_journal { IsErrOf result Stop.NotJournal → ⊥ }
+        ensures cause { HasDiskCause (D.faults disk.old) (D.faults disk.new) result }
+    {
+        let Engine {
+            journal,
+            session,
+            diagram,
+        } = self;
+        let parts = session.release();
+        let (session, mut asks) = parts;
+        let now = session.moment();
+        let play = Play {
+            journal,
+            playing: session.begin(alloc),
+        };
+        let made = turn_by_name(alloc, disk, handlers, play, &mut asks, wanted, now)?;
+        let Turned {
+            play,
+            exchanges,
+            ended,
+        } = made;
+        let Play { journal, playing } = play;
+        let (session, emissions) = playing.settle(alloc)?;
+        let engine = Engine {
+            journal,
+            session: SoundSession::new(session, asks),
+            diagram,
+        };
+        Ok(AfterTurn {
+            engine,
+            emissions,
+            exchanges,
+            ended,
+        })
+    }
+}

@@ -1,0 +1,163 @@
+// Makes an exchange: each record is on the disk before the next one is planned.
+ghost use Rattle.std.specs.Prelude.{◌≡◌, ◌≤◌, ℕ, List, Some, IfOk, IsSome, OnOk, IsErrOf};
+ghost use Rattle.rx_value.specs.Named.{named};
+ghost use Rattle.rx_handler.specs.Shown.{kinds_of};
+ghost use Rattle.rx_outside.specs.declared.stop.Stop.TheVariants as Stop;
+ghost use Rattle.rx_store.specs.Safe.{HasDiskCause, IsCrashSafe};
+ghost use Rattle.rx_sync.specs.Asking.{asked_in};
+ghost use Rattle.rx_sync.specs.Asks.{next_number, with_request};
+ghost use Rattle.rx_sync.specs.Exchange.{course, exchange};
+ghost use Rattle.rx_sync.specs.Laws.{IsAskedIn, IsLawfulIn, IsReady, MayTurn, RemembersLawful};
+ghost use Rattle.rx_world.specs.Sound.{IsSoundWorld};
+ghost use Rattle.rx_engine.specs.Carried.{carried};
+ghost use Rattle.rx_engine.specs.Meaning.{bodies_of};
+ghost use Rattle.rx_engine.specs.Play.{IsPlayAt};
+ghost use Rattle.rx_engine.specs.Turning.{terms, written};
+
+use crate::play::Play;
+use crate::turning::Turn;
+use rx_disk::Disk;
+use rx_fork::Asked;
+use rx_handler::Handlers;
+use rx_outside::Stop;
+use rx_reply::Exchanged;
+use rx_script::Happening;
+use rx_sync::{Asks, Planned, ask, copy_of_request, exchange, late};
+use rx_world::StepFault;
+use std::alloc::{AllocError, Global};
+
+/// Makes an exchange. Nothing came of it where a commit found no write time.
+pub(crate) fn make_exchange<D: Disk>(
+    alloc: Global,
+    disk: &mut D,
+    handlers: &Handlers,
+    play: Play,
+    asks: &mut Asks,
+    wanted: &Turn,
+    happening: Happening,
+    now: u64,
+) -> Result<(Play, Option<Exchanged>), Stop>
+    requires at { D.tells → (bodies : List (List ℕ)) × IsPlayAt D.Disk disk.old play bodies }
+    requires batch { 1 ≤ wanted.now.batch }
+    requires may { MayTurn (terms wanted.now.name now (kinds_of handlers.now)) play.playing.world
+        asks.old }
+    ensures came { IfOk result (λ p. p.1
+        ≡ (course (terms wanted.now.name now (kinds_of handlers.now)) wanted.now.batch happening
+        play.playing.world asks.old).came) }
+    ensures asks { OnOk result (asks.new
+        ≡ (course (terms wanted.now.name now (kinds_of handlers.now)) wanted.now.batch happening
+        play.playing.world asks.old).asks) }
+    ensures session { IfOk result (λ p. p.0.playing
+        ≡ written (course (terms wanted.now.name now (kinds_of handlers.now))
+        wanted.now.batch happening play.playing.world asks.old).records play.playing) }
+    ensures safe { D.tells → (bodies : List (List ℕ)) → IsPlayAt D.Disk disk.old play bodies
+        → IsCrashSafe D.Disk disk.old disk.new bodies
+        (bodies_of (course (terms wanted.now.name now (kinds_of handlers.now)) wanted.now.batch
+        happening play.playing.world asks.old).records)
+        play.journal.limit (λ p. IsPlayAt D.Disk disk.new p.0) result }
+    ensures limit { IfOk result (λ p. p.0.journal.limit ≡ play.journal.limit) }
+    ensures not_journal { IsErrOf result Stop.NotJournal → ⊥ }
+    ensures cause { HasDiskCause (D.faults disk.old) (D.faults disk.new) result }
+{
+    let asked = make_request(alloc, &play, asks, wanted)?;
+    let name = wanted.name.as_str();
+    carry_request(
+        alloc, disk, handlers, play, asks, name, &asked, happening, now,
+    )
+}
+
+// Makes the next request, and remembers it.
+fn make_request(
+    alloc: Global,
+    play: &Play,
+    asks: &mut Asks,
+    wanted: &Turn,
+) -> Result<Asked, AllocError>
+    requires held { IsSome (named play.now.playing.world.replications wanted.now.name) }
+    requires sound { IsSoundWorld play.now.playing.world }
+    requires batch { 1 ≤ wanted.now.batch }
+    ensures asked { IfOk result (λ asked. asked_in play.now.playing.world wanted.now.name
+        (next_number asks.old) wanted.now.batch ≡ Some asked) }
+    ensures lawful { IfOk result
+        (λ asked. IsLawfulIn play.now.playing.world wanted.now.name asked.request) }
+    ensures asks { IfOk result (λ asked. asks.new ≡ with_request asked.request asks.old) }
+{
+    let number = asks.next_number();
+    let world = play.playing.world();
+    let asked = ask(alloc, world, wanted.name.as_str(), number, wanted.batch)?;
+    asks.push(copy_of_request(alloc, &asked.request)?)?;
+    Ok(asked)
+}
+
+// What the link makes of the request that was made last.
+fn carry_request<D: Disk>(
+    alloc: Global,
+    disk: &mut D,
+    handlers: &Handlers,
+    play: Play,
+    asks: &Asks,
+    name: &str,
+    asked: &Asked,
+    happening: Happening,
+    now: u64,
+) -> Result<(Play, Option<Exchanged>), Stop>
+    requires at { D.tells → (bodies : List (List ℕ)) × IsPlayAt D.Disk disk.old play bodies }
+    requires ready { IsReady play.playing.world name.now (kinds_of handlers.now) }
+    requires asked { IsAskedIn play.playing.world name.now asked.now }
+    requires asks { RemembersLawful play.playing.world name.now asks.now }
+    ensures came { IfOk result (λ p. p.1 ≡ (carried (terms name.now now (kinds_of handlers.now))
+        asked.now happening asks.now play.playing.world).came) }
+    ensures session { IfOk result (λ p. p.0.playing
+        ≡ written (carried (terms name.now now (kinds_of handlers.now))
+        asked.now happening asks.now play.playing.world).records play.playing) }
+    ensures safe { D.tells → (bodies : List (List ℕ)) → IsPlayAt D.Disk disk.old play bodies
+        → IsCrashSafe D.Disk disk.old disk.new bodies
+        (bodies_of (carried (terms name.now now (kinds_of handlers.now)) asked.now happening
+        asks.now play.playing.world).records)
+        play.journal.limit (λ p. IsPlayAt D.Disk disk.new p.0) result }
+    ensures limit { IfOk result (λ p. p.0.journal.limit ≡ play.journal.limit) }
+    ensures not_journal { IsErrOf result Stop.NotJournal → ⊥ }
+    ensures cause { HasDiskCause (D.faults disk.old) (D.faults disk.new) result }
+{
+    let earlier = match late(alloc, play.playing.world(), name, asks, happening, now) {
+        Ok(earlier) => earlier,
+        Err(StepFault::ClockEnd) => return Ok((play, None)),
+        Err(StepFault::Memory) => return Err(Stop::Memory),
+    };
+    let play = play.keep_maybe(alloc, disk, earlier)?;
+    keep_exchange(alloc, disk, handlers, play, name, asked, happening, now)
+}
+
+// What the link makes of it once an earlier one was handled, where one comes late.
+fn keep_exchange<D: Disk>(
+    alloc: Global,
+    disk: &mut D,
+    handlers: &Handlers,
+    play: Play,
+    name: &str,
+    asked: &Asked,
+    happening: Happening,
+    now: u64,
+) -> Result<(Play, Option<Exchanged>), Stop>
+    requires at { D.tells → (bodies : List (List ℕ)) × IsPlayAt D.Disk disk.old play bodies }
+    requires ready { IsReady play.playing.world name.now (kinds_of handlers.now) }
+    requires asked { IsAskedIn play.playing.world name.now asked.now }
+    ensures came { IfOk result (λ p. p.1 ≡ (exchange (terms name.now now (kinds_of handlers.now))
+        asked.now happening play.playing.world).came) }
+    ensures session { IfOk result (λ p. p.0.playing
+        ≡ written (exchange (terms name.now now (kinds_of handlers.now))
+        asked.now happening play.playing.world).records play.playing) }
+    ensures safe { D.tells → (bodies : List (List ℕ)) → IsPlayAt D.Disk disk.old play bodies
+        → IsCrashSafe D.Disk disk.old disk.new bodies
+        (bodies_of (exchange (terms name.now now (kinds_of handlers.now)) asked.now happening
+        play.playing.world).records)
+        play.journal.limit (λ p. IsPlayAt D.Disk disk.new p.0) result }
+    ensures limit { IfOk result (λ p. p.0.journal.limit ≡ play.journal.limit) }
+    ensures not_journal { IsErrOf result Stop.NotJournal → ⊥ }
+    ensures cause { HasDiskCause (D.faults disk.old) (D.faults disk.new) result }
+{
+    let world = play.playing.world();
+    let Planned { records, came } = exchange(alloc, world, name, asked, happening, handlers, now)?;
+    let play = play.keep_all(alloc, disk, records)?;
+    Ok((play, came))
+}

@@ -1,0 +1,60 @@
+// What a line comes to, with its reply printed where it has one already.
+ghost use Rattle.std.specs.Prelude.{IfOk};
+ghost use Rattle.rx_handler.specs.Shown.{kinds_of};
+ghost use Rattle.rx_engine.specs.Judged.{IsJudged, IsPrinted, MayDoJudged};
+ghost use Rattle.rx_engine.specs.Lines.{task};
+ghost use Rattle.rx_engine.specs.Shown.{outcome_of};
+
+use crate::asking::plan;
+use crate::outcome::{LineDoing, Outcome, Task};
+use crate::turning::Turn;
+use rx_handler::Handlers;
+use rx_session::Session;
+use std::alloc::{AllocError, Global};
+
+/// What a line does, and the line of its reply, which lends nothing of the session.
+#[derive(Drop)]
+pub(crate) struct Printed {
+    pub doing: LineDoing,
+    pub text: String,
+    pub refused: bool,
+}
+
+/// What a line comes to: something to do, which is answered already, or a turn.
+#[derive(Drop)]
+pub(crate) enum Judged {
+    Printed(Printed),
+    Turns(Turn),
+}
+
+/// Judges a line that isn't blank.
+pub(crate) fn judge(
+    alloc: Global,
+    session: &Session,
+    handlers: &Handlers,
+    text: &[u8],
+    number: u64,
+) -> Result<Judged, AllocError>
+    ensures judged { IfOk result
+        (λ j. IsJudged number j (task (kinds_of handlers.now) text.now session.now)) }
+    ensures may { IfOk result (λ j. MayDoJudged j session.now) }
+{
+    match plan(alloc, session, handlers, text)? {
+        Task::Answered(outcome) => Ok(Judged::Printed(print(alloc, outcome, number)?)),
+        Task::Turns(turn) => Ok(Judged::Turns(turn)),
+    }
+}
+
+// What is done, with the line of its reply.
+fn print(alloc: Global, outcome: Outcome<'_>, number: u64) -> Result<Printed, AllocError>
+    ensures { IfOk result (λ p. IsPrinted number p (outcome_of outcome.entry)) }
+{
+    let Outcome { doing, reply } = outcome;
+    let text = reply.lines(alloc, number)?;
+    let refused = reply.is_refusal();
+    Ok(Printed {
+        doing,
+        text,
+        refused,
+    })
+}

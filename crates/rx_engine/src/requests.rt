@@ -1,0 +1,70 @@
+// What is remembered of requests from one turn to the next.
+ghost use Rattle.std.specs.Prelude.{◌≡◌, ◌≤◌, ℕ, List, IfOk, OnOk, IsErrOf};
+ghost use Rattle.rx_handler.specs.Shown.{kinds_of};
+ghost use Rattle.rx_outside.specs.declared.stop.Stop.TheVariants as Stop;
+ghost use Rattle.rx_store.specs.Safe.{HasDiskCause, IsCrashSafe};
+ghost use Rattle.rx_sync.specs.Laws.{MayTurn};
+ghost use Rattle.rx_sync.specs.Turn.{turn};
+ghost use Rattle.rx_value.specs.Named.{by_bytes, put_named};
+ghost use Rattle.rx_engine.specs.Meaning.{bodies_of};
+ghost use Rattle.rx_engine.specs.Play.{IsMadeByName, IsPlayAt};
+ghost use Rattle.rx_engine.specs.Standing.{asks_of};
+ghost use Rattle.rx_engine.specs.Turning.{terms};
+
+use crate::play::Play;
+use crate::turning::{Turn, Turned, take_turn};
+use indexmap::IndexMap;
+use rx_disk::Disk;
+use rx_handler::Handlers;
+use rx_outside::Stop;
+use rx_sync::Asks;
+use std::alloc::{AllocError, Global};
+
+/// Makes a turn, and remembers the requests of its replication.
+pub(crate) fn turn_by_name<D: Disk>(
+    alloc: Global,
+    disk: &mut D,
+    handlers: &Handlers,
+    play: Play,
+    asks: &mut IndexMap<String, Asks>,
+    wanted: &Turn,
+    now: u64,
+) -> Result<Turned, Stop>
+    requires at { D.tells → (bodies : List (List ℕ)) × IsPlayAt D.Disk disk.old play bodies }
+    requires batch { 1 ≤ wanted.now.batch }
+    requires may { MayTurn (terms wanted.now.name now (kinds_of handlers.now)) play.playing.world
+        (asks_of wanted.now.name (by_bytes asks.old.entries)) }
+    ensures turned { IfOk result (λ made. IsMadeByName wanted.now.name
+        (turn (terms wanted.now.name now (kinds_of handlers.now)) wanted.now.batch
+        wanted.now.budget wanted.now.link.items play.playing.world
+        (asks_of wanted.now.name (by_bytes asks.old.entries)))
+        play.playing made (by_bytes asks.old.entries) (by_bytes asks.new.entries)) }
+    ensures safe { D.tells → (bodies : List (List ℕ)) → IsPlayAt D.Disk disk.old play bodies
+        → IsCrashSafe D.Disk disk.old disk.new bodies
+        (bodies_of (turn (terms wanted.now.name now (kinds_of handlers.now)) wanted.now.batch
+        wanted.now.budget wanted.now.link.items play.playing.world
+        (asks_of wanted.now.name (by_bytes asks.old.entries))).records)
+        play.journal.limit (λ made. IsPlayAt D.Disk disk.new made.play) result }
+    ensures limit { IfOk result (λ made. made.play.journal.limit ≡ play.journal.limit) }
+    ensures not_journal { IsErrOf result Stop.NotJournal → ⊥ }
+    ensures cause { HasDiskCause (D.faults disk.old) (D.faults disk.new) result }
+{
+    remember(asks, alloc, wanted.name.as_str())?;
+    match asks.get_mut(wanted.name.as_str()) {
+        Some(remembered) => take_turn(alloc, disk, handlers, play, remembered, wanted, now),
+        None => unreachable!(),
+    }
+}
+
+// Makes room for the requests of a replication that has made none yet.
+fn remember(asks: &mut IndexMap<String, Asks>, alloc: Global, name: &str) -> Result<(), AllocError>
+    ensures { OnOk result (by_bytes asks.new.entries
+        ≡ put_named (by_bytes asks.old.entries) name.now
+        (asks_of name.now (by_bytes asks.old.entries))) }
+{
+    if asks.contains_key(name) {
+        return Ok(());
+    }
+    asks.insert(String::from_str(alloc, name)?, Asks::new(alloc))?;
+    Ok(())
+}

@@ -1,0 +1,123 @@
+// Makes a turn: exchange after exchange, until one ends it.
+ghost use Rattle.std.specs.Prelude.{◌≡◌, ◌≤◌, ℕ, List, Some, IfOk, IsErrOf};
+ghost use Rattle.rx_handler.specs.Shown.{kinds_of};
+ghost use Rattle.rx_outside.specs.declared.stop.Stop.TheVariants as Stop;
+ghost use Rattle.rx_store.specs.Safe.{HasDiskCause, IsCrashSafe};
+ghost use Rattle.rx_sync.specs.Laws.{MayTurn};
+ghost use Rattle.rx_sync.specs.Turn.{end_by, turn};
+ghost use Rattle.rx_engine.specs.Meaning.{bodies_of};
+ghost use Rattle.rx_engine.specs.Play.{IsMade, IsPlayAt};
+ghost use Rattle.rx_engine.specs.Turning.{happening_at, terms};
+
+use crate::exchanging::make_exchange;
+use crate::play::Play;
+use rx_disk::Disk;
+use rx_handler::Handlers;
+use rx_outside::Stop;
+use rx_reply::{Exchanged, TurnEnd};
+use rx_script::Happening;
+use rx_sync::Asks;
+use rx_value::{RxList, RxText};
+use std::alloc::Global;
+
+/// A turn that is to be made: of so many documents an exchange, so many exchanges at most, over
+/// such a link.
+#[derive(Drop)]
+pub(crate) struct Turn {
+    pub name: RxText,
+    pub batch: u32,
+    pub budget: u32,
+    pub link: Vec<Happening>,
+}
+
+/// A turn that was made.
+#[derive(Drop)]
+pub(crate) struct Turned {
+    pub play: Play,
+    pub exchanges: RxList<Exchanged>,
+    pub ended: TurnEnd,
+}
+
+/// Makes the exchanges of a turn, until one ends it or none is left.
+pub(crate) fn take_turn<D: Disk>(
+    alloc: Global,
+    disk: &mut D,
+    handlers: &Handlers,
+    first: Play,
+    asks: &mut Asks,
+    wanted: &Turn,
+    now: u64,
+) -> Result<Turned, Stop>
+    requires at { D.tells → (bodies : List (List ℕ)) × IsPlayAt D.Disk disk.old first bodies }
+    requires batch { 1 ≤ wanted.now.batch }
+    requires may { MayTurn (terms wanted.now.name now (kinds_of handlers.now))
+        first.playing.world asks.old }
+    ensures turned { IfOk result (λ made. IsMade
+        (turn (terms wanted.now.name now (kinds_of handlers.now)) wanted.now.batch
+        wanted.now.budget wanted.now.link.items first.playing.world asks.old)
+        first.playing made asks.new) }
+    ensures safe { D.tells → (bodies : List (List ℕ)) → IsPlayAt D.Disk disk.old first bodies
+        → IsCrashSafe D.Disk disk.old disk.new bodies
+        (bodies_of (turn (terms wanted.now.name now (kinds_of handlers.now)) wanted.now.batch
+        wanted.now.budget wanted.now.link.items first.playing.world asks.old).records)
+        first.journal.limit (λ made. IsPlayAt D.Disk disk.new made.play) result }
+    ensures limit { IfOk result (λ made. made.play.journal.limit ≡ first.journal.limit) }
+    ensures not_journal { IsErrOf result Stop.NotJournal → ⊥ }
+    ensures cause { HasDiskCause (D.faults disk.old) (D.faults disk.new) result }
+{
+    let mut play = first;
+    let mut exchanges = RxList::new(alloc);
+    for i in 0..wanted.budget {
+        let happening = happening_at(wanted.link.as_slice(), i as usize);
+        let (next, came) = make_exchange(
+            alloc, disk, handlers, play, asks, wanted, happening, now,
+        )?;
+        play = next;
+        let Some(exchanged) = came else {
+            return Ok(Turned {
+                play,
+                exchanges,
+                ended: TurnEnd::Clock,
+            });
+        };
+        let end = end_by(wanted.batch, &exchanged);
+        exchanges.push(exchanged)?;
+        if let Some(ended) = end {
+            return Ok(Turned {
+                play,
+                exchanges,
+                ended,
+            });
+        }
+    }
+    Ok(Turned {
+        play,
+        exchanges,
+        ended: TurnEnd::More,
+    })
+}
+
+// What the link does to an exchange: nothing, where nothing is said.
+fn happening_at(link: &[Happening], i: usize) -> Happening
+    ensures { result ≡ happening_at i link.now }
+{
+    match link.get(i) {
+        Some(happening) => *happening,
+        None => Happening::Ok,
+    }
+}
+
+// How an exchange ends the turn, if it does.
+fn end_by(batch: u32, exchanged: &Exchanged) -> Option<TurnEnd>
+    ensures { result ≡ end_by batch (Some exchanged.now) }
+{
+    match exchanged {
+        Exchanged::Pushed { .. } => None,
+        Exchanged::Pulled { rows, .. } => if rows.len() < batch as usize {
+            Some(TurnEnd::Quiet)
+        } else {
+            None
+        },
+        Exchanged::PushLost { .. } | Exchanged::PullLost { .. } => Some(TurnEnd::Lost),
+    }
+}
