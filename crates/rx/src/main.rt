@@ -1,12 +1,17 @@
-//! `rx run JOURNAL` plays the script on standard input over a journal, and writes its answers on
-//! standard output.
+//! The program: the real streams and file, and the handlers that a replication may name, around the
+//! command that its words are.
 #![tactic(auto)]
 
-use rx_disk::FileDisk;
-use rx_outside::{StdSink, StdSource, write_all};
-use rx_top::{Command, Words, command_of, rx};
-use rx_value::RxText;
-use std::alloc::AllocError;
+ghost use Rattle.std.specs.Prelude.{◌≡◌, IfOk};
+ghost use Rattle.rx_handler.specs.Resolve.{resolve};
+
+use rx_disk::{Disk, FileDisk};
+use rx_handler::{Handler, HandlerFault, HandlerKind, Handlers, resolved};
+use rx_outside::{Sink, Source, StdSink, StdSource, write_all};
+use rx_top::rx;
+use rx_value::{RxText, State};
+use rx_words::{Words, command_of};
+use std::alloc::{AllocError, Global};
 use std::env::Env;
 use std::fs::{File, Files};
 use std::os::fd::{AsRawFd, IntoRawFd};
@@ -16,6 +21,13 @@ use std::{env, io};
 // Standard input, output and error have the descriptors below this.
 const STREAMS: i32 = 3;
 
+const HANDLERS: [(&str, HandlerKind); 4] = [
+    ("master_wins", HandlerKind::MasterWins),
+    ("fork_wins", HandlerKind::ForkWins),
+    ("greater", HandlerKind::Greater),
+    ("join", HandlerKind::Join),
+];
+
 fn main(rt: HostRuntime) -> ExitCode {
     let filled = fill_streams(&rt);
     let mut source = StdSource::new(&rt);
@@ -24,16 +36,44 @@ fn main(rt: HostRuntime) -> ExitCode {
         let _ = write_all(&mut out, b"{\"stop\":\"disk\"}\n");
         return ExitCode::from(3);
     }
-    match command(&rt) {
+    let played = match command(&rt) {
         Ok((words, path)) => {
             let mut disk = FileDisk::new(&rt, path);
-            ExitCode::from(rx(rt.alloc(), &words, &mut source, &mut out, &mut disk))
+            play(rt.alloc(), &words, &mut source, &mut out, &mut disk)
         }
+        Err(refused) => Err(HandlerFault::from(refused)),
+    };
+    match played {
+        Ok(status) => ExitCode::from(status),
         Err(_) => {
             let _ = write_all(&mut out, b"{\"stop\":\"memory\"}\n");
             ExitCode::from(6)
         }
     }
+}
+
+// Runs the command with the handlers that a replication may name.
+fn play<S: Source, K: Sink, D: Disk>(
+    alloc: Global,
+    words: &Words,
+    source: &mut S,
+    out: &mut K,
+    disk: &mut D,
+) -> Result<u8, HandlerFault> {
+    let mut handlers = Handlers::new(alloc);
+    for (name, kind) in HANDLERS {
+        let call = Box::new(
+            alloc,
+            move |alloc: Global, field: &str, real: &State, new: &State|
+                ensures { IfOk result (λ s. s ≡ resolve kind field.now real.now new.now) }
+            { resolved(alloc, kind, field, real, new) },
+        );
+        match call {
+            Ok(call) => handlers.add(Handler::new(RxText::new(alloc, name)?, kind, call))?,
+            Err(refused) => return Err(AllocError::from(refused).into()),
+        }
+    }
+    Ok(rx(alloc, words, source, out, disk, &handlers))
 }
 
 // Opens the root folder in the place of each standard stream that is closed, so that the journal
@@ -53,8 +93,8 @@ fn fill_streams<R: Files<File = File>>(rt: &R) -> io::Result<()> {
 // The words after the program's name, and the path that they name, or none.
 fn command<R: Env + AllocGlobal>(rt: &R) -> Result<(Words, RxText), AllocError> {
     let words = words(rt)?;
-    let path = match command_of(&words) {
-        Some(Command::Run { path, .. }) => path.copy(rt.alloc())?,
+    let path = match command_of(rt.alloc(), &words)? {
+        Some(command) => command.path().copy(rt.alloc())?,
         None => RxText::new(rt.alloc(), "")?,
     };
     Ok((words, path))

@@ -2,9 +2,10 @@
 use Rattle.std.proofs.Common.{◌≡◌, ◌∙◌, refl, sym, ap, subst, ℕ, ◌+◌, ◌≤◌, Bool, true, false, cond, ◌||◌, List, [], ◌∷◌, ◌++◌, length, take, ◌⊎◌, Option, None, Some, Result, Ok, Err, IsErrOf, inl, inr, arith, append_assoc, append-nil, length-append}
 use Rattle.std.proofs.Math.Seq.{take-append_seam}
 use Rattle.rx_disk.specs.declared.disk.Disk.{Ghosts}
-use Rattle.rx_engine.specs.Engine.{IsAt, session_of, limit_of}
+use Rattle.rx_engine.specs.Engine.{IsAt, session_of, standing_of, limit_of}
 use Rattle.rx_store.specs.Holds.{GrowsLegally, ImagesStandFor, Leaves}
-use Rattle.rx_session.specs.Session.{Session}
+use Rattle.rx_engine.specs.Standing.{Standing}
+use Rattle.rx_handler.specs.Handlers.{Kinds}
 use Rattle.rx_engine.specs.declared.engine.Engine.{Engine}
 use Rattle.rx_store.specs.Safe.{IsCrashSafe, IsFull}
 use Rattle.rx_store.proofs.Growing.{held}
@@ -109,6 +110,7 @@ fits_all bodies more limit (inr le) before = le
 -- lines were played from an engine to another
 pub record Along
     {D : Type 0}
+    (kinds : Kinds)
     (d : Ghosts D)
     (k_tells : Type 0)
     (d0 d1 : D)
@@ -118,23 +120,23 @@ pub record Along
     (r : Bool) : Type 0 where
   pub limit : limit_of engine ≡ limit_of first
   pub bytes : List ℕ
-  pub so : SoFar line_effect bytes input rest n r (session_of first) (session_of engine)
-  pub told : k_tells → w1 ≡ w0 ++ replies line_effect 1 (cut bytes).whole (session_of first)
+  pub so : SoFar line_effect bytes input rest n r (standing_of kinds first) (standing_of kinds engine)
+  pub told : k_tells → w1 ≡ w0 ++ replies line_effect 1 (cut bytes).whole (standing_of kinds first)
   pub at : d.tells → (bodies : List (List ℕ)) → IsAt d d0 first bodies
-      → IsAt d d1 engine (bodies ++ all_of (chunks line_effect 1 (cut bytes).whole (session_of first)))
+      → IsAt d d1 engine (bodies ++ all_of (chunks line_effect 1 (cut bytes).whole (standing_of kinds first)))
   pub kept : d.tells → (bodies : List (List ℕ)) → IsAt d d0 first bodies
       → end_of bodies ≤ limit_of first
-      → Kept d d0 d1 bodies (chunks line_effect 1 (cut bytes).whole (session_of first)) (limit_of first)
+      → Kept d d0 d1 bodies (chunks line_effect 1 (cut bytes).whole (standing_of kinds first)) (limit_of first)
 
-pub begins : {D : Type 0} (d : Ghosts D) (k_tells : Type 0) (disk : D) (first : Engine)
+pub begins : {kinds : Kinds} {D : Type 0} (d : Ghosts D) (k_tells : Type 0) (disk : D) (first : Engine)
     (w input unread : List ℕ) → unread ≡ [] → (d.tells → OnlyNow d disk)
-    → Along d k_tells disk disk first first w w input (unread ++ input) 0 false
-begins d k_tells disk first w input unread none only_now = record {
+    → Along kinds d k_tells disk disk first first w w input (unread ++ input) 0 false
+begins {kinds} d k_tells disk first w input unread none only_now = record {
   limit = refl;
   bytes = [];
   so = subst (λ (v : List ℕ).
-      SoFar line_effect [] input (v ++ input) 0 false (session_of first) (session_of first))
-      (sym none) (none_yet line_effect input (session_of first));
+      SoFar line_effect [] input (v ++ input) 0 false (standing_of kinds first) (standing_of kinds first))
+      (sym none) (none_yet line_effect input (standing_of kinds first));
   told = λ t. sym (append-nil w);
   at = λ t bodies at. subst (λ (bs : List (List ℕ)). IsAt d disk first bs) (sym (append-nil bodies))
       at;
@@ -143,17 +145,17 @@ begins d k_tells disk first w input unread none only_now = record {
 }
 
 -- an end with all that was due on the disk
-pub ends : {D : Type 0} (d : Ghosts D) (d0 d1 : D) (tells : Type 0) (w0 w1 : List ℕ)
+pub ends : (kinds : Kinds) {D : Type 0} (d : Ghosts D) (d0 d1 : D) (tells : Type 0) (w0 w1 : List ℕ)
     (first : Engine) (ls rest : List (List ℕ)) (input left : List ℕ) (ended : Result Bool Cause)
     → stop_of ended ≡ None → lines input ≡ ls ++ rest
-    → Reads line_effect ended input left ls rest (session_of first)
-    → (tells → Writes ended w0 w1 (replies line_effect 1 ls (session_of first)))
+    → Reads line_effect ended input left ls rest (standing_of kinds first)
+    → (tells → Writes ended w0 w1 (replies line_effect 1 ls (standing_of kinds first)))
     → (d.tells → (bodies : List (List ℕ)) → IsAt d d0 first bodies → end_of bodies ≤ limit_of first
-    → Kept d d0 d1 bodies (chunks line_effect 1 ls (session_of first)) (limit_of first))
+    → Kept d d0 d1 bodies (chunks line_effect 1 ls (standing_of kinds first)) (limit_of first))
     → (d.tells → OnlyNow d d1)
-    → Plays line_effect tells w0 w1 input left (session_of first) ended (KeepsFrom d d0 d1 first ended)
-ends d d0 d1 tells w0 w1 first ls rest input left ended none whole reads writes kept only_now =
-    let s = session_of first in
+    → Plays line_effect tells w0 w1 input left (standing_of kinds first) ended (KeepsFrom kinds d d0 d1 first ended)
+ends kinds d d0 d1 tells w0 w1 first ls rest input left ended none whole reads writes kept only_now =
+    let s = standing_of kinds first in
     let cs = chunks line_effect 1 ls s in
     let next = next_chunk line_effect (length ls + 1) rest (state_after line_effect 1 ls s) in
     record {
@@ -169,7 +171,7 @@ ends d d0 d1 tells w0 w1 first ls rest input left ended none whole reads writes 
 
 -- ---- the reader stopped
 
-reading_stopped : (done input rest left : List ℕ) (n : ℕ) (r : Bool) (s0 s : Session)
+reading_stopped : (done input rest left : List ℕ) (n : ℕ) (r : Bool) (s0 s : Standing)
     (lines : List (List ℕ)) → SoFar line_effect done input rest n r s0 s → StopsWithin rest left
     → Reads line_effect (Err (Read fault.Failed)) input left (cut done).whole lines s0
 reading_stopped done input rest left n r s0 s lines so stop = (
@@ -191,7 +193,7 @@ within_limit input done front left taken b e f count =
       length-append taken left,
     )
 
-too_long_stopped : (done input rest left : List ℕ) (n : ℕ) (r : Bool) (s0 s : Session)
+too_long_stopped : (done input rest left : List ℕ) (n : ℕ) (r : Bool) (s0 s : Standing)
     (lines : List (List ℕ)) → SoFar line_effect done input rest n r s0 s
     → (b : ℕ) × StopsWithin rest (b ∷ left) → Took 0 input left (λ k. k ≡ max_input_bytes + 1)
     → Reads line_effect (Err (Read fault.TooLong)) input left (cut done).whole lines s0
@@ -212,7 +214,7 @@ too_long_stopped done input rest left n r s0 s lines so stop took =
     )
 
 reader_reads : (why : ReadFault) (done input rest left : List ℕ) (n : ℕ) (r : Bool)
-    (s0 s : Session) (lines : List (List ℕ)) → SoFar line_effect done input rest n r s0 s
+    (s0 s : Standing) (lines : List (List ℕ)) → SoFar line_effect done input rest n r s0 s
     → (IsErrOf {T = Next} (Err why) fault.Failed → StopsWithin rest left)
     → (IsErrOf {T = Next} (Err why) fault.TooLong → (b : ℕ) × StopsWithin rest (b ∷ left))
     → (IsErrOf {T = Next} (Err why) fault.TooLong
@@ -225,12 +227,12 @@ reader_reads fault.TooLong done input rest left n r s0 s lines so stops long too
     too_long_stopped done input rest left n r s0 s lines so (long refl) (took refl)
 
 module _
-    {D : Type 0} (d : Ghosts D) (k_tells : Type 0) (d0 d1 : D) (first engine : Engine)
+    {kinds : Kinds} {D : Type 0} (d : Ghosts D) (k_tells : Type 0) (d0 d1 : D) (first engine : Engine)
     (w0 w1 input rest : List ℕ) (n : ℕ) (r : Bool)
-    (a : Along d k_tells d0 d1 first engine w0 w1 input rest n r)
+    (a : Along kinds d k_tells d0 d1 first engine w0 w1 input rest n r)
   where
-    abbrev s0 : Session
-    s0 = session_of first
+    abbrev s0 : Standing
+    s0 = standing_of kinds first
 
     abbrev ls : List (List ℕ)
     ls = (cut a.bytes).whole
@@ -241,7 +243,7 @@ module _
     -- how the play ends, and what the disk keeps then
     abbrev Ends : D → List ℕ → List ℕ → Result Bool Cause → Type 0
     Ends d2 w2 left ended =
-        Plays line_effect k_tells w0 w2 input left s0 ended (KeepsFrom d d0 d2 first ended)
+        Plays line_effect k_tells w0 w2 input left s0 ended (KeepsFrom kinds d d0 d2 first ended)
 
     -- the lines so far, and more
     abbrev KeptAt : D → List (List ℕ) → Type 0
@@ -250,7 +252,7 @@ module _
         → Kept d d0 d2 bodies (chunks line_effect 1 done s0) (limit_of first)
 
     to_come : lines input ≡ ls ++ lines rest
-    to_come = rest_lines line_effect a.bytes input rest n r s0 (session_of engine) a.so
+    to_come = rest_lines line_effect a.bytes input rest n r s0 (standing_of kinds engine) a.so
 
     pub reader_stopped : (why : ReadFault) (left : List ℕ)
         → (IsErrOf {T = Next} (Err why) fault.Failed → StopsWithin rest left)
@@ -259,15 +261,15 @@ module _
         → Took 0 input left (λ k. k ≡ max_input_bytes + 1))
         → (d.tells → OnlyNow d d1) → Ends d1 w1 left (Err (Read why))
     reader_stopped why left stops long took only_now =
-        ends d d0 d1 k_tells w0 w1 first ls (lines rest) input left (Err (Read why)) refl to_come
-        (reader_reads why a.bytes input rest left n r s0 (session_of engine) (lines rest) a.so stops
+        ends kinds d d0 d1 k_tells w0 w1 first ls (lines rest) input left (Err (Read why)) refl to_come
+        (reader_reads why a.bytes input rest left n r s0 (standing_of kinds engine) (lines rest) a.so stops
         long took)
         a.told a.kept only_now
 
     -- nothing is to come
     pub ended : (left : List ℕ) → rest ≡ [] → (d.tells → OnlyNow d d1) → Ends d1 w1 left (Ok r)
     ended left none only_now =
-        ends d d0 d1 k_tells w0 w1 first ls [] input left (Ok r) refl
+        ends kinds d d0 d1 k_tells w0 w1 first ls [] input left (Ok r) refl
         (to_come ∙ ap (λ v. ls ++ lines v) none)
         (refl, a.so.refusals) a.told a.kept only_now
 
@@ -280,16 +282,16 @@ module _
         abbrev l : List ℕ
         l = takes.0
 
-        abbrev m : Effect Session
-        m = line_effect (n + 1) line (session_of engine)
+        abbrev m : Effect Standing
+        m = line_effect (n + 1) line (standing_of kinds engine)
 
-        pub same_line : m ≡ line_effect (n + 1) l (session_of engine)
+        pub same_line : m ≡ line_effect (n + 1) l (standing_of kinds engine)
         same_line =
-            ap (λ v. line_effect (n + 1) v (session_of engine)) takes.1
-            ∙ kept_effect (n + 1) l (session_of engine)
+            ap (λ v. line_effect (n + 1) v (standing_of kinds engine)) takes.1
+            ∙ kept_effect (n + 1) l (standing_of kinds engine)
 
         same : m ≡ line_effect (n + 1) l (state_after line_effect 1 ls s0)
-        same = same_line ∙ ap (λ (x : Session). line_effect (n + 1) l x) a.so.state
+        same = same_line ∙ ap (λ (x : Standing). line_effect (n + 1) l x) a.so.state
 
         count : n + 1 ≡ 1 + length ls
         count = omega (arith, a.so.number)
@@ -302,12 +304,12 @@ module _
         told_line : replies line_effect 1 (ls ++ l ∷ []) s0 ≡ replies line_effect 1 ls s0 ++ m.reply
         told_line =
             replies-push line_effect 1 ls l s0 (n + 1) count
-            ∙ ap (λ (x : Effect Session). replies line_effect 1 ls s0 ++ x.reply) (sym same)
+            ∙ ap (λ (x : Effect Standing). replies line_effect 1 ls s0 ++ x.reply) (sym same)
 
         pub chunks_line : chunks line_effect 1 (ls ++ l ∷ []) s0 ≡ cs ++ m.bodies ∷ []
         chunks_line =
             chunks-push line_effect 1 ls l s0 (n + 1) count
-            ∙ ap (λ (x : Effect Session). cs ++ x.bodies ∷ []) (sym same)
+            ∙ ap (λ (x : Effect Standing). cs ++ x.bodies ∷ []) (sym same)
 
         pub told_on : (k_tells → w2 ≡ w1 ++ m.reply) → k_tells
             → w2 ≡ w0 ++ replies line_effect 1 (ls ++ l ∷ []) s0
@@ -361,14 +363,14 @@ module _
         line_sunk : (left : List ℕ) → (k_tells → WritesFront w1 w2 m.reply)
             → KeptAt d2 (ls ++ l ∷ []) → (d.tells → OnlyNow d d2) → Ends d2 w2 left (Err Sink)
         line_sunk left front kept only_now =
-            ends d d0 d2 k_tells w0 w2 first (ls ++ l ∷ []) stands.0 input left (Err Sink) refl
+            ends kinds d d0 d2 k_tells w0 w2 first (ls ++ l ∷ []) stands.0 input left (Err Sink) refl
             (whole_with stands.0 stands.1) tt (front_on front) kept only_now
 
         due : m.bodies ≡ next_chunk line_effect (length ls + 1) (l ∷ stands.0)
             (state_after line_effect 1 ls s0)
         due =
             let e : n + 1 ≡ length ls + 1 = omega (arith, count) in
-            ap (λ (x : Effect Session). x.bodies) same
+            ap (λ (x : Effect Standing). x.bodies) same
             ∙ ap (λ (k : ℕ). (line_effect k l (state_after line_effect 1 ls s0)).bodies) e
 
         -- the work stopped
@@ -409,27 +411,27 @@ module _
             line_sunk left (λ k. front k refl) (line_kept (Err Sink) None refl safe only) only
 
         pub refused_too : (now : Bool) → now ≡ m.refused
-            → (r || now) ≡ (r || (line_effect (n + 1) l (session_of engine)).refused)
+            → (r || now) ≡ (r || (line_effect (n + 1) l (standing_of kinds engine)).refused)
         refused_too now is =
-            ap (λ v. r || v) (is ∙ ap (λ (x : Effect Session). x.refused) same_line)
+            ap (λ v. r || v) (is ∙ ap (λ (x : Effect Standing). x.refused) same_line)
 
     -- the last line was played
     pub last_played : (d2 : D) (w2 line rest' left : List ℕ) (now : Bool)
         (takes : TakesKept Last line rest rest')
-        → now ≡ (line_effect (n + 1) line (session_of engine)).refused
-        → (k_tells → w2 ≡ w1 ++ (line_effect (n + 1) line (session_of engine)).reply)
+        → now ≡ (line_effect (n + 1) line (standing_of kinds engine)).refused
+        → (k_tells → w2 ≡ w1 ++ (line_effect (n + 1) line (standing_of kinds engine)).reply)
         → KeptAt d2 (ls ++ takes.0 ∷ []) → (d.tells → OnlyNow d d2)
         → Ends d2 w2 left (Ok (r || now))
     last_played d2 w2 line rest' left now takes is had kept only_now =
         let some : (Last ≡ End → ⊥) = λ e. cc in
-        ends d d0 d2 k_tells w0 w2 first (ls ++ takes.0 ∷ []) [] input left (Ok (r || now)) refl
+        ends kinds d d0 d2 k_tells w0 w2 first (ls ++ takes.0 ∷ []) [] input left (Ok (r || now)) refl
         (to_come
         ∙ ap (λ (v : List (List ℕ)). ls ++ v)
         (ap lines takes.2.0 ∙ lines_last takes.0 takes.2.1 takes.2.2)
         ∙ sym (append-nil (ls ++ takes.0 ∷ []))) (
           refl,
           refused_too d2 w2 Last line rest' some takes now is
-              ∙ refused_more line_effect ls takes.0 n r s0 (session_of engine) a.so.number a.so.refusals
+              ∙ refused_more line_effect ls takes.0 n r s0 (standing_of kinds engine) a.so.number a.so.refusals
               a.so.state,
         )
         (told_on d2 w2 Last line rest' some takes had) kept only_now
@@ -438,30 +440,30 @@ module _
     pub line_played : (d2 : D) (w2 line rest' : List ℕ) (now : Bool) (engine' : Engine)
         (takes : TakesKept Line line rest rest')
         → limit_of engine' ≡ limit_of engine
-        → now ≡ (line_effect (n + 1) line (session_of engine)).refused
-        → session_of engine' ≡ (line_effect (n + 1) line (session_of engine)).next
-        → (k_tells → w2 ≡ w1 ++ (line_effect (n + 1) line (session_of engine)).reply)
+        → now ≡ (line_effect (n + 1) line (standing_of kinds engine)).refused
+        → standing_of kinds engine' ≡ (line_effect (n + 1) line (standing_of kinds engine)).next
+        → (k_tells → w2 ≡ w1 ++ (line_effect (n + 1) line (standing_of kinds engine)).reply)
         → (d.tells → (before : List (List ℕ)) → IsAt d d1 engine before
-        → IsAt d d2 engine' (before ++ (line_effect (n + 1) line (session_of engine)).bodies))
+        → IsAt d d2 engine' (before ++ (line_effect (n + 1) line (standing_of kinds engine)).bodies))
         → KeptAt d2 (ls ++ takes.0 ∷ [])
-        → Along d k_tells d0 d2 first engine' w0 w2 input rest' (n + 1) (r || now)
+        → Along kinds d k_tells d0 d2 first engine' w0 w2 input rest' (n + 1) (r || now)
     line_played d2 w2 line rest' now engine' takes same_limit is after had at kept =
         let some : (Line ≡ End → ⊥) = λ e. cc in
         let l = takes.0 in
         let e = same_line d2 w2 Line line rest' some takes in
-        let more = line_more line_effect a.bytes input rest rest' l n r s0 (session_of engine) a.so
+        let more = line_more line_effect a.bytes input rest rest' l n r s0 (standing_of kinds engine) a.so
         takes.2.0 takes.2.1 in
         let same_r = sym (refused_too d2 w2 Line line rest' some takes now is) in
-        let same_s = sym (after ∙ ap (λ (x : Effect Session). x.next) e) in
+        let same_s = sym (after ∙ ap (λ (x : Effect Standing). x.next) e) in
         let ls_more = sym (lines_more a.bytes l a.so.whole takes.2.1) in
         let played = a.bytes ++ (l ++ 10 ∷ []) in
         record {
           limit = same_limit ∙ a.limit;
           bytes = played;
-          so = subst (λ (x : Session).
+          so = subst (λ (x : Standing).
               SoFar line_effect played input rest' (n + 1) (r || now) s0 x) same_s
               (subst (λ (b : Bool). SoFar line_effect played input rest' (n + 1) b s0
-              (line_effect (n + 1) l (session_of engine)).next)
+              (line_effect (n + 1) l (standing_of kinds engine)).next)
               same_r more);
           told = λ t. subst (λ (v : List (List ℕ)). w2 ≡ w0 ++ replies line_effect 1 v s0) ls_more
               (told_on d2 w2 Line line rest' some takes had t);

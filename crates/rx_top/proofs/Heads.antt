@@ -2,14 +2,15 @@
 use Rattle.std.proofs.Common.{◌≡◌, ◌≤◌, inl, inr, ℕ, ◌+◌, List, length, [], ◌∷◌, ◌++◌, Bool, Result, None, Some, Err, IsErrOf, refl, sym, ◌∙◌, ap, subst, append-nil}
 use Rattle.rx_disk.specs.declared.disk.Disk.{Ghosts}
 use Rattle.rx_disk.proofs.Moments.{started}
-use Rattle.rx_engine.specs.Engine.{IsAt, limit_of, session_of}
+use Rattle.rx_engine.specs.Engine.{IsAt, limit_of, standing_of}
 use Rattle.rx_store.specs.Holds.{GrowsLegally, Leaves, IsIllegalFile, IsJournalOfSome, StandsLegally}
 use Rattle.rx_engine.specs.declared.engine.Engine.{Engine}
 use Rattle.rx_engine.specs.Opening.{epoch_body, opened}
 use Rattle.rx_store.proofs.Growing.{none_yet as none_grown}
 use Rattle.rx_frame.specs.File.{end_of}
 use Rattle.rx_journal.specs.Reading.{IsUntouched}
-use Rattle.rx_session.specs.Session.{Session}
+use Rattle.rx_engine.specs.Standing.{Standing}
+use Rattle.rx_handler.specs.Handlers.{Kinds}
 use Rattle.rx_store.specs.Safe.{IsFull}
 use Rattle.rx_outside.specs.declared.stop.Stop.{Stop}
 use Rattle.rx_outside.specs.declared.stop.Stop.TheVariants.{Disk, NotJournal, Full, Memory}
@@ -30,7 +31,7 @@ pub same_open : (why st : Stop) → IsErrOf {T = Bool} (Err (Work why)) (Work st
 same_open why st h = let same : why ≡ st = cc in ap Err same
 
 -- what is said beside the play is said in other words
-pub said_as : {k_tells : Type 0} {w0 w1 input left : List ℕ} {s : Session} {ended : Result Bool Cause}
+pub said_as : {k_tells : Type 0} {w0 w1 input left : List ℕ} {s : Standing} {ended : Result Bool Cause}
     (P Q : List (List ℕ) → List (List ℕ) → Type 0)
     → ((done rest : List (List ℕ)) → P done rest → Q done rest)
     → Plays line_effect k_tells w0 w1 input left s ended P
@@ -45,7 +46,7 @@ said_as P Q f p = record {
 }
 
 -- nothing was played
-pub unplayed : (tells : Type 0) (w0 w1 input left : List ℕ) (s : Session)
+pub unplayed : (tells : Type 0) (w0 w1 input left : List ℕ) (s : Standing)
     (ended : Result Bool Cause) (P : List (List ℕ) → List (List ℕ) → Type 0)
     → Reads line_effect ended input left [] (lines input) s
     → (tells → Writes ended w0 w1 []) → P [] (lines input)
@@ -73,75 +74,77 @@ module _ {D : Type 0} (d : Ghosts D) (bodies : List (List ℕ)) (w : World) wher
   still_legal disk start only counts =
       stays_legal d disk disk bodies [] (nothing_yet disk only start) counts
 
-module _ {D : Type 0} (d : Ghosts D) (bodies : List (List ℕ)) (w : World) (limit : ℕ) where
-  -- the opening stopped
-  pub open_keeps : (d0 d1 : D) (why : Stop) (rest : List (List ℕ))
-      → GrowsLegally d d0 d1 bodies (epoch_body w ∷ []) → CountsNow d d1
-      → ((would most : ℕ) → IsErrOf {T = Engine} (Err why) (Full would most)
-      → (most ≡ limit) × IsFull d d1 bodies (epoch_body w ∷ []) would most)
-      → OnlyNow d d0 → IsStart d d0 bodies w
-      → KeepsRun d d0 d1 bodies w limit (Err (Work why)) [] rest
-  open_keeps d0 d1 why rest grows counts full only start = inl (
-    λ none. none,
-    refl,
-    record {
-      moments = grows;
-      mid = d0;
-      steps = nothing_yet d bodies w d0 only start;
-      last = subst (λ (bs : List (List ℕ)). GrowsLegally d d0 d1 bs (epoch_body w ∷ [])) (sym (append-nil bodies))
-          grows;
-      sure = subst (λ (bs : List (List ℕ)). Leaves d d1 bs (epoch_body w ∷ [])) (sym (append-nil bodies))
-          (leaves_then d d0 d1 bodies (epoch_body w ∷ []) grows counts);
-      fits = inl refl;
-      full = λ would most is.
-          let found = full would most (ap Err (some_stop why (Full would most) is)) in (
-            found.0,
-            subst (λ (bs : List (List ℕ)). IsFull d d1 bs (epoch_body w ∷ []) would most)
-                (sym (append-nil bodies)) found.1,
-          );
-    },
-  )
-    where
-      some_stop : (a b : Stop) → Some a ≡ Some b → a ≡ b
-      some_stop a b e = cc
+module _
+    (kinds : Kinds) {D : Type 0} (d : Ghosts D) (bodies : List (List ℕ)) (w : World) (limit : ℕ)
+  where
+    -- the opening stopped
+    pub open_keeps : (d0 d1 : D) (why : Stop) (rest : List (List ℕ))
+        → GrowsLegally d d0 d1 bodies (epoch_body w ∷ []) → CountsNow d d1
+        → ((would most : ℕ) → IsErrOf {T = Engine} (Err why) (Full would most)
+        → (most ≡ limit) × IsFull d d1 bodies (epoch_body w ∷ []) would most)
+        → OnlyNow d d0 → IsStart d d0 bodies w
+        → KeepsRun kinds d d0 d1 bodies w limit (Err (Work why)) [] rest
+    open_keeps d0 d1 why rest grows counts full only start = inl (
+      λ none. none,
+      refl,
+      record {
+        moments = grows;
+        mid = d0;
+        steps = nothing_yet d bodies w d0 only start;
+        last = subst (λ (bs : List (List ℕ)). GrowsLegally d d0 d1 bs (epoch_body w ∷ [])) (sym (append-nil bodies))
+            grows;
+        sure = subst (λ (bs : List (List ℕ)). Leaves d d1 bs (epoch_body w ∷ [])) (sym (append-nil bodies))
+            (leaves_then d d0 d1 bodies (epoch_body w ∷ []) grows counts);
+        fits = inl refl;
+        full = λ would most is.
+            let found = full would most (ap Err (some_stop why (Full would most) is)) in (
+              found.0,
+              subst (λ (bs : List (List ℕ)). IsFull d d1 bs (epoch_body w ∷ []) would most)
+                  (sym (append-nil bodies)) found.1,
+            );
+      },
+    )
+      where
+        some_stop : (a b : Stop) → Some a ≡ Some b → a ≡ b
+        some_stop a b e = cc
 
-  -- memory ran out before the journal was opened
-  pub no_reader_keeps : (disk : D) (rest : List (List ℕ)) → IsStart d disk bodies w
-      → OnlyNow d disk → CountsNow d disk
-      → KeepsRun d disk disk bodies w limit (Err (Read fault.Memory)) [] rest
-  no_reader_keeps disk rest start only counts =
-      let here = nothing_yet d bodies w disk only start in
-      inl (
-        λ none. none,
-        refl,
-        record {
-          moments = here;
-          mid = disk;
-          steps = here;
-          last = subst (λ (bs : List (List ℕ)). GrowsLegally d disk disk bs []) (sym (append-nil bodies)) here;
-          sure = subst (λ (bs : List (List ℕ)). Leaves d disk bs []) (sym (append-nil bodies))
-              (leaves_then d disk disk bodies [] here counts);
-          fits = inl refl;
-          full = λ would most is. cc;
-        },
-      )
+    -- memory ran out before the journal was opened
+    pub no_reader_keeps : (disk : D) (rest : List (List ℕ)) → IsStart d disk bodies w
+        → OnlyNow d disk → CountsNow d disk
+        → KeepsRun kinds d disk disk bodies w limit (Err (Read fault.Memory)) [] rest
+    no_reader_keeps disk rest start only counts =
+        let here = nothing_yet d bodies w disk only start in
+        inl (
+          λ none. none,
+          refl,
+          record {
+            moments = here;
+            mid = disk;
+            steps = here;
+            last = subst (λ (bs : List (List ℕ)). GrowsLegally d disk disk bs []) (sym (append-nil bodies)) here;
+            sure = subst (λ (bs : List (List ℕ)). Leaves d disk bs []) (sym (append-nil bodies))
+                (leaves_then d disk disk bodies [] here counts);
+            fits = inl refl;
+            full = λ would most is. cc;
+          },
+        )
 
-  -- the lines were played over the journal that was opened
-  pub played_keeps : (d0 d1 d2 : D) (first : Engine) (ended : Result Bool Cause)
-      (done rest : List (List ℕ)) → GrowsLegally d d0 d1 bodies (epoch_body w ∷ [])
-      → end_of (bodies ++ epoch_body w ∷ []) ≤ limit → limit_of first ≡ limit
-      → session_of first ≡ opened w → IsAt d d1 first (bodies ++ epoch_body w ∷ []) → d.tells
-      → KeepsFrom d d1 d2 first ended done rest
-      → KeepsRun d d0 d2 bodies w limit ended done rest
-  played_keeps d0 d1 d2 first ended done rest grows fits same_limit same at t kept =
-      let all = bodies ++ epoch_body w ∷ [] in
-      let here = kept t all at (subst (λ (n : ℕ). end_of all ≤ n) (sym same_limit) fits) in
-      let K : Session → ℕ → Type 0 = λ s n. Keeps d d1 d2 all (chunks line_effect 1 done s)
-      (next_chunk line_effect (length done + 1) rest (state_after line_effect 1 done s)) n (stop_of ended) in
-      inr (keeps_behind d d0 d1 d2 bodies (epoch_body w ∷ []) (chunks line_effect 1 done (opened w)) _
-      limit (stop_of ended) grows
-      (subst (λ (s : Session). K s limit) same (subst (λ (n : ℕ). K (session_of first) n) same_limit here))
-      fits)
+    -- the lines were played over the journal that was opened
+    pub played_keeps : (d0 d1 d2 : D) (first : Engine) (ended : Result Bool Cause)
+        (done rest : List (List ℕ)) → GrowsLegally d d0 d1 bodies (epoch_body w ∷ [])
+        → end_of (bodies ++ epoch_body w ∷ []) ≤ limit → limit_of first ≡ limit
+        → standing_of kinds first ≡ opened kinds w → IsAt d d1 first (bodies ++ epoch_body w ∷ []) → d.tells
+        → KeepsFrom kinds d d1 d2 first ended done rest
+        → KeepsRun kinds d d0 d2 bodies w limit ended done rest
+    played_keeps d0 d1 d2 first ended done rest grows fits same_limit same at t kept =
+        let all = bodies ++ epoch_body w ∷ [] in
+        let here = kept t all at (subst (λ (n : ℕ). end_of all ≤ n) (sym same_limit) fits) in
+        let K : Standing → ℕ → Type 0 = λ s n. Keeps d d1 d2 all (chunks line_effect 1 done s)
+        (next_chunk line_effect (length done + 1) rest (state_after line_effect 1 done s)) n (stop_of ended) in
+        inr (keeps_behind d d0 d1 d2 bodies (epoch_body w ∷ []) (chunks line_effect 1 done (opened kinds w)) _
+        limit (stop_of ended) grows
+        (subst (λ (s : Standing). K s limit) same (subst (λ (n : ℕ). K (standing_of kinds first) n) same_limit here))
+        fits)
 
 -- nothing was done to a disk
 pub untouched : {D : Type 0} (d : Ghosts D) (disk : D) → OnlyNow d disk → IsUntouched d disk disk

@@ -4,7 +4,7 @@ use Rattle.std.proofs.lemmas.Bool.Decides.{leb_tells}
 use Rattle.std.proofs.lemmas.List.{take_all, length-take-le}
 use Rattle.rx_engine.proofs.Cut.{same_when_cut}
 use Rattle.rx_engine.specs.Meaning.{Meaning, meaning}
-use Rattle.rx_session.specs.Session.{Session}
+use Rattle.rx_engine.specs.Standing.{Standing}
 use Rattle.rx_script.specs.Line.{max_line_bytes}
 use Rattle.rx_top.specs.Lines.{is_blank}
 use Rattle.rx_top.specs.Reader.{kept_front}
@@ -28,7 +28,7 @@ kept_blank line = elim (leb_tells (length line) max_line_bytes) [
       long_blank (kept_front line) (still_long line h) ∙ sym (long_blank line h)
 ]
 
-pub kept_effect : (n : ℕ) (line : List ℕ) (s : Session)
+pub kept_effect : (n : ℕ) (line : List ℕ) (s : Standing)
     → line_effect n (kept_front line) s ≡ line_effect n line s
 kept_effect n line s =
     ap (λ b. cond b (no_effect s) (effect_of (meaning n (kept_front line) s))) (kept_blank line)

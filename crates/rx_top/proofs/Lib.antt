@@ -11,4 +11,3 @@ pub mod Heads
 pub mod Stopping
 pub mod Statuses
 pub mod GoingOn
-pub mod Limits

@@ -5,6 +5,7 @@ use Rattle.rx_disk.specs.declared.disk.Disk.{Ghosts}
 use Rattle.rx_store.specs.Safe.{IsFull}
 use Rattle.rx_store.specs.Holds.{IsLegalFile, StandsLegally}
 use Rattle.rx_engine.specs.Opening.{epoch_body, opened}
+use Rattle.rx_handler.specs.Handlers.{Kinds}
 use Rattle.rx_frame.specs.File.{end_of}
 use Rattle.rx_outside.specs.Failed.{Rises}
 use Rattle.rx_outside.specs.Sink.{WritesFront}
@@ -120,6 +121,30 @@ is_too_long (Err (Work NotJournal)) h = absurd (omega (arith, h))
 is_too_long (Err (Work (Full would limit))) h = absurd (omega (arith, h))
 is_too_long (Err (Read fault.TooLong)) h = refl
 
+pub status_low : (e : Result Bool Cause) → status_of e ≤ 9
+status_low (Ok false) = omega arith
+status_low (Ok true) = omega arith
+status_low (Err (Work Disk)) = omega arith
+status_low (Err (Read fault.Failed)) = omega arith
+status_low (Err Sink) = omega arith
+status_low (Err (Work Memory)) = omega arith
+status_low (Err (Read fault.Memory)) = omega arith
+status_low (Err (Work NotJournal)) = omega arith
+status_low (Err (Work (Full would limit))) = omega arith
+status_low (Err (Read fault.TooLong)) = omega arith
+
+pub no_usage : (e : Result Bool Cause) → status_of e ≡ 2 → ⊥
+no_usage (Ok false) h = omega (arith, h)
+no_usage (Ok true) h = omega (arith, h)
+no_usage (Err (Work Disk)) h = omega (arith, h)
+no_usage (Err (Read fault.Failed)) h = omega (arith, h)
+no_usage (Err Sink) h = omega (arith, h)
+no_usage (Err (Work Memory)) h = omega (arith, h)
+no_usage (Err (Read fault.Memory)) h = omega (arith, h)
+no_usage (Err (Work NotJournal)) h = omega (arith, h)
+no_usage (Err (Work (Full would limit))) h = omega (arith, h)
+no_usage (Err (Read fault.TooLong)) h = omega (arith, h)
+
 -- which statuses come over a journal alone
 abbrev pub IsOverJournal : ℕ → Type 0
 IsOverJournal n = (n < 2) ⊎ (n ≡ 4) ⊎ (n ≡ 5) ⊎ (n ≡ 8) ⊎ (n ≡ 9)
@@ -171,14 +196,14 @@ no_line f0 f2 a b (inr f) =
     f.0.3 ∙ ap (λ v. a ++ v) (none_before f.0.0 f.0.1 f.0.2) ∙ append-nil a
 
 module _
-    (tells : Type 0) (f0 f2 : ℕ) (w0 w2 : List ℕ) (w : World) (input left : List ℕ) (status : ℕ)
+    {kinds : Kinds} (tells : Type 0) (f0 f2 : ℕ) (w0 w2 : List ℕ) (w : World) (input left : List ℕ) (status : ℕ)
     (Kept : Result Bool Cause → List (List ℕ) → List (List ℕ) → Type 0)
-    (has : HasRun tells f0 f2 w0 w2 w input left status Kept)
+    (has : HasRun kinds tells f0 f2 w0 w2 w input left status Kept)
   where
     -- the play and the last line, where the end is known
     abbrev Ended : Result Bool Cause → Type 0
     Ended e =
-        Plays line_effect tells w0 has.before input left (opened w) e (Kept e)
+        Plays line_effect tells w0 has.before input left (opened kinds w) e (Kept e)
         × EndsWith tells f0 f2 has.before w2 (last_words e)
 
     ended_as : (e : Result Bool Cause) → has.ended ≡ e → Ended e
@@ -200,17 +225,17 @@ module _
         sym (run.whole ∙ ap (λ (v : List (List ℕ)). run.done ++ v) run.reads.0 ∙ append-nil run.done)
 
     pub status_tells : status < 2
-        → status ≡ cond (any_refused line_effect 1 (lines input) (opened w)) 1 0
+        → status ≡ cond (any_refused line_effect 1 (lines input) (opened kinds w)) 1 0
     status_tells low =
         let p = played low in
         p.1 ∙ ap (λ b. cond b 1 0) (p.2.0.reads.1
-        ∙ ap (λ (v : List (List ℕ)). any_refused line_effect 1 v (opened w)) (all_done p.0 p.2))
+        ∙ ap (λ (v : List (List ℕ)). any_refused line_effect 1 v (opened kinds w)) (all_done p.0 p.2))
 
-    pub wrote_transcript : status < 2 → tells → w2 ≡ w0 ++ transcript (lines input) (opened w)
+    pub wrote_transcript : status < 2 → tells → w2 ≡ w0 ++ transcript (lines input) (opened kinds w)
     wrote_transcript low t =
         let p = played low in
         no_line f0 f2 has.before w2 (p.2.1 t) ∙ p.2.0.writes t
-        ∙ ap (λ (v : List (List ℕ)). w0 ++ transcript v (opened w)) (all_done p.0 p.2)
+        ∙ ap (λ (v : List (List ℕ)). w0 ++ transcript v (opened kinds w)) (all_done p.0 p.2)
 
     -- what was kept of all lines
     pub kept_of_all : status < 2 → (r : Bool) × (rest : List (List ℕ)) × Kept (Ok r) (lines input) rest
@@ -229,21 +254,21 @@ module _
 
     pub read : status ≡ 4
         → (given : List ℕ) × (input ≡ given ++ left)
-        × Stops tells f0 f2 w0 w2 (transcript (cut given).whole (opened w)) (stop_line (codes "read"))
+        × Stops tells f0 f2 w0 w2 (transcript (cut given).whole (opened kinds w)) (stop_line (codes "read"))
     read is =
         let end = ended_as (Err (Read fault.Failed)) (is_read has.ended (sym has.is_status ∙ is)) in
         let reads = end.0.reads in (
           reads.0,
           reads.1,
-          stops (transcript (cut reads.0).whole (opened w)) (stop_line (codes "read"))
+          stops (transcript (cut reads.0).whole (opened kinds w)) (stop_line (codes "read"))
               (λ t. end.0.writes t
-              ∙ ap (λ (v : List (List ℕ)). w0 ++ transcript v (opened w)) reads.2)
+              ∙ ap (λ (v : List (List ℕ)). w0 ++ transcript v (opened kinds w)) reads.2)
               end.1,
         )
 
     pub too_long : status ≡ 9
         → (given : List ℕ) × (input ≡ given ++ left) × (length given ≡ max_input_bytes + 1)
-        × Stops tells f0 f2 w0 w2 (transcript (cut (take max_input_bytes given)).whole (opened w))
+        × Stops tells f0 f2 w0 w2 (transcript (cut (take max_input_bytes given)).whole (opened kinds w))
         (stop_line (codes "too_long"))
     too_long is =
         let end = ended_as (Err (Read fault.TooLong)) (is_too_long has.ended (sym has.is_status ∙ is)) in
@@ -251,37 +276,37 @@ module _
           reads.0,
           reads.1,
           reads.2,
-          stops (transcript (cut (take max_input_bytes reads.0)).whole (opened w))
+          stops (transcript (cut (take max_input_bytes reads.0)).whole (opened kinds w))
               (stop_line (codes "too_long"))
               (λ t. end.0.writes t
-              ∙ ap (λ (v : List (List ℕ)). w0 ++ transcript v (opened w)) reads.3)
+              ∙ ap (λ (v : List (List ℕ)). w0 ++ transcript v (opened kinds w)) reads.3)
               end.1,
         )
 
-    pub sink : status ≡ 5 → tells → WritesFront w0 w2 (transcript (lines input) (opened w))
+    pub sink : status ≡ 5 → tells → WritesFront w0 w2 (transcript (lines input) (opened kinds w))
     sink is t =
         let end = ended_as (Err Sink) (is_sink has.ended (sym has.is_status ∙ is)) in
         let run = end.0 in
         let front = run.writes t in
         let more = replies line_effect (1 + length run.done) run.rest
-        (state_after line_effect 1 run.done (opened w)) in (
+        (state_after line_effect 1 run.done (opened kinds w)) in (
           front.0,
           front.1 ++ more,
-          ap (λ (v : List (List ℕ)). transcript v (opened w)) run.whole
-              ∙ replies-append line_effect 1 run.done run.rest (opened w) ∙ ap (λ v. v ++ more) front.2
+          ap (λ (v : List (List ℕ)). transcript v (opened kinds w)) run.whole
+              ∙ replies-append line_effect 1 run.done run.rest (opened kinds w) ∙ ap (λ v. v ++ more) front.2
               ∙ append_assoc front.0 front.1 more,
           no_line f0 f2 has.before w2 (end.1 t) ∙ front.3,
         )
 
     abbrev Stopped : List ℕ → Type 0
-    Stopped line = StopsAfter tells f0 f2 w0 w2 (lines input) (opened w) line
+    Stopped line = StopsAfter tells f0 f2 w0 w2 (lines input) (opened kinds w) line
 
     work_stopped : (why : Stop) → Ended (Err (Work why)) → Stopped (last_words (Err (Work why)))
     work_stopped why end = (
       end.0.done,
       end.0.rest,
       end.0.whole,
-      stops (transcript end.0.done (opened w)) (last_words (Err (Work why))) end.0.writes end.1,
+      stops (transcript end.0.done (opened kinds w)) (last_words (Err (Work why))) end.0.writes end.1,
     )
 
     pub disk : status ≡ 3 → Stopped (stop_line (codes "disk"))
@@ -303,14 +328,14 @@ module _
           end.0.done,
           end.0.rest,
           end.0.whole,
-          stops (transcript end.0.done (opened w)) (stop_line (codes "memory")) end.0.writes end.1,
+          stops (transcript end.0.done (opened kinds w)) (stop_line (codes "memory")) end.0.writes end.1,
         )
 
     -- the limit, and what was kept then
     pub full : status ≡ 8
         → (would : ℕ) × (most : ℕ) × (done : List (List ℕ)) × (rest : List (List ℕ))
         × (lines input ≡ done ++ rest) × Kept (Err (Work (Full would most))) done rest
-        × Stops tells f0 f2 w0 w2 (transcript done (opened w)) (full_line would most)
+        × Stops tells f0 f2 w0 w2 (transcript done (opened kinds w)) (full_line would most)
     full is =
         let why = is_full has.ended (sym has.is_status ∙ is) in
         let end = ended_as (Err (Work (Full why.0 why.1))) why.2 in (
@@ -320,41 +345,41 @@ module _
           end.0.rest,
           end.0.whole,
           end.0.kept,
-          stops (transcript end.0.done (opened w)) (full_line why.0 why.1) end.0.writes end.1,
+          stops (transcript end.0.done (opened kinds w)) (full_line why.0 why.1) end.0.writes end.1,
         )
 
 -- ---- what is kept
 
 module _
-    {D : Type 0} (d : Ghosts D) (old new : D) (tells : Type 0) (f0 f2 : ℕ) (w0 w2 : List ℕ)
+    {kinds : Kinds} {D : Type 0} (d : Ghosts D) (old new : D) (tells : Type 0) (f0 f2 : ℕ) (w0 w2 : List ℕ)
     (bodies : List (List ℕ)) (w : World) (input left : List ℕ) (limit status : ℕ)
-    (has : HasRun tells f0 f2 w0 w2 w input left status (KeepsRun d old new bodies w limit))
+    (has : HasRun kinds tells f0 f2 w0 w2 w input left status (KeepsRun kinds d old new bodies w limit))
   where
     -- a run that was played has all of its chunks
     keeps_all : status < 2
         → (r : Bool) × (rest : List (List ℕ))
-        × Keeps d old new bodies (run_chunks w (lines input)) (due_after w (lines input) rest) limit
+        × Keeps d old new bodies (run_chunks kinds w (lines input)) (due_after kinds w (lines input) rest) limit
         (stop_of (Ok r))
     keeps_all low =
         let all = kept_of_all tells f0 f2 w0 w2 w input left status _ has low in
         (all.0, all.1, ⊎_elim (λ un. absurd (un.0 tt)) (λ keeps. keeps) all.2)
 
     pub kept : status < 2 → (c : List ℕ) → d.image new c
-        → (after : World) × IsLegalFile c (bodies ++ run_bodies w (lines input)) after
+        → (after : World) × IsLegalFile c (bodies ++ run_bodies kinds w (lines input)) after
     kept low c here =
-        legal_now (bodies ++ run_bodies w (lines input)) c ((keeps_all low).2.sure c here)
+        legal_now (bodies ++ run_bodies kinds w (lines input)) c ((keeps_all low).2.sure c here)
 
-    pub fits : status < 2 → end_of (bodies ++ run_bodies w (lines input)) ≤ limit
+    pub fits : status < 2 → end_of (bodies ++ run_bodies kinds w (lines input)) ≤ limit
     fits low = ⊎_elim (λ none. cc) (λ le. le) (keeps_all low).2.fits
 
     -- a record that is due next would end past a limit
     abbrev Past : List (List ℕ) → List (List ℕ) → ℕ → ℕ → Type 0
     Past done rest would most =
         ((done ≡ []) × IsFull d new bodies (epoch_body w ∷ []) would most)
-        ⊎ IsFull d new (bodies ++ run_bodies w done) (due_after w done rest) would most
+        ⊎ IsFull d new (bodies ++ run_bodies kinds w done) (due_after kinds w done rest) would most
 
     past : (would most : ℕ) (done rest : List (List ℕ))
-        → KeepsRun d old new bodies w limit (Err (Work (Full would most))) done rest
+        → KeepsRun kinds d old new bodies w limit (Err (Work (Full would most))) done rest
         → (most ≡ limit) × Past done rest would most
     past would most done rest (inl un) =
         let full = un.2.full would most refl in (
@@ -370,8 +395,8 @@ module _
 
     pub is_due : status ≡ 8
         → (done : List (List ℕ)) × (rest : List (List ℕ)) × (would : ℕ)
-        × IsDue d new bodies w (lines input) done rest would limit
-        × Stops tells f0 f2 w0 w2 (transcript done (opened w)) (full_line would limit)
+        × IsDue kinds d new bodies w (lines input) done rest would limit
+        × Stops tells f0 f2 w0 w2 (transcript done (opened kinds w)) (full_line would limit)
     is_due is =
         let f = full tells f0 f2 w0 w2 w input left status _ has is in
         let p = past f.0 f.1 f.2 f.3 f.5 in (
@@ -382,5 +407,5 @@ module _
             whole = f.4;
             past = subst (λ (n : ℕ). Past f.2 f.3 f.0 n) p.0 p.1;
           },
-          subst (λ (n : ℕ). Stops tells f0 f2 w0 w2 (transcript f.2 (opened w)) (full_line f.0 n)) p.0 f.6,
+          subst (λ (n : ℕ). Stops tells f0 f2 w0 w2 (transcript f.2 (opened kinds w)) (full_line f.0 n)) p.0 f.6,
         )

@@ -1,6 +1,7 @@
 -- The stop line after what was told.
 use Rattle.std.proofs.Common.{◌≡◌, ◌∙◌, refl, ap, subst, ℕ, ◌≤◌, List, ◌++◌, ◌⊎◌, inl, inr, arith, sym, append_assoc, Result, Ok, Err, OnOk, OnErr}
 use Rattle.rx_outside.proofs.Counts.{rises_later}
+use Rattle.std.proofs.lemmas.Bool.Decides.{leb_tells}
 use Rattle.rx_outside.specs.Failed.{Rises}
 use Rattle.rx_outside.specs.Sink.{WritesFront}
 use Rattle.rx_top.specs.Stops.{EndsWith, Stops}
@@ -19,6 +20,14 @@ pub stops_told : (tells : Type 0) (f0 f1 f2 : ℕ) (old mid new told line : List
     → Stops tells f0 f2 old new told line
 stops_told tells f0 f1 f2 old mid new told line h e wrote =
     λ t. stopped f0 f1 f2 mid (old ++ told) new line h (e t) (wrote t)
+
+-- a count that rose stays risen
+pub rises_still : (f0 f1 f2 : ℕ) → f0 ≤ f1 → f1 ≤ f2 → Rises f0 f1 → Rises f0 f2
+rises_still f0 f1 f2 low on (inl less) = inl (omega (arith, less, on))
+rises_still f0 f1 f2 low on (inr last) = elim (leb_tells f2 f1) [
+  | inl w ↦ inr (let same : f2 ≡ f1 = omega (arith, on, w.1) in same ∙ last)
+  | inr w ↦ inl (omega (arith, low, w.1))
+]
 
 -- the faults are counted from an earlier time on
 pub ends_later : (tells : Type 0) (f0 f1 f2 : ℕ) (old new line : List ℕ) → f0 ≤ f1

@@ -1,12 +1,13 @@
 -- What the work on one line leaves, by what the engine says of it.
 use Rattle.std.proofs.Common.{◌≡◌, ◌∙◌, refl, sym, ap, subst, ℕ, Bool, true, false, cond, List, [], ◌++◌, append-nil, Option, None, Some, Result, Ok, Err, IsErrOf, inl}
 use Rattle.rx_disk.specs.declared.disk.Disk.{Ghosts}
-use Rattle.rx_engine.specs.Engine.{IsAt, limit_of, session_of}
+use Rattle.rx_engine.specs.Engine.{IsAt, limit_of, standing_of}
 use Rattle.rx_engine.specs.Meaning.{meaning}
 use Rattle.rx_engine.specs.declared.engine.Engine.{Engine}
-use Rattle.rx_engine.specs.declared.engine.Output.{Output}
+use Rattle.rx_engine.specs.declared.output.Output.{Output}
 use Rattle.rx_outside.specs.declared.stop.Stop.{Stop}
-use Rattle.rx_session.specs.Session.{Session}
+use Rattle.rx_engine.specs.Standing.{Standing}
+use Rattle.rx_handler.specs.Handlers.{Kinds}
 use Rattle.rx_store.specs.Safe.{IsCrashSafe}
 use Rattle.rx_top.specs.Lines.{is_blank}
 use Rattle.rx_top.specs.Script.{effect_of, line_effect, no_effect}
@@ -17,10 +18,10 @@ use Rattle.rx_top.specs.declared.cause.Cause.TheVariants.{Sink, Work}
 use Rattle.rx_top.proofs.Chunks.{OnlyNow, still}
 use Rattle.rx_top.proofs.Exits.{leaves_at}
 
-module _ {D : Type 0} (d : Ghosts D) (e : Engine) (n : ℕ) (line : List ℕ) where
+module _ (kinds : Kinds) {D : Type 0} (d : Ghosts D) (e : Engine) (n : ℕ) (line : List ℕ) where
   -- what the line does
-  abbrev effect : Effect Session
-  effect = line_effect n line (session_of e)
+  abbrev effect : Effect Standing
+  effect = line_effect n line (standing_of kinds e)
 
   -- work on the line is safe, by what it came to
   abbrev IsSafe : D → D → List (List ℕ) → Result (Engine × Bool) Cause → Type 0
@@ -29,7 +30,7 @@ module _ {D : Type 0} (d : Ghosts D) (e : Engine) (n : ℕ) (line : List ℕ) wh
 
   nothing_to_do : is_blank line ≡ true → [] ≡ effect.bodies
   nothing_to_do blank =
-      ap (λ b. (cond b (no_effect (session_of e)) (effect_of (meaning n line (session_of e)))).bodies)
+      ap (λ b. (cond b (no_effect (standing_of kinds e)) (effect_of (meaning n line (standing_of kinds e)))).bodies)
       (sym blank)
 
   -- a blank line leaves the disk as it is
@@ -47,21 +48,21 @@ module _ {D : Type 0} (d : Ghosts D) (e : Engine) (n : ℕ) (line : List ℕ) wh
         not_journal = λ is. cc;
       })
 
-  does : is_blank line ≡ false → effect_of (meaning n line (session_of e)) ≡ effect
+  does : is_blank line ≡ false → effect_of (meaning n line (standing_of kinds e)) ≡ effect
   does full =
-      ap (λ b. cond b (no_effect (session_of e)) (effect_of (meaning n line (session_of e)))) (sym full)
+      ap (λ b. cond b (no_effect (standing_of kinds e)) (effect_of (meaning n line (standing_of kinds e)))) (sym full)
 
   -- what the engine did to the disk
   abbrev IsDone : D → D → List (List ℕ) → Result (Engine × Output) Stop → Type 0
   IsDone old new bodies result =
-      IsCrashSafe d old new bodies (effect_of (meaning n line (session_of e))).bodies (limit_of e)
+      IsCrashSafe d old new bodies (effect_of (meaning n line (standing_of kinds e))).bodies (limit_of e)
       (λ (p : Engine × Output). IsAt d new p.0) result
 
   -- the engine stopped
   pub stop_safe : (old new : D) (bodies : List (List ℕ)) (stop : Stop) → is_blank line ≡ false
       → IsDone old new bodies (Err stop) → IsSafe old new bodies (Err (Work stop))
   stop_safe old new bodies stop full safe =
-      subst (λ (m : Effect Session).
+      subst (λ (m : Effect Standing).
       IsCrashSafe d old new bodies m.bodies (limit_of e) (HasAll d new) (Err stop)) (does full)
       (record {
         moments = safe.moments;
@@ -80,7 +81,7 @@ module _ {D : Type 0} (d : Ghosts D) (e : Engine) (n : ℕ) (line : List ℕ) wh
       → is_blank line ≡ false → IsDone old new bodies (Ok pair)
       → IsSafe old new bodies (Ok (pair.0, now))
   done_safe old new bodies pair now full safe =
-      subst (λ (m : Effect Session).
+      subst (λ (m : Effect Standing).
       IsCrashSafe d old new bodies m.bodies (limit_of e) (HasAll d new) (Ok (Some pair.0))) (does full)
       (record {
         moments = safe.moments;
@@ -94,7 +95,7 @@ module _ {D : Type 0} (d : Ghosts D) (e : Engine) (n : ℕ) (line : List ℕ) wh
       → is_blank line ≡ false → IsDone old new bodies (Ok pair)
       → IsSafe old new bodies (Err Sink)
   sunk_safe old new bodies pair full safe =
-      subst (λ (m : Effect Session).
+      subst (λ (m : Effect Standing).
       IsCrashSafe d old new bodies m.bodies (limit_of e) (HasAll d new) (Ok None)) (does full)
       (record {
         moments = safe.moments;

@@ -1,5 +1,3 @@
-pub mod Words
-pub mod Shown
 pub mod Lines
 pub mod Reader
 pub mod Story
@@ -9,3 +7,5 @@ pub mod Chunks
 pub mod Start
 pub mod Run
 pub mod Work
+pub mod Untouched
+pub mod PlaysScript

@@ -1,11 +1,12 @@
 -- What a run over a journal wrote and left, wherever it ended.
 use Rattle.std.specs.Prelude.{◌≡◌, ◌≤◌, ◌⊎◌, ⊤, ℕ, ◌+◌, List, [], ◌∷◌, ◌++◌, length, take, Bool, Option, None, Some, Result, Ok, Err}
 use Rattle.rx_disk.specs.declared.disk.Disk.{Ghosts}
-use Rattle.rx_engine.specs.Engine.{IsAt, limit_of, session_of}
+use Rattle.rx_engine.specs.Engine.{IsAt, limit_of, standing_of}
 use Rattle.rx_engine.specs.declared.engine.Engine.{Engine}
 use Rattle.rx_engine.specs.Opening.{epoch_body, opened}
 use Rattle.rx_frame.specs.File.{end_of}
-use Rattle.rx_session.specs.Session.{Session}
+use Rattle.rx_engine.specs.Standing.{Standing}
+use Rattle.rx_handler.specs.Handlers.{Kinds}
 use Rattle.rx_store.specs.Safe.{IsFull}
 use Rattle.rx_outside.specs.Sink.{WritesFront}
 use Rattle.rx_outside.specs.declared.stop.Stop.{Stop}
@@ -100,7 +101,7 @@ WasPlayed (Err Sink) = Unit
 
 -- the disk keeps the lines that are done, each a chunk
 abbrev pub KeepsLines
-    : {D : Type 0} → Ghosts D → D → D → List (List ℕ) → Session → ℕ → Result Bool Cause
+    : {D : Type 0} → Ghosts D → D → D → List (List ℕ) → Standing → ℕ → Result Bool Cause
     → List (List ℕ) → List (List ℕ) → Type 0
 KeepsLines d old new bodies s limit ended done rest =
     Keeps d old new bodies (chunks line_effect 1 done s)
@@ -108,40 +109,41 @@ KeepsLines d old new bodies s limit ended done rest =
 
 -- the same from an engine on, whatever bodies its disk has within the limit
 abbrev pub KeepsFrom
-    : {D : Type 0} → Ghosts D → D → D → Engine → Result Bool Cause → List (List ℕ)
+    : {D : Type 0} → Kinds → Ghosts D → D → D → Engine → Result Bool Cause → List (List ℕ)
     → List (List ℕ) → Type 0
-KeepsFrom d old new first ended done rest =
+KeepsFrom kinds d old new first ended done rest =
     d.tells → (bodies : List (List ℕ)) → IsAt d old first bodies → end_of bodies ≤ limit_of first
-    → KeepsLines d old new bodies (session_of first) (limit_of first) ended done rest
+    → KeepsLines d old new bodies (standing_of kinds first) (limit_of first) ended done rest
 
 -- the chunks of a run: the record of its epoch, and those of its lines
-abbrev pub run_chunks : World → List (List ℕ) → List (List (List ℕ))
-run_chunks w done = (epoch_body w ∷ []) ∷ chunks line_effect 1 done (opened w)
+abbrev pub run_chunks : Kinds → World → List (List ℕ) → List (List (List ℕ))
+run_chunks kinds w done = (epoch_body w ∷ []) ∷ chunks line_effect 1 done (opened kinds w)
 
 -- their bodies
-abbrev pub run_bodies : World → List (List ℕ) → List (List ℕ)
-run_bodies w done = all_of (run_chunks w done)
+abbrev pub run_bodies : Kinds → World → List (List ℕ) → List (List ℕ)
+run_bodies kinds w done = all_of (run_chunks kinds w done)
 
 -- the chunk that is due after lines
-abbrev pub due_after : World → List (List ℕ) → List (List ℕ) → List (List ℕ)
-due_after w done rest =
-    next_chunk line_effect (length done + 1) rest (state_after line_effect 1 done (opened w))
+abbrev pub due_after : Kinds → World → List (List ℕ) → List (List ℕ) → List (List ℕ)
+due_after kinds w done rest =
+    next_chunk line_effect (length done + 1) rest (state_after line_effect 1 done (opened kinds w))
 
 -- The disk keeps the chunks of a run from the journal as it was found: where that wasn't opened none,
 -- and the record of the epoch was due; and where it was, that one with those of the lines done.
 abbrev pub KeepsRun
-    : {D : Type 0} → Ghosts D → D → D → List (List ℕ) → World → ℕ → Result Bool Cause
+    : {D : Type 0} → Kinds → Ghosts D → D → D → List (List ℕ) → World → ℕ → Result Bool Cause
     → List (List ℕ) → List (List ℕ) → Type 0
-KeepsRun d old new bodies w limit ended done rest =
+KeepsRun kinds d old new bodies w limit ended done rest =
     ((WasPlayed ended → ⊥) × (done ≡ [])
     × Keeps d old new bodies [] (epoch_body w ∷ []) limit (stop_of ended))
-    ⊎ Keeps d old new bodies (run_chunks w done) (due_after w done rest) limit (stop_of ended)
+    ⊎ Keeps d old new bodies (run_chunks kinds w done) (due_after kinds w done rest) limit (stop_of ended)
 
 -- ---- both, and the end
 
 -- A run ended with this status, and its last line, or a front of it where the sink failed, stands
 -- behind the replies. What it kept is said of how it ended, the lines done and the rest.
 pub record HasRun
+    (kinds : Kinds)
     (tells : Type 0)
     (faults faults' : ℕ)
     (written written' : List ℕ)
@@ -153,19 +155,19 @@ pub record HasRun
   pub is_status : status ≡ status_of ended
   -- what the sink had before the last line
   pub before : List ℕ
-  pub run : Plays line_effect tells written before input left (opened w) ended (Kept ended)
+  pub run : Plays line_effect tells written before input left (opened kinds w) ended (Kept ended)
   pub line : EndsWith tells faults faults' before written' (last_words ended)
 
 -- the same where nothing is known of the disk: some world has the session that the run began with
 abbrev pub HasRunSomewhere
-    : Type 0 → ℕ → ℕ → List ℕ → List ℕ → List ℕ → List ℕ → ℕ → Type 0
-HasRunSomewhere tells faults faults' written written' input left status =
+    : Kinds → Type 0 → ℕ → ℕ → List ℕ → List ℕ → List ℕ → List ℕ → ℕ → Type 0
+HasRunSomewhere kinds tells faults faults' written written' input left status =
     (w : World)
-    × HasRun tells faults faults' written written' w input left status (λ ended done rest. ⊤)
+    × HasRun kinds tells faults faults' written written' w input left status (λ ended done rest. ⊤)
 
 -- the replies to some lines, from the first on, and then a line that tells of a stop
 abbrev pub StopsAfter
-    : Type 0 → ℕ → ℕ → List ℕ → List ℕ → List (List ℕ) → Session → List ℕ → Type 0
+    : Type 0 → ℕ → ℕ → List ℕ → List ℕ → List (List ℕ) → Standing → List ℕ → Type 0
 StopsAfter tells faults faults' written written' lines s line =
     (done : List (List ℕ)) × (rest : List (List ℕ)) × (lines ≡ done ++ rest)
     × Stops tells faults faults' written written' (transcript done s) line
@@ -174,6 +176,7 @@ StopsAfter tells faults faults' written written' lines s line =
 -- the next line
 pub record IsDue
     {D : Type 0}
+    (kinds : Kinds)
     (d : Ghosts D)
     (disk : D)
     (bodies : List (List ℕ))
@@ -182,4 +185,4 @@ pub record IsDue
     (would limit : ℕ) : Type 0 where
   pub whole : lines ≡ done ++ rest
   pub past : ((done ≡ []) × IsFull d disk bodies (epoch_body w ∷ []) would limit)
-      ⊎ IsFull d disk (bodies ++ run_bodies w done) (due_after w done rest) would limit
+      ⊎ IsFull d disk (bodies ++ run_bodies kinds w done) (due_after kinds w done rest) would limit

@@ -1,15 +1,17 @@
-//! The program over any source, sink and disk: the words of its command, and the play of a script
-//! from its bytes to its answer.
+//! The program over any source, sink, disk, door and clock: a command from its words to its status,
+//! and the play of a script from its bytes to its answers.
+//!
+//! `rx` is the call that the program makes. What it promises of each command is a record of specs/:
+//! `PlaysScript` of `run`, `ServesCollection` of `serve`. It knows nothing of what a line means.
 #![tactic(auto)]
 
 mod cause;
 mod laws;
 mod play;
 mod reader;
+mod run;
 mod stop;
 mod top;
-mod words;
 
 pub use laws::{goes_on, starts_empty};
 pub use top::rx;
-pub use words::{Command, Words, command_of};

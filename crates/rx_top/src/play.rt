@@ -1,7 +1,8 @@
 // Plays a script from its source to its sink, over an open journal.
 ghost use Rattle.std.specs.Prelude.{◌≡◌, ◌≤◌, ◌++◌, ℕ, List, [], IfOk, OnOk, IsErrOf};
 ghost use Rattle.std.specs.List.{list_all};
-ghost use Rattle.rx_engine.specs.Engine.{IsAt, limit_of, session_of};
+ghost use Rattle.rx_engine.specs.Engine.{IsAt, limit_of, standing_of};
+ghost use Rattle.rx_handler.specs.Shown.{kinds_of};
 ghost use Rattle.rx_outside.specs.Failed.{Rises};
 ghost use Rattle.rx_outside.specs.Sink.{WritesFront};
 ghost use Rattle.rx_outside.specs.declared.stop.Stop.{Stop};
@@ -20,6 +21,7 @@ use crate::cause::Cause;
 use crate::reader::{Next, Reader};
 use rx_disk::Disk;
 use rx_engine::Engine;
+use rx_handler::Handlers;
 use rx_outside::{Sink, Source, write_all};
 use rx_script::MAX_LINE_BYTES;
 use std::alloc::Global;
@@ -33,12 +35,13 @@ pub(crate) fn play<S: Source, K: Sink, D: Disk>(
     source: &mut S,
     out: &mut K,
     disk: &mut D,
+    handlers: &Handlers,
 ) -> Result<bool, Cause>
     requires at { D.tells → (bodies : List (List ℕ)) × IsAt D.Disk disk.old first bodies }
     requires fresh { reader.old ≡ record { line = []; unread = []; given = 0 } }
     ensures exit { S.tells → Plays line_effect K.tells (K.written out.old) (K.written out.new)
-        (S.left source.old) (S.left source.new) (session_of first) result
-        (KeepsFrom D.Disk disk.old disk.new first result) }
+        (S.left source.old) (S.left source.new) (standing_of (kinds_of handlers.now) first) result
+        (KeepsFrom (kinds_of handlers.now) D.Disk disk.old disk.new first result) }
     ensures legal { D.tells → (bodies : List (List ℕ)) → IsAt D.Disk disk.old first bodies
         → StaysLegal D.Disk disk.old disk.new bodies }
     ensures whole { S.tells → OnOk result (S.left source.new ≡ []) }
@@ -66,7 +69,7 @@ pub(crate) fn play<S: Source, K: Sink, D: Disk>(
             return Ok(refused);
         }
         number += 1;
-        let played = match play_line(alloc, engine, reader.line(), number, out, disk) {
+        let played = match play_line(alloc, engine, reader.line(), number, out, disk, handlers) {
             Ok(played) => played,
             Err(cause) => return Err(cause),
         };
@@ -86,21 +89,22 @@ fn play_line<K: Sink, D: Disk>(
     number: u64,
     out: &mut K,
     disk: &mut D,
+    handlers: &Handlers,
 ) -> Result<(Engine, bool), Cause>
     requires { D.tells → (bodies : List (List ℕ)) × IsAt D.Disk disk.old engine bodies }
-    ensures next { IfOk result (λ p. session_of p.0 ≡ (line_effect number line.now (session_of engine)).next) }
-    ensures refused { IfOk result (λ p. p.1 ≡ (line_effect number line.now (session_of engine)).refused) }
+    ensures next { IfOk result (λ p. standing_of (kinds_of handlers.now) p.0 ≡ (line_effect number line.now (standing_of (kinds_of handlers.now) engine)).next) }
+    ensures refused { IfOk result (λ p. p.1 ≡ (line_effect number line.now (standing_of (kinds_of handlers.now) engine)).refused) }
     ensures written { K.tells → OnOk result
-        (K.written out.new ≡ K.written out.old ++ (line_effect number line.now (session_of engine)).reply) }
+        (K.written out.new ≡ K.written out.old ++ (line_effect number line.now (standing_of (kinds_of handlers.now) engine)).reply) }
     ensures front { K.tells → IsErrOf result Cause.Sink
-        → WritesFront (K.written out.old) (K.written out.new) (line_effect number line.now (session_of engine)).reply }
+        → WritesFront (K.written out.old) (K.written out.new) (line_effect number line.now (standing_of (kinds_of handlers.now) engine)).reply }
     ensures unsaid { K.tells → (s : Stop) → IsErrOf result (Cause.Work s)
         → K.written out.new ≡ K.written out.old }
     ensures no_read { (f : ReadFault) → IsErrOf result (Cause.Read f) → ⊥ }
     // The line's records: what holds at each moment, where the work was done, and where it stopped.
     ensures safe { D.tells → (bodies : List (List ℕ)) → IsAt D.Disk disk.old engine bodies
         → IsCrashSafe D.Disk disk.old disk.new bodies
-        (line_effect number line.now (session_of engine)).bodies (limit_of engine)
+        (line_effect number line.now (standing_of (kinds_of handlers.now) engine)).bodies (limit_of engine)
         (HasAll D.Disk disk.new) (work_of result) }
     ensures limit { IfOk result (λ p. limit_of p.0 ≡ limit_of engine) }
     ensures sink { IsErrOf result Cause.Sink → Rises (K.faults out.old) (K.faults out.new) }
@@ -113,7 +117,7 @@ fn play_line<K: Sink, D: Disk>(
     if is_blank(line) {
         return Ok((engine, false));
     }
-    let (engine, output) = match engine.line(alloc, disk, line, number) {
+    let (engine, output) = match engine.line(alloc, disk, handlers, line, number) {
         Ok(pair) => pair,
         Err(stop) => return Err(Cause::Work(stop)),
     };

@@ -2,7 +2,7 @@
 ghost use Rattle.std.specs.Prelude.{◌≡◌, ◌≤◌, ◌++◌, decimal, OnOk, OnErr};
 ghost use Rattle.rx_outside.specs.Failed.{Rises};
 ghost use Rattle.rx_outside.specs.Sink.{WritesFront};
-ghost use Rattle.rx_top.specs.Stops.{full_line, last_words, status_of};
+ghost use Rattle.rx_top.specs.Stops.{full_line, last_words, status_of, stop_status, stop_words};
 
 use crate::cause::{Cause, ReadFault};
 use itoa::Buffer;
@@ -15,14 +15,23 @@ pub(crate) fn status_of(ended: &Result<bool, Cause>) -> u8
     match ended {
         Ok(false) => 0,
         Ok(true) => 1,
-        Err(Cause::Work(Stop::Disk)) => 3,
+        Err(Cause::Work(stop)) => stop_status(stop),
         Err(Cause::Read(ReadFault::Failed)) => 4,
         Err(Cause::Sink) => 5,
-        Err(Cause::Work(Stop::Memory)) => 6,
         Err(Cause::Read(ReadFault::Memory)) => 6,
-        Err(Cause::Work(Stop::NotJournal)) => 7,
-        Err(Cause::Work(Stop::Full { .. })) => 8,
         Err(Cause::Read(ReadFault::TooLong)) => 9,
+    }
+}
+
+/// The status where the work on a journal stopped.
+pub(crate) fn stop_status(stop: &Stop) -> u8
+    ensures { result ≡ stop_status stop.now }
+{
+    match stop {
+        Stop::Disk => 3,
+        Stop::Memory => 6,
+        Stop::NotJournal => 7,
+        Stop::Full { .. } => 8,
     }
 }
 
@@ -38,13 +47,28 @@ pub(crate) fn write_end<K: Sink>(out: &mut K, ended: &Result<bool, Cause>) -> Re
     match ended {
         Ok(_) => Ok(()),
         Err(Cause::Sink) => Ok(()),
-        Err(Cause::Work(Stop::Disk)) => write_all(out, b"{\"stop\":\"disk\"}\n"),
-        Err(Cause::Work(Stop::Memory)) => write_all(out, b"{\"stop\":\"memory\"}\n"),
-        Err(Cause::Work(Stop::NotJournal)) => write_all(out, b"{\"stop\":\"not_journal\"}\n"),
-        Err(Cause::Work(Stop::Full { would, limit })) => write_full(out, *would, *limit),
+        Err(Cause::Work(stop)) => write_stop(out, stop),
         Err(Cause::Read(ReadFault::Failed)) => write_all(out, b"{\"stop\":\"read\"}\n"),
         Err(Cause::Read(ReadFault::Memory)) => write_all(out, b"{\"stop\":\"memory\"}\n"),
         Err(Cause::Read(ReadFault::TooLong)) => write_all(out, b"{\"stop\":\"too_long\"}\n"),
+    }
+}
+
+/// Writes the line that names a stop of the work on a journal, or the front of it that the sink
+/// takes.
+pub(crate) fn write_stop<K: Sink>(out: &mut K, stop: &Stop) -> Result<(), Failed>
+    ensures ok { K.tells
+        → OnOk result (K.written out.new ≡ K.written out.old ++ stop_words stop.now) }
+    ensures err { K.tells → OnErr result
+        (WritesFront (K.written out.old) (K.written out.new) (stop_words stop.now)) }
+    ensures count { K.faults out.old ≤ K.faults out.new }
+    ensures failed { OnErr result (Rises (K.faults out.old) (K.faults out.new)) }
+{
+    match stop {
+        Stop::Disk => write_all(out, b"{\"stop\":\"disk\"}\n"),
+        Stop::NotJournal => write_all(out, b"{\"stop\":\"not_journal\"}\n"),
+        Stop::Full { would, limit } => write_full(out, *would, *limit),
+        Stop::Memory => write_all(out, b"{\"stop\":\"memory\"}\n"),
     }
 }
 

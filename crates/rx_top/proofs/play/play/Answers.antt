@@ -1,5 +1,5 @@
 use Rattle.std.proofs.Common.{◌≡◌, ◌++◌, ◌+◌, ◌≤◌, ℕ, List, [], Ok, Some, refl, sym, ap, rules, arith}
-use Rattle.rx_engine.specs.Engine.{session_of}
+use Rattle.rx_engine.specs.Engine.{standing_of}
 use Rattle.rx_top.specs.Script.{line_effect}
 use Rattle.rx_top.specs.Reader.{Reading, TakesKept, max_input_bytes}
 use Rattle.rx_top.specs.declared.reader.Next.TheVariants.{Line, Last, End}

@@ -1,5 +1,6 @@
 use Rattle.std.proofs.Common.{◌≡◌, ◌++◌, ◌+◌, ◌-◌, ◌≤◌, List, ℕ, length}
 use Rattle.rx_engine.specs.Engine.{IsAt}
+use Rattle.rx_handler.specs.Shown.{kinds_of}
 use Rattle.rx_top.specs.Reader.{max_input_bytes, Took}
 use Rattle.rx_top.proofs.Exits.{Along}
 use Rattle.rx_top.proofs.Growth.{HasGrown}
@@ -7,7 +8,7 @@ use Rattle.rx_top.proofs.play.play.Given as goal
 
 abbrev pub invariant-lines : goal.invariant-lines
 invariant-lines g l = record {
-  along : g.S.Source.tells → Along g.D.Disk g.K.Sink.tells l.fn.disk l.disk l.fn.first
+  along : g.S.Source.tells → Along (kinds_of l.fn.handlers) g.D.Disk g.K.Sink.tells l.fn.disk l.disk l.fn.first
       l.engine (g.K.Sink.written l.fn.out) (g.K.Sink.written l.out) (g.S.Source.left l.fn.source)
       (l.reader.unread ++ g.S.Source.left l.source) l.number l.refused;
   grown : g.D.Disk.tells → (bodies : List (List ℕ)) → IsAt g.D.Disk l.fn.disk l.fn.first bodies

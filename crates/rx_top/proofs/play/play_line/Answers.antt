@@ -1,27 +1,28 @@
 use Rattle.std.proofs.Common.{sym, ◌∙◌}
+use Rattle.rx_handler.specs.Shown.{kinds_of}
 use Rattle.rx_top.proofs.Work.{blank_safe, done_safe, stop_safe, sunk_safe}
 use Rattle.rx_top.proofs.play.play_line.Goals as goal
 
 pub returns-then-is_blank-clause-safe : goal.returns-then-is_blank-clause-safe
 returns-then-is_blank-clause-safe g c = λ t bodies at.
-    blank_safe g.D.Disk c.args.engine c.args.number c.args.line.now c.args.disk.now bodies
+    blank_safe (kinds_of c.args.handlers.now) g.D.Disk c.args.engine c.args.number c.args.line.now c.args.disk.now bodies
     (sym c.is_blank.ensures ∙ c.if-is_blank.true)
     (λ f. g.met.D.Disk.only_now c.args.disk.now f t) at
 
 pub returns-in-Err-clause-safe : goal.returns-in-Err-clause-safe
 returns-in-Err-clause-safe g c = λ t bodies at.
-    stop_safe g.D.Disk c.args.engine c.args.number c.args.line.now c.args.disk.now c.line.new.disk
+    stop_safe (kinds_of c.args.handlers.now) g.D.Disk c.args.engine c.args.number c.args.line.now c.args.disk.now c.line.new.disk
     bodies c.in-Err.stop (sym c.is_blank.ensures ∙ c.if-is_blank.false)
     (c.in-Err.ensures.safe t bodies at)
 
 pub returns-in-Ok-write_all-clause-safe : goal.returns-in-Ok-write_all-clause-safe
 returns-in-Ok-write_all-clause-safe g c = λ t bodies at.
-    done_safe g.D.Disk c.args.engine c.args.number c.args.line.now c.args.disk.now c.line.new.disk
+    done_safe (kinds_of c.args.handlers.now) g.D.Disk c.args.engine c.args.number c.args.line.now c.args.disk.now c.line.new.disk
     bodies c.in-Ok.pair c.in-Ok.pair.1.refused (sym c.is_blank.ensures ∙ c.if-is_blank.false)
     (c.in-Ok.ensures.safe t bodies at)
 
 pub returns-in-Err-write_all-clause-safe : goal.returns-in-Err-write_all-clause-safe
 returns-in-Err-write_all-clause-safe g c = λ t bodies at.
-    sunk_safe g.D.Disk c.args.engine c.args.number c.args.line.now c.args.disk.now c.line.new.disk
+    sunk_safe (kinds_of c.args.handlers.now) g.D.Disk c.args.engine c.args.number c.args.line.now c.args.disk.now c.line.new.disk
     bodies c.in-Ok.pair (sym c.is_blank.ensures ∙ c.if-is_blank.false)
     (c.in-Ok.ensures.safe t bodies at)

@@ -2,7 +2,8 @@ use Rattle.std.proofs.Common.{◌++◌, ◌∷◌, [], ⊎_elim, Err, ap, sym, a
 use Rattle.rx_engine.specs.Opening.{epoch_body, opened}
 use Rattle.rx_outside.specs.declared.stop.Stop.TheVariants.{NotJournal}
 use Rattle.std.specs.Prelude.{⊤}
-use Rattle.rx_session.specs.Session.{Session}
+use Rattle.rx_engine.specs.Standing.{Standing}
+use Rattle.rx_handler.specs.Shown.{kinds_of}
 use Rattle.rx_world.specs.World.{empty}
 use Rattle.rx_top.specs.Lines.{lines}
 use Rattle.rx_top.specs.Run.{KeepsRun, Plays}
@@ -12,15 +13,15 @@ use Rattle.rx_top.specs.declared.cause.ReadFault.TheVariants as ReadFault
 use Rattle.rx_top.proofs.Chunks.{stays_legal}
 use Rattle.rx_top.proofs.Growth.{legal_on}
 use Rattle.rx_top.proofs.Heads.{needs_journal, no_reader_keeps, not_both, open_keeps, played_keeps, said_as, same_open, still_legal, unplayed, untouched}
-use Rattle.rx_top.proofs.top.run.Goals as goal
+use Rattle.rx_top.proofs.run.open_and_play.Goals as goal
 
 pub returns-in-Err-clause-run : goal.returns-in-Err-clause-run
 returns-in-Err-clause-run g c = λ told t bodies w start.
     let input = g.S.Source.left c.args.source.now in
-    unplayed g.K.Sink.tells _ _ input _ (opened w) (Err (Read ReadFault.Memory))
-    (KeepsRun g.D.Disk c.args.disk.now c.args.disk.now bodies w c.args.limit (Err (Read ReadFault.Memory)))
+    unplayed g.K.Sink.tells _ _ input _ (opened (kinds_of c.args.handlers.now) w) (Err (Read ReadFault.Memory))
+    (KeepsRun (kinds_of c.args.handlers.now) g.D.Disk c.args.disk.now c.args.disk.now bodies w c.args.limit (Err (Read ReadFault.Memory)))
     tt (λ k. sym (append-nil (g.K.Sink.written c.args.out.now)))
-    (no_reader_keeps g.D.Disk bodies w c.args.limit c.args.disk.now (lines input) start
+    (no_reader_keeps (kinds_of c.args.handlers.now) g.D.Disk bodies w c.args.limit c.args.disk.now (lines input) start
     (λ f. g.met.D.Disk.only_now c.args.disk.now f t)
     (λ s f le now. g.met.D.Disk.counts_now c.args.disk.now s f t le now))
 
@@ -37,14 +38,14 @@ play-requires-clause-at g c = λ t.
 
 pub returns-in-Ok-open-clause-run : goal.returns-in-Ok-open-clause-run
 returns-in-Ok-open-clause-run g c = λ told t bodies w start.
-    let found = c.in-Ok-open.ensures.opened t bodies w start.legal in
+    let found = c.in-Ok-open.ensures.opened t bodies w start.legal (kinds_of c.args.handlers.now) in
     let safe = c.in-Ok-open.ensures.safe t bodies w start.legal in
-    subst (λ (s : Session). Plays line_effect g.K.Sink.tells (g.K.Sink.written c.args.out.now)
+    subst (λ (s : Standing). Plays line_effect g.K.Sink.tells (g.K.Sink.written c.args.out.now)
     (g.K.Sink.written c.play.new.out) (g.S.Source.left c.args.source.now)
     (g.S.Source.left c.play.new.source) s c.play.result
-    (KeepsRun g.D.Disk c.args.disk.now c.play.new.disk bodies w c.args.limit c.play.result)) found
+    (KeepsRun (kinds_of c.args.handlers.now) g.D.Disk c.args.disk.now c.play.new.disk bodies w c.args.limit c.play.result)) found
     (said_as _ _
-    (λ done rest kept. played_keeps g.D.Disk bodies w c.args.limit c.args.disk.now c.open.new.disk
+    (λ done rest kept. played_keeps (kinds_of c.args.handlers.now) g.D.Disk bodies w c.args.limit c.args.disk.now c.open.new.disk
     c.play.new.disk c.in-Ok-open.engine c.play.result done rest
     (safe.moments start.alike) (⊎_elim (λ none. cc) (λ le. le) safe.fits) c.in-Ok-open.ensures.limit found
     safe.at t kept)
@@ -59,10 +60,10 @@ returns-in-Ok-open-clause-legal g c = λ t bodies w start.
 pub returns-clause-run : goal.returns-clause-run
 returns-clause-run g c = λ told t bodies w start.
     let input = g.S.Source.left c.args.source.now in
-    unplayed g.K.Sink.tells _ _ input _ (opened w) (Err (Work c.in-Err-open.stop))
-    (KeepsRun g.D.Disk c.args.disk.now c.open.new.disk bodies w c.args.limit (Err (Work c.in-Err-open.stop)))
+    unplayed g.K.Sink.tells _ _ input _ (opened (kinds_of c.args.handlers.now) w) (Err (Work c.in-Err-open.stop))
+    (KeepsRun (kinds_of c.args.handlers.now) g.D.Disk c.args.disk.now c.open.new.disk bodies w c.args.limit (Err (Work c.in-Err-open.stop)))
     tt (λ k. sym (append-nil (g.K.Sink.written c.args.out.now)))
-    (open_keeps g.D.Disk bodies w c.args.limit c.args.disk.now c.open.new.disk c.in-Err-open.stop
+    (open_keeps (kinds_of c.args.handlers.now) g.D.Disk bodies w c.args.limit c.args.disk.now c.open.new.disk c.in-Err-open.stop
     (lines input)
     ((c.in-Err-open.ensures.safe t bodies w start.legal).moments start.alike)
     (λ s f le now. g.met.D.Disk.counts_now c.open.new.disk s f t le now)
@@ -84,7 +85,7 @@ returns-clause-not_journal g c = λ t is bodies w legal.
 pub returns-in-Err-clause-over_any_disk : goal.returns-in-Err-clause-over_any_disk
 returns-in-Err-clause-over_any_disk g c = λ told. (
   empty,
-  unplayed g.K.Sink.tells _ _ (g.S.Source.left c.args.source.now) _ (opened empty)
+  unplayed g.K.Sink.tells _ _ (g.S.Source.left c.args.source.now) _ (opened (kinds_of c.args.handlers.now) empty)
       (Err (Read ReadFault.Memory)) (λ done rest. ⊤) tt
       (λ k. sym (append-nil (g.K.Sink.written c.args.out.now))) tt,
 )
@@ -92,7 +93,7 @@ returns-in-Err-clause-over_any_disk g c = λ told. (
 pub returns-clause-over_any_disk : goal.returns-clause-over_any_disk
 returns-clause-over_any_disk g c = λ told. (
   empty,
-  unplayed g.K.Sink.tells _ _ (g.S.Source.left c.args.source.now) _ (opened empty)
+  unplayed g.K.Sink.tells _ _ (g.S.Source.left c.args.source.now) _ (opened (kinds_of c.args.handlers.now) empty)
       (Err (Work c.in-Err-open.stop)) (λ done rest. ⊤) tt
       (λ k. sym (append-nil (g.K.Sink.written c.args.out.now))) tt,
 )
@@ -101,9 +102,9 @@ pub returns-in-Ok-open-clause-over_any_disk : goal.returns-in-Ok-open-clause-ove
 returns-in-Ok-open-clause-over_any_disk g c = λ told.
     let begun = c.in-Ok-open.ensures.begun in (
       begun.0,
-      subst (λ (s : Session). Plays line_effect g.K.Sink.tells (g.K.Sink.written c.args.out.now)
+      subst (λ (s : Standing). Plays line_effect g.K.Sink.tells (g.K.Sink.written c.args.out.now)
           (g.K.Sink.written c.play.new.out) (g.S.Source.left c.args.source.now)
-          (g.S.Source.left c.play.new.source) s c.play.result (λ done rest. ⊤)) begun.1
+          (g.S.Source.left c.play.new.source) s c.play.result (λ done rest. ⊤)) (begun.1 (kinds_of c.args.handlers.now))
           (said_as _ _ (λ done rest kept. tt) (c.play.ensures.exit told)),
     )
 

@@ -1,0 +1,95 @@
+// The command `run`: a script is played over a journal.
+ghost use Rattle.std.specs.Prelude.{◌≡◌, ⊤, ◌<◌, ◌≤◌, ◌^◌, [], OnOk, IsErrOf};
+ghost use Rattle.rx_engine.specs.Opening.{opened};
+ghost use Rattle.rx_handler.specs.Shown.{kinds_of};
+ghost use Rattle.rx_journal.specs.Reading.{IsUntouched};
+ghost use Rattle.rx_outside.specs.Failed.{Rises};
+ghost use Rattle.rx_outside.specs.declared.stop.Stop.TheVariants as stop;
+ghost use Rattle.rx_store.specs.Holds.{IsIllegalFile, IsJournalOfSome};
+ghost use Rattle.rx_world.specs.World.{World};
+ghost use Rattle.rx_top.specs.PlaysScript.{PlaysScript};
+ghost use Rattle.rx_top.specs.Reader.{Took, max_input_bytes};
+ghost use Rattle.rx_top.specs.Run.{KeepsRun, NeedsJournal, Plays};
+ghost use Rattle.rx_top.specs.Script.{line_effect};
+ghost use Rattle.rx_top.specs.Start.{FromStart, StaysLegal};
+ghost use Rattle.rx_top.specs.declared.cause.ReadFault.TheVariants as fault;
+
+use crate::cause::{Cause, ReadFault};
+use crate::play::play;
+use crate::reader::Reader;
+use crate::stop::{status_of, write_end};
+use rx_disk::Disk;
+use rx_engine::Engine;
+use rx_handler::Handlers;
+use rx_outside::{Sink, Source};
+use std::alloc::Global;
+
+/// Plays the script that the source gives over the journal that the disk is, and answers its status.
+pub(crate) fn run<S: Source, K: Sink, D: Disk>(
+    alloc: Global,
+    limit: u64,
+    source: &mut S,
+    out: &mut K,
+    disk: &mut D,
+    handlers: &Handlers,
+) -> u8
+    requires low { 9 ≤ limit }
+    requires high { limit < 2 ^ 32 }
+    ensures plays { PlaysScript S.Source K.Sink D.Disk (kinds_of handlers.now) limit result
+        source.old source.new out.old out.new disk.old disk.new }
+{
+    let ended = open_and_play(alloc, limit, source, out, disk, handlers);
+    // The first cause decides the status, so a failure here has none of its own.
+    let _ = write_end(out, &ended);
+    status_of(&ended)
+}
+
+// Opens the journal, and plays the script over it.
+fn open_and_play<S: Source, K: Sink, D: Disk>(
+    alloc: Global,
+    limit: u64,
+    source: &mut S,
+    out: &mut K,
+    disk: &mut D,
+    handlers: &Handlers,
+) -> Result<bool, Cause>
+    requires low { 9 ≤ limit }
+    requires high { limit < 2 ^ 32 }
+    ensures run { S.tells → FromStart D.Disk disk.old (λ bodies w.
+        Plays line_effect K.tells (K.written out.old) (K.written out.new) (S.left source.old)
+        (S.left source.new) (opened (kinds_of handlers.now) w) result
+        (KeepsRun (kinds_of handlers.now) D.Disk disk.old disk.new bodies w limit result)) }
+    ensures legal { FromStart D.Disk disk.old (λ bodies w.
+        StaysLegal D.Disk disk.old disk.new bodies) }
+    ensures over_any_disk { S.tells → (w : World) × Plays line_effect K.tells (K.written out.old)
+        (K.written out.new) (S.left source.old) (S.left source.new) (opened (kinds_of handlers.now) w) result (λ done rest. ⊤) }
+    ensures illegal { D.tells → IsIllegalFile (D.content disk.old)
+        → IsUntouched D.Disk disk.old disk.new }
+    ensures whole { S.tells → OnOk result (S.left source.new ≡ []) }
+    ensures within { S.tells → (IsErrOf result (Cause.Read fault.TooLong) → ⊥)
+        → Took 0 (S.left source.old) (S.left source.new) (λ n. n ≤ max_input_bytes) }
+    ensures stood { D.tells → NeedsJournal result → IsJournalOfSome (D.content disk.old) }
+    ensures read { IsErrOf result (Cause.Read fault.Failed)
+        → Rises (S.faults source.old) (S.faults source.new) }
+    ensures sink { IsErrOf result Cause.Sink → Rises (K.faults out.old) (K.faults out.new) }
+    ensures disk_only { IsErrOf result (Cause.Work stop.Disk)
+        → Rises (D.faults disk.old) (D.faults disk.new) }
+    ensures not_journal { D.tells → IsErrOf result (Cause.Work stop.NotJournal)
+        → IsIllegalFile (D.content disk.old) }
+    ensures not_journal_unread { D.tells → IsErrOf result (Cause.Work stop.NotJournal)
+        → source.new ≡ source.old }
+    ensures not_journal_unsaid { D.tells → K.tells → IsErrOf result (Cause.Work stop.NotJournal)
+        → K.written out.new ≡ K.written out.old }
+    ensures source_faults { S.faults source.old ≤ S.faults source.new }
+    ensures sink_faults { K.faults out.old ≤ K.faults out.new }
+    ensures disk_faults { D.faults disk.old ≤ D.faults disk.new }
+{
+    let mut reader = match Reader::new(alloc) {
+        Ok(reader) => reader,
+        Err(_) => return Err(Cause::Read(ReadFault::Memory)),
+    };
+    match Engine::open(alloc, disk, limit) {
+        Ok(engine) => play(alloc, engine, &mut reader, source, out, disk, handlers),
+        Err(stop) => Err(Cause::Work(stop)),
+    }
+}
