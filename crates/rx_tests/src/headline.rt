@@ -1,20 +1,25 @@
 // The headline at its plainest: a script over an empty journal, with all that is outside in memory.
-ghost use Rattle.std.specs.Prelude.{◌≡◌, ◌<◌, [], IfOk, if◌then◌else◌};
+ghost use Rattle.std.specs.Prelude.{◌≡◌, ◌<◌, ◌∷◌, ℕ, List, [], Some, IfOk, codes, if◌then◌else◌};
 ghost use Rattle.rx_disk.specs.Disk.{Only};
 ghost use Rattle.rx_disk.specs.MemoryDisk.{IsLeft, content_of};
 ghost use Rattle.rx_store.specs.Holds.{IsLegalFile};
 ghost use Rattle.rx_engine.specs.Opening.{opened};
+ghost use Rattle.rx_handler.specs.Shown.{kinds_of};
 ghost use Rattle.rx_outside.specs.MemorySink.{sink_written};
 ghost use Rattle.rx_outside.specs.MemorySource.{source_left};
 ghost use Rattle.rx_top.specs.Lines.{lines};
 ghost use Rattle.rx_top.specs.Run.{run_bodies};
 ghost use Rattle.rx_top.specs.Script.{has_refusal, transcript};
+ghost use Rattle.rx_words.specs.Words.{command_of};
+ghost use Rattle.rx_words.specs.declared.command.Command.TheVariants.{Run};
 ghost use Rattle.rx_world.specs.World.{World, empty};
 
 use rx_disk::MemoryDisk;
+use rx_handler::Handlers;
 use rx_outside::{MemorySink, MemorySource};
-use rx_top::{Words, rx};
+use rx_top::rx;
 use rx_value::RxText;
+use rx_words::Words;
 use std::alloc::{AllocError, Global};
 
 // How much of the script a read gives.
@@ -28,22 +33,29 @@ pub struct Played {
     pub journal: Vec<u8>,
 }
 
-/// Plays a script over an empty journal.
-pub fn play_in_memory(alloc: Global, script: Vec<u8>) -> Result<Played, AllocError>
+/// Plays a script over an empty journal, with these handlers.
+pub fn play_in_memory(
+    alloc: Global,
+    script: Vec<u8>,
+    handlers: &Handlers,
+) -> Result<Played, AllocError>
     // Where it was played to its end, what was written is its transcript, and the journal has the
     // record of its epoch and those of its lines.
     ensures transcript { IfOk result (λ played. played.status < 2
-        → played.output.items ≡ transcript (lines script.items) (opened empty)) }
+        → played.output.items
+        ≡ transcript (lines script.items) (opened (kinds_of handlers.now) empty)) }
     ensures journal { IfOk result (λ played. played.status < 2 → (after : World)
-        × IsLegalFile played.journal.items (run_bodies empty (lines script.items)) after) }
+        × IsLegalFile played.journal.items
+        (run_bodies (kinds_of handlers.now) empty (lines script.items)) after) }
     ensures refusal { IfOk result (λ played. played.status < 2
-        → played.status ≡ (if has_refusal (lines script.items) (opened empty) then 1 else 0)) }
+        → played.status ≡ (if has_refusal (lines script.items)
+        (opened (kinds_of handlers.now) empty) then 1 else 0)) }
 {
     let words = run_words(alloc)?;
     let mut source = MemorySource::new(script, PIECE, Vec::new(alloc));
     let mut sink = MemorySink::new(alloc, Vec::new(alloc));
     let mut disk = MemoryDisk::new(alloc, Vec::new(alloc), Vec::new(alloc));
-    let status = play(alloc, &words, &mut source, &mut sink, &mut disk);
+    let status = play(alloc, &words, &mut source, &mut sink, &mut disk, handlers);
     Ok(Played {
         status,
         output: sink.bytes().to_vec(alloc)?,
@@ -58,21 +70,29 @@ fn play(
     source: &mut MemorySource,
     sink: &mut MemorySink,
     disk: &mut MemoryDisk,
+    handlers: &Handlers,
 ) -> u8
     requires fresh { sink_written sink.old ≡ [] }
     requires empty { content_of disk.old ≡ [] }
     requires only { Only [] (IsLeft disk.old) }
+    requires runs { (path : List ℕ) × (limit : ℕ)
+        × (command_of words.now.words.items ≡ Some (Run path limit)) }
     ensures transcript { result < 2
-        → sink_written sink.new ≡ transcript (lines (source_left source.old)) (opened empty) }
+        → sink_written sink.new
+        ≡ transcript (lines (source_left source.old)) (opened (kinds_of handlers.now) empty) }
     ensures journal { result < 2 → (after : World)
-        × IsLegalFile (content_of disk.new) (run_bodies empty (lines (source_left source.old))) after }
+        × IsLegalFile (content_of disk.new)
+        (run_bodies (kinds_of handlers.now) empty (lines (source_left source.old))) after }
     ensures refusal { result < 2
-        → result ≡ (if has_refusal (lines (source_left source.old)) (opened empty) then 1 else 0) }
+        → result ≡ (if has_refusal (lines (source_left source.old))
+        (opened (kinds_of handlers.now) empty) then 1 else 0) }
 {
-    rx(alloc, words, source, sink, disk)
+    rx(alloc, words, source, sink, disk, handlers)
 }
 
-fn run_words(alloc: Global) -> Result<Words, AllocError> {
+fn run_words(alloc: Global) -> Result<Words, AllocError>
+    ensures { IfOk result (λ w. w.words.items ≡ codes "run" ∷ codes "journal" ∷ []) }
+{
     let mut words = Vec::new(alloc);
     words.push(RxText::new(alloc, "run")?)?;
     words.push(RxText::new(alloc, "journal")?)?;

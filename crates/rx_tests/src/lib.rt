@@ -38,6 +38,8 @@ mod random;
 #[cfg(test)]
 mod reading;
 #[cfg(test)]
+mod replicating;
+#[cfg(test)]
 mod revisions;
 #[cfg(test)]
 mod run;
@@ -55,6 +57,8 @@ mod starved;
 mod statuses;
 #[cfg(test)]
 mod stops;
+#[cfg(test)]
+mod turned;
 #[cfg(test)]
 mod values;
 #[cfg(test)]

@@ -78,14 +78,6 @@ const CASES: &str = r#"
 > {"do":"tick","do":"fly","at":5}
 < {"code":4,"line":L,"name":"fly","refused":"unknown_do"}
 
-== what has not come is refused before its members are read
-> {"do":"turn","x":1}
-< {"code":27,"line":L,"refused":"not_yet"}
-> {"do":"replicate","name":5}
-< {"code":27,"line":L,"refused":"not_yet"}
-> {"do":"turn","name":"R"}
-< {"code":27,"line":L,"refused":"not_yet"}
-
 == a missing member is told in the order of the line
 > {"do":"collection"}
 < {"code":5,"line":L,"name":"name","refused":"missing"}

@@ -1,8 +1,13 @@
-// A run over a source, a sink and a disk in memory.
+// A command over forms in memory.
+ghost use Rattle.std.specs.Prelude.{◌≡◌, IfOk};
+ghost use Rattle.rx_handler.specs.Resolve.{resolve};
+
 use rx_disk::MemoryDisk;
+use rx_handler::{Handler, HandlerFault, HandlerKind, Handlers, resolved};
 use rx_outside::{MemorySink, MemorySource, Source};
-use rx_top::{Words, rx};
-use rx_value::RxText;
+use rx_top::rx;
+use rx_value::{RxText, State};
+use rx_words::Words;
 use std::alloc::{AllocError, Global};
 
 /// The words of most runs.
@@ -61,7 +66,9 @@ pub fn run_from<S: Source>(
     let mut sink = MemorySink::new(alloc, setting.write_fails.to_vec(alloc)?);
     let fails = setting.disk_fails.to_vec(alloc)?;
     let mut disk = MemoryDisk::new(alloc, held.to_vec(alloc)?, fails);
-    let status = play(alloc, words, source, &mut sink, &mut disk);
+    let Ok(status) = play(alloc, words, source, &mut sink, &mut disk) else {
+        return Err(AllocError);
+    };
     let output = sink.bytes().to_vec(alloc)?;
     Ok(Ran {
         status,
@@ -70,15 +77,47 @@ pub fn run_from<S: Source>(
     })
 }
 
-// A call of its own, since what `rx` ensures would burden the proof of every caller.
+const HANDLERS: [(&str, HandlerKind); 4] = [
+    ("master_wins", HandlerKind::MasterWins),
+    ("fork_wins", HandlerKind::ForkWins),
+    ("greater", HandlerKind::Greater),
+    ("join", HandlerKind::Join),
+];
+
+// The run with the handlers that the program has.
 fn play<S: Source>(
     alloc: Global,
     words: &Words,
     source: &mut S,
     sink: &mut MemorySink,
     disk: &mut MemoryDisk,
+) -> Result<u8, HandlerFault> {
+    let mut handlers = Handlers::new(alloc);
+    for (name, kind) in HANDLERS {
+        let call = Box::new(
+            alloc,
+            move |alloc: Global, field: &str, real: &State, new: &State|
+                ensures { IfOk result (λ s. s ≡ resolve kind field.now real.now new.now) }
+            { resolved(alloc, kind, field, real, new) },
+        );
+        match call {
+            Ok(call) => handlers.add(Handler::new(RxText::new(alloc, name)?, kind, call))?,
+            Err(refused) => return Err(AllocError::from(refused).into()),
+        }
+    }
+    Ok(status_of(alloc, words, source, sink, disk, &handlers))
+}
+
+// A call of its own, since what `rx` ensures would burden the proof of its caller.
+fn status_of<S: Source>(
+    alloc: Global,
+    words: &Words,
+    source: &mut S,
+    sink: &mut MemorySink,
+    disk: &mut MemoryDisk,
+    handlers: &Handlers,
 ) -> u8 {
-    rx(alloc, words, source, sink, disk)
+    rx(alloc, words, source, sink, disk, handlers)
 }
 
 /// The words that stand in a text, between spaces.

@@ -2,8 +2,8 @@
 use crate::case::play_all;
 use crate::run::{Setting, run_from};
 use rx_outside::MemorySource;
-use rx_top::Words;
 use rx_value::RxText;
+use rx_words::Words;
 use std::test::Fail;
 
 #[test]

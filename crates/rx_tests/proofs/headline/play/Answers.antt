@@ -1,7 +1,8 @@
-use Rattle.std.proofs.Common.{◌∙◌, ◌++◌, ap, []}
+use Rattle.std.proofs.Common.{◌∙◌, ◌++◌, ap, [], arith, inl, inr}
 use Rattle.rx_disk.specs.History.{reads_as_of}
 use Rattle.rx_disk.specs.MemoryDisk.{content_of, history_of}
 use Rattle.rx_engine.specs.Opening.{opened}
+use Rattle.rx_handler.specs.Shown.{kinds_of}
 use Rattle.rx_outside.specs.MemorySource.{source_left}
 use Rattle.rx_top.specs.Lines.{lines}
 use Rattle.rx_top.specs.Script.{transcript}
@@ -11,17 +12,30 @@ use Rattle.rx_tests.proofs.headline.play.Goals as goal
 
 pub returns-clause-transcript : goal.returns-clause-transcript
 returns-clause-transcript c = λ is.
-    c.rx.ensures.whole_transcript is tt tt tt [] empty
-    (starts_empty _ _ (record { content = c.requires.empty; only = c.requires.only }))
-    ∙ ap (λ v. v ++ transcript (lines (source_left c.args.source.now)) (opened empty)) c.requires.fresh
+    let command = c.requires.runs in
+    elim (c.rx.ensures.runs command.0 command.1 command.2) [
+      | inl plays ↦ plays.whole_transcript is tt tt tt [] empty
+          (starts_empty _ _ (record { content = c.requires.empty; only = c.requires.only }))
+          ∙ ap (λ v. v ++ transcript (lines (source_left c.args.source.now))
+          (opened (kinds_of c.args.handlers.now) empty)) c.requires.fresh
+      | inr lacks ↦ absurd (omega (arith, is, lacks.is))
+    ]
 
 pub returns-clause-journal : goal.returns-clause-journal
 returns-clause-journal c = λ is.
-    c.rx.ensures.kept is tt tt [] empty
-    (starts_empty _ _ (record { content = c.requires.empty; only = c.requires.only }))
-    (content_of c.rx.new.disk) (reads_as_of (history_of c.rx.new.disk))
+    let command = c.requires.runs in
+    elim (c.rx.ensures.runs command.0 command.1 command.2) [
+      | inl plays ↦ plays.kept is tt tt [] empty
+          (starts_empty _ _ (record { content = c.requires.empty; only = c.requires.only }))
+          (content_of c.rx.new.disk) (reads_as_of (history_of c.rx.new.disk))
+      | inr lacks ↦ absurd (omega (arith, is, lacks.is))
+    ]
 
 pub returns-clause-refusal : goal.returns-clause-refusal
 returns-clause-refusal c = λ is.
-    c.rx.ensures.status is tt tt [] empty
-    (starts_empty _ _ (record { content = c.requires.empty; only = c.requires.only }))
+    let command = c.requires.runs in
+    elim (c.rx.ensures.runs command.0 command.1 command.2) [
+      | inl plays ↦ plays.refusal is tt tt [] empty
+          (starts_empty _ _ (record { content = c.requires.empty; only = c.requires.only }))
+      | inr lacks ↦ absurd (omega (arith, is, lacks.is))
+    ]

@@ -1,0 +1,138 @@
+// Random turns of a fork and its master over a link that loses, repeats and delays: after each turn
+// that ends quiet, both have the same documents.
+use crate::random::Random;
+use crate::run::{RUN, Setting, run};
+use crate::short::S2;
+use std::alloc::{AllocError, Global};
+use std::test::Fail;
+
+// Of each script.
+const LINES: u64 = 1_000;
+
+const HANDLERS: [&str; 4] = [
+    r#""master_wins""#,
+    r#""fork_wins""#,
+    r#""greater","field":"n""#,
+    r#""join""#,
+];
+
+#[test]
+fn after_a_quiet_turn_both_sides_are_the_same(rt: HostRuntime) -> Result<(), Fail> {
+    let alloc = rt.alloc();
+    let mut random = Random::new(7_919);
+    for handler in HANDLERS {
+        let script = random_script(alloc, &mut random, handler)?;
+        let ran = run(alloc, &Setting::PLAIN, RUN, script.as_str().as_bytes(), &[])?;
+        let output = str::from_utf8(ran.output.as_slice())?;
+        check_ends(handler, output)?;
+        check_digests(handler, output)?;
+    }
+    Ok(())
+}
+
+// Turns end in each way that a link and a budget bring about.
+fn check_ends(handler: &str, output: &str) -> Result<(), Fail> {
+    for end in [
+        "{\"end\":\"quiet\"",
+        "{\"end\":\"lost\"",
+        "{\"end\":\"more\"",
+    ] {
+        let count = output.matches(end).count();
+        if count < 20 {
+            return Err(Fail::new(format_args!("{handler}: {count} turns with {end}")));
+        }
+    }
+    Ok(())
+}
+
+// The digests behind a turn that ended quiet are the same.
+fn check_digests(handler: &str, output: &str) -> Result<(), Fail> {
+    let mut quiet = false;
+    let mut first = None;
+    for line in output.lines() {
+        let (digest, _) = line.split_once(",\"line\":").unwrap_or((line, ""));
+        if line.starts_with("{\"end\":") {
+            quiet = line.starts_with("{\"end\":\"quiet\"");
+            first = None;
+        } else if line.starts_with("{\"count\":") && quiet {
+            let other = first.unwrap_or(digest);
+            if other != digest {
+                return Err(Fail::new(format_args!("{handler}: {line} after {other}")));
+            }
+            first = Some(digest);
+        }
+    }
+    Ok(())
+}
+
+// Lines at random, after those that make a fork m's, with turns and digests in between and at the end.
+fn random_script(alloc: Global, random: &mut Random, handler: &str) -> Result<String, AllocError> {
+    let begin = BEGIN.replace(alloc, "SCHEMA", S2)?;
+    let mut script = begin.as_str().replace(alloc, "HANDLER", handler)?;
+    for _ in 0..LINES {
+        script.push_str(random_line(alloc, random)?.as_str())?;
+    }
+    script.push_str("{\"do\":\"turn\",\"name\":\"r\",\"budget\":100000}\n")?;
+    script.push_str(DIGESTS)?;
+    Ok(script)
+}
+
+const BEGIN: &str = r#"{"do":"collection","name":"m","schema":SCHEMA}
+{"do":"collection","name":"f","schema":SCHEMA}
+{"do":"replicate","name":"r","fork":"f","master":"m","handler":HANDLER}
+"#;
+
+const DIGESTS: &str = r#"{"do":"digest","in":"m"}
+{"do":"digest","in":"f"}
+"#;
+
+// Of few fields, so that documents come back to what they were.
+const NUMBERS: [&str; 4] = ["", ",\"n\":0", ",\"n\":1", ",\"n\":2"];
+
+const TEXTS: [&str; 3] = ["", ",\"t\":\"x\"", ",\"t\":\"y\""];
+
+fn random_line(alloc: Global, random: &mut Random) -> Result<String, AllocError> {
+    let side = random.one_of(&["f", "f", "m"]);
+    let key = random.below(20);
+    match random.below(64) {
+        0..=31 => {
+            let n = random.one_of(&NUMBERS);
+            let t = random.one_of(&TEXTS);
+            format!(in alloc;
+                "{{\"do\":\"upsert\",\"in\":\"{side}\",\"doc\":{{\"id\":\"k{key}\"{n}{t}}}}}\n"
+            )
+        }
+        32..=39 => format!(in alloc;
+            "{{\"do\":\"remove\",\"in\":\"{side}\",\"key\":\"k{key}\"}}\n"
+        ),
+        40..=43 => format!(in alloc;
+            "{{\"do\":\"patch\",\"in\":\"{side}\",\"key\":\"k{key}\",\"set\":{{\"n\":{}}}}}\n",
+            random.below(3)
+        ),
+        44..=47 => format!(in alloc; "{{\"do\":\"tick\",\"at\":{}}}\n", random.below(1_000_000)),
+        48 => String::from_str(alloc, "{\"do\":\"restart\"}\n"),
+        _ => random_turn(alloc, random),
+    }
+}
+
+const HAPPENINGS: [&str; 9] = [
+    r#""ok""#,
+    r#""ok""#,
+    r#""lose_request""#,
+    r#""lose_reply""#,
+    r#""twice""#,
+    r#""stale""#,
+    r#"{"late":1}"#,
+    r#"{"late":3}"#,
+    r#"{"late":16}"#,
+];
+
+fn random_turn(alloc: Global, random: &mut Random) -> Result<String, AllocError> {
+    let batch = random.below(5).saturating_add(1);
+    let budget = random.one_of(&["3", "10", "1000"]);
+    let first = random.one_of(&HAPPENINGS);
+    let second = random.one_of(&HAPPENINGS);
+    format!(in alloc;
+        "{{\"do\":\"turn\",\"name\":\"r\",\"batch\":{batch},\"budget\":{budget},\"link\":[{first},{second}]}}\n{DIGESTS}"
+    )
+}
