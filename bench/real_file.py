@@ -19,7 +19,7 @@ import subprocess
 import tempfile
 import time
 
-from measuring import SEED, collection, compact, program
+from measuring import SCHEMA, SEED, collection, compact, program
 
 RX = os.path.abspath(program())
 SECONDS = 60
@@ -369,6 +369,40 @@ def killed(folder):
     return f"{rounds} times: the next run goes on, and all {len(kept):,} acknowledged inserts are there"
 
 
+def killed_in_a_turn(folder):
+    """SIGKILL while exchanges are made. Numbers rise with each write on either side, and of two that
+    conflict the greater is kept: so each key has to have the number that was acknowledged last."""
+    journal = os.path.join(folder, "journal")
+    moments, kept, rounds, cut = random.Random(SEED), {}, 40, 0
+    begin = [compact({"do": "collection", "name": name, "schema": SCHEMA}) for name in "mf"]
+    begin.append(compact({"do": "replicate", "name": "r", "fork": "f", "master": "m",
+                          "handler": "greater", "field": "n"}))
+    turn = {"do": "turn", "name": "r", "batch": 1}
+    number = 0
+    for round_ in range(rounds):
+        talk = Talk(journal)
+        insist(all([talk.ask(line) for line in begin]), f"round {round_}: the journal doesn't open")
+        for number in range(number + 1, number + 1 + moments.randrange(20)):
+            key, side = f"k{moments.randrange(30)}", moments.choice("mf")
+            reply = talk.ask(compact({"do": "upsert", "in": side, "doc": {"id": key, "n": number}}))
+            insist(reply and reply.get("ok") == "upsert", f"round {round_}: {reply}")
+            kept[key] = number
+        talk.child.stdin.write(text([compact(turn)]))
+        talk.child.stdin.flush()
+        time.sleep(moments.uniform(0, 0.02))
+        talk.child.kill()
+        cut += not answers(talk.child.communicate(timeout=SECONDS)[0])
+    found = [compact({"do": "find", "in": side, "query": {}}) for side in "mf"]
+    status, replies = run(journal, [compact(turn), *found])
+    insist(status == 0, f"the next run ended with {status}")
+    insist(replies[-3]["end"] == "quiet", f"the next turn: {replies[-3]}")
+    for reply in replies[-2:]:
+        there = {row["id"]: row["n"] for row in reply["rows"]}
+        wrong = {key: (there.get(key), n) for key, n in kept.items() if there.get(key) != n}
+        insist(there.keys() == kept.keys() and not wrong, f"found and due: {wrong}")
+    return f"{rounds} times, {cut} before the turn's answer: the next is quiet, and no update is lost"
+
+
 TRIED = {
     "two runs that write by turns": two_runs_by_turns,
     "runs that start at once": runs_at_once,
@@ -381,6 +415,7 @@ TRIED = {
     "a cap on memory": little_memory,
     "an output that is full or goes away": output_that_takes_nothing,
     "kill -9 in a loop": killed,
+    "kill -9 in a turn": killed_in_a_turn,
 }
 
 

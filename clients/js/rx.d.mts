@@ -107,14 +107,37 @@ export interface Replication {
   /** The collection that it is a fork of, or the port at which one is served. */
   master?: string;
   port?: number;
-  handler: string;
+  handler: 'master_wins' | 'fork_wins' | 'greater' | 'join';
   field?: string;
 }
 
+/** One exchange of a turn, with the keys of its documents. */
+export interface Exchange {
+  exchange: number;
+  sent: 'push' | 'pull';
+  rows?: string[];
+  /** Of a push: the rows of which the master had another document than the fork assumed. They are resolved. */
+  conflicts?: string[];
+  place?: Place;
+  lost?: string;
+}
+
 export interface Turn {
-  end: string;
+  end: 'quiet' | 'lost' | 'clock' | 'more';
   exchanges: number;
-  each: { exchange: number; [member: string]: unknown }[];
+  each: Exchange[];
+}
+
+/** Where a document stands in the order of writing. */
+export interface Place {
+  id: string;
+  lwt: number;
+}
+
+export interface Changes<T = Document> {
+  docs: (T & { _deleted: boolean })[];
+  /** Of the last one, or the one that was asked from; undefined where there is neither. */
+  place?: Place;
 }
 
 export interface Observer<R> {
@@ -148,13 +171,15 @@ export interface Collection<T = Document> {
   get(key: string): Promise<Stored<T>>;
   find(query?: Query<T>): Promise<T[]>;
   count(query?: Query<T>): Promise<number>;
+  changes(from?: { since?: Place; batch?: number }): Promise<Changes<T>>;
+  digest(): Promise<{ count: number; digest: string }>;
   observe(query?: Query<T>, name?: string): Observed<T>;
 }
 
 export interface Database {
   collection<T = Document>(name: string, schema?: Schema): Promise<Collection<T>>;
   replicate(replication: Replication): Promise<void>;
-  turn(name: string, options?: { batch?: number; budget?: number; link?: unknown[] }): Promise<Turn>;
+  turn(name: string, options?: { batch?: number; budget?: number; link?: (string | { late: number })[] }): Promise<Turn>;
   explain(name: string): Promise<Counts>;
   tick(at?: number): Promise<void>;
   restart(): Promise<number>;

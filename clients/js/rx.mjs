@@ -237,6 +237,18 @@ class Collection {
     return (await this.#db.call({ do: 'count', in: this.name, query })).count;
   }
 
+  /** What was written last to each key above a place, in the order of writing, tombstones too. */
+  async changes({ since, batch } = {}) {
+    const { docs, place } = await this.#db.call({ do: 'changes', in: this.name, since, batch });
+    return { docs, place };
+  }
+
+  /** One text that tells the states of all documents from others, and how many they are. */
+  async digest() {
+    const { count, digest } = await this.#db.call({ do: 'digest', in: this.name });
+    return { count, digest };
+  }
+
   /** The query's result, now and after each change, for whoever subscribes. */
   observe(query = {}, name = this.#db.newName()) {
     return new Observed(this.#db, { do: 'observe', name, in: this.name, query });

@@ -18,7 +18,7 @@ import subprocess
 import threading
 from typing import Any, AsyncIterator, Callable, Dict, Iterator, List, NamedTuple, Optional, Tuple, Union
 
-__all__ = ["open", "open_async", "Refused", "Stopped", "Stored", "Turn"]
+__all__ = ["open", "open_async", "Refused", "Stopped", "Stored", "Changes", "Digest", "Turn"]
 
 Document = Dict[str, Union[bool, int, float, str]]
 Json = Dict[str, Any]
@@ -55,6 +55,16 @@ class Stored(NamedTuple):
     doc: Document
     lwt: int
     rev: str
+
+
+class Changes(NamedTuple):
+    docs: List[Document]
+    place: Optional[Json]
+
+
+class Digest(NamedTuple):
+    count: int
+    digest: str
 
 
 class Turn(NamedTuple):
@@ -317,6 +327,16 @@ class Collection:
     def count(self, query: Optional[Json] = None) -> int:
         return self._db._call(_line("count", into=self.name, query=query or {}))["count"]
 
+    def changes(self, since: Optional[Json] = None, batch: Optional[int] = None) -> Changes:
+        """What was written last to each key above a place, in the order of writing, tombstones too."""
+        reply = self._db._call(_line("changes", into=self.name, since=since, batch=batch))
+        return Changes(reply["docs"], reply.get("place"))
+
+    def digest(self) -> Digest:
+        """One text that tells the states of all documents from others, and how many they are."""
+        reply = self._db._call(_line("digest", into=self.name))
+        return Digest(reply["count"], reply["digest"])
+
     def observe(self, query: Optional[Json] = None, name: Optional[str] = None) -> Observed:
         """The query's result, now and after each change, until it is closed."""
         return Observed(self._db, name or self._db._lines.new_name(), self.name, query or {})
@@ -528,6 +548,14 @@ class AsyncCollection:
 
     async def count(self, query: Optional[Json] = None) -> int:
         return (await self._db._call(_line("count", into=self.name, query=query or {})))["count"]
+
+    async def changes(self, since: Optional[Json] = None, batch: Optional[int] = None) -> Changes:
+        reply = await self._db._call(_line("changes", into=self.name, since=since, batch=batch))
+        return Changes(reply["docs"], reply.get("place"))
+
+    async def digest(self) -> Digest:
+        reply = await self._db._call(_line("digest", into=self.name))
+        return Digest(reply["count"], reply["digest"])
 
     def observe(self, query: Optional[Json] = None, name: Optional[str] = None) -> AsyncObserved:
         return AsyncObserved(self._db, name or self._db._lines.new_name(), self.name, query or {})

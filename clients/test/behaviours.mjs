@@ -170,6 +170,54 @@ export const behaviours = {
     await db.close();
   },
 
+  async 'a fork and its master: a lost push, a conflict, what the fork hears, and what is refused'({ open, transport }) {
+    const db = await open(transport());
+    const master = await db.collection('m', schema), fork = await db.collection('f', schema);
+    const replication = { name: 'r', fork: 'f', master: 'm', handler: 'greater', field: 'n' };
+    await db.replicate(replication);
+    const heard = [];
+    fork.observe({ sort: [{ n: 'desc' }], limit: 1 }).subscribe((rows) => heard.push(rows.map((it) => it.n).join()));
+    await master.insert({ id: 'ä', n: 1 });
+    const pull = { exchange: 1, place: { id: 'ä', lwt: 1 }, rows: ['ä'], sent: 'pull' };
+    same(await db.turn('r'), { end: 'quiet', exchanges: 1, each: [pull] }, 'a pull');
+
+    await fork.patch('ä', { n: 3 });
+    await master.patch('ä', { n: 2 });
+    await fork.insert({ id: 'b', n: 0 });
+    const lost = { exchange: 1, lost: 'lose_request', rows: ['ä', 'b'], sent: 'push' };
+    same(await db.turn('r', { link: ['lose_request'] }), { end: 'lost', exchanges: 1, each: [lost] }, 'a lost push');
+    const { end, exchanges, each } = await db.turn('r', { batch: 1 });
+    const told = ['push ä ä', 'push b ', 'push ä ', 'pull b ', 'pull ä ', 'pull  '];
+    same([end, exchanges, each.map((it) => `${it.sent} ${it.rows} ${it.conflicts ?? ''}`)], ['quiet', 6, told], 'a conflict');
+    same((await db.turn('r', { budget: 1, link: ['twice'] })).end, 'quiet', 'nothing more');
+    same(await master.get('ä'), { doc: { id: 'ä', n: 3 }, lwt: 4, rev: '3-m' }, 'the greater number');
+    const [here, there] = await Promise.all([fork.digest(), master.digest()]);
+    same([here.count, here.digest], [2, there.digest], 'both sides');
+    const b = { docs: [{ _deleted: false, id: 'b', n: 0 }], place: { id: 'b', lwt: 3 } };
+    same(await master.changes({ since: { id: 'ä', lwt: 1 }, batch: 1 }), b, 'what the master wrote');
+    same(heard, ['', '1', '3'], 'emissions');
+
+    const code = async (call) => (await fault(call)).code;
+    same(await code(() => db.replicate(replication)), 9, 'the name is taken');
+    same(await code(() => db.replicate({ ...replication, name: 's', handler: 'mine' })), 19, 'no handler');
+    same(await code(() => db.replicate({ ...replication, name: 's', fork: 'm', master: 'f' })), 21, 'a chain');
+    same(await code(() => db.turn('s')), 18, 'no replication');
+    same(await code(() => db.turn('r', { batch: 0 })), 20, 'no batch');
+    await db.close();
+  },
+
+  async 'a turn that a full journal ends has no answer, and a restart keeps a replication'({ open, transport }) {
+    const db = await open(transport('--max-journal', '1500'));
+    const master = await db.collection('m', schema);
+    await db.collection('f', schema);
+    await db.replicate({ name: 'r', fork: 'f', master: 'm', handler: 'join' });
+    await master.bulk([{ id: 'a' }, { id: 'b' }]);
+    same([await db.restart(), (await db.turn('r', { batch: 1 })).exchanges], [2, 3], 'after a restart');
+    await master.bulk(Array.from({ length: 10 }, (_, n) => ({ id: `k${n}` })));
+    const stopped = await fault(() => db.turn('r', { batch: 1 }));
+    same([stopped.stop, stopped.limit], ['full', 1500], 'in the middle of a turn');
+  },
+
   async 'after close nothing is taken, and what was asked before is answered'({ open, transport }) {
     const db = await open(transport());
     const c = await db.collection('c', schema);

@@ -200,8 +200,8 @@ async function take(page, name) {
 
 tests['the page of todos, by keyboard, kept over a reload'] = async () => {
   const page = await chromium.page(`${served.origin}/clients/web/`);
-  await page.until(`document.querySelectorAll('#phone li').length === 3 && document.querySelectorAll('#laptop li').length === 2`);
-  const titles = (page) => page.run(() => Array.from(document.querySelectorAll('#phone li'), (it) => {
+  await page.until(`document.querySelectorAll('#phone .todos li').length === 3 && document.querySelectorAll('#laptop .todos li').length === 2`);
+  const titles = (page) => page.run(() => Array.from(document.querySelectorAll('#phone .todos li'), (it) => {
     const [done, title] = it.children;
     return title.value + (done.checked ? ', done' : '');
   }).join('; '));
@@ -216,30 +216,30 @@ tests['the page of todos, by keyboard, kept over a reload'] = async () => {
   same(await focus(), 'New todo on the phone', 'focus');
   await page.type('Learn to juggle');
   await page.key('Enter');
-  await page.until(`document.querySelector('#phone li .title').value === 'Learn to juggle'`);
+  await page.until(`document.querySelector('#phone .todos .title').value === 'Learn to juggle'`);
   await tab(3);
   same(await focus(), 'Title', 'focus');
   await page.type('Learn to juggle three balls'); // what is there is marked, and replaced
   await page.key('Enter');
-  await page.until(`document.querySelector('#phone li .title').value.includes('three balls')`);
-  await page.run(() => { document.querySelector('#phone li [type=checkbox]').focus(); });
+  await page.until(`document.querySelector('#phone .todos .title').value.includes('three balls')`);
+  await page.run(() => { document.querySelector('#phone .todos [type=checkbox]').focus(); });
   await page.key(' ');
-  await page.until(`document.querySelector('#phone li:last-child [type=checkbox]').checked`);
-  same(await page.evaluate(`document.activeElement === document.querySelector('#phone li:last-child [type=checkbox]')`), true, 'the box keeps the focus');
-  const removed = await page.evaluate(`document.querySelector('#phone li .title').value`);
-  await page.run(() => { document.querySelector('#phone li .remove').focus(); });
+  await page.until(`document.querySelector('#phone .todos li:last-child [type=checkbox]').checked`);
+  same(await page.evaluate(`document.activeElement === document.querySelector('#phone .todos li:last-child [type=checkbox]')`), true, 'the box keeps the focus');
+  const removed = await page.evaluate(`document.querySelector('#phone .todos .title').value`);
+  await page.run(() => { document.querySelector('#phone .todos .remove').focus(); });
   await page.key('Enter');
-  await page.until(`document.querySelectorAll('#phone li').length === 3`);
+  await page.until(`document.querySelectorAll('#phone .todos li').length === 3`);
   same(await focus(), 'Remove', 'the next removal has the focus');
   const before = await titles(page);
   same([before.includes(removed), before.includes('three balls, done')].join(), 'false,true', before);
   await page.run(() => { document.getElementById('sync').click(); });
-  await page.until(`/sync/i.test(document.getElementById('status').textContent)`);
+  await page.until(`document.getElementById('status').textContent === 'Synced the laptop in 2 exchanges.'`);
   await take(page, 'wide-after-sync');
   await page.close();
 
   const again = await chromium.page(`${served.origin}/clients/web/`, { width: 390, height: 844 });
-  await again.until(`document.querySelectorAll('#phone li').length === 3`);
+  await again.until(`document.querySelectorAll('#phone .todos li').length === 3`);
   same(await titles(again), before, 'after a reload');
   same(await again.evaluate('document.documentElement.scrollWidth <= innerWidth'), true, 'nothing is cut off on a phone');
   await take(again, 'narrow');
@@ -250,9 +250,49 @@ tests['the page of todos, by keyboard, kept over a reload'] = async () => {
   }, n);
   await again.until(`document.querySelector('#phone .more span').textContent === '6 of 11 shown'`);
   await again.run(() => { document.querySelector('#phone .more button').click(); });
-  await again.until(`document.querySelectorAll('#phone li').length === 11`);
+  await again.until(`document.querySelectorAll('#phone .todos li').length === 11`);
   await take(again, 'narrow-long');
   await again.close();
+};
+
+tests['the page of todos, edited apart and synced: a conflict shows its answer'] = async () => {
+  const site = await serve(root); // an origin of its own, where nothing is stored
+  const page = await chromium.page(`${site.origin}/clients/web/`);
+  const synced = async (status) => {
+    await page.run(() => { document.getElementById('status').textContent = ''; document.getElementById('sync').click(); });
+    await page.until(`document.getElementById('status').textContent`);
+    same(await page.evaluate(`document.getElementById('status').textContent`), status, 'status');
+  };
+  const titles = (place) => page.run((place) => Array.from(document.querySelectorAll(`#${place} .title`), (it) => it.value).join('; '), place);
+  const edit = (place, from, to) => page.run((place, from, to) => {
+    const title = Array.from(document.querySelectorAll(`#${place} .title`)).find((it) => it.value === from);
+    title.value = to;
+    title.dispatchEvent(new Event('change'));
+  }, place, from, to);
+  const flip = () => page.run(() => { for (const it of document.querySelectorAll('.online input')) it.click(); });
+
+  await page.until(`document.querySelectorAll('#phone .todos li').length === 3 && document.querySelectorAll('#laptop .todos li').length === 2`);
+  await synced('Synced the phone and the laptop in 5 exchanges.');
+  for (const place of ['phone', 'server', 'laptop']) await page.until(`document.querySelectorAll('#${place} .todos li').length === 5`);
+  await flip();
+  await synced('Both devices are offline. Edits go on, and sync later.');
+  await edit('phone', 'Answer Ada', 'Answer Ada at once');
+  await page.run(() => { Array.from(document.querySelectorAll('#phone .todos li')).find((it) => it.children[1].value === 'Buy oat milk').children[2].click(); });
+  await page.until(`document.querySelectorAll('#phone .todos li').length === 4`);
+  await edit('laptop', 'Answer Ada', 'Answer Ada and Grace');
+  await edit('laptop', 'Buy oat milk', 'Buy soy milk');
+  await take(page, 'apart');
+  await flip();
+  await synced('Synced the phone and the laptop in 6 exchanges. 2 todos had been edited on both sides, and the later edit was kept.');
+  same(await titles('phone'), await titles('server'), 'the phone and the server');
+  same(await titles('laptop'), await titles('server'), 'the laptop and the server');
+  const told = await page.run(() => Array.from(document.querySelectorAll('.conflicts li p'), (it) => it.innerText.replace(/\s+/g, ' ').trim()).join('; '));
+  const [ada, milk] = ['Laptop Answer Ada and Grace kept; Server Answer Ada at once', 'Laptop Buy soy milk kept; Server removed'];
+  same([`${ada}; ${milk}`, `${milk}; ${ada}`].includes(told), true, told);
+  same(await page.evaluate(`document.querySelector('#phone .conflicts').hidden`), true, 'the phone came first');
+  await take(page, 'conflict');
+  await page.close();
+  site.close();
 };
 
 tests['the quickstart page of clients/README.md'] = async () => {

@@ -24,6 +24,8 @@ async function play(db, text, observed) {
     case 'get': return collection.get(line.key);
     case 'find': return collection.find(line.query);
     case 'count': return collection.count(line.query);
+    case 'changes': return collection.changes(line);
+    case 'digest': return collection.digest();
     case 'explain': return db.explain(line.name);
     case 'tick': return db.tick(line.at);
     case 'restart': return db.restart();

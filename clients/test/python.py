@@ -325,6 +325,46 @@ def asyncio_calls_at_once_iterators_and_a_killed_child():
 
 
 @test
+def a_fork_and_its_master():
+    with rx.open(PROGRAM, journal()) as db:
+        master, fork = db.collection("m", SCHEMA), db.collection("f", SCHEMA)
+        db.replicate("r", "f", "m", handler="greater", field="n")
+        query = fork.observe({"sort": [{"n": "desc"}], "limit": 1})
+        master.insert({"id": "ä", "n": 1})
+        pull = {"exchange": 1, "place": {"id": "ä", "lwt": 1}, "rows": ["ä"], "sent": "pull"}
+        same(db.turn("r"), ("quiet", 1, [pull]), "a pull")
+        fork.patch("ä", {"n": 3})
+        master.patch("ä", {"n": 2})
+        lost = {"exchange": 1, "lost": "lose_reply", "rows": ["ä"], "sent": "push"}
+        same(db.turn("r", link=["lose_reply"]), ("lost", 1, [lost]), "a lost push")
+        end, exchanges, each = db.turn("r", batch=1, budget=10)
+        same((end, exchanges), ("quiet", 4))
+        same([(it["sent"], it["rows"], it.get("conflicts")) for it in each[:2]], [("push", ["ä"], ["ä"]), ("push", ["ä"], [])])
+        same(master.get("ä"), ({"id": "ä", "n": 3}, 3, "3-m"))
+        same((master.digest().count, master.digest()), (1, fork.digest()), "both sides")
+        same(master.changes(since={"id": "ä", "lwt": 3}, batch=1), ([], {"id": "ä", "lwt": 3}))
+        same([[row["n"] for row in rows] for rows in query.pending()], [[], [1], [3]])
+        same(fault(lambda: db.replicate("r", "f", "m", handler="join")).code, 9)
+        same(fault(lambda: db.replicate("s", "m", "f", handler="join")).code, 21)
+        same(fault(db.turn, "s").code, 18)
+
+
+@test
+def a_fork_and_its_master_with_asyncio():
+    async def run():
+        async with rx.open_async(PROGRAM, journal()) as db:
+            master = await db.collection("m", SCHEMA)
+            fork = await db.collection("f", SCHEMA)
+            await db.replicate("r", "f", "m", handler="fork_wins")
+            await asyncio.gather(master.insert({"id": "a", "n": 1}), fork.insert({"id": "a", "n": 2}))
+            turns = await asyncio.gather(db.turn("r", budget=1), db.turn("r"))
+            same([(it.end, it.exchanges, len(it.each)) for it in turns], [("more", 1, 1), ("quiet", 2, 2)])
+            same((await master.get("a")).doc, {"id": "a", "n": 2})
+
+    asyncio.run(run())
+
+
+@test
 def replicate_and_turn_over_scripted_lines():
     lines = rx._Lines()
     written, replies = b"", []

@@ -1,4 +1,5 @@
-// A todo list on two devices and a server, each a collection of one database in this tab.
+// A todo list on two devices and a server, each a collection of one database in this tab. The devices' are forks of
+// the server's: they are edited apart, and come together by a turn.
 import { open, wasm } from '../js/rx.mjs';
 
 const schema = {
@@ -29,11 +30,22 @@ const todo = (title) => ({ id: crypto.randomUUID(), title, done: false, made: Da
 // A write that is refused says so, and leaves the list as it is.
 const attempt = (write) => write.catch((fault) => say(`Not done: ${fault.message}`));
 
-/** One place: its todos, which follow each change, and what can be done to them. */
-async function show(db, name) {
+/** The collection of a place, with its first todos. */
+async function collection(db, name) {
   const todos = await db.collection(name, schema);
   if (todos.isNew) await todos.bulk(first[name].map(todo));
+  return todos;
+}
 
+/** Makes a device's collection a fork of the server's. Of two edits the later one is kept. */
+async function follow(db, name) {
+  const replication = { name, fork: name, master: 'server', handler: 'greater', field: 'edited' };
+  await db.replicate(replication).catch((fault) => { if (fault.word !== 'exists') throw fault; });
+}
+
+/** One place: its todos, which follow each change, and what can be done to them. */
+function show(todos) {
+  const { name } = todos;
   const section = copy('place');
   const part = (selector) => section.querySelector(selector);
   const items = new Map(); // by key, so that what is edited keeps its place and its focus
@@ -72,12 +84,12 @@ async function show(db, name) {
     });
     items.clear();
     for (const [id, li] of shown) items.set(id, li);
-    part('ul').replaceChildren(...items.values());
+    part('.todos').replaceChildren(...items.values());
     if (section.contains(focused)) focused.focus();
     part('.empty').hidden = rows.length > 0;
     todos.count().then((count) => {
-      part('.more span').textContent = count ? `${rows.length} of ${count} shown` : '';
-      part('.more button').hidden = rows.length === count;
+      part('.more span').textContent = count ? `${items.size} of ${count} shown` : '';
+      part('.more button').hidden = items.size === count;
     }, () => {});
   }
 
@@ -92,6 +104,7 @@ async function show(db, name) {
   part('h2').textContent = name;
   part('.empty').textContent = name === 'server' ? 'Nothing has been synced.' : 'Nothing to do.';
   part('.online input').onchange = ({ target }) => section.classList.toggle('offline', !target.checked);
+  part('.conflicts button').onclick = () => { part('.conflicts').hidden = true; element('sync').focus(); };
   part('.more button').onclick = () => { limit += 6; observe(); };
   part('form').onsubmit = (event) => {
     event.preventDefault();
@@ -100,36 +113,69 @@ async function show(db, name) {
     input.value = '';
   };
   part('form input').setAttribute('aria-label', `New todo on the ${name}`);
-  if (name === 'server') for (const it of section.querySelectorAll('.online, form')) it.remove();
+  if (name === 'server') for (const it of section.querySelectorAll('.online, form, .conflicts')) it.remove();
   section.id = name;
   observe();
   return section;
 }
 
-/** Each device that is online pushes and pulls until nothing is left. */
+const text = (row) => (row ? `${row.title}${row.done ? ', done' : ''}` : 'removed');
+const allRows = async (db, name) => new Map((await (await db.collection(name)).find()).map((row) => [row.id, row]));
+
+/** A device pushes and pulls until nothing is left. Answers how, with what was edited on both sides. */
+async function turn(db, name) {
+  const [mine, theirs] = [await allRows(db, name), await allRows(db, 'server')];
+  const { end, exchanges, each } = await db.turn(name);
+  const kept = await allRows(db, name);
+  const keys = new Set(each.flatMap((it) => it.conflicts ?? []));
+  const conflicts = [...keys].map((key) => ({ mine: text(mine.get(key)), theirs: text(theirs.get(key)), kept: text(kept.get(key)) }));
+  return { name, end, exchanges, conflicts: conflicts.filter((it) => it.mine !== it.theirs) };
+}
+
+/** Both edits of each conflict, with the one that was kept marked. */
+function showConflicts(name, conflicts) {
+  const panel = element(name).querySelector('.conflicts');
+  panel.hidden = !conflicts.length;
+  panel.querySelector('ul').replaceChildren(...conflicts.map(({ mine, theirs, kept }) => {
+    const li = copy('conflict');
+    for (const [edit, who, what] of [[li.children[0], name, mine], [li.children[1], 'server', theirs]]) {
+      edit.children[0].textContent = who;
+      edit.children[1].textContent = what;
+      edit.children[2].hidden = what !== kept;
+      edit.classList.toggle('kept', what === kept);
+    }
+    return li;
+  }));
+}
+
+const count = (n, what) => `${n} ${what}${n === 1 ? '' : 's'}`;
+
+/** The devices that are online come to the server in turn, and all but the last once more, for what the others brought. */
 async function sync(db) {
   const online = devices.filter((name) => element(name).querySelector('.online input').checked);
   if (!online.length) return say('Both devices are offline. Edits go on, and sync later.');
-  const ends = [];
-  for (const name of online) {
-    try {
-      const replication = { name, fork: name, master: 'server', handler: 'greater', field: 'edited' };
-      await db.replicate(replication).catch((fault) => { if (fault.word !== 'exists') throw fault; });
-      const { end, exchanges } = await db.turn(name);
-      ends.push(`${name} ${end} after ${exchanges} exchanges`);
-    } catch (fault) {
-      if (fault.word !== 'not_yet') return say(`Not synced: ${fault.message}`);
-      return say('This build of the program can’t sync yet: it refuses “replicate” as not yet made. Each device keeps its own edits.');
-    }
+  const turns = [];
+  try {
+    for (const name of [...online, ...online.slice(0, -1)]) turns.push(await turn(db, name));
+  } catch (fault) {
+    return say(`Not synced: ${fault.message}`);
   }
-  say(`Synced: ${ends.join(', ')}.`);
+  for (const name of online) showConflicts(name, turns.filter((it) => it.name === name).flatMap((it) => it.conflicts));
+  const halted = turns.find((it) => it.end !== 'quiet');
+  if (halted) return say(`The ${halted.name} is not through: its turn ended ${halted.end}.`);
+  const exchanges = turns.reduce((sum, it) => sum + it.exchanges, 0);
+  const conflicts = turns.reduce((sum, it) => sum + it.conflicts.length, 0);
+  const met = conflicts ? ` ${count(conflicts, 'todo')} had been edited on both sides, and the later edit was kept.` : '';
+  say(`Synced the ${online.join(' and the ')} in ${count(exchanges, 'exchange')}.${met}`);
 }
 
 try {
   const db = await open(wasm('../../wasm/out', 'todos'));
-  const sections = await Promise.all(['phone', 'server', 'laptop'].map((name) => show(db, name)));
-  element('places').append(...sections);
-  element('sync').onclick = () => sync(db);
+  const places = await Promise.all(['phone', 'server', 'laptop'].map((name) => collection(db, name)));
+  await Promise.all(devices.map((name) => follow(db, name)));
+  element('places').append(...places.map(show));
+  let syncing = Promise.resolve();
+  element('sync').onclick = () => { syncing = syncing.then(() => sync(db)); };
   element('sync').disabled = false;
   say('Ready. Everything you do is kept in this browser.');
   navigator.storage.persist?.(); // so that the browser doesn't drop the journal when it is short of room
