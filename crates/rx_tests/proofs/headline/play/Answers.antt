@@ -11,7 +11,7 @@ use Rattle.rx_top.proofs.GoingOn.{starts_empty}
 use Rattle.rx_tests.proofs.headline.play.Goals as goal
 
 pub returns-clause-transcript : goal.returns-clause-transcript
-returns-clause-transcript c = λ is.
+returns-clause-transcript g c = λ is.
     let command = c.requires.runs in
     elim (c.rx.ensures.runs command.0 command.1 command.2) [
       | inl plays ↦ plays.whole_transcript is tt tt tt [] empty
@@ -22,7 +22,7 @@ returns-clause-transcript c = λ is.
     ]
 
 pub returns-clause-journal : goal.returns-clause-journal
-returns-clause-journal c = λ is.
+returns-clause-journal g c = λ is.
     let command = c.requires.runs in
     elim (c.rx.ensures.runs command.0 command.1 command.2) [
       | inl plays ↦ plays.kept is tt tt [] empty
@@ -32,7 +32,7 @@ returns-clause-journal c = λ is.
     ]
 
 pub returns-clause-refusal : goal.returns-clause-refusal
-returns-clause-refusal c = λ is.
+returns-clause-refusal g c = λ is.
     let command = c.requires.runs in
     elim (c.rx.ensures.runs command.0 command.1 command.2) [
       | inl plays ↦ plays.refusal is tt tt [] empty
