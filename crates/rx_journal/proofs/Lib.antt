@@ -3,9 +3,9 @@ mod Begun
 mod Bytes
 pub mod Growing
 mod Held
-mod Holding
+pub mod Holding
 mod Holds
-mod Moving
+pub mod Moving
 mod Opened
 mod ReadFile
 mod Scan

@@ -14,7 +14,7 @@ use Rattle.rx_journal.specs.declared.open.OpenFault.{OpenFault}
 use Rattle.rx_journal.proofs.Holding.{none_held, more_held}
 
 -- a gate that was read is the first of the bytes left
-closed_left : (w : Windows) (content : List ℕ) → IsAtEnd w → IsClosed (left w content)
+pub closed_left : (w : Windows) (content : List ℕ) → IsAtEnd w → IsClosed (left w content)
 closed_left w content (gate, rest, shut, is) =
     let behind = drop (place_of w + length (held w.window)) content in
     (gate, rest ++ behind, shut, ap (λ (l : List ℕ). l ++ behind) is)
@@ -95,6 +95,7 @@ module _ {D X : Type 0} (d : Ghosts D) (before after : D) (old new : Windows) (r
   moved x untouched next place limit memory = record {
     lends = more_left d before after old new untouched (read x) next place;
     lent = one_more d before after old new untouched (read x) next place;
+    stood = next;
     stay = λ told. tt;
     end = tt;
     place = place;
@@ -109,6 +110,7 @@ module _ {D X : Type 0} (d : Ghosts D) (before after : D) (old new : Windows) (r
   ended untouched stay end limit memory = record {
     lends = none_left d before after old new untouched stay end;
     lent = may_go_on d before after old new untouched stay end;
+    stood = λ told. tt;
     stay = stay;
     end = end;
     place = tt;
@@ -126,6 +128,9 @@ module _ {D X : Type 0} (d : Ghosts D) (before after : D) (old new : Windows) (r
           (sym alike) (m.lends told bodies will);
       lent = λ told bodies lent.
           subst (λ (b : List ℕ). HaveLent d after new (bodies ++ b ∷ [])) (sym alike) (m.lent told bodies lent);
+      stood = λ told.
+          subst (λ (b : List ℕ). NextIs (left old (d.content before)) b (left new (d.content before)))
+          (sym alike) (m.stood told);
       stay = m.stay;
       end = m.end;
       place = m.place ∙ ap (λ (b : List ℕ). place_of old + 5 + length b) (sym alike);
@@ -137,6 +142,7 @@ module _ {D X : Type 0} (d : Ghosts D) (before after : D) (old new : Windows) (r
     none_alike m = record {
       lends = m.lends;
       lent = m.lent;
+      stood = m.stood;
       stay = m.stay;
       end = m.end;
       place = m.place;
@@ -150,6 +156,7 @@ module _ {D X : Type 0} (d : Ghosts D) (before after : D) (old new : Windows) (r
         let here : Move d before after old new reread (Err e) = record {
           lends = λ told bodies will. tt;
           lent = λ told bodies lent. tt;
+          stood = λ told. tt;
           stay = m.stay;
           end = tt;
           place = tt;

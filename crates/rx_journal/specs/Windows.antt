@@ -5,7 +5,7 @@ use Rattle.std.specs.Io.BufRead.{Rests}
 use Rattle.rx_disk.specs.declared.disk.Disk.{Ghosts}
 use Rattle.rx_disk.specs.Disk.{Only}
 use Rattle.rx_frame.specs.File.{AllFit, front, end_of, IsWhole, StandsFor, no_records, shortest}
-use Rattle.rx_frame.specs.Gate.{IsClosed}
+use Rattle.rx_frame.specs.Gate.{IsClosed, NextIs}
 use Rattle.rx_journal.specs.Hold.{Hold}
 use Rattle.rx_journal.specs.Ready.{IsReady}
 use Rattle.rx_journal.specs.Window.{ahead, held, passed, room_of}
@@ -101,6 +101,9 @@ pub record Move
   pub lent : d.tells → (bodies : List (List ℕ)) → HaveLent d before old bodies
       → IfOk result (λ next. MatchOption next (MayGoOn d after new bodies)
       (λ x. HaveLent d after new (bodies ++ read x ∷ [])))
+  -- the record of the one that was lent stands before the bytes left
+  pub stood : d.tells → IfOk result (λ next. IfSome next
+      (λ x. NextIs (left old (d.content before)) (read x) (left new (d.content before))))
   -- where none was lent, the bytes left are the same
   pub stay : d.tells → MatchResult result (λ next. IfNone next (Stay (d.content before) old new))
       (λ _. Stay (d.content before) old new)

@@ -4,3 +4,5 @@ pub mod Fronts
 pub mod Made
 pub mod Opened
 pub mod Playing
+mod Counting
+mod Seen

@@ -28,7 +28,8 @@ use Rattle.rx_store.specs.Stops.{of_open}
 use Rattle.rx_store.proofs.Crashes.{other_stop}
 use Rattle.rx_store.proofs.Growing.{none_yet}
 
-some_is : (a b : World) → Some a ≡ Some b → a ≡ b
+-- one world
+pub some_is : (a b : World) → Some a ≡ Some b → a ≡ b
 some_is a b e = ap (or_else a) e
   where
     or_else : World → Option World → World

@@ -4,9 +4,11 @@
 #![tactic(auto)]
 
 mod keeping;
+mod looking;
 mod opening;
 mod replaying;
 mod stopping;
 
 pub use keeping::keep;
+pub use looking::{Looked, look};
 pub use opening::open;

@@ -59,10 +59,10 @@ pub fn open<H: Holder + Drop, D: Disk, F: Fn(Collection) -> Result<H, AllocError
         Ok(windows) => windows,
         Err(fault) => return Err(of_open(fault)),
     };
-    let world = replay(alloc, disk, &mut windows, make)?;
+    let replayed = replay(alloc, disk, &mut windows, make)?;
     let journal = windows.done();
-    if !world.sound() {
+    if !replayed.world.sound() {
         return Err(Stop::NotJournal);
     }
-    Ok((journal, world))
+    Ok((journal, replayed.world))
 }

@@ -8,6 +8,7 @@ ghost use Rattle.rx_record.specs.Content.{record_of};
 ghost use Rattle.rx_world.specs.Holders.{holders_in, world_in};
 ghost use Rattle.rx_world.specs.Replay as replays;
 ghost use Rattle.rx_world.specs.Replay.{played};
+ghost use Rattle.rx_store.specs.Counted.{AreCounted};
 ghost use Rattle.rx_store.specs.Made.{AreMade};
 
 use crate::stopping::of_open;
@@ -19,21 +20,37 @@ use rx_record::RecordView;
 use rx_world::World;
 use std::alloc::{AllocError, Global};
 
-/// The world that the records of a journal make. They are read to the closed gate.
+/// The bytes of a record before its body: a gate and a length.
+const LENGTH_BYTES: u64 = 5;
+
+/// The world that the records of a journal make, how many they are, and how many bytes they have,
+/// with their gates and lengths.
+#[derive(Drop)]
+pub(crate) struct Replayed<H: Holder + Drop> {
+    pub world: World<H>,
+    pub records: u64,
+    pub bytes: u64,
+}
+
+/// Plays the records of a journal. They are read to the closed gate.
 pub(crate) fn replay<H: Holder + Drop, D: Disk, F: Fn(Collection) -> Result<H, AllocError>>(
     alloc: Global,
     disk: &mut D,
     windows: &mut Windows,
     make: &F,
-) -> Result<World<H>, Stop>
+) -> Result<Replayed<H>, Stop>
     requires callable { F.IsAlwaysCallable make.now }
     requires makes { (c : _) (r : _) → F.post make.now c r
         → IfOk r (λ h. (H.held h ≡ c) × (H.is_broken h ≡ false)) }
 
     // All that were lent make the world, and the journal may go on from them.
-    ensures ok { D.tells → HaveLent D.Disk disk.old windows.old [] → IfOk result (λ w.
+    ensures ok { D.tells → HaveLent D.Disk disk.old windows.old [] → IfOk result (λ r.
         (bodies : List (List ℕ)) × MayGoOn D.Disk disk.new windows.new bodies
-        × (replays.replay bodies ≡ Some (world_in H.held w))) }
+        × (replays.replay bodies ≡ Some (world_in H.held r.world))) }
+    // They are those that were to come, and counted.
+    ensures counted { D.tells → IfOk result (λ r. (bodies : List (List ℕ))
+        × WillLend (D.content disk.old) windows.old bodies
+        × AreCounted bodies (world_in H.held r.world) r.records r.bytes) }
     ensures ended { IfOk result (λ _. IsAtEnd windows.new) }
     ensures limit { limit_of windows.new ≡ limit_of windows.old }
 
@@ -41,21 +58,32 @@ pub(crate) fn replay<H: Holder + Drop, D: Disk, F: Fn(Collection) -> Result<H, A
     ensures not_journal { D.tells → IsErrOf result Stop.NotJournal → (bodies : List (List ℕ))
         → WillLend (D.content disk.old) windows.old bodies → replays.replay bodies ≡ None }
 
-    ensures made { IfOk result (λ w.
-        AreMade (λ c h. F.post make.now c (Ok h)) H.written (holders_in w)) }
-    ensures epochs { IfOk result (λ w. w.epoch < 2 ^ 32) }
+    ensures made { IfOk result (λ r.
+        AreMade (λ c h. F.post make.now c (Ok h)) H.written (holders_in r.world)) }
+    ensures epochs { IfOk result (λ r. r.world.epoch < 2 ^ 32) }
+    ensures short { IfOk result (λ r. r.bytes < 2 ^ 32) }
     ensures untouched { D.tells → IsUntouched D.Disk disk.old disk.new }
     ensures disk_only { IsErrOf result Stop.Disk → Rises (D.faults disk.old) (D.faults disk.new) }
     ensures faults { D.faults disk.old ≤ D.faults disk.new }
     ensures no_full { (would limit : ℕ) → IsErrOf result (Stop.Full would limit) → ⊥ }
 {
     let mut world = World::new(alloc);
+    let mut records = 0u64;
+    let mut bytes = 0u64;
     loop {
         let body = match windows.next(disk) {
             Ok(Some(body)) => body,
-            Ok(None) => return Ok(world),
+            Ok(None) => {
+                return Ok(Replayed {
+                    world,
+                    records,
+                    bytes,
+                });
+            }
             Err(fault) => return Err(of_open(fault)),
         };
+        records += 1;
+        bytes += LENGTH_BYTES + body.len() as u64;
         world = replay_one(alloc, world, body, make)?;
     }
 }

@@ -1,5 +1,5 @@
 // Holders by name.
-ghost use Rattle.std.specs.Prelude.{◌≡◌, false, None, OnOk, IfSome, IfNone, option_map, string_bytes};
+ghost use Rattle.std.specs.Prelude.{◌≡◌, ◌<◌, false, None, Some, OnOk, IfSome, IfNone, length, option_map, slice_get, string_bytes};
 ghost use Rattle.std.specs.Fn.{FnOnceTakesAtMut};
 ghost use Rattle.std.specs.Option.{ForSome};
 ghost use Rattle.rx_value.specs.Named.{by_bytes, by_name, named, put_named, change_named};
@@ -22,6 +22,18 @@ pub(crate) fn find<'a, H: Holder>(holders: &'a IndexMap<String, H>, name: &str) 
         → IfSome result (λ h. IsWhole H.held H.is_broken name.now h.now) }
 {
     holders.get(name)
+}
+
+// The holder at a place in the order of their making.
+pub(crate) fn find_at<H: Holder>(holders: &IndexMap<String, H>, i: usize) -> &H
+    requires within { i < length (by_bytes holders.now.entries) }
+    requires whole { AreWhole H.held H.is_broken holders.now.entries }
+    ensures found { slice_get (by_name H.held holders.now.entries) i
+        ≡ Some ((H.held result.now).name, H.held result.now) }
+    ensures whole { H.is_broken result.now ≡ false }
+{
+    let (_, holder) = holders.get_index(i).unwrap();
+    holder
 }
 
 pub(crate) fn add<H: Holder + Drop>(

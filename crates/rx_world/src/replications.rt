@@ -1,5 +1,5 @@
 // Replications by name.
-ghost use Rattle.std.specs.Prelude.{◌≡◌, OnOk, option_map};
+ghost use Rattle.std.specs.Prelude.{◌≡◌, ◌<◌, Some, OnOk, length, option_map, slice_get};
 ghost use Rattle.rx_value.specs.Named.{by_bytes, named, put_named, change_named};
 ghost use Rattle.rx_meta.specs.Side.{side_with};
 ghost use Rattle.rx_replication.specs.Known.{with_learnt};
@@ -21,6 +21,16 @@ pub(crate) fn find<'a>(
         ≡ named (by_bytes replications.now.entries) name.now }
 {
     replications.get(name)
+}
+
+// The replication at a place in the order of their making.
+pub(crate) fn find_at(replications: &IndexMap<String, Replication>, i: usize) -> &Replication
+    requires { i < length (by_bytes replications.now.entries) }
+    ensures { option_map (λ e. e.1) (slice_get (by_bytes replications.now.entries) i)
+        ≡ Some result.now }
+{
+    let (_, replication) = replications.get_index(i).unwrap();
+    replication
 }
 
 // Adds a replication that knows nothing yet.

@@ -1,4 +1,4 @@
-ghost use Rattle.std.specs.Prelude.{◌≡◌, ◌<◌, true, false, length, map, Some, None, Ok, IfOk, IfSome, IfNone, IsErrOf, IsSome, option_map};
+ghost use Rattle.std.specs.Prelude.{◌≡◌, ◌<◌, true, false, length, map, Some, None, Ok, IfOk, IfSome, IfNone, IsErrOf, IsSome, option_map, slice_get};
 ghost use Rattle.std.specs.Bool.{Decides};
 ghost use Rattle.std.specs.Fn.{FnOnceTakesAtMut};
 ghost use Rattle.std.specs.List.{AllByRecursion, IsDistinct};
@@ -26,10 +26,10 @@ use crate::change::change;
 use crate::fault::{ApplyFault, StepFault};
 use crate::following::follow_same;
 use crate::legality::{is_legal, is_legal_view};
-use crate::names::{edit, find};
+use crate::names::{edit, find, find_at};
 use crate::parts::Parts;
 use crate::replication::Replication;
-use crate::replications::find as find_replication;
+use crate::replications::{find as find_replication, find_at as find_replication_at};
 use crate::rows::commit;
 use crate::same::hold_same;
 use crate::soundness::is_sound;
@@ -98,6 +98,16 @@ impl<H: Holder + Drop> World<H> {
         ensures valid { IfSome result (λ h. AreValid (H.held h.now)) }
     {
         find(&self.parts.holders, name)
+    }
+
+    /// The holder of the collection at that place in the order of their making.
+    pub fn holder_at(&self, i: usize) -> &H
+        requires { i < length (world_in H.held self.now).collections }
+        ensures found { slice_get (world_in H.held self.now).collections i
+            ≡ Some ((H.held result.now).name, H.held result.now) }
+        ensures whole { H.is_broken result.now ≡ false }
+    {
+        find_at(&self.parts.holders, i)
     }
 
     /// Calls a function on the holder of the collection of that name. The function leaves the
@@ -217,6 +227,15 @@ impl<H: Holder + Drop> World<H> {
         ensures made { IsMadeWorld (world_in H.held self.now) }
     {
         find_replication(&self.parts.replications, name)
+    }
+
+    /// The replication at that place in the order of their making.
+    pub fn replication_at(&self, i: usize) -> &Replication
+        requires { i < length (world_in H.held self.now).replications }
+        ensures { slice_get (world_in H.held self.now).replications i
+            ≡ Some (result.now.name, result.now) }
+    {
+        find_replication_at(&self.parts.replications, i)
     }
 
     /// Whether no replication has lost anything: what is below a checkpoint is known, what is known

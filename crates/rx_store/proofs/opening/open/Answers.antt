@@ -17,20 +17,20 @@ returns-in-Err-clause-illegal g c told illegal =
     (c.in-Err.ensures.not_journal_kept told) (c.in-Err.ensures.memory_kept told)
     (c.in-Err.ensures.disk_kept told)
 
-pub returns-in_err-world-clause-safe : goal.returns-in_err-world-clause-safe
-returns-in_err-world-clause-safe g c told bodies w lawful =
+pub returns-in_err-replayed-clause-safe : goal.returns-in_err-replayed-clause-safe
+returns-in_err-replayed-clause-safe g c told bodies w lawful =
     let begin = c.in-Ok.ensures.opened told in
     stopped_safely g.D.Disk c.args.disk.now c.replay.new.disk bodies w lawful
     (read_no_worse g.D.Disk c.args.disk.now c.open.new.disk c.replay.new.disk (c.open.ensures.moments told)
     (c.replay.ensures.untouched told)
     (λ t left le now. g.met.D.Disk.counts_now c.open.new.disk t left told le now))
-    c.args.limit _ c.in_err-world.field-0.0 c.from_residual.result (search rules)
-    c.in_err-world.ensures.no_full
+    c.args.limit _ c.in_err-replayed.field-0.0 c.from_residual.result (search rules)
+    c.in_err-replayed.ensures.no_full
     (λ e. some_is_not_none (replay bodies) w lawful.plays
-    (c.in_err-world.ensures.not_journal told e bodies (begin.all.to_come bodies lawful.stands lawful.short)))
+    (c.in_err-replayed.ensures.not_journal told e bodies (begin.all.to_come bodies lawful.stands lawful.short)))
 
-pub returns-in_err-world-clause-illegal : goal.returns-in_err-world-clause-illegal
-returns-in_err-world-clause-illegal g c told illegal =
+pub returns-in_err-replayed-clause-illegal : goal.returns-in_err-replayed-clause-illegal
+returns-in_err-replayed-clause-illegal g c told illegal =
     let long = illegal_long (g.D.Disk.content c.args.disk.now) illegal in
     read_on g.D.Disk c.args.disk.now c.open.new.disk c.replay.new.disk
     (untouched g.D.Disk c.args.disk.now c.open.new.disk long (c.open.ensures.moments told)
@@ -42,8 +42,8 @@ returns-in_err-world-clause-illegal g c told illegal =
 pub returns-then-not-sound-clause-safe : goal.returns-then-not-sound-clause-safe
 returns-then-not-sound-clause-safe g c told bodies w lawful =
     let begin = c.in-Ok.ensures.opened told in
-    let r = c.in_ok-world.ensures.ok told begin.none_yet in
-    let v = world_in g.H.Holder.held c.in_ok-world.world in
+    let r = c.in_ok-replayed.ensures.ok told begin.none_yet in
+    let v = world_in g.H.Holder.held c.in_ok-replayed.replayed.world in
     let sound = is_sound g.D.Disk c.args.disk.now c.open.new.disk c.replay.new.disk c.in-Ok.windows begin
     (c.replay.ensures.untouched told).same c.done-journal.result r.0 v (r.1 c.done-journal.result c.done-journal.ensures.end) r.2
     bodies w lawful in
@@ -61,8 +61,8 @@ returns-then-not-sound-clause-illegal g c told illegal =
 pub returns-clause-stood : goal.returns-clause-stood
 returns-clause-stood g c told =
     let begin = c.in-Ok.ensures.opened told in
-    let r = c.in_ok-world.ensures.ok told begin.none_yet in
-    let v = world_in g.H.Holder.held c.in_ok-world.world in (
+    let r = c.in_ok-replayed.ensures.ok told begin.none_yet in
+    let v = world_in g.H.Holder.held c.in_ok-replayed.replayed.world in (
       r.0,
       v,
       is_legal g.D.Disk c.args.disk.now c.open.new.disk c.replay.new.disk c.in-Ok.windows begin
@@ -73,29 +73,29 @@ returns-clause-stood g c told =
 pub returns-clause-world : goal.returns-clause-world
 returns-clause-world g c told bodies w lawful =
     let begin = c.in-Ok.ensures.opened told in
-    let r = c.in_ok-world.ensures.ok told begin.none_yet in
+    let r = c.in_ok-replayed.ensures.ok told begin.none_yet in
     same_world g.D.Disk c.args.disk.now c.open.new.disk c.replay.new.disk c.in-Ok.windows begin
-    (c.replay.ensures.untouched told).same c.done-journal.result r.0 (world_in g.H.Holder.held c.in_ok-world.world)
+    (c.replay.ensures.untouched told).same c.done-journal.result r.0 (world_in g.H.Holder.held c.in_ok-replayed.replayed.world)
     (r.1 c.done-journal.result c.done-journal.ensures.end) r.2 bodies w lawful
 
 pub returns-clause-safe : goal.returns-clause-safe
 returns-clause-safe g c told bodies w lawful =
     let begin = c.in-Ok.ensures.opened told in
-    let r = c.in_ok-world.ensures.ok told begin.none_yet in
+    let r = c.in_ok-replayed.ensures.ok told begin.none_yet in
     opened_safely g.D.Disk c.args.disk.now c.replay.new.disk bodies w lawful
     (read_no_worse g.D.Disk c.args.disk.now c.open.new.disk c.replay.new.disk (c.open.ensures.moments told)
     (c.replay.ensures.untouched told)
     (λ t left le now. g.met.D.Disk.counts_now c.open.new.disk t left told le now))
-    c.args.limit _ (c.done-journal.result, c.in_ok-world.world)
+    c.args.limit _ (c.done-journal.result, c.in_ok-replayed.replayed.world)
     (holds_these g.D.Disk c.args.disk.now c.open.new.disk c.replay.new.disk c.in-Ok.windows begin
-    (c.replay.ensures.untouched told).same c.done-journal.result r.0 (world_in g.H.Holder.held c.in_ok-world.world)
+    (c.replay.ensures.untouched told).same c.done-journal.result r.0 (world_in g.H.Holder.held c.in_ok-replayed.replayed.world)
     (r.1 c.done-journal.result c.done-journal.ensures.end) r.2 bodies w lawful)
 
 pub returns-clause-illegal : goal.returns-clause-illegal
 returns-clause-illegal g c told illegal =
     let begin = c.in-Ok.ensures.opened told in
-    let r = c.in_ok-world.ensures.ok told begin.none_yet in
-    let v = world_in g.H.Holder.held c.in_ok-world.world in
+    let r = c.in_ok-replayed.ensures.ok told begin.none_yet in
+    let v = world_in g.H.Holder.held c.in_ok-replayed.replayed.world in
     absurd (illegal r.0 v
     (is_legal g.D.Disk c.args.disk.now c.open.new.disk c.replay.new.disk c.in-Ok.windows begin
     (c.replay.ensures.untouched told).same c.done-journal.result r.0 v (r.1 c.done-journal.result c.done-journal.ensures.end) r.2

@@ -1,9 +1,12 @@
-use Rattle.std.proofs.Common.{ℕ, List, Option, Some, Ok, Result, refl, sym, ◌∙◌, ap, subst, arith, rules}
+use Rattle.std.proofs.Common.{ℕ, List, Option, None, Some, Ok, Result, refl, sym, ◌∙◌, ap, subst, arith, rules}
 use Rattle.std.specs.Borrow.{Bor}
-use Rattle.rx_journal.specs.Windows.{Move, WillLend}
+use Rattle.rx_frame.specs.Gate.{IsClosed, NextIs}
+use Rattle.rx_journal.specs.Windows.{Move, WillLend, left}
 use Rattle.rx_journal.specs.declared.open.OpenFault.{OpenFault}
+use Rattle.rx_journal.proofs.Moving.{closed_left}
 use Rattle.rx_world.specs.Holders.{world_in}
 use Rattle.rx_world.specs.World.{World}
+use Rattle.rx_store.proofs.Counting.{read_all, read_none, read_one}
 use Rattle.rx_store.proofs.Playing.{Lends, begun, goes_on, none_made, not_read, not_yet, played_none, played_one, read_on, refused, stop_is}
 use Rattle.rx_store.proofs.replaying.replay.Goals as goal
 
@@ -18,7 +21,12 @@ loop-body-init g c =
       lent = λ told lent.
           played_none g.D.Disk c.args.disk.now c.args.windows.now
           (world_in g.H.Holder.held c.new-world.result) is lent;
+      counted = λ told.
+          read_none (g.D.Disk.content c.args.disk.now) c.args.windows.now
+          (world_in g.H.Holder.held c.new-world.result) is;
       epoch = omega (arith, ap (λ (w : World). w.epoch) is);
+      fewer = omega arith;
+      size = omega arith;
       made = none_made (λ held h. g.F.Fn.post c.args.make.now (held, tt) (Ok h)) g.H.Holder.held g.H.Holder.written
           c.new-world.result is;
       limit = refl;
@@ -28,6 +36,29 @@ loop-body-init g c =
 pub returns-in-Ok-None-clause-epochs : goal.returns-in-Ok-None-clause-epochs
 returns-in-Ok-None-clause-epochs g c =
     omega (arith, c.loop-body.invariant.epoch, c.loop-body.windows.short)
+
+pub returns-in-Ok-None-clause-counted : goal.returns-in-Ok-None-clause-counted
+returns-in-Ok-None-clause-counted g c = λ told.
+    let content = g.D.Disk.content c.args.disk.now in
+    let inv = c.loop-body.invariant in
+    let now = c.next.follows.lender-at-none in
+    let move : Move g.D.Disk c.loop-body.disk c.next.new.disk c.loop-body.windows now
+    (λ (b : Bor (List ℕ)). b.now) (Ok None) =
+    subst (λ (r : Result (Option (Bor (List ℕ))) OpenFault). Move g.D.Disk c.loop-body.disk c.next.new.disk
+    c.loop-body.windows now (λ (b : Bor (List ℕ)). b.now) r)
+    (c.in-Ok-None.is ∙ ap (λ o. Ok o) c.in-Ok-None.field-0-is) c.next.follows.holds-at-none in
+    let here = g.D.Disk.content c.loop-body.disk in
+    let closed : IsClosed (left c.loop-body.windows here) =
+    subst IsClosed (move.stay told).bytes (closed_left now here move.end) in
+    read_all content c.args.windows.now c.loop-body.windows
+    (world_in g.H.Holder.held c.loop-body.world) c.loop-body.records c.loop-body.bytes
+    (subst (λ (l : List ℕ). IsClosed (left c.loop-body.windows l)) (inv.untouched told).same closed)
+    c.loop-body.windows.short (inv.counted told)
+
+pub returns-in_err-world-clause-untouched : goal.returns-in_err-world-clause-untouched
+returns-in_err-world-clause-untouched g c = λ told.
+    read_on g.D.Disk c.args.disk.now c.loop-body.disk c.next.new.disk (c.loop-body.invariant.untouched told)
+    (c.in-Ok-Some.ensures.untouched told)
 
 pub returns-in-Err-clause-not_journal : goal.returns-in-Err-clause-not_journal
 returns-in-Err-clause-not_journal g c = λ told is.
@@ -81,7 +112,15 @@ loop-body-preserved g c =
       lent = λ told first.
           played_one g.D.Disk c.loop-body.disk c.next.new.disk c.loop-body.windows now body.now w w'
           (move.lent told) c.in_ok-world.ensures.ok (inv.lent told first);
+      counted = λ told.
+          read_one content c.args.windows.now c.loop-body.windows now body.now w w'
+          c.loop-body.records c.loop-body.bytes
+          (subst (λ (l : List ℕ). NextIs (left c.loop-body.windows l) body.now (left now l))
+          (inv.untouched told).same (move.stood told))
+          move.place c.in_ok-world.ensures.ok (inv.counted told);
       epoch = omega (arith, inv.epoch, c.in_ok-world.ensures.epoch, move.place);
+      fewer = omega (arith, inv.fewer, move.place);
+      size = omega (arith, inv.size, move.place);
       made = c.in_ok-world.ensures.made;
       limit = move.limit ∙ inv.limit;
       faults = omega (arith, inv.faults, c.in-Ok-Some.ensures.faults);

@@ -1,8 +1,9 @@
-use Rattle.std.proofs.Common.{◌≡◌, ◌≤◌, ◌-◌, ◌^◌, [], Ok}
+use Rattle.std.proofs.Common.{◌≡◌, ◌≤◌, ◌+◌, ◌-◌, ◌^◌, [], Ok}
 use Rattle.rx_journal.specs.Reading.{IsUntouched}
 use Rattle.rx_journal.specs.Windows.{HaveLent, limit_of, place_of}
 use Rattle.rx_world.specs.Holders.{holders_in, world_in}
 use Rattle.rx_store.specs.Made.{AreMade}
+use Rattle.rx_store.proofs.Counting.{HasRead}
 use Rattle.rx_store.proofs.Playing.{IsPlaying, HasPlayed}
 use Rattle.rx_store.proofs.replaying.replay.Given as goal
 
@@ -13,7 +14,11 @@ invariant-loop-body g l = record {
       (world_in g.H.Holder.held l.world);
   lent : g.D.Disk.tells → HaveLent g.D.Disk l.initial.disk l.initial.windows []
       → HasPlayed g.D.Disk l.disk l.windows (world_in g.H.Holder.held l.world);
+  counted : g.D.Disk.tells → HasRead (g.D.Disk.content l.initial.disk) l.initial.windows l.windows
+      (world_in g.H.Holder.held l.world) l.records l.bytes;
   epoch : l.world.epoch ≤ place_of l.windows;
+  fewer : l.records ≤ place_of l.windows;
+  size : l.bytes + place_of l.initial.windows ≡ place_of l.windows;
   made : AreMade (λ c h. g.F.Fn.post l.make (c, tt) (Ok h)) g.H.Holder.written (holders_in l.world);
   limit : limit_of l.windows ≡ limit_of l.initial.windows;
   faults : g.D.Disk.faults l.initial.disk ≤ g.D.Disk.faults l.disk;
