@@ -1,4 +1,4 @@
-ghost use Rattle.std.specs.Prelude.{◌≡◌, map, take, IfOk, option_map};
+ghost use Rattle.std.specs.Prelude.{◌≡◌, [], map, take, IfOk, option_map};
 ghost use Rattle.rx_replication.specs.Known.{pending, NonePendingBelow};
 ghost use Rattle.rx_replication.specs.Request.{push_row, push_or_pull};
 ghost use Rattle.rx_fork.specs.Asked.{asked_of, HasRowsApart};
@@ -37,6 +37,42 @@ impl Fork<'_> {
         ensures apart { IfOk result (λ asked. HasRowsApart asked.request.ask) }
     {
         let rows = self.rows(alloc, collection, batch)?;
+        self.ask_for(alloc, collection, rows, epoch, n, batch)
+    }
+
+    /// The same where nothing is to be pushed, so that it is a pull: no document is looked at.
+    pub fn ask_to_pull(
+        &self,
+        alloc: Global,
+        collection: &Collection,
+        epoch: u64,
+        n: u64,
+        batch: u32,
+    ) -> Result<Asked, AllocError>
+        requires { pending collection.now.documents self.now.meta.now.known ≡ [] }
+        ensures asked { IfOk result (λ asked. asked
+            ≡ asked_of collection.now.documents self.now.meta.now epoch n batch) }
+        ensures apart { IfOk result (λ asked. HasRowsApart asked.request.ask) }
+    {
+        self.ask_for(alloc, collection, RxList::new(alloc), epoch, n, batch)
+    }
+
+    // The request of the rows that are to be pushed.
+    fn ask_for(
+        &self,
+        alloc: Global,
+        collection: &Collection,
+        rows: RxList<PushRow>,
+        epoch: u64,
+        n: u64,
+        batch: u32,
+    ) -> Result<Asked, AllocError>
+        requires { rows ≡ map (push_row self.now.meta.now.known)
+            (take batch (pending collection.now.documents self.now.meta.now.known)) }
+        ensures asked { IfOk result (λ asked. asked
+            ≡ asked_of collection.now.documents self.now.meta.now epoch n batch) }
+        ensures apart { IfOk result (λ asked. HasRowsApart asked.request.ask) }
+    {
         let ask = push_or_pull(alloc, rows, self.meta.down(), batch)?;
         Ok(Asked {
             request: Request { epoch, n, ask },

@@ -41,9 +41,9 @@ use Rattle.rx_world.specs.declared.replication.Replication.{Replication}
 use Rattle.rx_world.proofs.Steps.{lawful_at}
 use Rattle.rx_world.proofs.Valid.{valid_at}
 use Rattle.rx_sync.specs.Asks.{IsLawfulRequest}
-use Rattle.rx_sync.specs.Exchange.{after, behind, exchange, handled_and_taken, if_taken, once_handled, reply_taken, when_taken}
+use Rattle.rx_sync.specs.Exchange.{after, behind, exchange, handled_and_taken, if_taken, once_handled, reply_taken, taken_as, when_taken}
 use Rattle.rx_sync.specs.Handling.{Handled, handled_by, handled_for}
-use Rattle.rx_sync.specs.Laws.{ComeSoundly, IsAnsweredIn, IsAskedIn, IsDueIn, IsDueOf, IsLawfulIn, IsLawfulReply, IsLawfulReplyIn, IsReady, KeepsPendingIn}
+use Rattle.rx_sync.specs.Laws.{ComeSoundly, IsAnsweredIn, IsAskedIn, IsDueIn, IsDueOf, IsLawfulIn, IsLawfulReply, IsLawfulReplyIn, IsReady, KeepsPendingIn, PullLeavesNone}
 use Rattle.rx_sync.specs.Shown.{planned_of, record_in}
 use Rattle.rx_sync.specs.Taking.{recorded, resolve_for, take_fault, taken, taken_by}
 use Rattle.rx_sync.specs.declared.exchanging.Planned.{Planned}
@@ -51,7 +51,9 @@ use Rattle.rx_sync.specs.declared.fault.TakeFault.{TakeFault}
 use Rattle.rx_sync.proofs.Ends.{HasEnds, ends_of}
 use Rattle.rx_sync.proofs.Exchanges.{HasTaken, has_handled, has_taken, taken_is}
 use Rattle.rx_sync.proofs.Going.{due_here, fork_then, handled_well, replication_then, reply_is_lawful}
+use Rattle.rx_sync.proofs.Leaves.{leaves_reply}
 use Rattle.rx_sync.proofs.Messages.{due_of, known_pass}
+use Rattle.rx_sync.proofs.Pulls.{taken_leaves_none}
 use Rattle.rx_sync.proofs.Staying.{plain_soundly}
 use Rattle.rx_sync.proofs.Turns.{exchange_well}
 use Rattle.rx_sync.proofs.Worlds.{by_key_at, called_at, for_fork, fork_sound_at, linked_at}
@@ -160,6 +162,13 @@ module _ (w : World) (made : IsMadeWorld w) (sound : IsSoundWorld w) (name : Lis
       → KeepsPending (resolve_for kind r) r.side.known reply.body fork.documents new.documents)
       at held kept_by
 
+  pub taken_pulled : PullLeavesNone w name cs (Some (taken_as asked.request.ask reply.body))
+  taken_pulled =
+      let here = due r at fork held in
+      let fits = lawful r at fork held in
+      taken_leaves_none w made name r fork held kind now asked reply here fits cs
+      (leaves_reply w made sound name r at fork held kind now asked reply here fits cs is)
+
 -- ---- exchanges
 
 module _ (w : World) (name : List ℕ) (kinds : Kinds) (ready : IsReady w name kinds) where
@@ -233,3 +242,12 @@ module _ (w : World) (name : List ℕ) (kinds : Kinds) (ready : IsReady w name k
         has.1
         has.2 asked has.3 x in
         subst (λ q. ComeSoundly w q.records) is well.come
+
+    pub exchange_pulled : (x : Happening) (p : Planned)
+        → exchange (record { name = name; now = now; kinds = kinds }) asked x w ≡ planned_of p
+        → PullLeavesNone w name (map content p.records.items) p.came
+    exchange_pulled x p is =
+        let well = exchange_well (record { name = name; now = now; kinds = kinds }) w ready has.0
+        has.1
+        has.2 asked has.3 x in
+        subst (λ q. PullLeavesNone w name q.records q.came) is well.pulled

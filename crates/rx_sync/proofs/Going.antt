@@ -34,24 +34,28 @@ use Rattle.rx_reply.specs.declared.turn.Lost.{Lost}
 use Rattle.rx_reply.specs.declared.turn.TurnEnd.TheVariants.{Quiet}
 use Rattle.rx_world.specs.World.{World, Replications}
 use Rattle.rx_world.specs.declared.replication.Replication.{Replication}
-use Rattle.rx_sync.specs.Asking.{asked_in}
+use Rattle.rx_sync.specs.Asking.{asked_in, pending_in}
 use Rattle.rx_sync.specs.Asks.{IsLawfulRequest}
-use Rattle.rx_sync.specs.Exchange.{Planned, after, behind, comes_to, handled_and_taken, if_taken, lost_by, once_handled, reply_lost, reply_taken, state_keys, taken_as, when_taken}
+use Rattle.rx_sync.specs.Exchange.{Planned, after, behind, comes_to, handled_and_taken, if_taken, lost_by, no_time, once_handled, reply_lost, reply_taken, state_keys, taken_as, when_taken}
 use Rattle.rx_sync.specs.Handling.{Handled, handled_for}
-use Rattle.rx_sync.specs.Laws.{ComeSoundly, HasAnswered, IsDueOf, IsLawfulReply, IsLevel, IsReady}
+use Rattle.rx_sync.specs.Laws.{ComeSoundly, HasAnswered, IsDueOf, IsLawfulReply, IsLevel, IsReady, PullLeavesNone}
 use Rattle.rx_sync.specs.Taking.{taken_by}
 use Rattle.rx_sync.specs.Turn.{end_by}
 use Rattle.rx_sync.specs.declared.fault.TakeFault.{TakeFault}
 use Rattle.rx_sync.proofs.Ends.{HasEnds, ends_of, page_levels}
 use Rattle.rx_sync.proofs.Exchanges.{HasHandled, HasTaken, handled_is, has_handled, has_taken, taken_is}
+use Rattle.rx_sync.proofs.Leaves.{LeavesReply, leaves_reply}
 use Rattle.rx_sync.proofs.Messages.{asked_at, due_of, from_down, handled_answered, known_pass, reply_lawful}
+use Rattle.rx_sync.proofs.Pulls.{taken_leaves_none}
 use Rattle.rx_sync.proofs.Staying.{made_after, plain_soundly, soundly_in_turn, still_after}
 use Rattle.rx_sync.proofs.Worlds.{after-append, sound_after, soundly-append}
 
--- its records come soundly, and where it makes the turn quiet, fork and master are level
+-- its records come soundly, and where it makes the turn quiet, fork and master are level; after a
+-- pull nothing is to be pushed
 pub record GoesWell (w : World) (name : List ℕ) (batch : ℕ) (p : Planned) : Type 0 where
   pub come : ComeSoundly w p.records
   pub quiet : end_by batch p.came ≡ Some Quiet → IsLevel (after p.records w) name
+  pub pulled : PullLeavesNone w name p.records p.came
 
 -- records before one that goes well
 pub behind_well : (w : World) (name : List ℕ) (batch : ℕ) (cs : List Content) (p : Planned)
@@ -60,12 +64,22 @@ behind_well w name batch cs p come well = record {
   come = soundly-append w cs p.records come well.come;
   quiet = λ is.
       subst (λ (v : World). IsLevel v name) (sym (after-append cs p.records w)) (well.quiet is);
+  pulled = λ is.
+      subst (λ (v : World). pending_in v name ≡ Some 0) (sym (after-append cs p.records w))
+      (well.pulled is);
 }
+
+-- no write time was found
+pub no_time_well : (w : World) (name : List ℕ) (batch : ℕ) → GoesWell w name batch no_time
+no_time_well w name batch =
+    record { come = tt; quiet = λ is. absurd (cc); pulled = λ is. absurd (cc) }
 
 pub lost_well : (w : World) (name : List ℕ) (batch : ℕ) (why : Lost) (ask : AskKind)
     → GoesWell w name batch (comes_to (lost_by why ask))
-lost_well w name batch why (Push rows) = record { come = tt; quiet = λ is. absurd (cc) }
-lost_well w name batch why (Pull place n) = record { come = tt; quiet = λ is. absurd (cc) }
+lost_well w name batch why (Push rows) =
+    record { come = tt; quiet = λ is. absurd (cc); pulled = λ is. absurd (cc) }
+lost_well w name batch why (Pull place n) =
+    record { come = tt; quiet = λ is. absurd (cc); pulled = λ is. absurd (cc) }
 
 -- ---- a request is handled
 
@@ -99,7 +113,7 @@ module _ (w : World) (name : List ℕ) (kinds : Kinds) (ready : IsReady w name k
       → GoesWell (after h.records w) name batch (next h (after h.records w)))
       → GoesWell w name batch (once_handled next w o)
   once_well batch q next None lawful is well =
-      record { come = tt; quiet = λ is. absurd (cc) }
+      no_time_well w name batch
   once_well batch q next (Some h) lawful is well =
       let hh = handled_well q h lawful is in
       behind_well w name batch h.records (next h (after h.records w)) (handled_come q h hh) (well h
@@ -221,6 +235,18 @@ module _ (w : World) (name : List ℕ) (kinds : Kinds) (ready : IsReady w name k
         ends.fork
         fork_then ready.kind now asked h.reply due_here reply_is_lawful cs taken
 
+    pub leaves_here : (cs : List Content)
+        → taken_by name now asked h.reply ready.here.replication ends.fork ready.kind ≡ Ok cs
+        → LeavesReply (after h.records w) name ready.here.replication ends.fork ready.kind asked
+        h.reply now cs
+    leaves_here cs taken =
+        let come = handled_come w name kinds ready now asked.request h hh in
+        leaves_reply (after h.records w)
+        (made_after w h.records ready.made (soundly_in_turn w h.records come))
+        (sound_after w h.records ready.sound come) name ready.here.replication replication_then
+        ends.fork
+        fork_then ready.kind now asked h.reply due_here reply_is_lawful cs taken
+
     -- a short page that is taken makes the turn quiet, and the fork the master's equal
     level_page : (cs : List Content)
         → HasTaken (after h.records w) name ready.here.replication ends.fork ready.kind asked
@@ -264,12 +290,24 @@ module _ (w : World) (name : List ℕ) (kinds : Kinds) (ready : IsReady w name k
         (subst (λ (n : ℕ). length page < n) (sym same)
         (subst (λ (n : ℕ). n < batch) (length-map page (λ (d : Stored). d.state)) short))
 
+    pulled_here : (cs : List Content)
+        → LeavesReply (after h.records w) name ready.here.replication ends.fork ready.kind asked
+        h.reply now cs
+        → PullLeavesNone (after h.records w) name cs
+        (Some (taken_as asked.request.ask h.reply.body))
+    pulled_here cs left =
+        let come = handled_come w name kinds ready now asked.request h hh in
+        taken_leaves_none (after h.records w)
+        (made_after w h.records ready.made (soundly_in_turn w h.records come)) name
+        ready.here.replication ends.fork fork_then ready.kind now asked h.reply due_here
+        reply_is_lawful cs left
+
     pub taken_well : (o : Result (List Content) TakeFault)
         → taken_by name now asked h.reply ready.here.replication ends.fork ready.kind ≡ o
         → GoesWell (after h.records w) name batch
         (when_taken asked.request.ask h.reply.body (if_taken (Some o)))
-    taken_well (Ok cs) is =
-        let ht = taken_here cs is in
+    taken_well (Ok cs) taken =
+        let ht = taken_here cs taken in
         let shown : taken_as asked.request.ask h.reply.body
         ≡ taken_as asked.request.ask (body_of ends.master.documents asked.request.ask) =
         ap (λ (r : Reply). taken_as asked.request.ask r.body) hh.reply in
@@ -278,8 +316,9 @@ module _ (w : World) (name : List ℕ) (kinds : Kinds) (ready : IsReady w name k
           come = tt;
           quiet = λ q. quiet_by cs ht asked.request.ask refl
               (ap (λ (e : Exchanged). end_by batch (Some e)) (sym shown) ∙ q);
+          pulled = λ is. pulled_here cs (leaves_here cs taken) is;
         })
-    taken_well (Err e) is = record { come = tt; quiet = λ is. absurd (cc) }
+    taken_well (Err e) is = no_time_well (after h.records w) name batch
 
     pub reply_well : GoesWell (after h.records w) name batch
         (reply_taken (record { name = name; now = now; kinds = kinds }) asked h (after h.records w))

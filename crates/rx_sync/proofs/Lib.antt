@@ -15,6 +15,7 @@ pub mod Turns
 pub mod Calls
 pub mod Refusals
 pub mod Leaves
+pub mod Pulls
 pub mod Steps
 pub mod Bound
 pub mod AnyReply

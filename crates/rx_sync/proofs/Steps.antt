@@ -35,10 +35,10 @@ use Rattle.rx_sync.specs.Taking.{resolve_for, taken_by}
 use Rattle.rx_sync.specs.declared.fault.TakeFault.{TakeFault}
 use Rattle.rx_sync.proofs.Ends.{HasEnds, ends_of}
 use Rattle.rx_sync.proofs.Exchanges.{HasHandled, taken_is}
-use Rattle.rx_sync.proofs.Going.{asked_is, due_here, fork_then, handled_come, handled_well, replication_then, reply_is_lawful, taken_goes_well}
-use Rattle.rx_sync.proofs.Leaves.{LeavesReply, leaves_reply, with_side}
-use Rattle.rx_sync.proofs.Staying.{made_after, ready_after}
-use Rattle.rx_sync.proofs.Worlds.{after-append, sound_after}
+use Rattle.rx_sync.proofs.Going.{asked_is, due_here, fork_then, handled_well, leaves_here, replication_then, taken_goes_well}
+use Rattle.rx_sync.proofs.Leaves.{LeavesReply, with_side}
+use Rattle.rx_sync.proofs.Staying.{ready_after}
+use Rattle.rx_sync.proofs.Worlds.{after-append}
 
 -- ---- the link of a replication
 
@@ -195,24 +195,14 @@ module _ (w : World) (name : List ℕ) (kinds : Kinds) (ready : IsReady w name k
         handled_well w name kinds ready now asked.request h
         (due_here w name kinds ready now n batch some asked is).lawful at
 
-    leaves_here : (cs : List Content)
-        → taken_by name now asked h.reply r e.fork ready.kind ≡ Ok cs
-        → LeavesReply (after h.records w) name r e.fork ready.kind asked h.reply now cs
-    leaves_here cs taken =
-        let come = handled_come w name kinds ready now asked.request h hh in
-        leaves_reply (after h.records w) (made_after w h.records ready.made hh.leaves.next)
-        (sound_after w h.records ready.sound come) name r
-        (replication_then w name kinds ready now n batch some asked is h hh) e.fork
-        (fork_then w name kinds ready now n batch some asked is h hh) ready.kind now asked h.reply
-        (due_here w name kinds ready now n batch some asked is)
-        (reply_is_lawful w name kinds ready now n batch some asked is h hh) cs taken
-
     step_by : (ex : Exchanged) (o : Result (List Content) TakeFault)
         → taken_by name now asked h.reply r e.fork ready.kind ≡ o
         → (when_taken asked.request.ask h.reply.body (if_taken (Some o))).came ≡ Some ex
         → IsStep w name r by l batch now
         (behind h.records (when_taken asked.request.ask h.reply.body (if_taken (Some o)))) ex
-    step_by ex (Ok cs) at' came = is_step h hh cs (leaves_here cs at') ex came
+    step_by ex (Ok cs) at' came =
+        is_step h hh cs
+        (leaves_here w name kinds ready now n batch some asked is h hh cs at') ex came
     step_by ex (Err fault) at' came = not_none came
 
     step_taken : (ex : Exchanged)

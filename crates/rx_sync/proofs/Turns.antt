@@ -21,11 +21,11 @@ use Rattle.rx_sync.specs.Asking.{asked_by, asked_in}
 use Rattle.rx_sync.specs.Asks.{Asks, AsksAreLawful, IsLawfulRequest, next_number, with_request}
 use Rattle.rx_sync.specs.Exchange.{Terms, Course, after, course, course_by, exchange, late_records, late_request, once_late}
 use Rattle.rx_sync.specs.Handling.{Handled, handled_for}
-use Rattle.rx_sync.specs.Laws.{ComeSoundly, EveryTurn, IsLevel, IsReady, IsTurnSound, MayTurn, MayTurnAgain, QuietIsLevel, RemembersLawful}
+use Rattle.rx_sync.specs.Laws.{ComeSoundly, EveryTurn, IsLevel, IsReady, IsTurnSound, MayTurn, MayTurnAgain, PullLeavesNone, QuietIsLevel, RemembersLawful}
 use Rattle.rx_sync.specs.Turn.{Turned, before, end_by, ended_with, first_of, going_on, rest_of, turn}
 use Rattle.rx_sync.proofs.Ends.{HasEnds, ends_of}
 use Rattle.rx_sync.proofs.Exchanges.{HasHandled}
-use Rattle.rx_sync.proofs.Going.{GoesWell, behind_well, due_here, handled_come, handled_well, lost_goes_well, lost_well, taken_goes_well}
+use Rattle.rx_sync.proofs.Going.{GoesWell, behind_well, due_here, handled_come, handled_well, lost_goes_well, lost_well, no_time_well, taken_goes_well}
 use Rattle.rx_sync.proofs.Messages.{asked_at}
 use Rattle.rx_sync.proofs.Repeats.{twice_is_once}
 use Rattle.rx_sync.proofs.Staying.{ready_after, remembers_after, soundly_in_turn}
@@ -82,7 +82,7 @@ module _ (t : Terms) (w : World) (ready : IsReady w t.name t.kinds) (n batch : �
       → IsLawfulRequest (ends_of w t.name t.kinds ready).fork.schema q
       → handled_for w t.name q t.now ≡ o
       → GoesWell w t.name batch (once_late t asked x w (option_map (λ h. h.records) o))
-  handled_late q None lawful at = record { come = tt; quiet = λ is. absurd (cc) }
+  handled_late q None lawful at = no_time_well w t.name batch
   handled_late q (Some h) lawful at =
       let hh = handled_well w t.name t.kinds ready t.now q h lawful at in
       let come = handled_come w t.name t.kinds ready t.now q h hh in
@@ -167,6 +167,7 @@ record CourseGoesWell (t : Terms) (batch : ℕ) (w : World) (c : Course) : Type 
   pub come : ComeSoundly w c.records
   pub asks : RemembersLawful w t.name c.asks
   pub quiet : end_by batch c.came ≡ Some Quiet → IsLevel (after c.records w) t.name
+  pub pulled : PullLeavesNone w t.name c.records c.came
 
 course_well : (t : Terms) (batch : ℕ) → 1 ≤ batch → (x : Happening) (w : World) (a : Asks)
     → MayTurn t w a → CourseGoesWell t batch w (course t batch x w a)
@@ -174,7 +175,12 @@ course_well t batch some x w a may = by (asked_in w t.name (next_number a) batch
   where
     by : (o : Option Asked) → asked_in w t.name (next_number a) batch ≡ o
         → CourseGoesWell t batch w (course_by t x w a o)
-    by None is = record { come = tt; asks = may.asks; quiet = λ is. absurd (cc) }
+    by None is = record {
+      come = tt;
+      asks = may.asks;
+      quiet = λ is. absurd (cc);
+      pulled = λ is. absurd (cc);
+    }
     by (Some asked) is =
         let e : HasEnds w t.name may.ready.here.replication may.ready.here.master =
         ends_of w t.name t.kinds may.ready in
@@ -186,7 +192,13 @@ course_well t batch some x w a may = by (asked_in w t.name (next_number a) batch
         e.held lawful may.asks in
         let well = late_well t w may.ready (next_number a) batch some asked is x
         (with_request asked.request a) asks in
-        record { come = well.come; asks = asks; quiet = well.quiet }
+        record { come = well.come; asks = asks; quiet = well.quiet; pulled = well.pulled }
+
+-- after one that has pulled nothing is to be pushed
+pub course_pulled : (t : Terms) (batch : ℕ) → 1 ≤ batch → (x : Happening) (w : World) (a : Asks)
+    → MayTurn t w a
+    → PullLeavesNone w t.name (course t batch x w a).records (course t batch x w a).came
+course_pulled t batch some x w a may = (course_well t batch some x w a may).pulled
 
 -- afterwards another one may follow
 course_again : (t : Terms) (batch : ℕ) (w : World) (a : Asks) (c : Course) → MayTurn t w a

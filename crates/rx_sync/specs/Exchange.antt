@@ -1,5 +1,5 @@
 -- One exchange of a turn, by what the link does to it.
-use Rattle.std.specs.Prelude.{ℕ, List, [], ◌∷◌, ◌++◌, map, Option, Some, None, option_map, Result, Ok}
+use Rattle.std.specs.Prelude.{ℕ, Bool, true, false, List, [], ◌∷◌, ◌++◌, map, Option, Some, None, option_map, Result, Ok}
 use Rattle.rx_wire.specs.declared.message.AskKind.{AskKind}
 use Rattle.rx_wire.specs.declared.message.AskKind.TheVariants.{Push, Pull}
 use Rattle.rx_wire.specs.declared.message.Body.{Body}
@@ -55,6 +55,11 @@ taken_as (Push rows) (Conflicts cs) = Pushed (row_keys rows) (state_keys cs)
 taken_as (Push rows) (Docs ss to) = Pushed (row_keys rows) (state_keys ss)
 taken_as (Pull place batch) (Conflicts cs) = Pulled (state_keys cs) place
 taken_as (Pull place batch) (Docs ss to) = Pulled (state_keys ss) to
+
+-- a reply to a pull was taken
+abbrev pub has_pulled : Option Exchanged → Bool
+has_pulled (Some (Pulled rows place)) = true
+has_pulled other = false
 
 -- ---- the steps of an exchange
 

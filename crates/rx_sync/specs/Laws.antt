@@ -24,6 +24,7 @@ use Rattle.rx_record.specs.Content.{Content}
 use Rattle.rx_record.specs.Writable.{IsOrdered, HasTime}
 use Rattle.rx_record.specs.declared.record.MasterName.{MasterName}
 use Rattle.rx_record.specs.declared.record.MasterName.TheVariants.{Local, Port}
+use Rattle.rx_reply.specs.declared.turn.Exchanged.{Exchanged}
 use Rattle.rx_reply.specs.declared.turn.TurnEnd.TheVariants.{Quiet}
 use Rattle.rx_script.specs.declared.happening.Happening.{Happening}
 use Rattle.rx_script.specs.declared.happening.Happening.TheVariants as link
@@ -31,9 +32,9 @@ use Rattle.rx_world.specs.Sound.{IsSoundWorld}
 use Rattle.rx_world.specs.Step.{step, legal}
 use Rattle.rx_world.specs.World.{World, Collections}
 use Rattle.rx_world.specs.declared.replication.Replication.{Replication}
-use Rattle.rx_sync.specs.Asking.{asked_in}
+use Rattle.rx_sync.specs.Asking.{asked_in, pending_in}
 use Rattle.rx_sync.specs.Asks.{Asks, AsksAreLawful, IsLawfulRequest}
-use Rattle.rx_sync.specs.Exchange.{Terms, after, answer_states, exchange, state_keys}
+use Rattle.rx_sync.specs.Exchange.{Terms, after, answer_states, exchange, has_pulled, state_keys}
 use Rattle.rx_world.specs.Made.{IsMadeWorld}
 use Rattle.rx_sync.specs.Handling.{Handled, handled_for}
 use Rattle.rx_sync.specs.Taking.{resolve_for, taken}
@@ -137,6 +138,10 @@ IsAskedIn w name asked =
 -- a request is lawful for its fork, and so for its master
 abbrev pub IsLawfulIn : World → List ℕ → Request → Type 0
 IsLawfulIn w name q = ForFork w name (λ r fork. IsLawfulRequest fork.schema q)
+
+-- after the records of an exchange that has pulled nothing is to be pushed
+abbrev pub PullLeavesNone : World → List ℕ → List Content → Option Exchanged → Type 0
+PullLeavesNone w name cs came = has_pulled came ≡ true → pending_in (after cs w) name ≡ Some 0
 
 -- the requests that are remembered of it are lawful
 abbrev pub RemembersLawful : World → List ℕ → Asks → Type 0

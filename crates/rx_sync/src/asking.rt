@@ -49,3 +49,26 @@ pub fn ask<H: Holder + Drop>(
     }
     .ask(alloc, fork, world.epoch(), n, batch)
 }
+
+/// The same where nothing is to be pushed, so that it is a pull: no document is looked at.
+pub fn ask_to_pull<H: Holder + Drop>(
+    alloc: Global,
+    world: &World<H>,
+    name: &str,
+    n: u64,
+    batch: u32,
+) -> Result<Asked, AllocError>
+    requires held { IsSome (named (world_in H.held world.now).replications name.now) }
+    requires none { pending_in (world_in H.held world.now) name.now ≡ Some 0 }
+    requires batch { 1 ≤ batch }
+    ensures asked { IfOk result
+        (λ asked. asked_in (world_in H.held world.now) name.now n batch ≡ Some asked) }
+    ensures due { IfOk result (λ asked. IsDueIn (world_in H.held world.now) name.now asked) }
+{
+    let replication = find_replication(world, name);
+    let fork = find_fork(world, replication);
+    Fork {
+        meta: &replication.side,
+    }
+    .ask_to_pull(alloc, fork, world.epoch(), n, batch)
+}

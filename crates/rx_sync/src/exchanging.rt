@@ -5,7 +5,7 @@ ghost use Rattle.rx_record.specs.Shown.{content};
 ghost use Rattle.rx_world.specs.Holders.{world_in};
 ghost use Rattle.rx_sync.specs.Exchange.{behind, exchange, handled_and_taken, if_taken, lost_by, no_time, once_handled, reply_lost, taken_as, when_taken};
 ghost use Rattle.rx_sync.specs.Handling.{handled_for};
-ghost use Rattle.rx_sync.specs.Laws.{ComeSoundly, HasMasterHere, IsAskedIn, IsDueIn, IsLawfulIn, IsLawfulReplyIn, IsReady};
+ghost use Rattle.rx_sync.specs.Laws.{ComeSoundly, HasMasterHere, IsAskedIn, IsDueIn, IsLawfulIn, IsLawfulReplyIn, IsReady, PullLeavesNone};
 ghost use Rattle.rx_sync.specs.Shown.{handled_of, planned_of, record_in};
 ghost use Rattle.rx_sync.specs.Taking.{taken};
 
@@ -51,6 +51,9 @@ pub fn exchange<H: Holder + Drop>(
     // The records may come one after another, and each leaves a sound world.
     ensures next { IfOk result
         (λ planned. ComeSoundly (world_in H.held world.now) (map content planned.records.items)) }
+    // After a pull the next request is one too.
+    ensures pulled { IfOk result (λ planned. PullLeavesNone (world_in H.held world.now) name.now
+        (map content planned.records.items) planned.came) }
 {
     plan(alloc, world, name, asked, happening, handlers, now)
 }

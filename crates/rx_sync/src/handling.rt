@@ -58,6 +58,9 @@ pub fn handle<H: Holder + Drop>(
     ensures next { IsMadeWorld (world_in H.held world.now)
         → IsSoundWorld (world_in H.held world.now)
         → IfOk result (λ h. ComeSoundly (world_in H.held world.now) (record_in h.written)) }
+    // It may come next whether the world is sound or not.
+    ensures may { IfOk result
+        (λ h. MayComeInTurn (world_in H.held world.now) (record_in h.written)) }
 {
     let holder = world.holder(name).unwrap();
     handle_by(alloc, holder.collection(), request, now)
@@ -86,7 +89,8 @@ pub(crate) fn handle_for<H: Holder + Drop>(
     handle(alloc, world, master.as_str(), request, now)
 }
 
-fn handle_by(
+/// What a collection answers to a request, and what it writes.
+pub fn handle_by(
     alloc: Global,
     collection: &Collection,
     request: &Request,

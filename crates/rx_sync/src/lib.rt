@@ -14,12 +14,12 @@ mod laws;
 mod lookup;
 mod taking;
 
-pub use asking::{ask, pending};
+pub use asking::{ask, ask_to_pull, pending};
 pub use asks::Asks;
 pub use copies::copy_of_request;
 pub use earlier::late;
 pub use exchanging::{Planned, exchange};
 pub use fault::TakeFault;
-pub use handling::{Handled, handle};
+pub use handling::{Handled, handle, handle_by};
 pub use laws::{any_reply_laws, bound_laws, turn_laws};
 pub use taking::take;

@@ -1,5 +1,5 @@
 // What the fork of a replication makes of a reply.
-ghost use Rattle.std.specs.Prelude.{◌≡◌, map, IfOk, IsSome, option_map};
+ghost use Rattle.std.specs.Prelude.{◌≡◌, map, Some, IfOk, IsSome, option_map};
 ghost use Rattle.std.specs.List.{list_all, IsDistinct};
 ghost use Rattle.std.specs.Option.{ForSome};
 ghost use Rattle.std.specs.Str.{bytes_eq};
@@ -8,7 +8,8 @@ ghost use Rattle.rx_value.specs.Named.{named};
 ghost use Rattle.rx_handler.specs.Shown.{kinds_of};
 ghost use Rattle.rx_world.specs.Holders.{world_in};
 ghost use Rattle.rx_world.specs.Sound.{IsSoundWorld};
-ghost use Rattle.rx_sync.specs.Laws.{ComeSoundly, IsAnsweredIn, IsDueIn, IsLawfulReplyIn, KeepsPendingIn};
+ghost use Rattle.rx_sync.specs.Exchange.{taken_as};
+ghost use Rattle.rx_sync.specs.Laws.{ComeSoundly, IsAnsweredIn, IsDueIn, IsLawfulReplyIn, KeepsPendingIn, PullLeavesNone};
 ghost use Rattle.rx_sync.specs.Shown.{record_in};
 ghost use Rattle.rx_sync.specs.Taking.{changes_nothing, is_known, is_same_place, recorded, taken, write_time};
 ghost use Rattle.rx_sync.specs.declared.fault.TakeFault.TheVariants.{Memory};
@@ -52,6 +53,9 @@ pub fn take<H: Holder + Drop>(
     // It changes no document that is to be pushed but by the handler's answer on its conflict.
     ensures keeps { IfOk result (λ entry. KeepsPendingIn (world_in H.held world.now)
         (kinds_of handlers.now) name.now reply.now (record_in entry)) }
+    // After a pull the next request is one too.
+    ensures pulled { IfOk result (λ entry. PullLeavesNone (world_in H.held world.now) name.now
+        (record_in entry) (Some (taken_as asked.now.request.ask reply.now.body))) }
 {
     let replication = find_replication(world, name);
     let fork = find_fork(world, replication);

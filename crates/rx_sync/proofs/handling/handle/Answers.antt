@@ -17,3 +17,10 @@ returns-clause-next g c = λ made sound.
     (λ h. ComeSoundly w (record_in h.written)) c.handle_by.ensures.handled
     (λ h. handled_soundly w made sound c.args.name.now held at c.args.request.now
     (c.requires.lawful held at) c.args.now (handled_of h))
+
+pub returns-clause-may : goal.returns-clause-may
+returns-clause-may g c =
+    let w = world_in g.H.Holder.held c.args.world.now in
+    let held = c.collection.result.now in
+    let at : named w.collections held.name ≡ Some held = search rules in
+    c.handle_by.ensures.next w at
