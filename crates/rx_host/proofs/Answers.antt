@@ -1,8 +1,8 @@
 -- One answer of a master.
-use Rattle.std.proofs.Common.{◌≡◌, ◌∙◌, refl, sym, ap, subst, ℕ, true, List, [], ◌∷◌, ◌++◌, inl, inr, map, Option, None, Some, option_map, is_some}
+use Rattle.std.proofs.Common.{◌≡◌, ◌∙◌, refl, sym, ap, subst, ℕ, true, List, [], ◌∷◌, inl, inr, map, Option, None, Some, option_map, is_some}
 use Rattle.rx_value.specs.Named.{named}
 use Rattle.rx_collection.specs.Held.{Held}
-use Rattle.rx_record.specs.Content.{Content, content_bytes, rows}
+use Rattle.rx_record.specs.Content.{Content, content_bytes}
 use Rattle.rx_replication.specs.Master.{body_of, master_then, reply_with}
 use Rattle.rx_serve.specs.Answered.{AnswersAsk, Commit, Commits, Gives, StopsAsk, answered_at, commit_at, commit_by, commit_if}
 use Rattle.rx_wire.specs.declared.message.AskKind.{AskKind}

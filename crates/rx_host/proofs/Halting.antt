@@ -7,7 +7,6 @@ use Rattle.rx_outside.specs.declared.stop.Stop.{Stop}
 use Rattle.rx_outside.specs.declared.stop.Stop.TheVariants.{Memory}
 use Rattle.rx_serve.specs.Answered.{Commits}
 use Rattle.rx_serve.specs.Ends.{EndsBy, IsStopOf, IsStopped}
-use Rattle.rx_serve.specs.declared.ended.Ended.{Ended}
 use Rattle.rx_serve.specs.declared.ended.Why.TheVariants as why
 use Rattle.rx_host.specs.Connections.{IsServedOn, ServedConnection, coming_in, collection_after, commits_through, connection_line, connection_of, moments_of, served_on}
 use Rattle.rx_host.specs.Outside.{BreaksOff, HaltsAfter, HaltsAtLine, HaltsBetween, HaltsBy, HaltsWithin, HaveServed, Outside, outside_after}

@@ -1,5 +1,5 @@
 -- What a disk has after one answer of a master.
-use Rattle.std.proofs.Common.{◌≡◌, ◌∙◌, refl, sym, ap, subst, ℕ, ◌≤◌, ◌⊎◌, ⊎_elim, inl, inr, List, [], ◌∷◌, ◌++◌, map, Option, None, Some, Ok, Err, IsErrOf, append-nil}
+use Rattle.std.proofs.Common.{◌≡◌, ◌∙◌, refl, sym, ap, subst, ℕ, ◌≤◌, ◌⊎◌, ⊎_elim, inl, inr, List, [], ◌∷◌, ◌++◌, map, None, Some, Ok, Err, IsErrOf, append-nil}
 use Rattle.rx_disk.specs.declared.disk.Disk.{Ghosts}
 use Rattle.rx_frame.specs.File.{end_of}
 use Rattle.rx_outside.specs.declared.stop.Stop.{Stop}

@@ -6,7 +6,6 @@ use Rattle.rx_collection.specs.Held.{Held}
 use Rattle.rx_outside.specs.Talk.{Talk}
 use Rattle.rx_serve.specs.Answered.{Commits}
 use Rattle.rx_serve.specs.Ends.{Connection, EndsBy}
-use Rattle.rx_serve.specs.declared.ended.Ended.{Ended}
 use Rattle.rx_serve.specs.declared.ended.Why.{Why}
 use Rattle.rx_serve.specs.declared.ended.Why.TheVariants as why
 use Rattle.rx_host.specs.Connections.{AreServedOn, IsServedOn, ServedConnection, coming_in, collection_after, commits_through, connection_line, connection_of, lines_from, moments_of, served_by, served_on, talks_of}

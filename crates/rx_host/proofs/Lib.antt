@@ -6,3 +6,4 @@ mod InTurn
 mod Halting
 mod Kept
 mod OneMore
+mod Reports

@@ -1,9 +1,9 @@
 -- One more connection, by how its serving answered.
-use Rattle.std.proofs.Common.{◌≡◌, ◌∙◌, refl, sym, ap, subst, ℕ, ◌<◌, ◌⊎◌, inl, inr, List, [], ◌∷◌, ◌++◌, Bool, true, nat_lt, Option, None, Some, Result, Ok, Err, IfOk, IfErr, IsErrOf, arith}
+use Rattle.std.proofs.Common.{◌≡◌, ◌∙◌, refl, sym, ap, subst, ℕ, ◌⊎◌, inl, inr, List, [], ◌∷◌, ◌++◌, true, nat_lt, Option, None, Some, Result, Ok, Err, IfOk, IfErr, IsErrOf, arith}
 use Rattle.std.proofs.lemmas.Bool.Decides.{nat_tests}
 use Rattle.rx_collection.specs.Held.{Held}
 use Rattle.rx_disk.specs.declared.disk.Disk.{Ghosts}
-use Rattle.rx_outside.specs.Failed.{Rises, last_count}
+use Rattle.rx_outside.specs.Failed.{Rises}
 use Rattle.rx_outside.specs.Sink.{WritesFront}
 use Rattle.rx_outside.specs.Talk.{Talk}
 use Rattle.rx_outside.specs.declared.stop.Stop.{Stop}
@@ -14,7 +14,7 @@ use Rattle.rx_serve.specs.declared.ended.Ended.{Ended}
 use Rattle.rx_serve.specs.declared.ended.Why.TheVariants as why
 use Rattle.rx_host.specs.Connections.{ServedConnection, coming_in, connection_line, connection_of}
 use Rattle.rx_host.specs.Engine.{collection_of}
-use Rattle.rx_host.specs.Outside.{BreaksOff, HaltsAtLine, HaltsBy, HaltsWithin, HaveServed, IsStopBy, Outside, ended_by}
+use Rattle.rx_host.specs.Outside.{HaltsAtLine, HaltsBy, HaltsWithin, HaveServed, IsStopBy, Outside, ended_by}
 use Rattle.rx_host.specs.Serving.{HasKept, HasStopped}
 use Rattle.rx_host.specs.declared.connections.ServeFault.{ServeFault}
 use Rattle.rx_host.specs.declared.connections.ServeFault.TheVariants as fault

@@ -9,3 +9,4 @@ pub mod Laws
 pub mod Serving
 pub mod Connections
 pub mod Outside
+pub mod Report

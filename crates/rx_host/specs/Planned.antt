@@ -1,5 +1,5 @@
 -- What is planned for a request.
-use Rattle.std.specs.Prelude.{◌≡◌, List, [], ◌∷◌, map, Option, Some, None}
+use Rattle.std.specs.Prelude.{◌≡◌, [], ◌∷◌, map, Option, Some, None}
 use Rattle.rx_collection.specs.Held.{Held}
 use Rattle.rx_record.specs.Content.{Content}
 use Rattle.rx_serve.specs.Answered.{Commit, Commits}

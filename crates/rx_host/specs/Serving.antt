@@ -1,5 +1,5 @@
 -- What a connection leaves.
-use Rattle.std.specs.Prelude.{◌≡◌, ℕ, List, [], ◌++◌, Option, None, Some}
+use Rattle.std.specs.Prelude.{ℕ, List, [], ◌++◌, Option, None}
 use Rattle.rx_disk.specs.declared.disk.Disk.{Ghosts}
 use Rattle.rx_outside.specs.declared.stop.Stop.{Stop}
 use Rattle.rx_serve.specs.Answered.{Commits}

@@ -3,7 +3,7 @@ ghost use Rattle.std.specs.Prelude.{◌≡◌, true, is_some};
 ghost use Rattle.rx_host.specs.Worlds.{is_served, world_of};
 ghost use Rattle.rx_value.specs.Named.{named};
 
-use crate::planning::{Planned, plan};
+use crate::planning::plan;
 use rx_collection::{Collection, Holder, Plain};
 use rx_disk::Disk;
 use rx_journal::Journal;
@@ -11,6 +11,7 @@ use rx_outside::Stop;
 use rx_record::Record;
 use rx_schema::Schema;
 use rx_store::keep;
+use rx_sync::Handled;
 use rx_value::RxText;
 use rx_wire::{Reply, Request};
 use rx_world::{StepFault, World};
@@ -122,7 +123,7 @@ impl MasterEngine {
             Err(StepFault::ClockEnd) => return Ok((self, None)),
             Err(StepFault::Memory) => return Err(Stop::Memory),
         };
-        let Planned { written, reply } = planned;
+        let Handled { written, reply } = planned;
         match written {
             None => Ok((self, Some(reply))),
             Some(entry) => {

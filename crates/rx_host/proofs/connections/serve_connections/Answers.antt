@@ -1,11 +1,8 @@
-use Rattle.std.proofs.Common.{◌≡◌, ◌∙◌, ℕ, ◌+◌, List, [], ◌∷◌, ◌++◌, length, Option, None, inl, refl, sym, append-nil, arith, rules, length-append}
-use Rattle.rx_outside.specs.declared.stop.Stop.{Stop}
+use Rattle.std.proofs.Common.{◌≡◌, ◌∙◌, ◌+◌, [], ◌∷◌, ◌++◌, length, None, inl, refl, sym, append-nil, arith, length-append}
 use Rattle.rx_serve.specs.Answered.{Commits}
-use Rattle.rx_host.specs.Connections.{ServedConnection}
 use Rattle.rx_host.specs.Engine.{collection_of}
 use Rattle.rx_host.specs.Laws.{gives_on}
 use Rattle.rx_host.specs.Moments.{GivesMoments}
-use Rattle.rx_host.specs.Outside.{Outside}
 use Rattle.rx_host.specs.Serving.{HasKept, HasStopped}
 use Rattle.rx_host.proofs.Halting.{halts_on}
 use Rattle.rx_host.proofs.InTurn.{have_none, have_on}

@@ -1,4 +1,4 @@
-use Rattle.std.proofs.Common.{◌≡◌, ◌≤◌, ℕ, List, length}
+use Rattle.std.proofs.Common.{◌≡◌, ◌≤◌, List, length}
 use Rattle.rx_serve.specs.Answered.{Commits}
 use Rattle.rx_host.specs.Connections.{ServedConnection}
 use Rattle.rx_host.specs.Engine.{collection_of, limit_of, name_of}

@@ -1,11 +1,8 @@
-use Rattle.std.proofs.Common.{◌≡◌, ◌∙◌, ℕ, List, [], ◌∷◌, ◌++◌, true, None, inl, inr, refl, sym, ap, append-nil}
+use Rattle.std.proofs.Common.{◌∙◌, ℕ, List, [], ◌∷◌, ◌++◌, None, inl, refl, sym, ap, append-nil}
 use Rattle.std.proofs.lemmas.Result.{IfOk-weaker}
 use Rattle.rx_outside.specs.Talk.{Talk, talk}
 use Rattle.rx_serve.specs.Ends.{joined_since}
-use Rattle.rx_serve.specs.declared.ended.Why.TheVariants as why
-use Rattle.rx_host.specs.Connections.{coming_in}
 use Rattle.rx_host.specs.Moments.{GivesMoments}
-use Rattle.rx_host.specs.Serving.{HasStopped}
 use Rattle.rx_host.proofs.Kept.{kept_left, kept_none}
 use Rattle.rx_host.proofs.OneMore.{came_as, line_halts, may_stop, not_returned, one_ended, one_within, risen, some_left, unwritten, went_as}
 use Rattle.rx_host.proofs.connections.serve_next.Goals as goal

@@ -1,4 +1,4 @@
-use Rattle.std.proofs.Common.{◌∷◌, [], refl, sym, append-nil, rules}
+use Rattle.std.proofs.Common.{◌∷◌, [], rules}
 use Rattle.std.proofs.lemmas.Bool.{false≢true}
 use Rattle.rx_host.specs.Laws.{ticks_none}
 use Rattle.rx_host.proofs.Ends.{gives_one}

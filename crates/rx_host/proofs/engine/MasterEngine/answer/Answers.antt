@@ -1,22 +1,19 @@
-use Rattle.std.proofs.Common.{◌≡◌, ◌∙◌, [], ◌∷◌, ℕ, List, true, Option, Some, None, Ok, Err, IfSome, option_map, refl, sym, ap, subst, rules}
+use Rattle.std.proofs.Common.{◌≡◌, ◌∙◌, [], ◌∷◌, ℕ, List, Option, Some, None, Ok, Err, IfSome, option_map, refl, sym, ap, subst, rules}
 use Rattle.rx_value.specs.Named.{named}
 use Rattle.rx_collection.specs.Held.{Held}
-use Rattle.rx_outside.specs.declared.stop.Stop.TheVariants as stop
 use Rattle.rx_record.specs.Content.{Content, content_bytes}
 use Rattle.rx_record.specs.Shown.{content}
-use Rattle.rx_record.specs.Writable.{IsOrdered}
 use Rattle.rx_record.specs.declared.record.Record.{Record}
 use Rattle.rx_replication.specs.Master.{body_of, master_then, reply_with}
-use Rattle.rx_serve.specs.Answered.{commit_at, commit_by}
+use Rattle.rx_serve.specs.Answered.{commit_at}
 use Rattle.rx_store.specs.Safe.{IsCrashSafe}
+use Rattle.rx_sync.specs.Laws.{MayCome}
 use Rattle.rx_store.proofs.Crashes.{answered, idle, ran_out, same_stop}
 use Rattle.rx_store.proofs.Growing.{stays}
 use Rattle.rx_wire.specs.declared.message.Reply.{Reply}
-use Rattle.rx_world.specs.Step.{legal}
 use Rattle.rx_world.proofs.Sounds.{IsNoExchange, sound_step}
 use Rattle.rx_host.specs.Engine.{IsAt, collection_of, limit_of, name_of, world_at}
-use Rattle.rx_host.specs.Planned.{Writes}
-use Rattle.rx_host.specs.Records.{bodies_of, record_of}
+use Rattle.rx_host.specs.Records.{bodies_of}
 use Rattle.rx_host.specs.Worlds.{collection_at}
 use Rattle.rx_host.specs.declared.engine.MasterEngine.{MasterEngine}
 use Rattle.rx_host.proofs.Answers.{alone_due, collection_then, gives_one, none_due, one_due, still_held, writes_at}
@@ -25,25 +22,30 @@ use Rattle.rx_host.proofs.engine.MasterEngine.answer.Goals as goal
 pub write-requires-clause-legal : goal.write-requires-clause-legal
 write-requires-clause-legal g c =
     let w = world_at c.args.self in
-    let P : Option Record → Type 0 = λ o. IfSome o (λ e. legal (content e) w ≡ true) in
-    subst P c.in-Some.is (c.in-Ok.ensures.legal w
-    (ap (named w.collections) c.collection.ensures.called ∙ c.collection.ensures.held))
+    let P : Option Record → Type 0 = λ o. IfSome o (λ e. MayCome w (content e)) in
+    (subst P c.in-Some.is (c.in-Ok.ensures.may w
+    (ap (named w.collections) c.collection.ensures.called ∙ c.collection.ensures.held))).lawful
+
+pub write-requires-clause-ordered : goal.write-requires-clause-ordered
+write-requires-clause-ordered g c =
+    let w = world_at c.args.self in
+    let P : Option Record → Type 0 = λ o. IfSome o (λ e. MayCome w (content e)) in
+    (subst P c.in-Some.is (c.in-Ok.ensures.may w
+    (ap (named w.collections) c.collection.ensures.called ∙ c.collection.ensures.held))).ordered
 
 pub write-requires-clause-sound : goal.write-requires-clause-sound
 write-requires-clause-sound g c = λ sound.
     let m = c.args.self in
     let w = world_at m in
     let ask = c.args.request.now.ask in
-    let P : Option Record → Type 0 = λ o. IfSome o (λ e. legal (content e) w ≡ true) in
-    let fits = subst P c.in-Some.is (c.in-Ok.ensures.legal w
+    let P : Option Record → Type 0 = λ o. IfSome o (λ e. MayCome w (content e)) in
+    let may = subst P c.in-Some.is (c.in-Ok.ensures.may w
     (ap (named w.collections) c.collection.ensures.called ∙ c.collection.ensures.held)) in
-    let Q : Option Record → Type 0 = λ o. IfSome o (λ e. IsOrdered (content e)) in
-    let ordered = subst Q c.in-Some.is c.in-Ok.ensures.ordered in
     let writes = writes_at c.collection.result.now (collection_of m) ask c.args.now
     (option_map content c.in-Ok.planned.written) (Some (content c.in-Some.entry))
     c.collection.ensures.shown (ap (option_map content) c.in-Some.is) c.in-Ok.ensures.written in
     let R : Content → Type 0 = λ x. IsNoExchange x in
-    sound_step (content c.in-Some.entry) w fits ordered (subst R (sym writes.1) tt)
+    sound_step (content c.in-Some.entry) w may.lawful may.ordered (subst R (sym writes.1) tt)
     c.collection.ensures.made sound
 
 pub write-requires-clause-held : goal.write-requires-clause-held

@@ -1,4 +1,4 @@
-use Rattle.std.proofs.Common.{◌≡◌, ◌∙◌, ◌++◌, ℕ, List, [], None, Some, refl, sym, ap, subst, append-nil, rules}
+use Rattle.std.proofs.Common.{◌≡◌, ◌∙◌, ◌++◌, ℕ, List, [], None, sym, ap, subst, append-nil, rules}
 use Rattle.rx_collection.specs.Held.{Held}
 use Rattle.rx_serve.specs.Answered.{Commits}
 use Rattle.rx_serve.specs.Ends.{EndsBy, IsStopped, joined_since}
@@ -8,7 +8,7 @@ use Rattle.rx_host.specs.Hosting.{IsWorking, collection_in, limit_in, name_in, s
 use Rattle.rx_host.specs.Moments.{GivesMoments}
 use Rattle.rx_host.specs.Serving.{HasKept, HasStopped}
 use Rattle.rx_host.specs.declared.host.Work.{Work}
-use Rattle.rx_host.specs.declared.host.Work.TheVariants.{Going, Stopped}
+use Rattle.rx_host.specs.declared.host.Work.TheVariants.{Going}
 use Rattle.rx_host.proofs.Ends.{ends_too, stopped_too}
 use Rattle.rx_host.proofs.Hosts.{cause_err, cause_ok, kept_from, lawful_err, stopped_from}
 use Rattle.rx_host.proofs.engine.MasterEngine.serve.Goals as goal

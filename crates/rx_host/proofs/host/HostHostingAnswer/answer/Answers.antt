@@ -1,13 +1,12 @@
-use Rattle.std.proofs.Common.{◌≡◌, ◌≤◌, [], None, Some, Err, refl, sym, ap, subst, rules}
+use Rattle.std.proofs.Common.{◌≡◌, ◌≤◌, [], None, refl, sym, ap, subst, rules}
 use borrow.Rule.Reborrow.{re_v}
 use Rattle.rx_collection.specs.Held.{Held}
 use Rattle.rx_outside.specs.declared.stop.Stop.{Stop}
 use Rattle.rx_outside.specs.declared.stop.Stop.TheVariants.{Memory}
 use Rattle.rx_serve.specs.Answered.{Commits, Gives, answered_at, commit_at}
-use Rattle.rx_host.specs.Engine.{IsAt, collection_of}
+use Rattle.rx_host.specs.Engine.{collection_of}
 use Rattle.rx_host.specs.Hosting.{Hosts, collection_in, stop_in}
 use Rattle.rx_host.specs.Moments.{Ticks}
-use Rattle.rx_host.specs.declared.host.Work.{Work}
 use Rattle.rx_host.specs.declared.host.Work.TheVariants.{Going, Stopped}
 use Rattle.rx_host.proofs.Answers.{answers_by, stops_by, stops_early}
 use Rattle.rx_host.proofs.Ends.{ticks_as}
