@@ -8,7 +8,7 @@ use Rattle.rx_script.specs.Line.{max_line_bytes, json_of, form_of, line_of}
 use Rattle.rx_script.specs.Member.{is_object}
 use Rattle.rx_script.specs.declared.fault.LineFault.TheVariants as fault
 use Rattle.rx_engine.specs.Faults.{of_line}
-use Rattle.rx_engine.specs.Lines.{asked_task, task_or_refusal}
+use Rattle.rx_engine.specs.Lines.{asked_task, task, task_or_refusal}
 use Rattle.rx_engine.specs.Meaning.{meaning, task_meaning}
 use Rattle.rx_engine.specs.Standing.{Standing}
 
@@ -32,9 +32,14 @@ same_when_long k above line =
           too_long (take k line) (omega arith) ∙ sym (too_long line (omega arith)))
     ] refl
 
+-- so it comes to the same
+pub same_task_when_cut : (line : List ℕ) (s : Standing)
+    → task s.kinds (take (max_line_bytes + 1) line) s.session ≡ task s.kinds line s.session
+same_task_when_cut line s =
+    ap (λ read. task_or_refusal (lifted of_line read >> λ ask. asked_task s.kinds ask s.session))
+    (same_when_long (max_line_bytes + 1) (omega arith) line)
+
 pub same_when_cut : (n : ℕ) (line : List ℕ) (s : Standing)
     → meaning n (take (max_line_bytes + 1) line) s ≡ meaning n line s
 unfolding meaning
-same_when_cut n line s =
-    ap (λ read. task_meaning n (task_or_refusal (lifted of_line read >> λ ask. asked_task s.kinds ask s.session)) s)
-    (same_when_long (max_line_bytes + 1) (omega arith) line)
+same_when_cut n line s = ap (λ t. task_meaning n t s) (same_task_when_cut line s)

@@ -1,5 +1,5 @@
 -- What was done and answered is what the line means.
-use Rattle.std.proofs.Common.{◌≡◌, ℕ, List, [], ◌++◌, length, string_bytes, true, false, Some, None, Result, Ok, Err, IfOk, refl, sym, ap, ◌∙◌, subst, append-nil}
+use Rattle.std.proofs.Common.{◌≡◌, ◌≤◌, ℕ, List, [], ◌++◌, length, string_bytes, true, false, Some, None, Result, Ok, Err, IfOk, OnOk, refl, sym, ap, ◌∙◌, subst, append-nil}
 use Rattle.rx_handler.specs.Handlers.{Kinds}
 use Rattle.rx_observe.specs.declared.emission.Emission.{Emission}
 use Rattle.rx_outside.specs.declared.stop.Stop.{Stop}
@@ -8,20 +8,25 @@ use Rattle.rx_reply.specs.Reply.{answer_lines, is_refusal}
 use Rattle.rx_reply.specs.declared.turn.Exchanged.{Exchanged}
 use Rattle.rx_reply.specs.declared.turn.TurnEnd.{TurnEnd}
 use Rattle.rx_reply.specs.declared.turn.TurnEnd.TheVariants.{Quiet}
+use Rattle.rx_script.specs.declared.happening.Happening.{Happening}
 use Rattle.rx_session.specs.Doing.{Doing, MayDo, nothing, after}
 use Rattle.rx_session.specs.Emissions.{emissions, settled_session}
 use Rattle.rx_session.specs.Session.{Session}
 use Rattle.rx_sync.specs.Asks.{Asks}
-use Rattle.rx_sync.specs.Laws.{IsLevel}
+use Rattle.rx_sync.proofs.Bound.{exchanges_lower, turn_in_time, turn_pushes_twice}
+use Rattle.rx_sync.specs.Bound.{AreOk, EveryOkTurn}
+use Rattle.rx_sync.specs.Exchange.{Terms}
+use Rattle.rx_sync.specs.Laws.{IsLevel, MayTurn}
 use Rattle.rx_sync.specs.Turn.{Turned}
-use Rattle.rx_engine.specs.Engine.{Answers, IsAfterTurn, LeavesAll, QuietIsLevel, asks_in, session_of, standing_of}
+use Rattle.rx_world.specs.World.{World}
+use Rattle.rx_engine.specs.Engine.{Answers, IsAfterTurn, IsBounded, LeavesAll, OfOkTurn, QuietIsLevel, asks_in, session_of, standing_of}
 use Rattle.rx_engine.specs.Judged.{IsJudged, IsPrinted, MayDoJudged}
 use Rattle.rx_engine.specs.Lines.{IsIdleTask, Task, answered, turns, task}
 use Rattle.rx_engine.specs.Meaning.{Meaning, asks_kept, lines_of, meaning, meaning_of, records_of, task_meaning, turn_meaning}
 use Rattle.rx_engine.specs.Outcome.{Outcome}
 use Rattle.rx_engine.specs.Shown.{doing_of, turn_of}
-use Rattle.rx_engine.specs.Standing.{Standing, standing_with}
-use Rattle.rx_engine.specs.Turning.{Turn as ToTurn, turned}
+use Rattle.rx_engine.specs.Standing.{Standing, asks_of, standing_with}
+use Rattle.rx_engine.specs.Turning.{Turn as ToTurn, terms, turned}
 use Rattle.rx_engine.specs.declared.changing.AfterTurn.{AfterTurn}
 use Rattle.rx_engine.specs.declared.engine.Engine.{Engine}
 use Rattle.rx_engine.specs.declared.judging.Judged.{Judged}
@@ -64,6 +69,14 @@ pub may_do : (seen session : Session) → seen ≡ session → (x : Judged) (p :
 may_do seen session same x p is may =
     subst (λ (s : Session). MayDo (doing_of p.doing) s) same
     (subst (λ (x : Judged). MayDoJudged x seen) is may)
+
+pub some_asked : (x : Judged) (m : Turn) (s : Session) → x ≡ judged.Turns m → MayDoJudged x s
+    → 1 ≤ m.batch
+some_asked x m s is may = subst (λ (x : Judged). MayDoJudged x s) is may
+
+pub on_ok : {A E P : Type 0} (r : Result A E) → P → OnOk r P
+on_ok (Ok a) p = p
+on_ok (Err e) p = tt
 
 -- ---- parts and wholes
 
@@ -157,6 +170,14 @@ module _ (number : ℕ) (line : List ℕ) (s : Standing) (o : Outcome) (p : Prin
   no_turn_so (Err stop) = tt
   no_turn_so (Ok x) = λ t at quiet. absurd (cc)
 
+  -- so nothing is to be said of its exchanges
+  pub unbounded_so : IsBounded line s
+  unbounded_so = record {
+    lowered = λ t at. absurd (cc);
+    twice = λ t at. absurd (cc);
+    in_time = λ t at. absurd (cc);
+  }
+
 -- ---- a line that makes a turn
 
 -- the engine and the output are those of the turn's meaning
@@ -198,6 +219,27 @@ module _ (number : ℕ) (line : List ℕ) (s : Standing) (u : ToTurn)
       let same : u ≡ t = cc in
       subst (λ (t : ToTurn). IsLevel (session_of x.0).world t.name) same
       (level (ap (λ (t : ToTurn). (turned t s).ended) same ∙ quiet))
+
+  -- where its link does nothing, its exchanges are bounded
+  module _ (some : 1 ≤ u.batch)
+      (may : MayTurn (terms u.name s.session.moment s.kinds) s.session.world (asks_of u.name s.asks))
+    where
+      ok_so : {P : Terms → ℕ → ℕ → List Happening → World → Asks → Type 0} → EveryOkTurn P
+          → OfOkTurn P line s
+      ok_so {P} law t at ok =
+          let same : u ≡ t = cc in
+          subst (λ (t : ToTurn). AreOk t.link
+          → P (terms t.name s.session.moment s.kinds) t.batch t.budget t.link s.session.world
+          (asks_of t.name s.asks)) same
+          (law (terms u.name s.session.moment s.kinds) u.batch u.budget u.link s.session.world
+          (asks_of u.name s.asks) some may) ok
+
+      pub bounded_so : IsBounded line s
+      bounded_so = record {
+        lowered = ok_so exchanges_lower;
+        twice = ok_so turn_pushes_twice;
+        in_time = ok_so turn_in_time;
+      }
 
   -- it isn't idle
   pub busy_so : IsIdleTask (task s.kinds line s.session) → ⊥

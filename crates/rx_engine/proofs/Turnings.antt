@@ -1,5 +1,5 @@
 -- A turn, exchange by exchange.
-use Rattle.std.proofs.Common.{◌≡◌, ◌∙◌, ◌≤◌, ◌<◌, ◌+◌, ℕ, zero, suc, List, [], ◌∷◌, ◌++◌, drop, Option, Some, None, Result, Ok, Err, refl, sym, ap, subst, arith, add-one, append_assoc, append-nil}
+use Rattle.std.proofs.Common.{◌≡◌, ◌∙◌, ◌≤◌, ◌<◌, ◌+◌, ℕ, zero, suc, true, List, [], ◌∷◌, ◌++◌, drop, Option, Some, None, Result, Ok, Err, refl, sym, ap, subst, arith, add-one, append_assoc, append-nil}
 use Rattle.rx_disk.specs.declared.disk.Disk.{Ghosts}
 use Rattle.rx_outside.specs.declared.stop.Stop.{Stop}
 use Rattle.rx_record.specs.Content.{Content}
@@ -10,11 +10,12 @@ use Rattle.rx_session.specs.Session.{Session}
 use Rattle.rx_store.specs.Safe.{IsCrashSafe}
 use Rattle.rx_store.proofs.Crashes.{answered}
 use Rattle.rx_sync.specs.Asks.{Asks}
-use Rattle.rx_sync.specs.Exchange.{Course, Terms, after, course}
+use Rattle.rx_sync.specs.Asking.{pending_in}
+use Rattle.rx_sync.specs.Exchange.{Course, Terms, after, course, has_pulled}
 use Rattle.rx_sync.specs.Laws.{ComeSoundly, MayTurn}
 use Rattle.rx_sync.specs.Turn.{Turned, as_list, before, end_by, ended_with, first_of, going_on, rest_of, turn}
 use Rattle.rx_reply.specs.declared.turn.TurnEnd.TheVariants.{More}
-use Rattle.rx_sync.proofs.Turns.{turn_again, turn_sound}
+use Rattle.rx_sync.proofs.Turns.{course_pulled, turn_again, turn_sound}
 use Rattle.rx_world.specs.World.{World}
 use Rattle.rx_engine.specs.Meaning.{bodies_of}
 use Rattle.rx_engine.specs.Play.{IsMade, IsPlayAt}
@@ -285,6 +286,18 @@ module _ {D : Type 0} {t : Terms} {batch : ℕ} {d : Ghosts D} {old : D} {first 
   exchanged {new} {then_play} {b} {x} {o} made some is less =
       exchanged_of t batch d old first over budget total now new i play then_play a b es x o on.left
       some is made less on.span on.may on.way on.asks on.exchanges on.ended
+
+  -- and nothing is to be pushed after it, where it has pulled
+  pub then_none : {new : D} {then_play : Play} {b : Asks} {x : Happening} {o : Option Exchanged}
+      → HasMade t batch d now new play then_play a b x o → 1 ≤ batch → has_pulled o ≡ true
+      → pending_in then_play.playing.world t.name ≡ Some 0
+  then_none {new} {then_play} {b} {x} {o} made some is =
+      let c : Course = course t batch x play.playing.world a in
+      let then_world : then_play.playing.world ≡ after c.records play.playing.world =
+      ap (λ (s : Session). s.world) made.session ∙ written-world c.records play.playing in
+      subst (λ (w : World). pending_in w t.name ≡ Some 0) (sym then_world)
+      (course_pulled t batch some x play.playing.world a on.may
+      (ap has_pulled (sym made.came) ∙ is))
 
   -- it stopped
   pub exchange_stopped : {A B : Type 0} (new : D) (x : Happening) (P : A → List (List ℕ) → Type 0)

@@ -5,17 +5,21 @@ use Rattle.rx_store.specs.Holds.{Holds}
 use Rattle.rx_reply.specs.Reply.{answer_lines}
 use Rattle.rx_handler.specs.Handlers.{Kinds}
 use Rattle.rx_reply.specs.declared.turn.TurnEnd.TheVariants.{Quiet}
+use Rattle.rx_script.specs.declared.happening.Happening.{Happening}
 use Rattle.rx_session.specs.Emissions.{emissions, settled_session}
 use Rattle.rx_session.specs.Session.{Session}
 use Rattle.rx_sync.specs.Asks.{Asks}
+use Rattle.rx_sync.specs.Bound.{AreOk, EachLowersLeft, EndsInTime, PushesAtMostTwice}
+use Rattle.rx_sync.specs.Exchange.{Terms}
 use Rattle.rx_sync.specs.Laws.{IsLevel}
 use Rattle.rx_sync.specs.Turn.{Turned}
 use Rattle.rx_value.specs.Named.{put_named}
+use Rattle.rx_world.specs.World.{World}
 use Rattle.rx_engine.specs.Lines.{answered, turns, task}
 use Rattle.rx_engine.specs.Meaning.{Meaning, meaning}
 use Rattle.rx_engine.specs.Outcome.{Outcome}
-use Rattle.rx_engine.specs.Standing.{Standing, standing_with}
-use Rattle.rx_engine.specs.Turning.{Turn, turned, written}
+use Rattle.rx_engine.specs.Standing.{Standing, asks_of, standing_with}
+use Rattle.rx_engine.specs.Turning.{Turn, terms, turned, written}
 use Rattle.rx_engine.specs.declared.changing.AfterTurn.{AfterTurn}
 use Rattle.rx_engine.specs.declared.engine.Engine.{Engine}
 use Rattle.rx_engine.specs.declared.output.Output.{Output}
@@ -74,3 +78,22 @@ abbrev pub QuietIsLevel : List ℕ → Standing → Engine → Type 0
 QuietIsLevel line s e =
     (t : Turn) → task s.kinds line s.session ≡ turns t → (turned t s).ended ≡ Quiet
     → IsLevel (session_of e).world t.name
+
+-- ---- how long a turn takes
+
+-- where the line is a turn whose link does nothing, this holds of that turn
+abbrev pub OfOkTurn
+    : (Terms → ℕ → ℕ → List Happening → World → Asks → Type 0) → List ℕ → Standing → Type 0
+OfOkTurn P line s =
+    (t : Turn) → task s.kinds line s.session ≡ turns t → AreOk t.link
+    → P (terms t.name s.session.moment s.kinds) t.batch t.budget t.link s.session.world
+    (asks_of t.name s.asks)
+
+-- a line that makes a turn whose link does nothing
+pub record IsBounded (line : List ℕ) (s : Standing) : Type 0 where
+  -- each exchange lowers the pushes left by the documents that it pushes at least
+  pub lowered : OfOkTurn EachLowersLeft line s
+  -- a document is pushed at most twice, and only one that is to be pushed before the turn
+  pub twice : OfOkTurn PushesAtMostTwice line s
+  -- as many exchanges as are enough end it quiet, or where no write time is left
+  pub in_time : OfOkTurn EndsInTime line s

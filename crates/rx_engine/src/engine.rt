@@ -1,5 +1,5 @@
 // A journal in a run, from its opening on, line by line.
-ghost use Rattle.std.specs.Prelude.{◌≡◌, ◌≤◌, ◌<◌, ◌^◌, ℕ, List, [], ◌∷◌, true, IfOk, IsErrOf, option_map};
+ghost use Rattle.std.specs.Prelude.{◌≡◌, ◌≤◌, ◌<◌, ◌^◌, ℕ, List, [], ◌∷◌, true, IfOk, OnOk, IsErrOf, option_map};
 ghost use Rattle.rx_digest.specs.Digest.{digest_of};
 ghost use Rattle.rx_handler.specs.Handlers.{Kinds};
 ghost use Rattle.rx_handler.specs.Shown.{kinds_of};
@@ -40,7 +40,7 @@ pub struct Engine {
 }
 
 impl Engine {
-    ghost use Rattle.rx_engine.specs.Engine.{IsAt, Answers, LeavesAll, QuietIsLevel, session_of, standing_of, limit_of};
+    ghost use Rattle.rx_engine.specs.Engine.{IsAt, Answers, IsBounded, LeavesAll, QuietIsLevel, session_of, standing_of, limit_of};
 
     /// Opens a journal, plays its records, and begins a new epoch.
     pub fn open<D: Disk>(alloc: Global, disk: &mut D, limit: u64) -> Result<Engine, Stop>
@@ -102,6 +102,10 @@ impl Engine {
         // Where a turn ends quiet, its fork and its master have the same states.
         ensures quiet { IfOk result (λ p.
             QuietIsLevel text.now (standing_of (kinds_of handlers.now) self) p.0) }
+
+        // A turn whose link does nothing comes to its end in time.
+        ensures bounded { OnOk result
+            (IsBounded text.now (standing_of (kinds_of handlers.now) self)) }
 
         // The line's records: what holds at each moment, at `Ok`, and at `Full`.
         ensures safe { D.tells → (bodies : List (List ℕ)) → IsAt D.Disk disk.old self bodies

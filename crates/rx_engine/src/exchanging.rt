@@ -1,10 +1,10 @@
 // Makes an exchange: each record is on the disk before the next one is planned.
-ghost use Rattle.std.specs.Prelude.{◌≡◌, ◌≤◌, ℕ, List, Some, IfOk, IsSome, OnOk, IsErrOf};
+ghost use Rattle.std.specs.Prelude.{◌≡◌, ◌≤◌, ℕ, true, List, Some, IfOk, IsSome, OnOk, IsErrOf};
 ghost use Rattle.rx_value.specs.Named.{named};
 ghost use Rattle.rx_handler.specs.Shown.{kinds_of};
 ghost use Rattle.rx_outside.specs.declared.stop.Stop.TheVariants as Stop;
 ghost use Rattle.rx_store.specs.Safe.{HasDiskCause, IsCrashSafe};
-ghost use Rattle.rx_sync.specs.Asking.{asked_in};
+ghost use Rattle.rx_sync.specs.Asking.{asked_in, pending_in};
 ghost use Rattle.rx_sync.specs.Asks.{next_number, with_request};
 ghost use Rattle.rx_sync.specs.Exchange.{course, exchange};
 ghost use Rattle.rx_sync.specs.Laws.{IsAskedIn, IsLawfulIn, IsReady, MayTurn, RemembersLawful};
@@ -22,11 +22,12 @@ use rx_handler::Handlers;
 use rx_outside::Stop;
 use rx_reply::Exchanged;
 use rx_script::Happening;
-use rx_sync::{Asks, Planned, ask, copy_of_request, exchange, late};
+use rx_sync::{Asks, Planned, ask, ask_to_pull, copy_of_request, exchange, late};
 use rx_world::StepFault;
 use std::alloc::{AllocError, Global};
 
-/// Makes an exchange. Nothing came of it where a commit found no write time.
+/// Makes an exchange, where the one before it has pulled or not. Nothing came of it where a commit
+/// found no write time.
 pub(crate) fn make_exchange<D: Disk>(
     alloc: Global,
     disk: &mut D,
@@ -36,11 +37,13 @@ pub(crate) fn make_exchange<D: Disk>(
     wanted: &Turn,
     happening: Happening,
     now: u64,
+    pulled: bool,
 ) -> Result<(Play, Option<Exchanged>), Stop>
     requires at { D.tells → (bodies : List (List ℕ)) × IsPlayAt D.Disk disk.old play bodies }
     requires batch { 1 ≤ wanted.now.batch }
     requires may { MayTurn (terms wanted.now.name now (kinds_of handlers.now)) play.playing.world
         asks.old }
+    requires pulled { pulled ≡ true → pending_in play.playing.world wanted.now.name ≡ Some 0 }
     ensures came { IfOk result (λ p. p.1
         ≡ (course (terms wanted.now.name now (kinds_of handlers.now)) wanted.now.batch happening
         play.playing.world asks.old).came) }
@@ -59,7 +62,7 @@ pub(crate) fn make_exchange<D: Disk>(
     ensures not_journal { IsErrOf result Stop.NotJournal → ⊥ }
     ensures cause { HasDiskCause (D.faults disk.old) (D.faults disk.new) result }
 {
-    let asked = make_request(alloc, &play, asks, wanted)?;
+    let asked = make_request(alloc, &play, asks, wanted, pulled)?;
     let name = wanted.name.as_str();
     carry_request(
         alloc, disk, handlers, play, asks, name, &asked, happening, now,
@@ -72,21 +75,49 @@ fn make_request(
     play: &Play,
     asks: &mut Asks,
     wanted: &Turn,
+    pulled: bool,
 ) -> Result<Asked, AllocError>
     requires held { IsSome (named play.now.playing.world.replications wanted.now.name) }
     requires sound { IsSoundWorld play.now.playing.world }
     requires batch { 1 ≤ wanted.now.batch }
+    requires pulled { pulled ≡ true
+        → pending_in play.now.playing.world wanted.now.name ≡ Some 0 }
     ensures asked { IfOk result (λ asked. asked_in play.now.playing.world wanted.now.name
         (next_number asks.old) wanted.now.batch ≡ Some asked) }
     ensures lawful { IfOk result
         (λ asked. IsLawfulIn play.now.playing.world wanted.now.name asked.request) }
     ensures asks { IfOk result (λ asked. asks.new ≡ with_request asked.request asks.old) }
 {
-    let number = asks.next_number();
-    let world = play.playing.world();
-    let asked = ask(alloc, world, wanted.name.as_str(), number, wanted.batch)?;
+    let asked = next_request(alloc, play, wanted, asks.next_number(), pulled)?;
     asks.push(copy_of_request(alloc, &asked.request)?)?;
     Ok(asked)
+}
+
+// The request of that number that is due. Behind an exchange that has pulled it is a pull, and no
+// document is looked at for it.
+fn next_request(
+    alloc: Global,
+    play: &Play,
+    wanted: &Turn,
+    number: u64,
+    pulled: bool,
+) -> Result<Asked, AllocError>
+    requires held { IsSome (named play.now.playing.world.replications wanted.now.name) }
+    requires sound { IsSoundWorld play.now.playing.world }
+    requires batch { 1 ≤ wanted.now.batch }
+    requires pulled { pulled ≡ true
+        → pending_in play.now.playing.world wanted.now.name ≡ Some 0 }
+    ensures asked { IfOk result (λ asked. asked_in play.now.playing.world wanted.now.name
+        number wanted.now.batch ≡ Some asked) }
+    ensures lawful { IfOk result
+        (λ asked. IsLawfulIn play.now.playing.world wanted.now.name asked.request) }
+{
+    let world = play.playing.world();
+    let name = wanted.name.as_str();
+    if pulled {
+        return ask_to_pull(alloc, world, name, number, wanted.batch);
+    }
+    ask(alloc, world, name, number, wanted.batch)
 }
 
 // What the link makes of the request that was made last.

@@ -4,7 +4,7 @@ ghost use Rattle.rx_value.specs.Named.{by_bytes};
 ghost use Rattle.rx_world.specs.Made.{IsMadeWorld};
 ghost use Rattle.rx_world.specs.Sound.{IsSoundWorld};
 ghost use Rattle.rx_engine.specs.Remembered.{AreRemembered};
-ghost use Rattle.rx_engine.specs.SoundSession.{with_asks};
+ghost use Rattle.rx_engine.specs.SoundSession.{HasSoundWorld, with_asks};
 
 use indexmap::IndexMap;
 use rx_session::Session;
@@ -43,7 +43,8 @@ impl SoundSession {
     }
 
     pub(crate) fn session(&self) -> &Session
-        ensures { result.now ≡ self.now.session }
+        ensures value { result.now ≡ self.now.session }
+        ensures sound { HasSoundWorld self.now }
     {
         &self.session
     }

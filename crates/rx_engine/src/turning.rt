@@ -3,6 +3,7 @@ ghost use Rattle.std.specs.Prelude.{◌≡◌, ◌≤◌, ℕ, List, Some, IfOk,
 ghost use Rattle.rx_handler.specs.Shown.{kinds_of};
 ghost use Rattle.rx_outside.specs.declared.stop.Stop.TheVariants as Stop;
 ghost use Rattle.rx_store.specs.Safe.{HasDiskCause, IsCrashSafe};
+ghost use Rattle.rx_sync.specs.Exchange.{has_pulled};
 ghost use Rattle.rx_sync.specs.Laws.{MayTurn};
 ghost use Rattle.rx_sync.specs.Turn.{end_by, turn};
 ghost use Rattle.rx_engine.specs.Meaning.{bodies_of};
@@ -67,10 +68,11 @@ pub(crate) fn take_turn<D: Disk>(
 {
     let mut play = first;
     let mut exchanges = RxList::new(alloc);
+    let mut pulled = false;
     for i in 0..wanted.budget {
         let happening = happening_at(wanted.link.as_slice(), i as usize);
         let (next, came) = make_exchange(
-            alloc, disk, handlers, play, asks, wanted, happening, now,
+            alloc, disk, handlers, play, asks, wanted, happening, now, pulled,
         )?;
         play = next;
         let Some(exchanged) = came else {
@@ -80,6 +82,7 @@ pub(crate) fn take_turn<D: Disk>(
                 ended: TurnEnd::Clock,
             });
         };
+        pulled = has_pulled(&exchanged);
         let end = end_by(wanted.batch, &exchanged);
         exchanges.push(exchanged)?;
         if let Some(ended) = end {
@@ -105,6 +108,13 @@ fn happening_at(link: &[Happening], i: usize) -> Happening
         Some(happening) => *happening,
         None => Happening::Ok,
     }
+}
+
+// Whether a reply to a pull was taken.
+fn has_pulled(exchanged: &Exchanged) -> bool
+    ensures { result ≡ has_pulled (Some exchanged.now) }
+{
+    matches!(exchanged, Exchanged::Pulled { .. })
 }
 
 // How an exchange ends the turn, if it does.

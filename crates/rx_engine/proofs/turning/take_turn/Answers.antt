@@ -3,11 +3,12 @@ use Rattle.rx_handler.specs.Shown.{kinds_of}
 use Rattle.rx_outside.specs.declared.stop.Stop.TheVariants.{Memory}
 use Rattle.rx_reply.specs.declared.turn.Exchanged.{Exchanged}
 use Rattle.rx_reply.specs.declared.turn.TurnEnd.TheVariants.{Clock}
+use Rattle.rx_sync.specs.Exchange.{has_pulled}
 use Rattle.rx_sync.specs.Turn.{as_list, end_by, turn}
 use Rattle.rx_sync.proofs.Turns.{turn_sound}
 use Rattle.rx_engine.specs.Turning.{happening_at, terms}
 use Rattle.rx_engine.proofs.Plays.{begun, out_of_memory}
-use Rattle.rx_engine.proofs.Turnings.{HasMade, exchange_stopped, exchanged, kept_so, made_so, used}
+use Rattle.rx_engine.proofs.Turnings.{HasMade, exchange_stopped, exchanged, kept_so, made_so, then_none, used}
 use Rattle.rx_engine.proofs.turning.take_turn.Goals as goal
 
 pub loop-i-init : goal.loop-i-init
@@ -31,6 +32,7 @@ loop-i-init g c =
             (sym c.new-exchanges.ensures);
         ended = refl;
       };
+      none = λ is. absurd (cc);
       later = search rules;
     }
 
@@ -172,6 +174,8 @@ loop-i-preserved g c =
     record {
       on = past.goes_on c.in-Some.exchanged c.in-Some.is none c.push.new.self
           c.in_ok-push.ensures.ok;
+      none = λ is. then_none c.loop-i.invariant.on made c.requires.batch
+          (ap has_pulled c.in-Some.is ∙ sym c.has_pulled-pulled.ensures ∙ is);
       later = search rules;
     }
 

@@ -9,7 +9,8 @@ use Rattle.rx_engine.specs.Lines.{IsIdleTask}
 use Rattle.rx_engine.specs.Meaning.{Meaning, bodies_of}
 use Rattle.rx_engine.specs.Shown.{WritesNoExchange, turn_of}
 use Rattle.rx_engine.proofs.CanTurns.{can_turn}
-use Rattle.rx_engine.proofs.Meanings.{answers_so, busy_so, left_so, level_so, may_do, no_turn_so, printed_is, records_so, refused_so, turn_is, turn_so}
+use Rattle.rx_engine.proofs.Meanings.{answers_so, bounded_so, busy_so, left_so, level_so, may_do, no_turn_so, on_ok, printed_is, records_so, refused_so, some_asked, turn_is, turn_so, unbounded_so}
+use Rattle.rx_engine.proofs.AfterTurns.{may}
 use Rattle.rx_engine.proofs.Outcomes.{lawful_outcome}
 use Rattle.rx_engine.proofs.Stops.{memory_stop}
 use Rattle.rx_engine.proofs.engine.Engine.line.Goals as goal
@@ -27,7 +28,7 @@ returns-in_err-printed-clause-safe g c told bodies at =
 pub answer-requires-clause-may : goal.answer-requires-clause-may
 unfolding session_of
 answer-requires-clause-may g c =
-    may_do c.session.result.now c.args.self.session.session c.session.ensures
+    may_do c.session.result.now c.args.self.session.session c.session.ensures.value
     c.in_ok-printed.field-0 c.in-Printed.printed c.in-Printed.is c.in_ok-printed.ensures.may
 
 pub answer-requires-clause-apart : goal.answer-requires-clause-apart
@@ -36,7 +37,7 @@ answer-requires-clause-apart g c =
     let s = standing_of (kinds_of c.args.handlers.now) c.args.self in
     let p = c.in-Printed.printed in
     let j = printed_is c.args.number s.kinds c.args.text.now c.session.result.now s.session
-    c.session.ensures c.in_ok-printed.field-0 p c.in-Printed.is c.in_ok-printed.ensures.judged in
+    c.session.ensures.value c.in_ok-printed.field-0 p c.in-Printed.is c.in_ok-printed.ensures.judged in
     subst WritesNoExchange (sym j.2.doing)
     (lawful_outcome s.kinds c.args.text.now s.session j.0 j.1).apart
 
@@ -46,7 +47,7 @@ returns-in-Printed-clause-answers g c =
     let s = standing_of (kinds_of c.args.handlers.now) c.args.self in
     let p = c.in-Printed.printed in
     let j = printed_is c.args.number s.kinds c.args.text.now c.session.result.now s.session
-    c.session.ensures c.in_ok-printed.field-0 p c.in-Printed.is c.in_ok-printed.ensures.judged in
+    c.session.ensures.value c.in_ok-printed.field-0 p c.in-Printed.is c.in_ok-printed.ensures.judged in
     let e = c.answer.ensures in
     answers_so c.args.number c.args.text.now s j.0 p j.1 j.2 c.answer.result
     e.session e.asks e.text e.emitted e.refused e.end
@@ -57,7 +58,7 @@ returns-in-Printed-clause-quiet g c =
     let s = standing_of (kinds_of c.args.handlers.now) c.args.self in
     let p = c.in-Printed.printed in
     let j = printed_is c.args.number s.kinds c.args.text.now c.session.result.now s.session
-    c.session.ensures c.in_ok-printed.field-0 p c.in-Printed.is c.in_ok-printed.ensures.judged in
+    c.session.ensures.value c.in_ok-printed.field-0 p c.in-Printed.is c.in_ok-printed.ensures.judged in
     no_turn_so c.args.number c.args.text.now s j.0 p j.1 j.2 c.answer.result
 
 pub returns-in-Printed-clause-safe : goal.returns-in-Printed-clause-safe
@@ -66,7 +67,7 @@ returns-in-Printed-clause-safe g c told bodies at =
     let s = standing_of (kinds_of c.args.handlers.now) c.args.self in
     let p = c.in-Printed.printed in
     let j = printed_is c.args.number s.kinds c.args.text.now c.session.result.now s.session
-    c.session.ensures c.in_ok-printed.field-0 p c.in-Printed.is c.in_ok-printed.ensures.judged in
+    c.session.ensures.value c.in_ok-printed.field-0 p c.in-Printed.is c.in_ok-printed.ensures.judged in
     subst (λ (cs : List Content). IsCrashSafe g.D.Disk c.args.disk.now c.answer.new.disk bodies
     (bodies_of cs) (limit_of c.args.self) (λ x. IsAt g.D.Disk c.answer.new.disk x.0)
     c.answer.result)
@@ -79,7 +80,7 @@ returns-in-Printed-clause-refused g c =
     let s = standing_of (kinds_of c.args.handlers.now) c.args.self in
     let p = c.in-Printed.printed in
     let j = printed_is c.args.number s.kinds c.args.text.now c.session.result.now s.session
-    c.session.ensures c.in_ok-printed.field-0 p c.in-Printed.is c.in_ok-printed.ensures.judged in
+    c.session.ensures.value c.in_ok-printed.field-0 p c.in-Printed.is c.in_ok-printed.ensures.judged in
     let e = c.answer.ensures in
     refused_so c.args.number c.args.text.now s j.0 p j.1 j.2
     (lawful_outcome s.kinds c.args.text.now s.session j.0 j.1).idle e.idle_disk c.answer.result
@@ -93,7 +94,7 @@ returns-in-Printed-clause-idle g c is_idle =
     let s = standing_of (kinds_of c.args.handlers.now) c.args.self in
     let p = c.in-Printed.printed in
     let j = printed_is c.args.number s.kinds c.args.text.now c.session.result.now s.session
-    c.session.ensures c.in_ok-printed.field-0 p c.in-Printed.is c.in_ok-printed.ensures.judged in
+    c.session.ensures.value c.in_ok-printed.field-0 p c.in-Printed.is c.in_ok-printed.ensures.judged in
     let e = c.answer.ensures in
     let idle = subst IsIdleTask j.1 is_idle in (
       e.idle_disk (j.2.doing ∙ idle),
@@ -107,7 +108,7 @@ returns-in-Printed-clause-not_journal g c stopped =
     let s = standing_of (kinds_of c.args.handlers.now) c.args.self in
     let p = c.in-Printed.printed in
     let j = printed_is c.args.number s.kinds c.args.text.now c.session.result.now s.session
-    c.session.ensures c.in_ok-printed.field-0 p c.in-Printed.is c.in_ok-printed.ensures.judged in
+    c.session.ensures.value c.in_ok-printed.field-0 p c.in-Printed.is c.in_ok-printed.ensures.judged in
     let again = c.answer.ensures.not_journal stopped in
     (lawful_outcome s.kinds c.args.text.now s.session j.0 j.1).restarts again.0
     (sym j.2.doing ∙ again.1)
@@ -120,7 +121,7 @@ answer_turn-requires-clause-can g c =
     let s = standing_of (kinds_of c.args.handlers.now) c.args.self in
     let m = c.in-Turns.turn in
     let is = turn_is c.args.number s.kinds c.args.text.now c.session.result.now s.session
-    c.session.ensures c.in_ok-printed.field-0 m c.in-Turns.is c.in_ok-printed.ensures.judged in
+    c.session.ensures.value c.in_ok-printed.field-0 m c.in-Turns.is c.in_ok-printed.ensures.judged in
     can_turn s.kinds c.args.text.now s.session (turn_of m) is
 
 pub returns-in-Turns-clause-answers : goal.returns-in-Turns-clause-answers
@@ -129,7 +130,7 @@ returns-in-Turns-clause-answers g c =
     let s = standing_of (kinds_of c.args.handlers.now) c.args.self in
     let m = c.in-Turns.turn in
     let is = turn_is c.args.number s.kinds c.args.text.now c.session.result.now s.session
-    c.session.ensures c.in_ok-printed.field-0 m c.in-Turns.is c.in_ok-printed.ensures.judged in
+    c.session.ensures.value c.in_ok-printed.field-0 m c.in-Turns.is c.in_ok-printed.ensures.judged in
     subst (λ (x : Meaning). IfOk c.answer_turn.result (λ r. Answers s.kinds x r.0 r.1))
     (turn_so c.args.number c.args.text.now s (turn_of m) is) c.answer_turn.ensures.answers
 
@@ -139,7 +140,7 @@ returns-in-Turns-clause-quiet g c =
     let s = standing_of (kinds_of c.args.handlers.now) c.args.self in
     let m = c.in-Turns.turn in
     let is = turn_is c.args.number s.kinds c.args.text.now c.session.result.now s.session
-    c.session.ensures c.in_ok-printed.field-0 m c.in-Turns.is c.in_ok-printed.ensures.judged in
+    c.session.ensures.value c.in_ok-printed.field-0 m c.in-Turns.is c.in_ok-printed.ensures.judged in
     level_so c.args.number c.args.text.now s (turn_of m) is c.answer_turn.result
     c.answer_turn.ensures.quiet
 
@@ -149,7 +150,7 @@ returns-in-Turns-clause-safe g c told bodies at =
     let s = standing_of (kinds_of c.args.handlers.now) c.args.self in
     let m = c.in-Turns.turn in
     let is = turn_is c.args.number s.kinds c.args.text.now c.session.result.now s.session
-    c.session.ensures c.in_ok-printed.field-0 m c.in-Turns.is c.in_ok-printed.ensures.judged in
+    c.session.ensures.value c.in_ok-printed.field-0 m c.in-Turns.is c.in_ok-printed.ensures.judged in
     subst (λ (x : Meaning). IsCrashSafe g.D.Disk c.args.disk.now c.answer_turn.new.disk bodies
     (bodies_of x.records) (limit_of c.args.self) (λ r. IsAt g.D.Disk c.answer_turn.new.disk r.0)
     c.answer_turn.result) (turn_so c.args.number c.args.text.now s (turn_of m) is)
@@ -161,5 +162,28 @@ returns-in-Turns-clause-idle g c idle =
     let s = standing_of (kinds_of c.args.handlers.now) c.args.self in
     let m = c.in-Turns.turn in
     let is = turn_is c.args.number s.kinds c.args.text.now c.session.result.now s.session
-    c.session.ensures c.in_ok-printed.field-0 m c.in-Turns.is c.in_ok-printed.ensures.judged in
+    c.session.ensures.value c.in_ok-printed.field-0 m c.in-Turns.is c.in_ok-printed.ensures.judged in
     absurd (busy_so c.args.number c.args.text.now s (turn_of m) is idle)
+
+pub returns-in-Printed-clause-bounded : goal.returns-in-Printed-clause-bounded
+unfolding session_of asks_in standing_of
+returns-in-Printed-clause-bounded g c =
+    let s = standing_of (kinds_of c.args.handlers.now) c.args.self in
+    let p = c.in-Printed.printed in
+    let j = printed_is c.args.number s.kinds c.args.text.now c.session.result.now s.session
+    c.session.ensures.value c.in_ok-printed.field-0 p c.in-Printed.is c.in_ok-printed.ensures.judged in
+    on_ok c.answer.result (unbounded_so c.args.number c.args.text.now s j.0 p j.1 j.2)
+
+pub returns-in-Turns-clause-bounded : goal.returns-in-Turns-clause-bounded
+unfolding session_of asks_in standing_of
+returns-in-Turns-clause-bounded g c =
+    let s = standing_of (kinds_of c.args.handlers.now) c.args.self in
+    let m = c.in-Turns.turn in
+    let u = turn_of m in
+    let is = turn_is c.args.number s.kinds c.args.text.now c.session.result.now s.session
+    c.session.ensures.value c.in_ok-printed.field-0 m c.in-Turns.is c.in_ok-printed.ensures.judged in
+    let here = c.session.ensures.sound in
+    let some = some_asked c.in_ok-printed.field-0 m _ c.in-Turns.is c.in_ok-printed.ensures.may in
+    on_ok c.answer_turn.result (bounded_so c.args.number c.args.text.now s u is some
+    (may u s some here.made here.sound (can_turn s.kinds c.args.text.now s.session u is)
+    here.remembered))
