@@ -1,5 +1,5 @@
-//! The program: the real streams and file, and the handlers that a replication may name, around the
-//! command that its words are.
+//! The program: the real streams, file, sockets and clock, and the handlers that a replication may
+//! name, around the command that its words are.
 #![tactic(auto)]
 
 ghost use Rattle.std.specs.Prelude.{◌≡◌, IfOk};
@@ -7,7 +7,9 @@ ghost use Rattle.rx_handler.specs.Resolve.{resolve};
 
 use rx_disk::{Disk, FileDisk};
 use rx_handler::{Handler, HandlerFault, HandlerKind, Handlers, resolved};
-use rx_outside::{Sink, Source, StdSink, StdSource, write_all};
+use rx_outside::{
+    Clock, Listen, Sink, Source, StdSink, StdSource, SystemClock, TcpDoor, write_all,
+};
 use rx_top::rx;
 use rx_value::{RxText, State};
 use rx_words::{Words, command_of};
@@ -39,7 +41,17 @@ fn main(rt: HostRuntime) -> ExitCode {
     let played = match command(&rt) {
         Ok((words, path)) => {
             let mut disk = FileDisk::new(&rt, path);
-            play(rt.alloc(), &words, &mut source, &mut out, &mut disk)
+            let mut door = TcpDoor::new(&rt);
+            let mut clock = SystemClock::new(&rt);
+            play(
+                rt.alloc(),
+                &words,
+                &mut source,
+                &mut out,
+                &mut disk,
+                &mut door,
+                &mut clock,
+            )
         }
         Err(refused) => Err(HandlerFault::from(refused)),
     };
@@ -53,12 +65,14 @@ fn main(rt: HostRuntime) -> ExitCode {
 }
 
 // Runs the command with the handlers that a replication may name.
-fn play<S: Source, K: Sink, D: Disk>(
+fn play<S: Source, K: Sink, D: Disk, L: Listen, C: Clock>(
     alloc: Global,
     words: &Words,
     source: &mut S,
     out: &mut K,
     disk: &mut D,
+    door: &mut L,
+    clock: &mut C,
 ) -> Result<u8, HandlerFault> {
     let mut handlers = Handlers::new(alloc);
     for (name, kind) in HANDLERS {
@@ -73,7 +87,7 @@ fn play<S: Source, K: Sink, D: Disk>(
             Err(refused) => return Err(AllocError::from(refused).into()),
         }
     }
-    Ok(rx(alloc, words, source, out, disk, &handlers))
+    Ok(rx(alloc, words, source, out, disk, door, clock, &handlers))
 }
 
 // Opens the root folder in the place of each standard stream that is closed, so that the journal

@@ -1,5 +1,5 @@
 -- How the play of a script goes on, and how it ends.
-use Rattle.std.proofs.Common.{◌≡◌, ◌∙◌, refl, sym, ap, subst, ℕ, ◌+◌, ◌≤◌, Bool, true, false, cond, ◌||◌, List, [], ◌∷◌, ◌++◌, length, take, ◌⊎◌, Option, None, Some, Result, Ok, Err, IsErrOf, inl, inr, arith, append_assoc, append-nil, length-append}
+use Rattle.std.proofs.Common.{◌≡◌, ◌∙◌, refl, sym, ap, subst, ℕ, ◌+◌, ◌≤◌, Bool, false, ◌||◌, List, [], ◌∷◌, ◌++◌, length, take, ◌⊎◌, Option, None, Some, Result, Ok, Err, IsErrOf, OnOk, inl, inr, arith, append_assoc, append-nil, length-append}
 use Rattle.std.proofs.Math.Seq.{take-append_seam}
 use Rattle.rx_disk.specs.declared.disk.Disk.{Ghosts}
 use Rattle.rx_engine.specs.Engine.{IsAt, session_of, standing_of, limit_of}
@@ -12,14 +12,14 @@ use Rattle.rx_store.proofs.Growing.{held}
 use Rattle.rx_frame.specs.File.{IsWhole, end_of}
 use Rattle.rx_outside.specs.Sink.{WritesFront}
 use Rattle.rx_outside.specs.declared.stop.Stop.{Stop}
-use Rattle.rx_outside.specs.declared.stop.Stop.TheVariants.{Full}
 use Rattle.rx_top.specs.Chunks.{Keeps, all_of}
 use Rattle.rx_top.specs.Lines.{cut, lines}
 use Rattle.rx_top.specs.Reader.{Takes, TakesKept, StopsWithin, Took, max_input_bytes}
 use Rattle.rx_top.specs.Run.{KeepsFrom, Plays, Reads, Writes, stop_of}
 use Rattle.rx_top.specs.Script.{line_effect}
-use Rattle.rx_top.specs.Story.{Effect, chunks, next_chunk, replies, state_after}
+use Rattle.rx_top.specs.Story.{EachLine, Effect, chunks, next_chunk, replies, state_after}
 use Rattle.rx_top.specs.Work.{HasAll, work_of}
+use Rattle.rx_top.specs.Turns.{HoldsOfTurn}
 use Rattle.rx_top.specs.declared.cause.Cause.{Cause}
 use Rattle.rx_top.specs.declared.cause.Cause.TheVariants.{Read, Sink, Work}
 use Rattle.rx_top.specs.declared.cause.ReadFault.{ReadFault}
@@ -27,8 +27,8 @@ use Rattle.rx_top.specs.declared.cause.ReadFault.TheVariants as fault
 use Rattle.rx_top.specs.declared.reader.Next.{Next}
 use Rattle.rx_top.specs.declared.reader.Next.TheVariants.{Line, Last, End}
 use Rattle.rx_top.proofs.Chunks.{CountsNow, Kept, OnlyNow, all_of-push, keeps_all, keeps_stopped, kept_more, kept_none}
-use Rattle.rx_top.proofs.Kept.{kept_effect}
-use Rattle.rx_top.proofs.Story.{SoFar, none_yet, line_more, lines_more, rest_lines, lines_last, lines_next, begun, refused_more, replies-push, chunks-push}
+use Rattle.rx_top.proofs.Kept.{kept_effect, kept_turn}
+use Rattle.rx_top.proofs.Story.{SoFar, none_yet, line_more, lines_more, rest_lines, lines_last, lines_next, begun, refused_more, replies-push, chunks-push, each-push}
 
 -- ---- what was given
 
@@ -100,7 +100,7 @@ leaves_all d disk None bodies all = all
 leaves_all d disk (Some e) bodies all = leaves_at d disk e bodies [] all
 
 -- what was added ends within the limit, as what was there
-fits_all : (bodies more : List (List ℕ)) (limit : ℕ) → (more ≡ []) ⊎ (end_of (bodies ++ more) ≤ limit)
+pub fits_all : (bodies more : List (List ℕ)) (limit : ℕ) → (more ≡ []) ⊎ (end_of (bodies ++ more) ≤ limit)
     → end_of bodies ≤ limit → end_of (bodies ++ more) ≤ limit
 fits_all bodies more limit (inl none) le =
     subst (λ (bs : List (List ℕ)). end_of bs ≤ limit)
@@ -122,6 +122,7 @@ pub record Along
   pub bytes : List ℕ
   pub so : SoFar line_effect bytes input rest n r (standing_of kinds first) (standing_of kinds engine)
   pub told : k_tells → w1 ≡ w0 ++ replies line_effect 1 (cut bytes).whole (standing_of kinds first)
+  pub each : EachLine line_effect HoldsOfTurn 1 (cut bytes).whole (standing_of kinds first)
   pub at : d.tells → (bodies : List (List ℕ)) → IsAt d d0 first bodies
       → IsAt d d1 engine (bodies ++ all_of (chunks line_effect 1 (cut bytes).whole (standing_of kinds first)))
   pub kept : d.tells → (bodies : List (List ℕ)) → IsAt d d0 first bodies
@@ -138,6 +139,7 @@ begins {kinds} d k_tells disk first w input unread none only_now = record {
       SoFar line_effect [] input (v ++ input) 0 false (standing_of kinds first) (standing_of kinds first))
       (sym none) (none_yet line_effect input (standing_of kinds first));
   told = λ t. sym (append-nil w);
+  each = tt;
   at = λ t bodies at. subst (λ (bs : List (List ℕ)). IsAt d disk first bs) (sym (append-nil bodies))
       at;
   kept = λ t bodies at le. kept_none d disk bodies (limit_of first) (only_now t)
@@ -148,13 +150,14 @@ begins {kinds} d k_tells disk first w input unread none only_now = record {
 pub ends : (kinds : Kinds) {D : Type 0} (d : Ghosts D) (d0 d1 : D) (tells : Type 0) (w0 w1 : List ℕ)
     (first : Engine) (ls rest : List (List ℕ)) (input left : List ℕ) (ended : Result Bool Cause)
     → stop_of ended ≡ None → lines input ≡ ls ++ rest
+    → EachLine line_effect HoldsOfTurn 1 ls (standing_of kinds first)
     → Reads line_effect ended input left ls rest (standing_of kinds first)
     → (tells → Writes ended w0 w1 (replies line_effect 1 ls (standing_of kinds first)))
     → (d.tells → (bodies : List (List ℕ)) → IsAt d d0 first bodies → end_of bodies ≤ limit_of first
     → Kept d d0 d1 bodies (chunks line_effect 1 ls (standing_of kinds first)) (limit_of first))
     → (d.tells → OnlyNow d d1)
-    → Plays line_effect tells w0 w1 input left (standing_of kinds first) ended (KeepsFrom kinds d d0 d1 first ended)
-ends kinds d d0 d1 tells w0 w1 first ls rest input left ended none whole reads writes kept only_now =
+    → Plays line_effect HoldsOfTurn tells w0 w1 input left (standing_of kinds first) ended (KeepsFrom kinds d d0 d1 first ended)
+ends kinds d d0 d1 tells w0 w1 first ls rest input left ended none whole each reads writes kept only_now =
     let s = standing_of kinds first in
     let cs = chunks line_effect 1 ls s in
     let next = next_chunk line_effect (length ls + 1) rest (state_after line_effect 1 ls s) in
@@ -162,6 +165,7 @@ ends kinds d d0 d1 tells w0 w1 first ls rest input left ended none whole reads w
       done = ls;
       rest = rest;
       whole = whole;
+      each = each;
       reads = reads;
       writes = writes;
       kept = λ t bodies at le.
@@ -243,7 +247,7 @@ module _
     -- how the play ends, and what the disk keeps then
     abbrev Ends : D → List ℕ → List ℕ → Result Bool Cause → Type 0
     Ends d2 w2 left ended =
-        Plays line_effect k_tells w0 w2 input left s0 ended (KeepsFrom kinds d d0 d2 first ended)
+        Plays line_effect HoldsOfTurn k_tells w0 w2 input left s0 ended (KeepsFrom kinds d d0 d2 first ended)
 
     -- the lines so far, and more
     abbrev KeptAt : D → List (List ℕ) → Type 0
@@ -262,7 +266,7 @@ module _
         → (d.tells → OnlyNow d d1) → Ends d1 w1 left (Err (Read why))
     reader_stopped why left stops long took only_now =
         ends kinds d d0 d1 k_tells w0 w1 first ls (lines rest) input left (Err (Read why)) refl to_come
-        (reader_reads why a.bytes input rest left n r s0 (standing_of kinds engine) (lines rest) a.so stops
+        a.each (reader_reads why a.bytes input rest left n r s0 (standing_of kinds engine) (lines rest) a.so stops
         long took)
         a.told a.kept only_now
 
@@ -271,7 +275,7 @@ module _
     ended left none only_now =
         ends kinds d d0 d1 k_tells w0 w1 first ls [] input left (Ok r) refl
         (to_come ∙ ap (λ v. ls ++ lines v) none)
-        (refl, a.so.refusals) a.told a.kept only_now
+        a.each (refl, a.so.refusals) a.told a.kept only_now
 
     -- ---- a line was taken
 
@@ -295,6 +299,19 @@ module _
 
         count : n + 1 ≡ 1 + length ls
         count = omega (arith, a.so.number)
+
+        -- what holds of the line as it was kept, from the engine on
+        abbrev pub IsKeptTurn : Type 0
+        IsKeptTurn = HoldsOfTurn (n + 1) line (standing_of kinds engine) m.next
+
+        pub each_line : IsKeptTurn → EachLine line_effect HoldsOfTurn 1 (ls ++ l ∷ []) s0
+        each_line kept =
+            let here = standing_of kinds engine in
+            let now = subst (λ (v : List ℕ). HoldsOfTurn (n + 1) v here m.next) takes.1 kept in
+            let then = subst (λ (x : Effect Standing). HoldsOfTurn (n + 1) l here x.next) same_line
+            (kept_turn (n + 1) l here m.next now) in
+            each-push line_effect HoldsOfTurn 1 ls l s0 (n + 1) count a.each
+            (subst (λ (x : Standing). HoldsOfTurn (n + 1) l x (line_effect (n + 1) l x).next) a.so.state then)
 
         stands : (more : List (List ℕ)) × (lines input ≡ ls ++ l ∷ more)
         stands =
@@ -360,11 +377,11 @@ module _
             (only_now t))
 
         -- the sink failed
-        line_sunk : (left : List ℕ) → (k_tells → WritesFront w1 w2 m.reply)
+        line_sunk : (left : List ℕ) → (k_tells → WritesFront w1 w2 m.reply) → IsKeptTurn
             → KeptAt d2 (ls ++ l ∷ []) → (d.tells → OnlyNow d d2) → Ends d2 w2 left (Err Sink)
-        line_sunk left front kept only_now =
+        line_sunk left front turn kept only_now =
             ends kinds d d0 d2 k_tells w0 w2 first (ls ++ l ∷ []) stands.0 input left (Err Sink) refl
-            (whole_with stands.0 stands.1) tt (front_on front) kept only_now
+            (whole_with stands.0 stands.1) (each_line turn) tt (front_on front) kept only_now
 
         due : m.bodies ≡ next_chunk line_effect (length ls + 1) (l ∷ stands.0)
             (state_after line_effect 1 ls s0)
@@ -381,6 +398,7 @@ module _
           done = ls;
           rest = l ∷ stands.0;
           whole = stands.1;
+          each = a.each;
           reads = tt;
           writes = λ k. unsaid k ∙ a.told k;
           kept = λ t bodies at le.
@@ -402,13 +420,14 @@ module _
             → ((f : ReadFault) → IsErrOf {T = Engine × Bool} (Err why) (Read f) → ⊥)
             → (k_tells → IsErrOf {T = Engine × Bool} (Err why) Sink → WritesFront w1 w2 m.reply)
             → (k_tells → (st : Stop) → IsErrOf {T = Engine × Bool} (Err why) (Work st) → w2 ≡ w1)
+            → OnOk (work_of (Err why)) IsKeptTurn
             → IsSafe (Err why) → (d.tells → OnlyNow d d2) → (d.tells → CountsNow d d2)
             → Ends d2 w2 left (Err why)
-        line_failed (Read f) left unread front unsaid safe only counts = absurd (unread f refl)
-        line_failed (Work why) left unread front unsaid safe only counts =
+        line_failed (Read f) left unread front unsaid turn safe only counts = absurd (unread f refl)
+        line_failed (Work why) left unread front unsaid turn safe only counts =
             line_stopped why left (λ k. unsaid k why refl) safe counts
-        line_failed Sink left unread front unsaid safe only counts =
-            line_sunk left (λ k. front k refl) (line_kept (Err Sink) None refl safe only) only
+        line_failed Sink left unread front unsaid turn safe only counts =
+            line_sunk left (λ k. front k refl) turn (line_kept (Err Sink) None refl safe only) only
 
         pub refused_too : (now : Bool) → now ≡ m.refused
             → (r || now) ≡ (r || (line_effect (n + 1) l (standing_of kinds engine)).refused)
@@ -420,15 +439,17 @@ module _
         (takes : TakesKept Last line rest rest')
         → now ≡ (line_effect (n + 1) line (standing_of kinds engine)).refused
         → (k_tells → w2 ≡ w1 ++ (line_effect (n + 1) line (standing_of kinds engine)).reply)
+        → IsKeptTurn d2 w2 Last line rest' (λ e. cc) takes
         → KeptAt d2 (ls ++ takes.0 ∷ []) → (d.tells → OnlyNow d d2)
         → Ends d2 w2 left (Ok (r || now))
-    last_played d2 w2 line rest' left now takes is had kept only_now =
+    last_played d2 w2 line rest' left now takes is had turn kept only_now =
         let some : (Last ≡ End → ⊥) = λ e. cc in
         ends kinds d d0 d2 k_tells w0 w2 first (ls ++ takes.0 ∷ []) [] input left (Ok (r || now)) refl
         (to_come
         ∙ ap (λ (v : List (List ℕ)). ls ++ v)
         (ap lines takes.2.0 ∙ lines_last takes.0 takes.2.1 takes.2.2)
-        ∙ sym (append-nil (ls ++ takes.0 ∷ []))) (
+        ∙ sym (append-nil (ls ++ takes.0 ∷ [])))
+        (each_line d2 w2 Last line rest' some takes turn) (
           refl,
           refused_too d2 w2 Last line rest' some takes now is
               ∙ refused_more line_effect ls takes.0 n r s0 (standing_of kinds engine) a.so.number a.so.refusals
@@ -445,9 +466,10 @@ module _
         → (k_tells → w2 ≡ w1 ++ (line_effect (n + 1) line (standing_of kinds engine)).reply)
         → (d.tells → (before : List (List ℕ)) → IsAt d d1 engine before
         → IsAt d d2 engine' (before ++ (line_effect (n + 1) line (standing_of kinds engine)).bodies))
+        → IsKeptTurn d2 w2 Line line rest' (λ e. cc) takes
         → KeptAt d2 (ls ++ takes.0 ∷ [])
         → Along kinds d k_tells d0 d2 first engine' w0 w2 input rest' (n + 1) (r || now)
-    line_played d2 w2 line rest' now engine' takes same_limit is after had at kept =
+    line_played d2 w2 line rest' now engine' takes same_limit is after had at turn kept =
         let some : (Line ≡ End → ⊥) = λ e. cc in
         let l = takes.0 in
         let e = same_line d2 w2 Line line rest' some takes in
@@ -467,6 +489,8 @@ module _
               same_r more);
           told = λ t. subst (λ (v : List (List ℕ)). w2 ≡ w0 ++ replies line_effect 1 v s0) ls_more
               (told_on d2 w2 Line line rest' some takes had t);
+          each = subst (λ (v : List (List ℕ)). EachLine line_effect HoldsOfTurn 1 v s0) ls_more
+              (each_line d2 w2 Line line rest' some takes turn);
           at = λ t bodies here.
               subst (λ (v : List (List ℕ)).
               IsAt d d2 engine' (bodies ++ all_of (chunks line_effect 1 v s0))) ls_more

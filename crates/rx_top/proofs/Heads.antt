@@ -1,5 +1,5 @@
 -- A whole run from its parts.
-use Rattle.std.proofs.Common.{◌≡◌, ◌≤◌, inl, inr, ℕ, ◌+◌, List, length, [], ◌∷◌, ◌++◌, Bool, Result, None, Some, Err, IsErrOf, refl, sym, ◌∙◌, ap, subst, append-nil}
+use Rattle.std.proofs.Common.{◌≡◌, ◌≤◌, inl, inr, ℕ, ◌+◌, List, length, [], ◌∷◌, ◌++◌, Bool, Result, Some, Err, IsErrOf, refl, sym, ap, subst, append-nil}
 use Rattle.rx_disk.specs.declared.disk.Disk.{Ghosts}
 use Rattle.rx_disk.proofs.Moments.{started}
 use Rattle.rx_engine.specs.Engine.{IsAt, limit_of, standing_of}
@@ -17,11 +17,12 @@ use Rattle.rx_outside.specs.declared.stop.Stop.TheVariants.{Disk, NotJournal, Fu
 use Rattle.rx_world.specs.World.{World}
 use Rattle.rx_top.specs.Chunks.{Keeps}
 use Rattle.rx_top.specs.Lines.{lines}
-use Rattle.rx_top.specs.Run.{KeepsFrom, KeepsRun, NeedsJournal, Plays, Reads, Writes, WasPlayed, stop_of}
+use Rattle.rx_top.specs.Run.{KeepsFrom, KeepsRun, NeedsJournal, Plays, Reads, Writes, stop_of}
 use Rattle.rx_top.specs.Script.{line_effect}
 use Rattle.rx_top.specs.Start.{IsStart, StaysLegal}
 use Rattle.rx_top.specs.Story.{chunks, next_chunk, state_after}
 use Rattle.rx_top.specs.declared.cause.Cause.{Cause}
+use Rattle.rx_top.specs.Turns.{HoldsOfTurn}
 use Rattle.rx_top.specs.declared.cause.Cause.TheVariants.{Read, Work}
 use Rattle.rx_top.specs.declared.cause.ReadFault.TheVariants as fault
 use Rattle.rx_top.proofs.Chunks.{CountsNow, OnlyNow, keeps_behind, leaves_then, stays_legal}
@@ -34,12 +35,13 @@ same_open why st h = let same : why ≡ st = cc in ap Err same
 pub said_as : {k_tells : Type 0} {w0 w1 input left : List ℕ} {s : Standing} {ended : Result Bool Cause}
     (P Q : List (List ℕ) → List (List ℕ) → Type 0)
     → ((done rest : List (List ℕ)) → P done rest → Q done rest)
-    → Plays line_effect k_tells w0 w1 input left s ended P
-    → Plays line_effect k_tells w0 w1 input left s ended Q
+    → Plays line_effect HoldsOfTurn k_tells w0 w1 input left s ended P
+    → Plays line_effect HoldsOfTurn k_tells w0 w1 input left s ended Q
 said_as P Q f p = record {
   done = p.done;
   rest = p.rest;
   whole = p.whole;
+  each = p.each;
   reads = p.reads;
   writes = p.writes;
   kept = f p.done p.rest p.kept;
@@ -50,11 +52,12 @@ pub unplayed : (tells : Type 0) (w0 w1 input left : List ℕ) (s : Standing)
     (ended : Result Bool Cause) (P : List (List ℕ) → List (List ℕ) → Type 0)
     → Reads line_effect ended input left [] (lines input) s
     → (tells → Writes ended w0 w1 []) → P [] (lines input)
-    → Plays line_effect tells w0 w1 input left s ended P
+    → Plays line_effect HoldsOfTurn tells w0 w1 input left s ended P
 unplayed tells w0 w1 input left s ended P reads writes kept = record {
   done = [];
   rest = lines input;
   whole = refl;
+  each = tt;
   reads = reads;
   writes = writes;
   kept = kept;

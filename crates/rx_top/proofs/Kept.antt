@@ -2,13 +2,14 @@
 use Rattle.std.proofs.Common.{◌≡◌, ◌∙◌, sym, ap, ℕ, ◌+◌, ◌<◌, false, cond, leb, List, length, refl, arith, inl, inr}
 use Rattle.std.proofs.lemmas.Bool.Decides.{leb_tells}
 use Rattle.std.proofs.lemmas.List.{take_all, length-take-le}
-use Rattle.rx_engine.proofs.Cut.{same_when_cut}
+use Rattle.rx_engine.proofs.Cut.{same_task_when_cut, same_when_cut}
 use Rattle.rx_engine.specs.Meaning.{Meaning, meaning}
 use Rattle.rx_engine.specs.Standing.{Standing}
 use Rattle.rx_script.specs.Line.{max_line_bytes}
 use Rattle.rx_top.specs.Lines.{is_blank}
 use Rattle.rx_top.specs.Reader.{kept_front}
 use Rattle.rx_top.specs.Script.{effect_of, line_effect, no_effect}
+use Rattle.rx_top.specs.Turns.{HoldsOfTurn}
 
 above : (n : ℕ) → max_line_bytes < n → leb n max_line_bytes ≡ false
 above n h = elim (leb_tells n max_line_bytes)
@@ -33,3 +34,18 @@ pub kept_effect : (n : ℕ) (line : List ℕ) (s : Standing)
 kept_effect n line s =
     ap (λ b. cond b (no_effect s) (effect_of (meaning n (kept_front line) s))) (kept_blank line)
     ∙ ap (λ (m : Meaning). cond (is_blank line) (no_effect s) (effect_of m)) (same_when_cut n line s)
+
+-- so it is of a turn
+pub kept_turn : (n : ℕ) (line : List ℕ) (s next : Standing)
+    → HoldsOfTurn n (kept_front line) s next → HoldsOfTurn n line s next
+kept_turn n line s next holds full =
+    let had = holds (kept_blank line ∙ full) in
+    let same = same_task_when_cut line s in
+    record {
+      quiet = λ t is. had.quiet t (same ∙ is);
+      bounded = record {
+        lowered = λ t is. had.bounded.lowered t (same ∙ is);
+        twice = λ t is. had.bounded.twice t (same ∙ is);
+        in_time = λ t is. had.bounded.in_time t (same ∙ is);
+      };
+    }

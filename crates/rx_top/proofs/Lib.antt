@@ -11,3 +11,10 @@ pub mod Heads
 pub mod Stopping
 pub mod Statuses
 pub mod GoingOn
+pub mod ServedHeads
+pub mod ServedStatuses
+pub mod Filled
+pub mod Tallies
+pub mod Through
+pub mod Told
+pub mod Tried

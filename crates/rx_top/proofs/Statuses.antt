@@ -18,7 +18,8 @@ use Rattle.rx_top.specs.Reader.{max_input_bytes}
 use Rattle.rx_top.specs.Run.{HasRun, IsDue, KeepsRun, NeedsJournal, Plays, StopsAfter, due_after, run_bodies, run_chunks, stop_of}
 use Rattle.rx_top.specs.Script.{line_effect, transcript}
 use Rattle.rx_top.specs.Stops.{EndsWith, Stops, full_line, last_words, stop_line, status_of}
-use Rattle.rx_top.specs.Story.{any_refused, replies, state_after}
+use Rattle.rx_top.specs.Story.{EachLine, any_refused, replies, state_after}
+use Rattle.rx_top.specs.Turns.{HoldsOfTurn}
 use Rattle.rx_top.specs.declared.cause.Cause.{Cause}
 use Rattle.rx_top.specs.declared.cause.Cause.TheVariants.{Read, Sink, Work}
 use Rattle.rx_top.specs.declared.cause.ReadFault.TheVariants as fault
@@ -180,7 +181,7 @@ none_before : {A : Type 0} (xs ys : List A) → [] ≡ xs ++ ys → xs ≡ []
 none_before [] ys h = refl
 none_before (x ∷ xs) ys h = cc
 
-legal_now : (bodies : List (List ℕ)) (c : List ℕ) → StandsLegally bodies [] c
+pub legal_now : (bodies : List (List ℕ)) (c : List ℕ) → StandsLegally bodies [] c
     → (after : World) × IsLegalFile c bodies after
 legal_now bodies c s =
     let same : bodies ++ s.front ≡ bodies =
@@ -190,7 +191,7 @@ legal_now bodies c s =
           (record { stands = s.stands; short = s.short; plays = s.legal; sound = s.sound }),
     )
 
-no_line : (f0 f2 : ℕ) (a b : List ℕ) → (b ≡ a ++ []) ⊎ (WritesFront a b [] × Rises f0 f2) → b ≡ a
+pub no_line : (f0 f2 : ℕ) (a b : List ℕ) → (b ≡ a ++ []) ⊎ (WritesFront a b [] × Rises f0 f2) → b ≡ a
 no_line f0 f2 a b (inl e) = e ∙ append-nil a
 no_line f0 f2 a b (inr f) =
     f.0.3 ∙ ap (λ v. a ++ v) (none_before f.0.0 f.0.1 f.0.2) ∙ append-nil a
@@ -203,7 +204,7 @@ module _
     -- the play and the last line, where the end is known
     abbrev Ended : Result Bool Cause → Type 0
     Ended e =
-        Plays line_effect tells w0 has.before input left (opened kinds w) e (Kept e)
+        Plays line_effect HoldsOfTurn tells w0 has.before input left (opened kinds w) e (Kept e)
         × EndsWith tells f0 f2 has.before w2 (last_words e)
 
     ended_as : (e : Result Bool Cause) → has.ended ≡ e → Ended e
@@ -236,6 +237,12 @@ module _
         let p = played low in
         no_line f0 f2 has.before w2 (p.2.1 t) ∙ p.2.0.writes t
         ∙ ap (λ (v : List (List ℕ)). w0 ++ transcript v (opened kinds w)) (all_done p.0 p.2)
+
+    pub turns_kept : status < 2 → EachLine line_effect HoldsOfTurn 1 (lines input) (opened kinds w)
+    turns_kept low =
+        let p = played low in
+        subst (λ (v : List (List ℕ)). EachLine line_effect HoldsOfTurn 1 v (opened kinds w))
+        (all_done p.0 p.2) p.2.0.each
 
     -- what was kept of all lines
     pub kept_of_all : status < 2 → (r : Bool) × (rest : List (List ℕ)) × Kept (Ok r) (lines input) rest
@@ -351,6 +358,36 @@ module _
 -- ---- what is kept
 
 module _
+    (kinds : Kinds) {D : Type 0} (d : Ghosts D) (old new : D) (bodies : List (List ℕ)) (w : World)
+    (limit : ℕ)
+  where
+    -- a record that is due next would end past the limit
+    abbrev Past : List (List ℕ) → List (List ℕ) → ℕ → Type 0
+    Past done rest would =
+        ((done ≡ []) × IsFull d new bodies (epoch_body w ∷ []) would limit)
+        ⊎ IsFull d new (bodies ++ run_bodies kinds w done) (due_after kinds w done rest) would limit
+
+    pub past : (would most : ℕ) (done rest : List (List ℕ))
+        → KeepsRun kinds d old new bodies w limit (Err (Work (Full would most))) done rest
+        → (most ≡ limit) × Past done rest would
+    past would most done rest (inl un) =
+        let full = un.2.full would most refl in
+        let epoch = epoch_body w ∷ [] in (
+          full.0,
+          inl (
+            un.1,
+            subst (λ (bs : List (List ℕ)). IsFull d new bs epoch would limit) (append-nil bodies)
+                (subst (λ (n : ℕ). IsFull d new (bodies ++ []) epoch would n) full.0 full.1),
+          ),
+        )
+    past would most done rest (inr keeps) =
+        let full = keeps.full would most refl in (
+          full.0,
+          inr (subst (λ (n : ℕ). IsFull d new (bodies ++ run_bodies kinds w done)
+              (due_after kinds w done rest) would n) full.0 full.1),
+        )
+
+module _
     {kinds : Kinds} {D : Type 0} (d : Ghosts D) (old new : D) (tells : Type 0) (f0 f2 : ℕ) (w0 w2 : List ℕ)
     (bodies : List (List ℕ)) (w : World) (input left : List ℕ) (limit status : ℕ)
     (has : HasRun kinds tells f0 f2 w0 w2 w input left status (KeepsRun kinds d old new bodies w limit))
@@ -372,40 +409,16 @@ module _
     pub fits : status < 2 → end_of (bodies ++ run_bodies kinds w (lines input)) ≤ limit
     fits low = ⊎_elim (λ none. cc) (λ le. le) (keeps_all low).2.fits
 
-    -- a record that is due next would end past a limit
-    abbrev Past : List (List ℕ) → List (List ℕ) → ℕ → ℕ → Type 0
-    Past done rest would most =
-        ((done ≡ []) × IsFull d new bodies (epoch_body w ∷ []) would most)
-        ⊎ IsFull d new (bodies ++ run_bodies kinds w done) (due_after kinds w done rest) would most
-
-    past : (would most : ℕ) (done rest : List (List ℕ))
-        → KeepsRun kinds d old new bodies w limit (Err (Work (Full would most))) done rest
-        → (most ≡ limit) × Past done rest would most
-    past would most done rest (inl un) =
-        let full = un.2.full would most refl in (
-          full.0,
-          inl (
-            un.1,
-            subst (λ (bs : List (List ℕ)). IsFull d new bs (epoch_body w ∷ []) would most) (append-nil bodies)
-                full.1,
-          ),
-        )
-    past would most done rest (inr keeps) =
-        let full = keeps.full would most refl in (full.0, inr full.1)
-
     pub is_due : status ≡ 8
         → (done : List (List ℕ)) × (rest : List (List ℕ)) × (would : ℕ)
         × IsDue kinds d new bodies w (lines input) done rest would limit
         × Stops tells f0 f2 w0 w2 (transcript done (opened kinds w)) (full_line would limit)
     is_due is =
         let f = full tells f0 f2 w0 w2 w input left status _ has is in
-        let p = past f.0 f.1 f.2 f.3 f.5 in (
+        let p = past kinds d old new bodies w limit f.0 f.1 f.2 f.3 f.5 in (
           f.2,
           f.3,
           f.0,
-          record {
-            whole = f.4;
-            past = subst (λ (n : ℕ). Past f.2 f.3 f.0 n) p.0 p.1;
-          },
+          record { whole = f.4; past = p.1 },
           subst (λ (n : ℕ). Stops tells f0 f2 w0 w2 (transcript f.2 (opened kinds w)) (full_line f.0 n)) p.0 f.6,
         )

@@ -1,10 +1,12 @@
 -- The stop line after what was told.
 use Rattle.std.proofs.Common.{◌≡◌, ◌∙◌, refl, ap, subst, ℕ, ◌≤◌, List, ◌++◌, ◌⊎◌, inl, inr, arith, sym, append_assoc, Result, Ok, Err, OnOk, OnErr}
+use Rattle.std.specs.Prelude.{codes}
 use Rattle.rx_outside.proofs.Counts.{rises_later}
 use Rattle.std.proofs.lemmas.Bool.Decides.{leb_tells}
 use Rattle.rx_outside.specs.Failed.{Rises}
 use Rattle.rx_outside.specs.Sink.{WritesFront}
-use Rattle.rx_top.specs.Stops.{EndsWith, Stops}
+use Rattle.rx_top.specs.Stops.{EndsWith, Stops, stop_line}
+use Rattle.rx_top.specs.Untouched.{LacksMemory, Reach}
 
 stopped : (f0 f1 f2 : ℕ) (mid mid' new line : List ℕ) → f0 ≤ f1 → mid ≡ mid'
     → (new ≡ mid ++ line) ⊎ (WritesFront mid new line × Rises f1 f2)
@@ -76,3 +78,17 @@ pub three : (old one two new a b c : List ℕ) → one ≡ old ++ a → two ≡ 
 three old one two new a b c e f h =
     h ∙ ap (λ v. v ++ c) (f ∙ ap (λ v. v ++ b) e) ∙ append_assoc (old ++ a) b c
     ∙ append_assoc old a (b ++ c)
+
+-- memory was wanting, and nothing was done but to write the line that says so
+pub lacks_memory : {S D L C : Type 0} {T E : Type 0} (tells : Type 0) (f0 f1 : ℕ) (old new : List ℕ)
+    (r : Result T E) (reach : Reach S D L C)
+    → (tells → OnOk r (new ≡ old ++ stop_line (codes "memory")))
+    → (tells → OnErr r (WritesFront old new (stop_line (codes "memory"))))
+    → OnErr r (Rises f0 f1) → LacksMemory 6 tells f0 f1 old new reach reach
+lacks_memory tells f0 f1 old new r reach ok err failed = record {
+  is = refl;
+  only = record {
+    untouched = refl;
+    told = ended_with tells f0 f1 old new (stop_line (codes "memory")) r ok err failed;
+  };
+}

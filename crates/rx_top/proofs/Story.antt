@@ -1,8 +1,8 @@
 -- The story of a run, line after line.
-use Rattle.std.proofs.Common.{◌≡◌, ◌∙◌, refl, sym, ap, ℕ, ◌+◌, suc, Bool, true, false, not, cond, ◌&&◌, ◌||◌, ◌==◌, List, [], ◌∷◌, ◌++◌, length, arith, append_assoc, append-nil, length-append}
+use Rattle.std.proofs.Common.{◌≡◌, ◌∙◌, refl, sym, ap, subst, ℕ, ◌+◌, suc, Bool, true, false, not, cond, ◌&&◌, ◌||◌, ◌==◌, List, [], ◌∷◌, ◌++◌, length, arith, append_assoc, append-nil, length-append}
 use Rattle.rx_top.specs.Lines.{Cut, cut, byte_before, last_line, lines}
 use Rattle.rx_top.specs.Reader.{is_within}
-use Rattle.rx_top.specs.Story.{Step, any_refused, chunks, replies, state_after}
+use Rattle.rx_top.specs.Story.{EachLine, Step, any_refused, chunks, replies, state_after}
 
 -- the lines of `done` were played from a state on, and `rest` is to come
 pub record SoFar
@@ -146,6 +146,16 @@ module _ {S : Type 0} (step : Step S) where
       let now = step n y s in
       ap (λ v. now.refused || v) (refused-push (n + 1) ys l now.next k (omega (arith, is)))
       ∙ sym (or_assoc now.refused (any_refused step (n + 1) ys now.next) _)
+
+  pub each-push : (P : ℕ → List ℕ → S → S → Type 0) (n : ℕ) (ls : List (List ℕ)) (l : List ℕ) (s : S)
+      (k : ℕ) → k ≡ n + length ls → EachLine step P n ls s
+      → P k l (state_after step n ls s) (step k l (state_after step n ls s)).next
+      → EachLine step P n (ls ++ l ∷ []) s
+  each-push P n [] l s k is each this =
+      let e : k ≡ n = omega (arith, is) in
+      (subst (λ m. P m l s (step m l s).next) e this, tt)
+  each-push P n (y ∷ ys) l s k is each this =
+      (each.0, each-push P (n + 1) ys l (step n y s).next k (omega (arith, is)) each.1 this)
 
   -- a line more, after n lines
   pub refused_more : (ls : List (List ℕ)) (l : List ℕ) (n : ℕ) (r : Bool) (s0 s : S)

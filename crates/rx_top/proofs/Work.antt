@@ -1,7 +1,7 @@
 -- What the work on one line leaves, by what the engine says of it.
-use Rattle.std.proofs.Common.{◌≡◌, ◌∙◌, refl, sym, ap, subst, ℕ, Bool, true, false, cond, List, [], ◌++◌, append-nil, Option, None, Some, Result, Ok, Err, IsErrOf, inl}
+use Rattle.std.proofs.Common.{◌≡◌, ◌∙◌, refl, sym, ap, subst, ℕ, Bool, true, false, cond, List, [], append-nil, Option, None, Some, Result, Ok, Err, IsErrOf, inl}
 use Rattle.rx_disk.specs.declared.disk.Disk.{Ghosts}
-use Rattle.rx_engine.specs.Engine.{IsAt, limit_of, standing_of}
+use Rattle.rx_engine.specs.Engine.{Answers, IsAt, IsBounded, QuietIsLevel, limit_of, standing_of}
 use Rattle.rx_engine.specs.Meaning.{meaning}
 use Rattle.rx_engine.specs.declared.engine.Engine.{Engine}
 use Rattle.rx_engine.specs.declared.output.Output.{Output}
@@ -9,9 +9,11 @@ use Rattle.rx_outside.specs.declared.stop.Stop.{Stop}
 use Rattle.rx_engine.specs.Standing.{Standing}
 use Rattle.rx_handler.specs.Handlers.{Kinds}
 use Rattle.rx_store.specs.Safe.{IsCrashSafe}
+use Rattle.rx_sync.specs.Laws.{IsLevel}
 use Rattle.rx_top.specs.Lines.{is_blank}
 use Rattle.rx_top.specs.Script.{effect_of, line_effect, no_effect}
 use Rattle.rx_top.specs.Story.{Effect}
+use Rattle.rx_top.specs.Turns.{HoldsOfTurn}
 use Rattle.rx_top.specs.Work.{HasAll, work_of}
 use Rattle.rx_top.specs.declared.cause.Cause.{Cause}
 use Rattle.rx_top.specs.declared.cause.Cause.TheVariants.{Sink, Work}
@@ -51,6 +53,23 @@ module _ (kinds : Kinds) {D : Type 0} (d : Ghosts D) (e : Engine) (n : ℕ) (lin
   does : is_blank line ≡ false → effect_of (meaning n line (standing_of kinds e)) ≡ effect
   does full =
       ap (λ b. cond b (no_effect (standing_of kinds e)) (effect_of (meaning n line (standing_of kinds e)))) (sym full)
+
+  -- what holds of a turn that was made
+  pub turn_done : (pair : Engine × Output) → is_blank line ≡ false
+      → Answers kinds (meaning n line (standing_of kinds e)) pair.0 pair.1
+      → QuietIsLevel line (standing_of kinds e) pair.0 → IsBounded line (standing_of kinds e)
+      → HoldsOfTurn n line (standing_of kinds e) effect.next
+  unfolding standing_of
+  turn_done pair full answers quiet bounded _ = record {
+    quiet = λ t is ended.
+        subst (λ (x : Standing). IsLevel x.session.world t.name)
+        (answers.next ∙ ap (λ (m : Effect Standing). m.next) (does full)) (quiet t is ended);
+    bounded = bounded;
+  }
+
+  -- a blank line makes none
+  pub turn_blank : is_blank line ≡ true → HoldsOfTurn n line (standing_of kinds e) effect.next
+  turn_blank blank = λ full. absurd (cc)
 
   -- what the engine did to the disk
   abbrev IsDone : D → D → List (List ℕ) → Result (Engine × Output) Stop → Type 0

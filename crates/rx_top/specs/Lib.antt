@@ -2,6 +2,7 @@ pub mod Lines
 pub mod Reader
 pub mod Story
 pub mod Script
+pub mod Turns
 pub mod Stops
 pub mod Chunks
 pub mod Start
@@ -9,3 +10,9 @@ pub mod Run
 pub mod Work
 pub mod Untouched
 pub mod PlaysScript
+pub mod Serve
+pub mod ServesCollection
+pub mod Tells
+pub mod Tally
+pub mod TriesScript
+pub mod ReportsJournal

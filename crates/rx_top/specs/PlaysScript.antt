@@ -14,9 +14,11 @@ use Rattle.rx_world.specs.World.{World}
 use Rattle.rx_top.specs.Lines.{cut, lines}
 use Rattle.rx_top.specs.Reader.{Took, max_input_bytes}
 use Rattle.rx_top.specs.Run.{HasRun, HasRunSomewhere, IsDue, KeepsRun, StopsAfter, run_bodies}
-use Rattle.rx_top.specs.Script.{has_refusal, transcript}
+use Rattle.rx_top.specs.Script.{has_refusal, line_effect, transcript}
 use Rattle.rx_top.specs.Start.{FromStart, StaysLegal}
+use Rattle.rx_top.specs.Story.{EachLine}
 use Rattle.rx_top.specs.Stops.{Stops, full_line, stop_line}
+use Rattle.rx_top.specs.Turns.{HoldsOfTurn}
 
 -- A run ended with a status, from one state of its source, its sink and its disk to a later one. Its
 -- journal may have so many bytes, and its conflicts are resolved by handlers of these kinds.
@@ -56,6 +58,10 @@ pub record PlaysScript
   pub kept : status < 2 → s.tells → FromStart d disk (λ bodies w.
       (c : List ℕ) → d.image disk' c → (after : World) × IsLegalFile c
       (bodies ++ run_bodies kinds w (lines (s.left source))) after)
+  -- Each turn that ended quiet left its fork and its master level, and each whose link did nothing
+  -- came to its end in time.
+  pub turns : status < 2 → s.tells → FromStart d disk (λ bodies w.
+      EachLine line_effect HoldsOfTurn 1 (lines (s.left source)) (opened kinds w))
   -- The source failed, after the lines that ended in what it gave.
   pub read_fault : status ≡ 4 → Rises (s.faults source) (s.faults source')
   pub read : status ≡ 4 → s.tells → FromStart d disk (λ bodies w.

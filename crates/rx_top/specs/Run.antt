@@ -17,7 +17,8 @@ use Rattle.rx_top.specs.Lines.{cut, lines}
 use Rattle.rx_top.specs.Reader.{max_input_bytes}
 use Rattle.rx_top.specs.Script.{line_effect, transcript}
 use Rattle.rx_top.specs.Stops.{EndsWith, Stops, last_words, status_of}
-use Rattle.rx_top.specs.Story.{Step, any_refused, chunks, next_chunk, replies, state_after}
+use Rattle.rx_top.specs.Story.{EachLine, Step, any_refused, chunks, next_chunk, replies, state_after}
+use Rattle.rx_top.specs.Turns.{HoldsOfTurn}
 use Rattle.rx_top.specs.declared.cause.Cause.{Cause}
 use Rattle.rx_top.specs.declared.cause.Cause.TheVariants.{Read, Sink, Work}
 use Rattle.rx_top.specs.declared.cause.ReadFault.TheVariants as fault
@@ -56,6 +57,7 @@ Writes (Err Sink) old new replies = WritesFront old new replies
 pub record Plays
     {S : Type 0}
     (step : Step S)
+    (Each : ℕ → List ℕ → S → S → Type 0)
     (tells : Type 0)
     (written written' : List ℕ)
     (input left : List ℕ)
@@ -65,6 +67,8 @@ pub record Plays
   pub done : List (List ℕ)
   pub rest : List (List ℕ)
   pub whole : lines input ≡ done ++ rest
+  -- so much holds of each line done
+  pub each : EachLine step Each 1 done s
   pub reads : Reads step ended input left done rest s
   pub writes : tells → Writes ended written written' (replies step 1 done s)
   pub kept : Kept done rest
@@ -155,7 +159,7 @@ pub record HasRun
   pub is_status : status ≡ status_of ended
   -- what the sink had before the last line
   pub before : List ℕ
-  pub run : Plays line_effect tells written before input left (opened kinds w) ended (Kept ended)
+  pub run : Plays line_effect HoldsOfTurn tells written before input left (opened kinds w) ended (Kept ended)
   pub line : EndsWith tells faults faults' before written' (last_words ended)
 
 -- the same where nothing is known of the disk: some world has the session that the run began with

@@ -36,3 +36,10 @@ state_after step n (l ∷ ls) s = state_after step (n + 1) ls (step n l s).next
 abbrev pub next_chunk : {S : Type 0} → Step S → ℕ → List (List ℕ) → S → List (List ℕ)
 next_chunk step n [] s = []
 next_chunk step n (l ∷ ls) s = (step n l s).bodies
+
+-- so much holds of each line: of its number and its text, and of the states before it and after it
+abbrev pub EachLine
+    : {S : Type 0} → Step S → (ℕ → List ℕ → S → S → Type 0) → ℕ → List (List ℕ) → S → Type 0
+EachLine step P n [] s = Unit {0}
+EachLine step P n (l ∷ ls) s =
+    P n l s (step n l s).next × EachLine step P (n + 1) ls (step n l s).next

@@ -1,39 +1,33 @@
 -- A call that does nothing but to write a line.
-use Rattle.std.specs.Prelude.{◌≡◌, ℕ, Bool, true, false, List, Option, None, Some, codes}
-use Rattle.rx_words.specs.declared.command.Command.{Command}
-use Rattle.rx_words.specs.declared.command.Command.TheVariants.{Run, Serve, Check, Trial}
+use Rattle.std.specs.Prelude.{◌≡◌, ℕ, List, codes}
 use Rattle.rx_top.specs.Stops.{EndsWith, stop_line}
 
--- the command is to play a script; the others are to come
-abbrev pub is_run : Option Command → Bool
-is_run None = false
-is_run (Some (Run path limit)) = true
-is_run (Some (Serve path collection port connections limit)) = false
-is_run (Some (Check path)) = false
-is_run (Some (Trial path seed count limit)) = false
+-- all that a command may touch but its sink
+pub record Reach (S D L C : Type 0) : Type 0 where
+  pub source : S
+  pub disk : D
+  pub door : L
+  pub clock : C
 
--- Nothing is read and no disk is touched, and this line is written, or a front of it where the sink
--- failed.
+-- Nothing is read, opened or asked, and this line is written, or a front of it where the sink failed.
 pub record OnlyWrites
-    {S D : Type 0}
-    (source source' : S)
-    (disk disk' : D)
+    {S D L C : Type 0}
     (tells : Type 0)
     (faults faults' : ℕ)
-    (written written' line : List ℕ) : Type 0 where
-  pub unread : source' ≡ source
-  pub unopened : disk' ≡ disk
+    (written written' : List ℕ)
+    (reach reach' : Reach S D L C)
+    (line : List ℕ) : Type 0 where
+  pub untouched : reach' ≡ reach
   pub told : EndsWith tells faults faults' written written' line
 
 -- the same, since memory was wanting
 pub record LacksMemory
-    {S D : Type 0}
-    (source source' : S)
-    (disk disk' : D)
+    {S D L C : Type 0}
+    (status : ℕ)
     (tells : Type 0)
     (faults faults' : ℕ)
     (written written' : List ℕ)
-    (status : ℕ) : Type 0 where
+    (reach reach' : Reach S D L C) : Type 0 where
   pub is : status ≡ 6
-  pub only : OnlyWrites source source' disk disk' tells faults faults' written written'
+  pub only : OnlyWrites tells faults faults' written written' reach reach'
       (stop_line (codes "memory"))

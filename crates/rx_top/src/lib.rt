@@ -2,16 +2,22 @@
 //! and the play of a script from its bytes to its answers.
 //!
 //! `rx` is the call that the program makes. What it promises of each command is a record of specs/:
-//! `PlaysScript` of `run`, `ServesCollection` of `serve`. It knows nothing of what a line means.
+//! `PlaysScript` of `run`, `ServesCollection` of `serve`, `ReportsJournal` of `check` and
+//! `TriesScript` of `trial`. It knows nothing of what a line means.
 #![tactic(auto)]
 
 mod cause;
+mod check;
 mod laws;
 mod play;
 mod reader;
 mod run;
+mod serve;
 mod stop;
+mod tally;
+mod telling;
 mod top;
+mod trial;
 
 pub use laws::{goes_on, starts_empty};
 pub use top::rx;

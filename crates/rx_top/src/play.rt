@@ -15,6 +15,7 @@ ghost use Rattle.rx_top.specs.Reader.{Took, max_input_bytes};
 ghost use Rattle.rx_top.specs.Run.{KeepsFrom, Plays};
 ghost use Rattle.rx_top.specs.Script.{line_effect};
 ghost use Rattle.rx_top.specs.Start.{StaysLegal};
+ghost use Rattle.rx_top.specs.Turns.{HoldsOfTurn};
 ghost use Rattle.rx_top.specs.Work.{HasAll, work_of};
 
 use crate::cause::Cause;
@@ -39,7 +40,7 @@ pub(crate) fn play<S: Source, K: Sink, D: Disk>(
 ) -> Result<bool, Cause>
     requires at { D.tells → (bodies : List (List ℕ)) × IsAt D.Disk disk.old first bodies }
     requires fresh { reader.old ≡ record { line = []; unread = []; given = 0 } }
-    ensures exit { S.tells → Plays line_effect K.tells (K.written out.old) (K.written out.new)
+    ensures exit { S.tells → Plays line_effect HoldsOfTurn K.tells (K.written out.old) (K.written out.new)
         (S.left source.old) (S.left source.new) (standing_of (kinds_of handlers.now) first) result
         (KeepsFrom (kinds_of handlers.now) D.Disk disk.old disk.new first result) }
     ensures legal { D.tells → (bodies : List (List ℕ)) → IsAt D.Disk disk.old first bodies
@@ -106,6 +107,9 @@ fn play_line<K: Sink, D: Disk>(
         → IsCrashSafe D.Disk disk.old disk.new bodies
         (line_effect number line.now (standing_of (kinds_of handlers.now) engine)).bodies (limit_of engine)
         (HasAll D.Disk disk.new) (work_of result) }
+    ensures turn { OnOk (work_of result) (HoldsOfTurn number line.now
+        (standing_of (kinds_of handlers.now) engine)
+        (line_effect number line.now (standing_of (kinds_of handlers.now) engine)).next) }
     ensures limit { IfOk result (λ p. limit_of p.0 ≡ limit_of engine) }
     ensures sink { IsErrOf result Cause.Sink → Rises (K.faults out.old) (K.faults out.new) }
     ensures disk_only { IsErrOf result (Cause.Work stop.Disk)

@@ -12,6 +12,7 @@ ghost use Rattle.rx_top.specs.Reader.{Took, max_input_bytes};
 ghost use Rattle.rx_top.specs.Run.{KeepsRun, NeedsJournal, Plays};
 ghost use Rattle.rx_top.specs.Script.{line_effect};
 ghost use Rattle.rx_top.specs.Start.{FromStart, StaysLegal};
+ghost use Rattle.rx_top.specs.Turns.{HoldsOfTurn};
 ghost use Rattle.rx_top.specs.declared.cause.ReadFault.TheVariants as fault;
 
 use crate::cause::{Cause, ReadFault};
@@ -56,12 +57,12 @@ fn open_and_play<S: Source, K: Sink, D: Disk>(
     requires low { 9 ≤ limit }
     requires high { limit < 2 ^ 32 }
     ensures run { S.tells → FromStart D.Disk disk.old (λ bodies w.
-        Plays line_effect K.tells (K.written out.old) (K.written out.new) (S.left source.old)
+        Plays line_effect HoldsOfTurn K.tells (K.written out.old) (K.written out.new) (S.left source.old)
         (S.left source.new) (opened (kinds_of handlers.now) w) result
         (KeepsRun (kinds_of handlers.now) D.Disk disk.old disk.new bodies w limit result)) }
     ensures legal { FromStart D.Disk disk.old (λ bodies w.
         StaysLegal D.Disk disk.old disk.new bodies) }
-    ensures over_any_disk { S.tells → (w : World) × Plays line_effect K.tells (K.written out.old)
+    ensures over_any_disk { S.tells → (w : World) × Plays line_effect HoldsOfTurn K.tells (K.written out.old)
         (K.written out.new) (S.left source.old) (S.left source.new) (opened (kinds_of handlers.now) w) result (λ done rest. ⊤) }
     ensures illegal { D.tells → IsIllegalFile (D.content disk.old)
         → IsUntouched D.Disk disk.old disk.new }

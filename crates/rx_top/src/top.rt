@@ -1,16 +1,22 @@
 // The program: a command, and its status.
-ghost use Rattle.std.specs.Prelude.{◌≡◌, ◌⊎◌, List, ℕ, false, Some, codes};
+ghost use Rattle.std.specs.Prelude.{◌≡◌, ◌⊎◌, List, ℕ, None, Some, codes};
 ghost use Rattle.rx_handler.specs.Shown.{kinds_of};
 ghost use Rattle.rx_words.specs.Words.{command_of};
-ghost use Rattle.rx_words.specs.declared.command.Command.TheVariants.{Run};
+ghost use Rattle.rx_words.specs.declared.command.Command.TheVariants.{Run, Serve, Check, Trial};
 ghost use Rattle.rx_top.specs.PlaysScript.{PlaysScript};
-ghost use Rattle.rx_top.specs.Stops.{stop_line};
-ghost use Rattle.rx_top.specs.Untouched.{LacksMemory, OnlyWrites, is_run};
+ghost use Rattle.rx_top.specs.ReportsJournal.{ReportsJournal};
+ghost use Rattle.rx_top.specs.ServesCollection.{ServesCollection};
+ghost use Rattle.rx_top.specs.Stops.{EndsWith, stop_line};
+ghost use Rattle.rx_top.specs.TriesScript.{TriesScript};
+ghost use Rattle.rx_top.specs.Untouched.{LacksMemory, OnlyWrites};
 
+use crate::check::check;
 use crate::run::run;
+use crate::serve::{Offer, serve};
+use crate::trial::trial;
 use rx_disk::Disk;
 use rx_handler::Handlers;
-use rx_outside::{Sink, Source, write_all};
+use rx_outside::{Clock, Listen, Sink, Source, write_all};
 use rx_words::{Command, Words, command_of};
 use std::alloc::Global;
 
@@ -20,26 +26,37 @@ use std::alloc::Global;
 /// that the source gives, a line of JSON a line. The records of a line are on the disk before a
 /// byte of its reply is written.
 ///
+/// `serve JOURNAL COLLECTION PORT CONNECTIONS` opens the journal, and then the door at that port on
+/// loopback, and serves the collection as a master to so many connections, one after another.
+///
+/// `check JOURNAL` reports what the journal holds, and writes nothing to it.
+///
+/// `trial JOURNAL SEED COUNT` plays a script that is drawn from the seed over the journal, and sums
+/// it up in one line.
+///
 /// | status | what it says |
 /// |---|---|
 /// | 0 | the work was done to its end |
 /// | 1 | a script was played to its end, and a line was refused |
 /// | 2 | the words are no command |
 /// | 3 | the disk failed |
-/// | 4 | the source failed |
+/// | 4 | the source failed, or the door |
 /// | 5 | the sink failed |
 /// | 6 | memory ran out |
 /// | 7 | the file is no journal |
 /// | 8 | a record would end past the limit of the journal |
 /// | 9 | the source gave more than 4,294,967,296 bytes |
+/// | 10 | the collection to be served isn't held, or is a fork |
 ///
 /// From 2 on but for 5, the last line written tells the cause.
-pub fn rx<S: Source, K: Sink, D: Disk>(
+pub fn rx<S: Source, K: Sink, D: Disk, L: Listen, C: Clock>(
     alloc: Global,
     words: &Words,
     source: &mut S,
     out: &mut K,
     disk: &mut D,
+    door: &mut L,
+    clock: &mut C,
     handlers: &Handlers,
 ) -> u8
     // The command `run`, unless memory was wanting for its words.
@@ -47,28 +64,103 @@ pub fn rx<S: Source, K: Sink, D: Disk>(
         → command_of words.now.words.items ≡ Some (Run path limit)
         → PlaysScript S.Source K.Sink D.Disk (kinds_of handlers.now) limit result
         source.old source.new out.old out.new disk.old disk.new
-        ⊎ LacksMemory source.old source.new disk.old disk.new K.tells (K.faults out.old)
-        (K.faults out.new) (K.written out.old) (K.written out.new) result }
+        ⊎ LacksMemory result K.tells (K.faults out.old) (K.faults out.new) (K.written out.old)
+        (K.written out.new)
+        (record { source = source.old; disk = disk.old; door = door.old; clock = clock.old })
+        (record { source = source.new; disk = disk.new; door = door.new; clock = clock.new }) }
 
-    // Any other words: nothing is read or opened, and a line says so.
-    ensures usage { result ≡ 2 → is_run (command_of words.now.words.items) ≡ false }
-    ensures usage_only { is_run (command_of words.now.words.items) ≡ false
-        → (result ≡ 2) ⊎ (result ≡ 6) }
-    ensures usage_line { result ≡ 2 → OnlyWrites source.old source.new disk.old disk.new K.tells
-        (K.faults out.old) (K.faults out.new) (K.written out.old) (K.written out.new)
+    // The command `serve`, likewise.
+    ensures serves { (path name : List ℕ) (port connections limit : ℕ)
+        → command_of words.now.words.items ≡ Some (Serve path name port connections limit)
+        → ServesCollection K.Sink D.Disk L.Listen L.W.tells C.Clock name connections limit result
+        out.old out.new disk.old disk.new door.old door.new clock.old clock.new
+        ⊎ LacksMemory result K.tells (K.faults out.old) (K.faults out.new) (K.written out.old)
+        (K.written out.new)
+        (record { source = source.old; disk = disk.old; door = door.old; clock = clock.old })
+        (record { source = source.new; disk = disk.new; door = door.new; clock = clock.new }) }
+
+    // The command `check`, likewise.
+    ensures reports { (path : List ℕ)
+        → command_of words.now.words.items ≡ Some (Check path)
+        → ReportsJournal K.Sink D.Disk result out.old out.new disk.old disk.new
+        ⊎ LacksMemory result K.tells (K.faults out.old) (K.faults out.new) (K.written out.old)
+        (K.written out.new)
+        (record { source = source.old; disk = disk.old; door = door.old; clock = clock.old })
+        (record { source = source.new; disk = disk.new; door = door.new; clock = clock.new }) }
+
+    // The command `trial`, likewise.
+    ensures tries { (path : List ℕ) (seed count limit : ℕ)
+        → command_of words.now.words.items ≡ Some (Trial path seed count limit)
+        → TriesScript K.Sink D.Disk (kinds_of handlers.now) limit seed count result
+        out.old out.new disk.old disk.new
+        ⊎ LacksMemory result K.tells (K.faults out.old) (K.faults out.new) (K.written out.old)
+        (K.written out.new)
+        (record { source = source.old; disk = disk.old; door = door.old; clock = clock.old })
+        (record { source = source.new; disk = disk.new; door = door.new; clock = clock.new }) }
+
+    // What a command doesn't need it leaves alone.
+    ensures run_alone { (path : List ℕ) (limit : ℕ)
+        → command_of words.now.words.items ≡ Some (Run path limit)
+        → (door.new ≡ door.old) × (clock.new ≡ clock.old) }
+    ensures serve_alone { (path name : List ℕ) (port connections limit : ℕ)
+        → command_of words.now.words.items ≡ Some (Serve path name port connections limit)
+        → source.new ≡ source.old }
+    ensures check_alone { (path : List ℕ)
+        → command_of words.now.words.items ≡ Some (Check path)
+        → (source.new ≡ source.old) × (door.new ≡ door.old) × (clock.new ≡ clock.old) }
+    ensures trial_alone { (path : List ℕ) (seed count limit : ℕ)
+        → command_of words.now.words.items ≡ Some (Trial path seed count limit)
+        → (source.new ≡ source.old) × (door.new ≡ door.old) × (clock.new ≡ clock.old) }
+
+    // The words are no command: nothing is read, opened or asked, and a line says so.
+    ensures usage { result ≡ 2 → command_of words.now.words.items ≡ None }
+    ensures usage_only { command_of words.now.words.items ≡ None → (result ≡ 2) ⊎ (result ≡ 6) }
+    ensures usage_line { result ≡ 2 → OnlyWrites K.tells (K.faults out.old) (K.faults out.new)
+        (K.written out.old) (K.written out.new)
+        (record { source = source.old; disk = disk.old; door = door.old; clock = clock.old })
+        (record { source = source.new; disk = disk.new; door = door.new; clock = clock.new })
         (stop_line (codes "usage")) }
 {
     match command_of(alloc, words) {
-        Ok(Some(Command::Run { limit, .. })) => run(alloc, limit, source, out, disk, handlers),
-        // The other commands are to come.
-        Ok(_) => {
-            // The status is decided, so a failure here has none of its own.
-            let _ = write_all(out, b"{\"stop\":\"usage\"}\n");
-            2
-        }
+        Ok(Some(command)) => match command {
+            Command::Run { limit, .. } => run(alloc, limit, source, out, disk, handlers),
+            Command::Serve {
+                collection,
+                port,
+                connections,
+                limit,
+                ..
+            } => {
+                let offer = Offer {
+                    collection: collection.as_str(),
+                    port,
+                    connections,
+                };
+                serve(alloc, limit, &offer, out, disk, door, clock)
+            }
+            Command::Check { .. } => check(alloc, out, disk),
+            Command::Trial {
+                seed,
+                count,
+                limit,
+                ..
+            } => trial(alloc, limit, seed, count, out, disk, handlers),
+        },
+        Ok(None) => write_usage(out),
         Err(_) => {
+            // The status is decided, so a failure here has none of its own.
             let _ = write_all(out, b"{\"stop\":\"memory\"}\n");
             6
         }
     }
+}
+
+// Writes that the words are no command, and answers its status.
+fn write_usage<K: Sink>(out: &mut K) -> u8
+    ensures status { result ≡ 2 }
+    ensures line { EndsWith K.tells (K.faults out.old) (K.faults out.new) (K.written out.old)
+        (K.written out.new) (stop_line (codes "usage")) }
+{
+    let _ = write_all(out, b"{\"stop\":\"usage\"}\n");
+    2
 }

@@ -1,13 +1,12 @@
 -- The line that sums a trial up.
 use Rattle.std.specs.Prelude.{ℕ, List, [], ◌∷◌, ◌++◌, Option, Some, None, codes, decimal}
 use Rattle.std.specs.List.{concat}
-use Rattle.std.specs.Borrow.{Bor}
 use Rattle.rx_trial.specs.declared.summary.Summary.{Summary}
 
 -- the text, or `none`
-abbrev pub or_none : Option (Bor (List ℕ)) → List ℕ
+abbrev pub or_none : Option (List ℕ) → List ℕ
 or_none None = codes "none"
-or_none (Some word) = word.now
+or_none (Some word) = word
 
 -- its beginning, with the digests
 abbrev pub digests_text : Summary → List ℕ

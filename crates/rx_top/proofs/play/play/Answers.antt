@@ -1,6 +1,4 @@
-use Rattle.std.proofs.Common.{◌≡◌, ◌++◌, ◌+◌, ◌≤◌, ℕ, List, [], Ok, Some, refl, sym, ap, rules, arith}
-use Rattle.rx_engine.specs.Engine.{standing_of}
-use Rattle.rx_top.specs.Script.{line_effect}
+use Rattle.std.proofs.Common.{◌≡◌, ◌++◌, ◌+◌, ◌≤◌, [], Ok, Some, refl, sym, ap, rules, arith}
 use Rattle.rx_top.specs.Reader.{Reading, TakesKept, max_input_bytes}
 use Rattle.rx_top.specs.declared.reader.Next.TheVariants.{Line, Last, End}
 use Rattle.rx_top.proofs.Exits.{begins, took_on, within_on, none_left, only_line, taken_as, reader_stopped, ended, images_at, line_failed, line_kept, last_played, line_played}
@@ -95,7 +93,8 @@ returns-in-Err-play_line-clause-exit g c = λ told.
     (c.next.new.self.unread ++ g.S.Source.left c.next.new.source) c.in_default.not-End
     (taken_as _ _ _ _ _ (sym c.line.ensures) (c.in-Ok.ensures.next told))
     c.in-Err-play_line.cause (g.S.Source.left c.next.new.source) c.in-Err-play_line.ensures.no_read
-    c.in-Err-play_line.ensures.front c.in-Err-play_line.ensures.unsaid c.in-Err-play_line.ensures.safe
+    c.in-Err-play_line.ensures.front c.in-Err-play_line.ensures.unsaid c.in-Err-play_line.ensures.turn
+    c.in-Err-play_line.ensures.safe
     (λ t f. g.met.D.Disk.only_now c.play_line.new.disk f t)
     (λ t s f le now. g.met.D.Disk.counts_now c.play_line.new.disk s f t le now)
 
@@ -126,7 +125,7 @@ returns-in-Last-clause-exit g c = λ told.
     c.lines.engine (g.K.Sink.written c.args.out.now) (g.K.Sink.written c.lines.out)
     (g.S.Source.left c.args.source.now) _ c.lines.number c.lines.refused a c.play_line.new.disk
     (g.K.Sink.written c.play_line.new.out) c.line.result.now _ (g.S.Source.left c.next.new.source) _ takes
-    c.in-Ok-play_line.ensures.refused c.in-Ok-play_line.ensures.written
+    c.in-Ok-play_line.ensures.refused c.in-Ok-play_line.ensures.written c.in-Ok-play_line.ensures.turn
     (line_kept g.D.Disk g.K.Sink.tells c.args.disk.now c.lines.disk c.args.first
     c.lines.engine (g.K.Sink.written c.args.out.now) (g.K.Sink.written c.lines.out)
     (g.S.Source.left c.args.source.now) _ c.lines.number c.lines.refused a c.play_line.new.disk
@@ -175,6 +174,7 @@ lines-preserved g c =
           (g.K.Sink.written c.play_line.new.out) c.line.result.now _ _ c.in-Ok-play_line.played.0 takes
           c.in-Ok-play_line.ensures.limit c.in-Ok-play_line.ensures.refused c.in-Ok-play_line.ensures.next
           c.in-Ok-play_line.ensures.written (λ t before here. (c.in-Ok-play_line.ensures.safe t before here).at)
+          c.in-Ok-play_line.ensures.turn
           (line_kept g.D.Disk g.K.Sink.tells c.args.disk.now c.lines.disk c.args.first
           c.lines.engine (g.K.Sink.written c.args.out.now) (g.K.Sink.written c.lines.out)
           (g.S.Source.left c.args.source.now) _ c.lines.number c.lines.refused a c.play_line.new.disk

@@ -8,6 +8,7 @@ use Rattle.rx_world.specs.World.{empty}
 use Rattle.rx_top.specs.Lines.{lines}
 use Rattle.rx_top.specs.Run.{KeepsRun, Plays}
 use Rattle.rx_top.specs.Script.{line_effect}
+use Rattle.rx_top.specs.Turns.{HoldsOfTurn}
 use Rattle.rx_top.specs.declared.cause.Cause.TheVariants.{Read, Work}
 use Rattle.rx_top.specs.declared.cause.ReadFault.TheVariants as ReadFault
 use Rattle.rx_top.proofs.Chunks.{stays_legal}
@@ -40,7 +41,7 @@ pub returns-in-Ok-open-clause-run : goal.returns-in-Ok-open-clause-run
 returns-in-Ok-open-clause-run g c = λ told t bodies w start.
     let found = c.in-Ok-open.ensures.opened t bodies w start.legal (kinds_of c.args.handlers.now) in
     let safe = c.in-Ok-open.ensures.safe t bodies w start.legal in
-    subst (λ (s : Standing). Plays line_effect g.K.Sink.tells (g.K.Sink.written c.args.out.now)
+    subst (λ (s : Standing). Plays line_effect HoldsOfTurn g.K.Sink.tells (g.K.Sink.written c.args.out.now)
     (g.K.Sink.written c.play.new.out) (g.S.Source.left c.args.source.now)
     (g.S.Source.left c.play.new.source) s c.play.result
     (KeepsRun (kinds_of c.args.handlers.now) g.D.Disk c.args.disk.now c.play.new.disk bodies w c.args.limit c.play.result)) found
@@ -102,7 +103,7 @@ pub returns-in-Ok-open-clause-over_any_disk : goal.returns-in-Ok-open-clause-ove
 returns-in-Ok-open-clause-over_any_disk g c = λ told.
     let begun = c.in-Ok-open.ensures.begun in (
       begun.0,
-      subst (λ (s : Standing). Plays line_effect g.K.Sink.tells (g.K.Sink.written c.args.out.now)
+      subst (λ (s : Standing). Plays line_effect HoldsOfTurn g.K.Sink.tells (g.K.Sink.written c.args.out.now)
           (g.K.Sink.written c.play.new.out) (g.S.Source.left c.args.source.now)
           (g.S.Source.left c.play.new.source) s c.play.result (λ done rest. ⊤)) (begun.1 (kinds_of c.args.handlers.now))
           (said_as _ _ (λ done rest kept. tt) (c.play.ensures.exit told)),

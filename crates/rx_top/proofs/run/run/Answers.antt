@@ -1,4 +1,4 @@
-use Rattle.std.proofs.Common.{◌≡◌, refl, ◌<◌, ◌∙◌, ℕ, Bool, Result, OnOk, [], sym, ap, subst, append-nil, arith}
+use Rattle.std.proofs.Common.{◌≡◌, refl, ◌∙◌, ℕ, Bool, Result, OnOk, [], sym, ap, subst, append-nil, arith}
 use Rattle.std.specs.Prelude.{codes}
 use Rattle.rx_handler.specs.Shown.{kinds_of}
 use Rattle.rx_top.specs.PlaysScript.{PlaysScript}
@@ -101,6 +101,8 @@ returns g c =
             stood = λ is t. c.open_and_play-ended.ensures.stood t (by.over_journal ended is);
             full = λ is told t bodies w start.
                 by.is_due g.D.Disk _ _ _ _ _ _ _ bodies w _ _ _ _ (headline told t bodies w start) is;
+            turns = λ low told t bodies w start.
+                by.turns_kept _ _ _ _ _ w _ _ _ _ (headline told t bodies w start) low;
             fits = λ low told t bodies w start.
                 by.fits g.D.Disk _ _ _ _ _ _ _ bodies w _ _ _ _ (headline told t bodies w start) low;
             statuses = by.status_low ended;

@@ -1,17 +1,51 @@
-use Rattle.std.proofs.Common.{◌≡◌, Some, rules}
-use Rattle.rx_words.proofs.Granted.{granted}
+use Rattle.std.proofs.Common.{◌≡◌, Some, inr, subst, rules}
+use Rattle.rx_words.proofs.Granted.{HasLimit, granted}
 use Rattle.rx_words.specs.Words.{command_of}
-use Rattle.rx_words.specs.declared.command.Command.TheVariants.{Run}
+use Rattle.rx_top.proofs.Stopping.{lacks_memory}
 use Rattle.rx_top.proofs.top.rx.Goals as goal
 
 pub run-requires-clause-low : goal.run-requires-clause-low
 run-requires-clause-low g c =
-    let is : command_of c.args.words.now.words.items
-    ≡ Some (Run c.in-Ok-Some-Run.field-0-0-0 c.in-Ok-Some-Run.limit) = search rules in
-    (granted c.args.words.now.words.items _ is).0
+    let is : command_of c.args.words.now.words.items ≡ Some c.in-Ok-Some.command = search rules in
+    (subst HasLimit c.in-Run.is (granted c.args.words.now.words.items c.in-Ok-Some.command is)).0
 
 pub run-requires-clause-high : goal.run-requires-clause-high
 run-requires-clause-high g c =
-    let is : command_of c.args.words.now.words.items
-    ≡ Some (Run c.in-Ok-Some-Run.field-0-0-0 c.in-Ok-Some-Run.limit) = search rules in
-    (granted c.args.words.now.words.items _ is).1
+    let is : command_of c.args.words.now.words.items ≡ Some c.in-Ok-Some.command = search rules in
+    (subst HasLimit c.in-Run.is (granted c.args.words.now.words.items c.in-Ok-Some.command is)).1
+
+pub serve-requires-clause-low : goal.serve-requires-clause-low
+serve-requires-clause-low g c =
+    let is : command_of c.args.words.now.words.items ≡ Some c.in-Ok-Some.command = search rules in
+    (subst HasLimit c.in-Serve.is (granted c.args.words.now.words.items c.in-Ok-Some.command is)).0
+
+pub serve-requires-clause-high : goal.serve-requires-clause-high
+serve-requires-clause-high g c =
+    let is : command_of c.args.words.now.words.items ≡ Some c.in-Ok-Some.command = search rules in
+    (subst HasLimit c.in-Serve.is (granted c.args.words.now.words.items c.in-Ok-Some.command is)).1
+
+pub trial-requires-clause-low : goal.trial-requires-clause-low
+trial-requires-clause-low g c =
+    let is : command_of c.args.words.now.words.items ≡ Some c.in-Ok-Some.command = search rules in
+    (subst HasLimit c.in-Trial.is (granted c.args.words.now.words.items c.in-Ok-Some.command is)).0
+
+pub trial-requires-clause-high : goal.trial-requires-clause-high
+trial-requires-clause-high g c =
+    let is : command_of c.args.words.now.words.items ≡ Some c.in-Ok-Some.command = search rules in
+    (subst HasLimit c.in-Trial.is (granted c.args.words.now.words.items c.in-Ok-Some.command is)).1
+
+pub returns-clause-runs : goal.returns-clause-runs
+returns-clause-runs g c = λ path limit is. inr (lacks_memory g.K.Sink.tells _ _ _ _ c.write_all.result _
+    c.write_all.ensures.ok c.write_all.ensures.err c.write_all.ensures.failed)
+
+pub returns-clause-serves : goal.returns-clause-serves
+returns-clause-serves g c = λ path name port connections limit is. inr (lacks_memory g.K.Sink.tells _ _ _ _ c.write_all.result _
+    c.write_all.ensures.ok c.write_all.ensures.err c.write_all.ensures.failed)
+
+pub returns-clause-reports : goal.returns-clause-reports
+returns-clause-reports g c = λ path is. inr (lacks_memory g.K.Sink.tells _ _ _ _ c.write_all.result _
+    c.write_all.ensures.ok c.write_all.ensures.err c.write_all.ensures.failed)
+
+pub returns-clause-tries : goal.returns-clause-tries
+returns-clause-tries g c = λ path seed count limit is. inr (lacks_memory g.K.Sink.tells _ _ _ _ c.write_all.result _
+    c.write_all.ensures.ok c.write_all.ensures.err c.write_all.ensures.failed)

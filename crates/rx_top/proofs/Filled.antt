@@ -1,0 +1,51 @@
+-- Lines that aren't blank, as those of a generated script.
+use Rattle.std.proofs.Common.{◌≡◌, ◌∙◌, refl, ap, ℕ, zero, suc, Bool, true, false, cond, ◌&&◌, List, [], ◌∷◌, ◌++◌, All, arith}
+use Rattle.rx_engine.specs.Meaning.{meaning}
+use Rattle.rx_engine.specs.Standing.{Standing}
+use Rattle.rx_trial.specs.Lines.{script}
+use Rattle.rx_trial.proofs.Braces.{IsBraced, script_braced}
+use Rattle.rx_top.specs.Lines.{is_blank}
+use Rattle.rx_top.specs.Script.{effect_of, line_effect, no_effect}
+
+-- the line isn't blank
+abbrev pub IsFilled : List ℕ → Type 0
+IsFilled line = is_blank line ≡ false
+
+pub all_first : {X : Type 0} (P : X → Type 0) (x : X) (xs : List X) → All P (x ∷ xs) → P x
+all_first P x xs all = all 0 x (omega arith)
+
+pub all_rest : {X : Type 0} (P : X → Type 0) (x : X) (xs : List X) → All P (x ∷ xs) → All P xs
+all_rest P x xs all = λ k d low. all (suc k) d (omega (arith, low))
+
+all_more : {X : Type 0} (P : X → Type 0) (x : X) (xs : List X) → P x → All P xs → All P (x ∷ xs)
+all_more P x xs here rest zero d low = here
+all_more P x xs here rest (suc k) d low = rest k d (omega (arith, low))
+
+pub all_front : {X : Type 0} (P : X → Type 0) (xs ys : List X) → All P (xs ++ ys) → All P xs
+all_front P [] ys all = λ k d low. absurd (omega (arith, low))
+all_front P (x ∷ xs) ys all =
+    all_more P x xs (all_first P x (xs ++ ys) all) (all_front P xs ys (all_rest P x (xs ++ ys) all))
+
+pub all_back : {X : Type 0} (P : X → Type 0) (xs ys : List X) → All P (xs ++ ys) → All P ys
+all_back P [] ys all = all
+all_back P (x ∷ xs) ys all = all_back P xs ys (all_rest P x (xs ++ ys) all)
+
+and_false : (b : Bool) → (b && false) ≡ false
+and_false true = refl
+and_false false = refl
+
+-- a line that begins with a brace
+braced_filled : (line : List ℕ) → IsBraced line → IsFilled line
+braced_filled [] first = cc
+braced_filled (b ∷ bs) first =
+    let brace : b ≡ 123 = cc in
+    ap (λ x. is_blank (x ∷ bs)) brace ∙ and_false _
+
+pub script_filled : (seed n : ℕ) → All IsFilled (script seed n)
+script_filled seed n = λ k d low. braced_filled _ (script_braced seed n k d low)
+
+-- such a line does what it means
+pub filled_effect : (n : ℕ) (line : List ℕ) (s : Standing) → IsFilled line
+    → line_effect n line s ≡ effect_of (meaning n line s)
+filled_effect n line s filled =
+    ap (λ b. cond b (no_effect s) (effect_of (meaning n line s))) filled

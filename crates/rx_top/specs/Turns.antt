@@ -1,0 +1,21 @@
+-- What holds of the turns of a script.
+use Rattle.std.specs.Prelude.{◌≡◌, ℕ, List, false}
+use Rattle.rx_reply.specs.declared.turn.TurnEnd.TheVariants.{Quiet}
+use Rattle.rx_sync.specs.Laws.{IsLevel}
+use Rattle.rx_engine.specs.Engine.{IsBounded}
+use Rattle.rx_engine.specs.Lines.{task, turns}
+use Rattle.rx_engine.specs.Standing.{Standing}
+use Rattle.rx_engine.specs.Turning.{Turn, turned}
+use Rattle.rx_top.specs.Lines.{is_blank}
+
+-- of a line that makes one, from how things stand before it to how they stand after it
+pub record IsTurnKept (line : List ℕ) (s next : Standing) : Type 0 where
+  -- where it ends quiet, its fork and its master have the same states
+  pub quiet : (t : Turn) → task s.kinds line s.session ≡ turns t → (turned t s).ended ≡ Quiet
+      → IsLevel next.session.world t.name
+  -- where its link does nothing, so many exchanges are enough
+  pub bounded : IsBounded line s
+
+-- of each line that isn't blank
+abbrev pub HoldsOfTurn : ℕ → List ℕ → Standing → Standing → Type 0
+HoldsOfTurn n line s next = is_blank line ≡ false → IsTurnKept line s next
