@@ -5,6 +5,12 @@
 #[cfg(test)]
 mod connections;
 #[cfg(test)]
+mod forks;
+#[cfg(test)]
+mod handlers;
+#[cfg(test)]
 mod messages;
+#[cfg(test)]
+mod reports;
 #[cfg(test)]
 mod served;

@@ -119,6 +119,66 @@ fn each_call_of_a_wire_may_fail(rt: HostRuntime) -> Result<(), Fail> {
     Ok(())
 }
 
+// More than the calls that two pushes make.
+const CALLS: u64 = 32;
+
+// What may stand in the bytes that a stop left open.
+const PICKS: [&[u8]; 3] = [&[], &[1; 400], &[255; 400]];
+
+const PUSHES: &str =
+    r#"{"ask":"push","epoch":1,"n":1,"rows":[{"new":{"_deleted":false,"id":"a"}}],"schema":HASH}
+{"ask":"push","epoch":1,"n":2,"rows":[{"new":{"_deleted":false,"id":"b"}}],"schema":HASH}
+"#;
+
+// The disk fails at each call in turn, and stops within it or after it: each answered push is there,
+// and at most the one that was being answered besides.
+#[test]
+fn each_call_of_a_disk_may_fail_and_stop(rt: HostRuntime) -> Result<(), Fail> {
+    let alloc = rt.alloc();
+    let hash = hash(alloc)?;
+    let input = PUSHES.replace(alloc, "HASH", hash.as_str())?;
+    let mut most = 0;
+    for failing in 1..CALLS {
+        let bytes = Vec::from_slice(alloc, journal(alloc)?.bytes())?;
+        let mut disk = MemoryDisk::new(alloc, bytes, Vec::from_slice(alloc, &[failing])?);
+        let answered = pushed(alloc, &mut disk, input.as_str())?;
+        for stop in failing..failing + 2 {
+            for pick in PICKS {
+                let held = held(alloc, disk.stopped(stop, pick)?, hash.as_str())?;
+                assert!(rt;
+                    answered <= held && held <= answered.saturating_add(1),
+                    "call {failing} fails, stop within {stop}: {held} for {answered}"
+                );
+            }
+        }
+        most = most.max(answered);
+    }
+    assert_eq!(rt; most, 2);
+    Ok(())
+}
+
+// How many of the pushes were answered, on a disk that may fail.
+fn pushed(alloc: Global, disk: &mut MemoryDisk, input: &str) -> Result<usize, Fail> {
+    let Ok(Some(master)) = MasterEngine::open(alloc, disk, LIMIT, "c") else {
+        return Ok(0);
+    };
+    let bytes = Vec::from_slice(alloc, input.as_bytes())?;
+    let mut wire = MemoryWire::new(alloc, bytes, 65_536, Vec::new(alloc));
+    let mut clock = MemoryClock::new(Vec::new(alloc));
+    let _ = master.serve(alloc, &mut wire, disk, &mut clock);
+    Ok(str::from_utf8(wire.sent())?.lines().count())
+}
+
+// How many documents a journal holds, which opens.
+fn held(alloc: Global, bytes: Vec<u8>, hash: &str) -> Result<usize, Fail> {
+    let mut disk = MemoryDisk::new(alloc, bytes, Vec::new(alloc));
+    let pull = format!(in alloc;
+        "{{\"ask\":\"pull\",\"batch\":100,\"epoch\":2,\"n\":1,\"schema\":{hash}}}\n"
+    )?;
+    let (sent, _) = serve(alloc, &mut disk, pull.as_str(), 65_536, Vec::new(alloc))?;
+    Ok(str::from_utf8(sent.as_slice())?.matches("_deleted").count())
+}
+
 #[test]
 fn a_collection_that_is_not_held_has_no_master(rt: HostRuntime) -> Result<(), Fail> {
     let alloc = rt.alloc();
@@ -211,7 +271,7 @@ pub(crate) fn journal(alloc: Global) -> Result<MemoryDisk, Fail> {
     Ok(MemoryDisk::new(alloc, bytes, Vec::new(alloc)))
 }
 
-fn schema(alloc: Global) -> Result<Schema, Fail> {
+pub(crate) fn schema(alloc: Global) -> Result<Schema, Fail> {
     Ok(Schema::read(alloc, &Json::from_str(alloc, SCHEMA)?)?)
 }
 

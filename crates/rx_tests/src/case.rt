@@ -7,12 +7,15 @@
 //     $ run journal --max-journal 22             the words of a run on the journal that the last one left
 //     > I(c,a,1)                                 a line of its script
 //     < {"line":L,"ok":"insert","rev":"1-c"}     a line that is due, with L for the number of the script's line
+//     * a peer                                   one more that dials
+//     @ {"ask":"pull",..}                        a line that it sends
+//     & {"docs":[],..}                           a line that a peer is sent
 //     ! 8                                        the status, where it isn't 1 after a refused line and 0 after none
 //     = 52584a4f55524e31 00                      bytes that the journal holds afterwards
 //
 // Without a `$` the words are `run journal`. Bytes are in hex, and texts between apostrophes. The
 // journal that the last run leaves has to open again, unless it was no journal before.
-use crate::run::{RUN, Ran, Setting, run};
+use crate::run::{PEER, RUN, Ran, Setting, run};
 use crate::short::{due_line, journal_bytes, script_line};
 use std::alloc::{AllocError, Global};
 use std::test::Fail;
@@ -47,6 +50,9 @@ struct Case<'a> {
     script: String,
     count: u64,
     due: String,
+    // What the peers send, as `Setting` has it, and what they are to be sent.
+    peers: String,
+    replies: String,
     status: u8,
     after: Vec<u8>,
     // The status of the last run.
@@ -63,6 +69,8 @@ pub fn play(alloc: Global, piece: usize, name: &str, facts: &str) -> Result<(), 
         script: String::new(alloc),
         count: 0,
         due: String::new(alloc),
+        peers: String::new(alloc),
+        replies: String::new(alloc),
         status: 0,
         after: Vec::new(alloc),
         ended: 0,
@@ -81,6 +89,9 @@ impl<'a> Case<'a> {
             ">" => self.read_script(alloc, rest)?,
             "<" => self.read_due(alloc, rest)?,
             "$" => self.read_words(alloc, rest)?,
+            "*" => self.peers.push_str(PEER)?,
+            "@" => write!(self.peers, "{rest}\n")?,
+            "&" => write!(self.replies, "{rest}\n")?,
             "!" => self.status = rest.parse()?,
             "^" => journal_bytes(alloc, rest, &mut self.journal)?,
             "=" => journal_bytes(alloc, rest, &mut self.after)?,
@@ -116,12 +127,7 @@ impl<'a> Case<'a> {
 
     /// Makes the run that was read, and begins another.
     fn run(&mut self, alloc: Global) -> Result<(), Fail> {
-        let setting = Setting {
-            piece: self.piece,
-            ..Setting::PLAIN
-        };
-        let script = self.script.as_str().as_bytes();
-        let ran = run(alloc, &setting, self.words, script, self.journal.as_slice())?;
+        let ran = self.ran(alloc)?;
         self.compare_output(&ran)?;
         self.compare_journal(&ran)?;
         self.journal = ran.disk.bytes().to_vec(alloc)?;
@@ -130,9 +136,21 @@ impl<'a> Case<'a> {
         self.script = String::new(alloc);
         self.count = 0;
         self.due = String::new(alloc);
+        self.peers = String::new(alloc);
+        self.replies = String::new(alloc);
         self.status = 0;
         self.after = Vec::new(alloc);
         Ok(())
+    }
+
+    fn ran(&self, alloc: Global) -> Result<Ran, AllocError> {
+        let setting = Setting {
+            piece: self.piece,
+            peers: self.peers.as_str(),
+            ..Setting::PLAIN
+        };
+        let script = self.script.as_str().as_bytes();
+        run(alloc, &setting, self.words, script, self.journal.as_slice())
     }
 
     fn compare_output(&self, ran: &Ran) -> Result<(), Fail> {
@@ -151,6 +169,9 @@ impl<'a> Case<'a> {
         }
         if ran.output.as_slice() != self.due.as_str().as_bytes() {
             return Err(Fail::new(format_args!("{name}: the ends of lines")));
+        }
+        if ran.sent.as_slice() != self.replies.as_str().as_bytes() {
+            return Err(Fail::new(format_args!("{name}: what the peers were sent")));
         }
         if ran.status != self.status {
             return Err(Fail::new(format_args!("{name}: status {}", ran.status)));

@@ -16,7 +16,7 @@ ghost use Rattle.rx_world.specs.World.{World, empty};
 
 use rx_disk::MemoryDisk;
 use rx_handler::Handlers;
-use rx_outside::{MemorySink, MemorySource};
+use rx_outside::{MemoryClock, MemoryDoor, MemorySink, MemorySource};
 use rx_top::rx;
 use rx_value::RxText;
 use rx_words::Words;
@@ -87,7 +87,12 @@ fn play(
         → result ≡ (if has_refusal (lines (source_left source.old))
         (opened (kinds_of handlers.now) empty) then 1 else 0) }
 {
-    rx(alloc, words, source, sink, disk, handlers)
+    // A run leaves the door and the clock alone.
+    let mut door = MemoryDoor::new(alloc, Vec::new(alloc), Vec::new(alloc));
+    let mut clock = MemoryClock::new(Vec::new(alloc));
+    rx(
+        alloc, words, source, sink, disk, &mut door, &mut clock, handlers,
+    )
 }
 
 fn run_words(alloc: Global) -> Result<Words, AllocError>

@@ -7,6 +7,8 @@ mod bytes;
 #[cfg(test)]
 mod case;
 #[cfg(test)]
+mod commands;
+#[cfg(test)]
 mod counted;
 #[cfg(test)]
 mod endless;
@@ -40,6 +42,8 @@ mod reading;
 #[cfg(test)]
 mod replicating;
 #[cfg(test)]
+mod reporting;
+#[cfg(test)]
 mod revisions;
 #[cfg(test)]
 mod run;
@@ -57,6 +61,8 @@ mod starved;
 mod statuses;
 #[cfg(test)]
 mod stops;
+#[cfg(test)]
+mod turn_stops;
 #[cfg(test)]
 mod turned;
 #[cfg(test)]

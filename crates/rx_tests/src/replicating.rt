@@ -498,6 +498,23 @@ const LINKS: &str = r#"
 > {"do":"get","in":"f","key":"a"}
 < {"doc":{"id":"a","n":1},"line":L,"lwt":1,"ok":"get","rev":"1-f"}
 
+== a push that comes late finds its state held, and a link may be longer than the turn
+> C(m)
+< made
+> C(f)
+< made
+> {"do":"replicate","name":"r","fork":"f","master":"m","handler":"master_wins"}
+< {"line":L,"ok":"replicate"}
+> I(f,a,1)
+< insert 1-f
+> {"do":"turn","name":"r","link":["lose_reply"]}
+< {"exchange":1,"lost":"lose_reply","rows":["a"],"sent":"push"}
+< {"end":"lost","exchanges":1,"line":L,"ok":"turn"}
+> {"do":"turn","name":"r","link":[{"late":1},"twice",{"late":16}]}
+< {"conflicts":["a"],"exchange":1,"rows":["a"],"sent":"push"}
+< {"exchange":2,"place":{"id":"a","lwt":1},"rows":["a"],"sent":"pull"}
+< {"end":"quiet","exchanges":2,"line":L,"ok":"turn"}
+
 == a lost request is never handled
 > C(m)
 < made

@@ -1,10 +1,11 @@
 // A command over forms in memory.
 ghost use Rattle.std.specs.Prelude.{◌≡◌, IfOk};
 ghost use Rattle.rx_handler.specs.Resolve.{resolve};
+ghost use Rattle.rx_outside.specs.MemoryWire.{Unused};
 
 use rx_disk::MemoryDisk;
 use rx_handler::{Handler, HandlerFault, HandlerKind, Handlers, resolved};
-use rx_outside::{MemorySink, MemorySource, Source};
+use rx_outside::{MemoryClock, MemoryDoor, MemorySink, MemorySource, MemoryWire, Source};
 use rx_top::rx;
 use rx_value::{RxText, State};
 use rx_words::Words;
@@ -13,14 +14,18 @@ use std::alloc::{AllocError, Global};
 /// The words of most runs.
 pub const RUN: &str = "run journal";
 
-/// What stands around a script: the most bytes that a read gives, and the numbers of the reads,
-/// the writes and the calls of the disk that fail.
+/// The line before what a peer sends.
+pub const PEER: &str = "*\n";
+
+/// What stands around a command: the most bytes that a read gives, the numbers of the reads, the
+/// writes and the calls of the disk that fail, and what the peers send that dial, each behind `PEER`.
 #[derive(Clone, Copy)]
 pub struct Setting<'a> {
     pub piece: usize,
     pub read_fails: &'a [u64],
     pub write_fails: &'a [u64],
     pub disk_fails: &'a [u64],
+    pub peers: &'a str,
 }
 
 impl<'a> Setting<'a> {
@@ -30,14 +35,16 @@ impl<'a> Setting<'a> {
         read_fails: &[],
         write_fails: &[],
         disk_fails: &[],
+        peers: "",
     };
 }
 
-/// The status of a run, what it wrote, and the disk after it.
+/// The status of a run, what it wrote, what its peers were sent, and the disk after it.
 #[derive(Drop)]
 pub struct Ran {
     pub status: u8,
     pub output: Vec<u8>,
+    pub sent: Vec<u8>,
     pub disk: MemoryDisk,
 }
 
@@ -66,15 +73,34 @@ pub fn run_from<S: Source>(
     let mut sink = MemorySink::new(alloc, setting.write_fails.to_vec(alloc)?);
     let fails = setting.disk_fails.to_vec(alloc)?;
     let mut disk = MemoryDisk::new(alloc, held.to_vec(alloc)?, fails);
-    let Ok(status) = play(alloc, words, source, &mut sink, &mut disk) else {
+    let wires = wires_of(alloc, setting.peers)?;
+    let mut door = MemoryDoor::new(alloc, wires, Vec::new(alloc));
+    let Ok(status) = play(alloc, words, source, &mut sink, &mut disk, &mut door) else {
         return Err(AllocError);
     };
+    let mut sent = Vec::new(alloc);
+    for wire in door.closed_wires() {
+        sent.extend_from_slice(wire.sent())?;
+    }
     let output = sink.bytes().to_vec(alloc)?;
     Ok(Ran {
         status,
         output,
+        sent,
         disk,
     })
+}
+
+// The wires of peers that send this, in turn. None was used.
+fn wires_of(alloc: Global, peers: &str) -> Result<Vec<MemoryWire>, AllocError>
+    ensures { IfOk result (λ wires. Unused wires.items) }
+{
+    let mut wires = Vec::new(alloc);
+    for peer in peers.split(PEER).skip(1) {
+        let bytes = peer.as_bytes().to_vec(alloc)?;
+        wires.push(MemoryWire::new(alloc, bytes, 4096, Vec::new(alloc)))?;
+    }
+    Ok(wires)
 }
 
 const HANDLERS: [(&str, HandlerKind); 4] = [
@@ -91,6 +117,7 @@ fn play<S: Source>(
     source: &mut S,
     sink: &mut MemorySink,
     disk: &mut MemoryDisk,
+    door: &mut MemoryDoor,
 ) -> Result<u8, HandlerFault> {
     let mut handlers = Handlers::new(alloc);
     for (name, kind) in HANDLERS {
@@ -105,7 +132,7 @@ fn play<S: Source>(
             Err(refused) => return Err(AllocError::from(refused).into()),
         }
     }
-    Ok(status_of(alloc, words, source, sink, disk, &handlers))
+    Ok(status_of(alloc, words, source, sink, disk, door, &handlers))
 }
 
 // A call of its own, since what `rx` ensures would burden the proof of its caller.
@@ -115,9 +142,11 @@ fn status_of<S: Source>(
     source: &mut S,
     sink: &mut MemorySink,
     disk: &mut MemoryDisk,
+    door: &mut MemoryDoor,
     handlers: &Handlers,
 ) -> u8 {
-    rx(alloc, words, source, sink, disk, handlers)
+    let mut clock = MemoryClock::new(Vec::new(alloc));
+    rx(alloc, words, source, sink, disk, door, &mut clock, handlers)
 }
 
 /// The words that stand in a text, between spaces.

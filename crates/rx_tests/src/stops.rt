@@ -37,34 +37,35 @@ const HELD: [&str; 4] = [
 // How many documents are held once so many lines were answered.
 const HELD_AFTER: [usize; 6] = [0, 0, 1, 3, 3, 4];
 
-// More than the calls that such a run makes.
-const CALLS: u64 = 64;
+/// More than the calls that such a run makes.
+pub const CALLS: u64 = 64;
 
-const PICKS: [&[u8]; 3] = [&[], &[1; 800], &[255; 800]];
+/// What may stand in the bytes that a stop left open.
+pub const PICKS: [&[u8]; 3] = [&[], &[1; 800], &[255; 800]];
 
-fn play(alloc: Global, setting: &Setting<'_>) -> Result<Ran, AllocError> {
+fn play(alloc: Global, lines: &[(&str, &str)], setting: &Setting<'_>) -> Result<Ran, AllocError> {
     let mut script = String::new(alloc);
-    for (line, _) in LINES {
+    for (line, _) in lines {
         script.push_str(script_line(alloc, line)?.as_str())?;
         script.push('\n')?;
     }
     run(alloc, setting, RUN, script.as_str().as_bytes(), &[])
 }
 
-// The run whose disk fails at this call.
-fn play_failing(alloc: Global, call: u64) -> Result<Ran, AllocError> {
+/// The run of these lines whose disk fails at this call.
+pub fn play_failing(alloc: Global, lines: &[(&str, &str)], call: u64) -> Result<Ran, AllocError> {
     let setting = Setting {
         disk_fails: &[call],
         ..Setting::PLAIN
     };
-    play(alloc, &setting)
+    play(alloc, lines, &setting)
 }
 
-// How many of the replies stand in an output, which then is whole or stops by the disk.
-fn replies(alloc: Global, ran: &Ran) -> Result<usize, Fail> {
+/// How many of the replies stand in an output, which then is whole or stops by the disk.
+pub fn replies(alloc: Global, lines: &[(&str, &str)], ran: &Ran) -> Result<usize, Fail> {
     let mut due = String::new(alloc);
     let mut number = 0u64;
-    for (count, (_, reply)) in LINES.iter().enumerate() {
+    for (count, (_, reply)) in lines.iter().enumerate() {
         let stopped = format!(in alloc; "{due}{{\"stop\":\"disk\"}}\n")?;
         if ran.status == 3 && ran.output.as_slice() == stopped.as_str().as_bytes() {
             return Ok(count);
@@ -74,7 +75,7 @@ fn replies(alloc: Global, ran: &Ran) -> Result<usize, Fail> {
         due.push('\n')?;
     }
     if ran.status == 0 && ran.output.as_slice() == due.as_str().as_bytes() {
-        return Ok(LINES.len());
+        return Ok(lines.len());
     }
     Err(Fail::new(format_args!("status {} with other lines", ran.status)))
 }
@@ -117,8 +118,8 @@ fn held(alloc: Global, journal: &[u8]) -> Result<usize, Fail> {
 fn a_failing_disk_ends_the_run(rt: HostRuntime) -> Result<(), Fail> {
     let mut before = 0;
     for failing in 1..CALLS {
-        let ran = play_failing(rt.alloc(), failing)?;
-        let count = replies(rt.alloc(), &ran)?;
+        let ran = play_failing(rt.alloc(), &LINES, failing)?;
+        let count = replies(rt.alloc(), &LINES, &ran)?;
         assert!(rt; before <= count, "{failing}");
         before = count;
     }
@@ -133,7 +134,7 @@ fn a_failing_disk_ends_the_run(rt: HostRuntime) -> Result<(), Fail> {
 fn what_a_stop_within_any_call_leaves_opens_again(rt: HostRuntime) -> Result<(), Fail> {
     // With 0 no call fails.
     for failing in 0..CALLS {
-        let ran = play_failing(rt.alloc(), failing)?;
+        let ran = play_failing(rt.alloc(), &LINES, failing)?;
         let end = if failing == 0 { CALLS } else { failing + 2 };
         for stop in failing..end {
             for pick in PICKS {
@@ -152,8 +153,8 @@ fn what_a_stop_within_any_call_leaves_opens_again(rt: HostRuntime) -> Result<(),
 #[test]
 fn each_answered_write_is_held_after_the_stop(rt: HostRuntime) -> Result<(), Fail> {
     for failing in 0..CALLS {
-        let ran = play_failing(rt.alloc(), failing)?;
-        let answered = replies(rt.alloc(), &ran)?;
+        let ran = play_failing(rt.alloc(), &LINES, failing)?;
+        let answered = replies(rt.alloc(), &LINES, &ran)?;
         for pick in PICKS {
             let left = ran.disk.stopped(CALLS, pick)?;
             let count = held(rt.alloc(), left.as_slice())?;
@@ -178,7 +179,7 @@ fn a_run_goes_on_after_a_sink_that_failed(rt: HostRuntime) -> Result<(), Fail> {
             write_fails: &[line],
             ..Setting::PLAIN
         };
-        let ran = play(rt.alloc(), &setting)?;
+        let ran = play(rt.alloc(), &LINES, &setting)?;
         assert_eq!(rt; ran.status, 5);
         assert_eq!(rt; held(rt.alloc(), ran.disk.bytes())?, *due);
     }

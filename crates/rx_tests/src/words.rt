@@ -58,13 +58,49 @@ $ run j k
 $ fly j
 < {"stop":"usage"}
 ! 2
-$ check j
+$ check
 < {"stop":"usage"}
 ! 2
-$ serve j c 80 1
+$ check j k
 < {"stop":"usage"}
 ! 2
-$ trial j 1 0
+$ check j --max-journal 23
+< {"stop":"usage"}
+! 2
+$ serve j c 80
+< {"stop":"usage"}
+! 2
+$ serve j c 80 1 2
+< {"stop":"usage"}
+! 2
+$ serve j C 80 1
+< {"stop":"usage"}
+! 2
+$ serve j c 0 1
+< {"stop":"usage"}
+! 2
+$ serve j c 65536 1
+< {"stop":"usage"}
+! 2
+$ serve j c 80 0
+< {"stop":"usage"}
+! 2
+$ serve j c 80 1000001
+< {"stop":"usage"}
+! 2
+$ trial j 1
+< {"stop":"usage"}
+! 2
+$ trial j 1 0 0
+< {"stop":"usage"}
+! 2
+$ trial j 18446744073709551616 0
+< {"stop":"usage"}
+! 2
+$ trial j 1 1000001
+< {"stop":"usage"}
+! 2
+$ trial j -1 0
 < {"stop":"usage"}
 ! 2
 $ compact j k
