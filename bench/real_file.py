@@ -419,9 +419,9 @@ TRIED = {
 }
 
 
-def main():
+def main(tried):
     wrong = 0
-    for name, try_it in TRIED.items():
+    for name, try_it in tried.items():
         with tempfile.TemporaryDirectory() as folder:
             try:
                 print(f"ok       {name}: {try_it(os.path.realpath(folder))}", flush=True)
@@ -434,4 +434,4 @@ def main():
 
 
 if __name__ == "__main__":
-    main()
+    main(TRIED)

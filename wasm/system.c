@@ -42,6 +42,16 @@ int fchmod(int file, int mode) { return 0; }
 long lseek(int file, long to, int whence) { return told(-ENOSYS); }
 int ftruncate(int file, long n) { return (int)told(-ENOSYS); }
 
+// A page has no sockets, and serving alone asks for the time.
+int socket(int family, int kind, int protocol) { return (int)told(-ENOSYS); }
+int setsockopt(int file, int level, int name, const void *at, unsigned n) { return (int)told(-ENOSYS); }
+int bind(int file, const void *address, unsigned n) { return (int)told(-ENOSYS); }
+int listen(int file, int waiting) { return (int)told(-ENOSYS); }
+int accept4(int file, void *address, void *n, int flags) { return (int)told(-ENOSYS); }
+long recv(int file, byte *at, size_t n, int flags) { return told(-ENOSYS); }
+long send(int file, const byte *at, size_t n, int flags) { return told(-ENOSYS); }
+int clock_gettime(int clock, void *at) { return (int)told(-ENOSYS); }
+
 long rattle_arg(size_t i, byte *at, size_t n) { return host_arg(i, at, n); } // -1: none, -2: no room
 long rattle_env_at(size_t i, byte *at, size_t n) { return -1; }
 long rattle_env(const byte *name, byte *at, size_t n) { return -1; }
