@@ -6,7 +6,7 @@ use Rattle.rx_reply.specs.Writing.{number_data, list_data, place_data, optional_
 use Rattle.rx_reply.specs.declared.turn.Exchanged.{Exchanged}
 use Rattle.rx_reply.specs.declared.turn.Exchanged.TheVariants.{Pushed, Pulled, PushLost, PullLost}
 use Rattle.rx_reply.specs.declared.turn.Lost.{Lost as Loss}
-use Rattle.rx_reply.specs.declared.turn.Lost.TheVariants.{LoseRequest, LoseReply, Stale}
+use Rattle.rx_reply.specs.declared.turn.Lost.TheVariants.{LoseRequest, LoseReply, Stale, Dial, Wire, Reply, Foreign, BadReply}
 use Rattle.rx_reply.specs.declared.turn.TurnEnd.{TurnEnd}
 use Rattle.rx_reply.specs.declared.turn.TurnEnd.TheVariants.{Quiet, Lost, Clock, More}
 
@@ -15,6 +15,11 @@ abbrev pub lost_word : Loss → List ℕ
 lost_word LoseRequest = codes "lose_request"
 lost_word LoseReply = codes "lose_reply"
 lost_word Stale = codes "stale"
+lost_word Dial = codes "dial"
+lost_word Wire = codes "wire"
+lost_word Reply = codes "reply"
+lost_word Foreign = codes "foreign"
+lost_word BadReply = codes "bad_reply"
 
 -- how a turn ended
 abbrev pub end_word : TurnEnd → List ℕ

@@ -34,12 +34,22 @@ pub enum Exchanged {
     },
 }
 
-/// Why an exchange was lost: what the link did to it.
+/// Why an exchange was lost: what the link did to it, or what came of a master that is elsewhere.
 #[derive(Debug, Clone, Copy)]
 pub enum Lost {
     LoseRequest,
     LoseReply,
     Stale,
+    /// No wire was got.
+    Dial,
+    /// The wire failed.
+    Wire,
+    /// No line came, or one that is no reply.
+    Reply,
+    /// A reply to another request came.
+    Foreign,
+    /// A reply came that doesn't fit its request.
+    BadReply,
 }
 
 /// How a turn ended.
@@ -103,6 +113,11 @@ impl Lost {
             Lost::LoseRequest => "lose_request",
             Lost::LoseReply => "lose_reply",
             Lost::Stale => "stale",
+            Lost::Dial => "dial",
+            Lost::Wire => "wire",
+            Lost::Reply => "reply",
+            Lost::Foreign => "foreign",
+            Lost::BadReply => "bad_reply",
         }
     }
 }

@@ -1,5 +1,5 @@
 -- The lines of a stream, one after another.
-use Rattle.std.proofs.Common.{◌≡◌, ℕ, ◌+◌, ◌<◌, ◌≤◌, zero, suc, leb, Bool, true, false, not, cond, ◌&&◌, ◌==◌, List, [], ◌∷◌, ◌++◌, take, length, Ok, Err, refl, sym, ap, ◌∙◌, arith, inl, inr, append_assoc, length-append}
+use Rattle.std.proofs.Common.{◌≡◌, ℕ, ◌+◌, ◌<◌, ◌≤◌, zero, suc, leb, Bool, true, false, not, cond, ◌&&◌, ◌==◌, List, [], ◌∷◌, ◌++◌, take, length, Ok, Err, refl, sym, ap, ◌∙◌, arith, inl, inr, append_assoc, length-append, append-nil}
 use Rattle.std.proofs.lemmas.Bool.Decides.{leb_tells}
 use Rattle.rx_collection.specs.Held.{Held}
 use Rattle.rx_schema.specs.declared.shape.Shape.{Shape}
@@ -103,10 +103,6 @@ lines_end bs h short =
     ap (λ v. lines v) (sym (append-nil bs))
     ∙ ap (λ (c : Cut). c.whole ++ long_rest c.rest) (cut_front bs [] h)
     ∙ ap (λ v. long_rest v) (append-nil bs) ∙ rw (is_short (length bs) short) refl
-  where
-    append-nil : (xs : List ℕ) → xs ++ [] ≡ xs
-    append-nil [] = refl
-    append-nil (x ∷ xs) = ap (λ ys. x ∷ ys) (append-nil xs)
 
 not_within : (n : ℕ) → longest_line < n → leb n 268435456 ≡ false
 not_within n h =
@@ -140,3 +136,39 @@ served_long k c moments front rest h long =
     ∙ ap
     (λ r. line_then c moments r (λ after later. served_lines after later (take k begins.1)))
     (too_long c.schema begins.0 begins.3)
+
+-- ---- streams behind one another
+
+-- a line alone
+pub cut_one : (l : List ℕ) → is_within l ≡ true
+    → cut (as_line l) ≡ record { whole = l ∷ []; rest = [] }
+cut_one l h = cut_line l [] h
+
+-- what has no line
+pub cut_part : (p : List ℕ) → is_within p ≡ true → cut p ≡ record { whole = []; rest = p }
+cut_part p h =
+    ap cut (sym (append-nil p)) ∙ cut_front p [] h
+    ∙ ap (λ r. record { whole = []; rest = r }) (append-nil p)
+
+joined_by : (b : ℕ) (e : Bool) (ws : List (List ℕ)) (r : List ℕ) (all y : Cut)
+    → (cond e (record { whole = [] ∷ ws; rest = r }) (byte_before b ws r)).rest ≡ []
+    → (r ≡ [] → all ≡ record { whole = ws ++ y.whole; rest = y.rest })
+    → cond e (record { whole = [] ∷ all.whole; rest = all.rest }) (byte_before b all.whole all.rest)
+    ≡ record {
+      whole = (cond e (record { whole = [] ∷ ws; rest = r }) (byte_before b ws r)).whole ++ y.whole;
+      rest = y.rest;
+    }
+joined_by b true ws r all y none same =
+    ap (λ (c : Cut). record { whole = [] ∷ c.whole; rest = c.rest }) (same none)
+joined_by b false [] r all y none same = absurd (cc)
+joined_by b false (w ∷ ws) r all y none same =
+    ap (λ (c : Cut). byte_before b c.whole c.rest) (same none)
+
+-- whole lines, and what is behind them
+pub cut_joined : (xs ys : List ℕ) → (cut xs).rest ≡ []
+    → cut (xs ++ ys)
+    ≡ record { whole = (cut xs).whole ++ (cut ys).whole; rest = (cut ys).rest }
+cut_joined [] ys none = refl
+cut_joined (b ∷ xs) ys none =
+    joined_by b (b == 10) (cut xs).whole (cut xs).rest (cut (xs ++ ys)) (cut ys) none
+    (cut_joined xs ys)

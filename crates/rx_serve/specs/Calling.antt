@@ -22,6 +22,12 @@ pub record IsTooLong (old new : List ℕ) : Type 0 where
   pub within : is_within given ≡ true
   pub long : longest_line < length given
 
+-- no line ends in what was given
+pub record IsPart (old new : List ℕ) : Type 0 where
+  pub given : List ℕ
+  pub front : old ≡ given ++ new
+  pub within : is_within given ≡ true
+
 -- the next byte of what the wire had left, or its end
 abbrev pub IsNextByte : Option ℕ → List ℕ → List ℕ → Type 0
 IsNextByte None old new = (old ≡ []) × (new ≡ [])

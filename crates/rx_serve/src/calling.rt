@@ -1,7 +1,7 @@
-ghost use Rattle.std.specs.Prelude.{◌≡◌, ◌≤◌, ◌<◌, ◌++◌, ◌∷◌, [], length, OnOk, OnErr, IfOk, IsErrOf};
+ghost use Rattle.std.specs.Prelude.{◌≡◌, ◌≤◌, ◌<◌, ◌⊎◌, ◌++◌, ◌∷◌, [], length, OnOk, OnErr, IfOk, IsErrOf};
 ghost use Rattle.rx_outside.specs.Failed.{Rises};
 ghost use Rattle.rx_outside.specs.Sink.{WritesFront};
-ghost use Rattle.rx_serve.specs.Calling.{IsFirstLine, IsNoLine, IsTooLong, IsNextByte};
+ghost use Rattle.rx_serve.specs.Calling.{IsFirstLine, IsNoLine, IsTooLong, IsNextByte, IsPart};
 ghost use Rattle.rx_serve.specs.Served.{as_line};
 
 use crate::sending::send_line;
@@ -54,8 +54,12 @@ pub fn call<W: Wire>(alloc: Global, wire: &mut W, line: &[u8]) -> Result<Vec<u8>
         → IsNoLine (W.left wire.old) (W.left wire.new) }
     ensures too_long { W.tells → IsErrOf result CallFault.TooLong
         → IsTooLong (W.left wire.old) (W.left wire.new) }
+    ensures part { W.tells → IsErrOf result CallFault.Wire
+        → IsPart (W.left wire.old) (W.left wire.new) }
     ensures failed { IsErrOf result CallFault.Wire → Rises (W.faults wire.old) (W.faults wire.new) }
     ensures sent { W.tells → OnOk result (W.sent wire.new ≡ W.sent wire.old ++ as_line line.now) }
+    ensures asked { W.tells → IsErrOf result CallFault.End ⊎ IsErrOf result CallFault.TooLong
+        → W.sent wire.new ≡ W.sent wire.old ++ as_line line.now }
     ensures cut { W.tells →
         OnErr result (WritesFront (W.sent wire.old) (W.sent wire.new) (as_line line.now)) }
     ensures whole { W.tells →
@@ -76,6 +80,8 @@ fn receive_line<W: Wire>(alloc: Global, wire: &mut W) -> Result<Vec<u8>, CallFau
         → IsNoLine (W.left wire.old) (W.left wire.new) }
     ensures too_long { W.tells → IsErrOf result CallFault.TooLong
         → IsTooLong (W.left wire.old) (W.left wire.new) }
+    ensures part { W.tells → IsErrOf result CallFault.Wire
+        → IsPart (W.left wire.old) (W.left wire.new) }
     ensures failed { IsErrOf result CallFault.Wire → Rises (W.faults wire.old) (W.faults wire.new) }
     ensures same_sent { W.tells → W.sent wire.new ≡ W.sent wire.old }
     ensures whole { W.tells →
