@@ -1,5 +1,6 @@
 mod Examples
 mod BoundExamples
+mod RemoteExamples
 pub mod Worlds
 pub mod Masters
 pub mod Staying
@@ -19,3 +20,5 @@ pub mod Pulls
 pub mod Steps
 pub mod Bound
 pub mod AnyReply
+pub mod Elsewhere
+pub mod HeardPulls

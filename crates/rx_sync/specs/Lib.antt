@@ -8,3 +8,5 @@ pub mod Shown
 pub mod Laws
 pub mod Bound
 pub mod AnyReply
+pub mod Remote
+pub mod RemoteLaws

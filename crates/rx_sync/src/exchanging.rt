@@ -205,7 +205,7 @@ fn handled_for<H: Holder + Drop>(
     }
 }
 
-fn no_time(alloc: Global) -> Planned
+pub(crate) fn no_time(alloc: Global) -> Planned
     ensures { planned_of result ≡ no_time }
 {
     Planned {
@@ -215,7 +215,7 @@ fn no_time(alloc: Global) -> Planned
 }
 
 // The record that there is, as a list.
-fn record_list(alloc: Global, entry: Option<Record>) -> Result<Vec<Record>, AllocError>
+pub(crate) fn record_list(alloc: Global, entry: Option<Record>) -> Result<Vec<Record>, AllocError>
     ensures { IfOk result (λ records. map content records.items ≡ record_in entry) }
 {
     let mut records = Vec::new(alloc);
@@ -225,8 +225,8 @@ fn record_list(alloc: Global, entry: Option<Record>) -> Result<Vec<Record>, Allo
     Ok(records)
 }
 
-// A request that found no reply which was taken.
-fn lost_by(alloc: Global, why: Lost, ask: &AskKind) -> Result<Exchanged, AllocError>
+/// A request that found no reply which was taken.
+pub fn lost_by(alloc: Global, why: Lost, ask: &AskKind) -> Result<Exchanged, AllocError>
     ensures { IfOk result (λ exchanged. exchanged ≡ lost_by why ask.now) }
 {
     match ask {
@@ -239,7 +239,7 @@ fn lost_by(alloc: Global, why: Lost, ask: &AskKind) -> Result<Exchanged, AllocEr
 }
 
 // A request and the reply to it that was taken.
-fn taken_as(alloc: Global, ask: &AskKind, body: &Body) -> Result<Exchanged, AllocError>
+pub(crate) fn taken_as(alloc: Global, ask: &AskKind, body: &Body) -> Result<Exchanged, AllocError>
     ensures { IfOk result (λ exchanged. exchanged ≡ taken_as ask.now body.now) }
 {
     match (ask, body) {

@@ -1,5 +1,6 @@
 ghost use Rattle.rx_sync.specs.AnyReply.{ChangesNothingElse, EveryTaking, LosesNoUpdate, LowersNoCheckpoint, MayBeKept, StaysForkSound, StaysMade, StaysSoundAtPort, StaysValid};
 ghost use Rattle.rx_sync.specs.Bound.{EachLowersLeft, EndsInTime, EveryOkTurn, PushesAtMostTwice, TurnsEndInTime};
+ghost use Rattle.rx_sync.specs.RemoteLaws.{EachIsUnharmed, EveryCall, IsCallSound, MayCallAgain};
 ghost use Rattle.rx_sync.specs.Laws.{EveryTurn, IsTurnSound, MayTurnAgain, QuietIsLevel, RefusedByTheClockAlone, TwiceIsOnce};
 
 /// States what holds of every turn of every replication that may make one, whatever its link does,
@@ -49,4 +50,15 @@ pub fn any_reply_laws()
     // elsewhere it stays sound.
     ensures made { EveryTaking StaysMade }
     ensures sound_at_port { EveryTaking StaysSoundAtPort }
+{}
+
+/// States what holds of every turn to a master that is elsewhere, whatever is heard of it, and does
+/// nothing.
+pub fn remote_turn_laws()
+    // Each of its records may come where it comes, and leaves a sound world.
+    ensures sound { EveryCall IsCallSound }
+    // Another turn may follow: what is remembered stays lawful.
+    ensures again { EveryCall MayCallAgain }
+    // No master, whatever it sends, harms the fork.
+    ensures unharmed { EveryCall EachIsUnharmed }
 {}

@@ -12,14 +12,16 @@ mod fault;
 mod handling;
 mod laws;
 mod lookup;
+mod remote;
 mod taking;
 
 pub use asking::{ask, ask_to_pull, pending};
 pub use asks::Asks;
 pub use copies::copy_of_request;
 pub use earlier::late;
-pub use exchanging::{Planned, exchange};
+pub use exchanging::{Planned, exchange, lost_by};
 pub use fault::TakeFault;
 pub use handling::{Handled, handle, handle_by};
-pub use laws::{any_reply_laws, bound_laws, turn_laws};
+pub use laws::{any_reply_laws, bound_laws, remote_turn_laws, turn_laws};
+pub use remote::{Heard, fork_schema, hear};
 pub use taking::take;
