@@ -1,10 +1,11 @@
 -- A turn that a line asks for can be made.
-use Rattle.std.proofs.Common.{◌≡◌, ◌∙◌, ap, subst, refl, ℕ, List, Bool, true, false, Option, Some, None, Result, Ok, Err}
+use Rattle.std.proofs.Common.{◌≡◌, ◌∙◌, ap, subst, refl, ℕ, List, Bool, true, false, Option, Some, None, is_none, Result, Ok, Err}
 use Rattle.std.specs.Bool.{⊤}
 use Rattle.std.specs.Option.{option_map_or}
 use Rattle.rx_value.specs.Due.{◌>>◌, demand, lifted, or_fault}
 use Rattle.rx_value.specs.Named.{named}
 use Rattle.rx_handler.specs.Handlers.{Kinds}
+use Rattle.rx_handler.specs.declared.kind.HandlerKind.{HandlerKind}
 use Rattle.rx_record.specs.declared.record.MasterName.{MasterName}
 use Rattle.rx_record.specs.declared.record.MasterName.TheVariants.{Local, Port}
 use Rattle.rx_script.specs.Asked.{Asked, Collection, Insert, Bulk, Upsert, Patch, Remove, Get, Find, Count, Observe, Unobserve, Explain, Replicate, Turn, Changes, Tick, Restart, Digest}
@@ -14,14 +15,15 @@ use Rattle.rx_script.specs.declared.happening.Happening.{Happening}
 use Rattle.rx_session.specs.Session.{Session}
 use Rattle.rx_world.specs.declared.replication.Replication.{Replication}
 use Rattle.rx_engine.specs.Faults.{of_line}
-use Rattle.rx_engine.specs.Lines.{Task, answered, turns, asked_outcome, asked_task, task, task_or_refusal}
+use Rattle.rx_engine.specs.Calling.{Call as ToCall, CanCall}
+use Rattle.rx_engine.specs.Lines.{Task, answered, turns, calls, asked_outcome, asked_task, task, task_or_refusal, turn_line, turn_to}
 use Rattle.rx_engine.specs.Outcome.{Outcome}
-use Rattle.rx_engine.specs.Replicate.{has_handler, is_here, takes_field}
-use Rattle.rx_engine.specs.Turning.{CanTurn, Turn as ToTurn, is_handled, turn_line, turned_at}
+use Rattle.rx_engine.specs.Replicate.{has_handler, takes_field}
+use Rattle.rx_engine.specs.Turning.{CanTurn, Turn as ToTurn, is_handled, turn_here, turned_at}
 use Rattle.rx_engine.specs.declared.fault.Fault.{Fault}
 use Rattle.rx_engine.specs.declared.fault.Fault.TheVariants.{Refused, Memory}
 
--- ---- what has to hold
+-- ---- what was demanded
 
 then_is : {A B : Type 0} (r : Result A Fault) (f : A → Result B Fault) (x : B) → (r >> f) ≡ Ok x
     → (a : A) × (r ≡ Ok a) × (f a ≡ Ok x)
@@ -43,60 +45,85 @@ holds_of : {A : Type 0} (o : Option A) (f : A → Bool) → option_map_or f o fa
 holds_of (Some a) f is = (a, refl, is)
 holds_of None f is = absurd (cc)
 
-local_of : (m : MasterName) → is_here m ≡ true → (name : List ℕ) × (m ≡ Local name)
-local_of (Local name) is = (name, refl)
-local_of (Port port) is = absurd (cc)
-
 -- ---- a turn
 
-turned_here : (name : List ℕ) (s : Session) (r : Replication) → turned_at name s ≡ Ok r
-    → (named s.world.replications name ≡ Some r) × (is_here r.master ≡ true)
-turned_here name s r is =
+-- the replication is held, and its handler is there
+record IsTurnedAt (kinds : Kinds) (name : List ℕ) (s : Session) (r : Replication) : Type 0 where
+  pub held : named s.world.replications name ≡ Some r
+  pub kind : HandlerKind
+  pub handler : named kinds r.handler ≡ Some kind
+
+turned_so : (kinds : Kinds) (name : List ℕ) (s : Session) (r : Replication)
+    → turned_at kinds name s ≡ Ok r → IsTurnedAt kinds name s r
+turned_so kinds name s r is =
     let t = there (named s.world.replications name) (Refused _) _ r is in
-    let d = demanded (is_here t.0.master) (Refused _) _ r t.2 in
+    let d = demanded (is_handled kinds s t.0) (Refused _) _ r t.2 in
     let same : t.0 ≡ r = cc in
-    (t.1 ∙ ap Some same, subst (λ (r : Replication). is_here r.master ≡ true) same d.0)
+    let fork = holds_of (named s.world.collections t.0.fork)
+    (λ fork. has_handler kinds fork.schema t.0.handler t.0.field) d.0 in
+    let kind = holds_of (named kinds t.0.handler) (takes_field fork.0.schema t.0.field) fork.2 in
+    subst (IsTurnedAt kinds name s) same
+    (record { held = t.1; kind = kind.0; handler = kind.1 })
+
+-- what a turn to a master comes to
+module _ (kinds : Kinds) (name : List ℕ) (batch budget : ℕ) (link : Option (List Happening))
+    (s : Session) (r : Replication) (at : IsTurnedAt kinds name s r) where
+  here_by : (m : MasterName) → r.master ≡ m → (u : ToTurn)
+      → turn_to m name batch budget link ≡ Ok (turns u) → CanTurn kinds s u.name
+  here_by (Local master) local u is =
+      let same : turn_here name batch budget link ≡ u = cc in
+      subst (λ (u : ToTurn). CanTurn kinds s u.name) same (record {
+        here = record { replication = r; held = at.held; master = master; local = local };
+        kind = at.kind;
+        handler = at.handler;
+      })
+  here_by (Port port) remote u is =
+      let d = demanded (is_none link) (Refused _) _ (turns u) is in absurd (cc)
+
+  there_by : (m : MasterName) → r.master ≡ m → (c : ToCall)
+      → turn_to m name batch budget link ≡ Ok (calls c) → CanCall kinds s c.name
+  there_by (Local master) local c is = absurd (cc)
+  there_by (Port port) remote c is =
+      let d = demanded (is_none link) (Refused _) _ (calls c) is in
+      let same : record { name = name; port = port; batch = batch; budget = budget } ≡ c = cc in
+      subst (λ (c : ToCall). CanCall kinds s c.name) same (record {
+        there = record { replication = r; held = at.held; port = port; remote = remote };
+        kind = at.kind;
+        handler = at.handler;
+      })
 
 can_by : (kinds : Kinds) (name : List ℕ) (batch budget : ℕ) (link : Option (List Happening))
-    (s : Session) (u : ToTurn) → turn_line kinds name batch budget link s ≡ Ok u
+    (s : Session) (u : ToTurn) → turn_line kinds name batch budget link s ≡ Ok (turns u)
     → CanTurn kinds s u.name
 can_by kinds name batch budget link s u is =
-    let a = then_is (turned_at name s) _ u is in
-    let r : Replication = a.0 in
-    let b = demanded (is_handled kinds s r) (Refused _) _ u a.2 in
-    let here = turned_here name s r a.1 in
-    let l = local_of r.master here.1 in
-    let fork = holds_of (named s.world.collections r.fork)
-    (λ fork. has_handler kinds fork.schema r.handler r.field) b.0 in
-    let kind = holds_of (named kinds r.handler) (takes_field fork.0.schema r.field) fork.2 in
-    let named_so : name ≡ u.name = ap (λ (t : Result ToTurn Fault). name_or t) b.1 in
-    subst (CanTurn kinds s) named_so (record {
-      here = record { replication = r; held = here.0; master = l.0; local = l.1 };
-      kind = kind.0;
-      handler = kind.1;
-    })
-  where
-    name_or : Result ToTurn Fault → List ℕ
-    name_or (Ok t) = t.name
-    name_or (Err fault) = name
+    let a = then_is (turned_at kinds name s) (λ r. turn_to r.master name batch budget link) (turns u)
+    is in
+    here_by kinds name batch budget link s a.0 (turned_so kinds name s a.0 a.1) a.0.master refl u a.2
+
+call_by : (kinds : Kinds) (name : List ℕ) (batch budget : ℕ) (link : Option (List Happening))
+    (s : Session) (c : ToCall) → turn_line kinds name batch budget link s ≡ Ok (calls c)
+    → CanCall kinds s c.name
+call_by kinds name batch budget link s c is =
+    let a = then_is (turned_at kinds name s) (λ r. turn_to r.master name batch budget link) (calls c)
+    is in
+    there_by kinds name batch budget link s a.0 (turned_so kinds name s a.0 a.1) a.0.master refl c
+    a.2
 
 -- ---- a line
-
-turn_is : (r : Result ToTurn Fault) (u : ToTurn) → (r >> λ t. Ok (turns t)) ≡ Ok (turns u)
-    → r ≡ Ok u
-turn_is (Ok t) u is = let same : t ≡ u = cc in ap Ok same
-turn_is (Err fault) u is = absurd (cc)
 
 no_outcome : (r : Result Outcome Fault) (u : ToTurn)
     → (r >> λ o. Ok (answered o)) ≡ Ok (turns u) → ⊥
 no_outcome (Ok o) u is = cc
 no_outcome (Err fault) u is = cc
 
+no_call : (r : Result Outcome Fault) (c : ToCall)
+    → (r >> λ o. Ok (answered o)) ≡ Ok (calls c) → ⊥
+no_call (Ok o) c is = cc
+no_call (Err fault) c is = cc
+
 can_ask : (kinds : Kinds) (ask : Asked) (s : Session) (u : ToTurn)
     → asked_task kinds ask s ≡ Ok (turns u) → CanTurn kinds s u.name
-can_ask kinds (Turn name batch budget link) s u is =
-    can_by kinds name batch budget link s u
-    (turn_is (turn_line kinds name batch budget link s) u is)
+can_ask kinds (Turn name batch budget link) s u is = can_by kinds name batch budget link s u is
 can_ask kinds (Collection name schema) s u is = absurd (no_outcome _ u is)
 can_ask kinds (Insert coll doc) s u is = absurd (no_outcome _ u is)
 can_ask kinds (Bulk coll docs) s u is = absurd (no_outcome _ u is)
@@ -115,10 +142,37 @@ can_ask kinds (Tick at) s u is = absurd (no_outcome (asked_outcome kinds (Tick a
 can_ask kinds Restart s u is = absurd (no_outcome (asked_outcome kinds Restart s) u is)
 can_ask kinds (Digest coll) s u is = absurd (no_outcome _ u is)
 
+call_ask : (kinds : Kinds) (ask : Asked) (s : Session) (c : ToCall)
+    → asked_task kinds ask s ≡ Ok (calls c) → CanCall kinds s c.name
+call_ask kinds (Turn name batch budget link) s c is = call_by kinds name batch budget link s c is
+call_ask kinds (Collection name schema) s c is = absurd (no_call _ c is)
+call_ask kinds (Insert coll doc) s c is = absurd (no_call _ c is)
+call_ask kinds (Bulk coll docs) s c is = absurd (no_call _ c is)
+call_ask kinds (Upsert coll doc) s c is = absurd (no_call _ c is)
+call_ask kinds (Patch coll key set rev) s c is = absurd (no_call _ c is)
+call_ask kinds (Remove coll key rev) s c is = absurd (no_call _ c is)
+call_ask kinds (Get coll key) s c is = absurd (no_call _ c is)
+call_ask kinds (Find coll query) s c is = absurd (no_call _ c is)
+call_ask kinds (Count coll query) s c is = absurd (no_call _ c is)
+call_ask kinds (Observe name coll query) s c is = absurd (no_call _ c is)
+call_ask kinds (Unobserve name) s c is = absurd (no_call _ c is)
+call_ask kinds (Explain name) s c is = absurd (no_call _ c is)
+call_ask kinds (Replicate name fork master handler field) s c is = absurd (no_call _ c is)
+call_ask kinds (Changes coll since batch) s c is = absurd (no_call _ c is)
+call_ask kinds (Tick at) s c is = absurd (no_call (asked_outcome kinds (Tick at) s) c is)
+call_ask kinds Restart s c is = absurd (no_call (asked_outcome kinds Restart s) c is)
+call_ask kinds (Digest coll) s c is = absurd (no_call _ c is)
+
 task_is : (r : Result Task Fault) (u : ToTurn) → task_or_refusal r ≡ turns u → r ≡ Ok (turns u)
 task_is (Ok t) u is = ap Ok is
 task_is (Err (Refused refusal)) u is = absurd (cc)
 task_is (Err Memory) u is = absurd (cc)
+
+call_task_is : (r : Result Task Fault) (c : ToCall) → task_or_refusal r ≡ calls c
+    → r ≡ Ok (calls c)
+call_task_is (Ok t) c is = ap Ok is
+call_task_is (Err (Refused refusal)) c is = absurd (cc)
+call_task_is (Err Memory) c is = absurd (cc)
 
 can_read : (kinds : Kinds) (read : Result Asked LineFault) (s : Session) (u : ToTurn)
     → (lifted of_line read >> λ ask. asked_task kinds ask s) ≡ Ok (turns u) → CanTurn kinds s u.name
@@ -129,3 +183,13 @@ can_read kinds (Err fault) s u is = absurd (cc)
 pub can_turn : (kinds : Kinds) (line : List ℕ) (s : Session) (u : ToTurn)
     → task kinds line s ≡ turns u → CanTurn kinds s u.name
 can_turn kinds line s u is = can_read kinds (line_of line) s u (task_is _ u is)
+
+call_read : (kinds : Kinds) (read : Result Asked LineFault) (s : Session) (c : ToCall)
+    → (lifted of_line read >> λ ask. asked_task kinds ask s) ≡ Ok (calls c) → CanCall kinds s c.name
+call_read kinds (Ok ask) s c is = call_ask kinds ask s c is
+call_read kinds (Err fault) s c is = absurd (cc)
+
+-- a line that comes to a turn to a master elsewhere
+pub can_call : (kinds : Kinds) (line : List ℕ) (s : Session) (c : ToCall)
+    → task kinds line s ≡ calls c → CanCall kinds s c.name
+can_call kinds line s c is = call_read kinds (line_of line) s c (call_task_is _ c is)

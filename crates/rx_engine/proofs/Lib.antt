@@ -18,3 +18,10 @@ pub mod Plays
 pub mod Carrying
 pub mod Turnings
 pub mod Rooms
+pub mod Wires
+pub mod Remotely
+pub mod Callings
+pub mod CallingOnce
+pub mod Dialled
+pub mod AfterCalls
+pub mod Hearing

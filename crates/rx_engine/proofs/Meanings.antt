@@ -1,5 +1,5 @@
 -- What was done and answered is what the line means.
-use Rattle.std.proofs.Common.{◌≡◌, ◌≤◌, ℕ, List, [], ◌++◌, length, string_bytes, true, false, Some, None, Result, Ok, Err, IfOk, OnOk, refl, sym, ap, ◌∙◌, subst, append-nil}
+use Rattle.std.proofs.Common.{◌≡◌, ◌≤◌, ℕ, List, [], ◌++◌, length, string_bytes, true, false, true≢false, Some, None, Result, Ok, Err, IfOk, OnOk, refl, sym, ap, ◌∙◌, subst, append-nil}
 use Rattle.rx_handler.specs.Handlers.{Kinds}
 use Rattle.rx_observe.specs.declared.emission.Emission.{Emission}
 use Rattle.rx_outside.specs.declared.stop.Stop.{Stop}
@@ -14,17 +14,21 @@ use Rattle.rx_session.specs.Emissions.{emissions, settled_session}
 use Rattle.rx_session.specs.Session.{Session}
 use Rattle.rx_sync.specs.Asks.{Asks}
 use Rattle.rx_sync.proofs.Bound.{exchanges_lower, turn_in_time, turn_pushes_twice}
+use Rattle.rx_sync.proofs.Elsewhere.{remote_turn_unharmed}
 use Rattle.rx_sync.specs.Bound.{AreOk, EveryOkTurn}
 use Rattle.rx_sync.specs.Exchange.{Terms}
 use Rattle.rx_sync.specs.Laws.{IsLevel, MayTurn}
+use Rattle.rx_sync.specs.Remote.{Heard, RemoteTurned}
+use Rattle.rx_sync.specs.RemoteLaws.{EachIsUnharmed, MayCall}
 use Rattle.rx_sync.specs.Turn.{Turned}
 use Rattle.rx_world.specs.World.{World}
-use Rattle.rx_engine.specs.Engine.{Answers, IsAfterTurn, IsBounded, LeavesAll, OfOkTurn, QuietIsLevel, asks_in, session_of, standing_of}
+use Rattle.rx_engine.specs.Engine.{Answers, IsAfterTurn, IsBounded, IsUnharmedBy, LeavesAll, OfOkTurn, QuietIsLevel, asks_in, session_of, standing_of}
 use Rattle.rx_engine.specs.Judged.{IsJudged, IsPrinted, MayDoJudged}
-use Rattle.rx_engine.specs.Lines.{IsIdleTask, Task, answered, turns, task}
+use Rattle.rx_engine.specs.Calling.{Call as ToCall, called, to_hear}
+use Rattle.rx_engine.specs.Lines.{IsIdleTask, Task, answered, turns, calls, task}
 use Rattle.rx_engine.specs.Meaning.{Meaning, asks_kept, lines_of, meaning, meaning_of, records_of, task_meaning, turn_meaning}
 use Rattle.rx_engine.specs.Outcome.{Outcome}
-use Rattle.rx_engine.specs.Shown.{doing_of, turn_of}
+use Rattle.rx_engine.specs.Shown.{call_of, doing_of, turn_of}
 use Rattle.rx_engine.specs.Standing.{Standing, asks_of, standing_with}
 use Rattle.rx_engine.specs.Turning.{Turn as ToTurn, terms, turned}
 use Rattle.rx_engine.specs.declared.changing.AfterTurn.{AfterTurn}
@@ -33,6 +37,7 @@ use Rattle.rx_engine.specs.declared.judging.Judged.{Judged}
 use Rattle.rx_engine.specs.declared.judging.Judged.TheVariants as judged
 use Rattle.rx_engine.specs.declared.judging.Printed.{Printed}
 use Rattle.rx_engine.specs.declared.output.Output.{Output}
+use Rattle.rx_engine.specs.declared.remote.Call.{Call}
 use Rattle.rx_engine.specs.declared.turning.Turn.{Turn}
 
 -- ---- what a line was judged to be
@@ -41,11 +46,19 @@ is_printed : (number : ℕ) (p : Printed) (t : Task) → IsJudged number (judged
     → (o : Outcome) × (t ≡ answered o) × IsPrinted number p o
 is_printed number p (answered o) j = (o, refl, j)
 is_printed number p (turns u) j = absurd j
+is_printed number p (calls d) j = absurd j
 
 is_turn : (number : ℕ) (m : Turn) (t : Task) → IsJudged number (judged.Turns m) t
     → t ≡ turns (turn_of m)
 is_turn number m (answered o) j = absurd j
 is_turn number m (turns u) j = ap turns (sym j)
+is_turn number m (calls d) j = absurd j
+
+is_call : (number : ℕ) (m : Call) (t : Task) → IsJudged number (judged.Calls m) t
+    → t ≡ calls (call_of m)
+is_call number m (answered o) j = absurd j
+is_call number m (turns u) j = absurd j
+is_call number m (calls d) j = ap calls (sym j)
 
 -- by the session that was lent for it
 module _ (number : ℕ) (kinds : Kinds) (line : List ℕ) (seen session : Session)
@@ -64,6 +77,13 @@ module _ (number : ℕ) (kinds : Kinds) (line : List ℕ) (seen session : Sessio
       (subst (λ (x : Judged). IsJudged number x (task kinds line session)) is
       (subst (λ (s : Session). IsJudged number x (task kinds line s)) same j))
 
+  pub call_is : (m : Call) → x ≡ judged.Calls m → IsJudged number x (task kinds line seen)
+      → task kinds line session ≡ calls (call_of m)
+  call_is m is j =
+      is_call number m (task kinds line session)
+      (subst (λ (x : Judged). IsJudged number x (task kinds line session)) is
+      (subst (λ (s : Session). IsJudged number x (task kinds line s)) same j))
+
 pub may_do : (seen session : Session) → seen ≡ session → (x : Judged) (p : Printed)
     → x ≡ judged.Printed p → MayDoJudged x seen → MayDo (doing_of p.doing) session
 may_do seen session same x p is may =
@@ -73,6 +93,10 @@ may_do seen session same x p is may =
 pub some_asked : (x : Judged) (m : Turn) (s : Session) → x ≡ judged.Turns m → MayDoJudged x s
     → 1 ≤ m.batch
 some_asked x m s is may = subst (λ (x : Judged). MayDoJudged x s) is may
+
+pub some_called : (x : Judged) (m : Call) (s : Session) → x ≡ judged.Calls m → MayDoJudged x s
+    → 1 ≤ m.batch
+some_called x m s is may = (subst (λ (x : Judged). MayDoJudged x s) is may).0
 
 pub on_ok : {A E P : Type 0} (r : Result A E) → P → OnOk r P
 on_ok (Ok a) p = p
@@ -85,11 +109,12 @@ pub alone : (text : List ℕ) (es : List Emission) → es ≡ [] → text ++ lin
 alone text es none = ap (λ (es : List Emission). text ++ lines_of es) none ∙ append-nil text
 
 -- equal parts make equal wholes
-pub standing_same : (kinds : Kinds) (a b : Session) (x y : List (List ℕ × Asks)) → a ≡ b → x ≡ y
-    → standing_with a x kinds ≡ standing_with b y kinds
-standing_same kinds a b x y sessions asks =
-    ap (λ (s : Session). standing_with s x kinds) sessions
-    ∙ ap (λ (l : List (List ℕ × Asks)). standing_with b l kinds) asks
+pub standing_same : (kinds : Kinds) (heard : List Heard) (a b : Session)
+    (x y : List (List ℕ × Asks)) → a ≡ b → x ≡ y
+    → standing_with a x kinds heard ≡ standing_with b y kinds heard
+standing_same kinds heard a b x y sessions asks =
+    ap (λ (s : Session). standing_with s x kinds heard) sessions
+    ∙ ap (λ (l : List (List ℕ × Asks)). standing_with b l kinds heard) asks
 
 -- ---- a line that was printed
 
@@ -117,12 +142,12 @@ module _ (number : ℕ) (line : List ℕ) (s : Standing) (o : Outcome) (p : Prin
       ≡ string_bytes p.text ++ lines_of (emissions (after (doing_of p.doing) s.session)))
       → IfOk r (λ x. x.1.emissions ≡ length (emissions (after (doing_of p.doing) s.session)))
       → IfOk r (λ x. x.1.refused ≡ p.refused) → IfOk r (λ x. x.1.end ≡ None)
-      → IfOk r (λ x. Answers s.kinds (meaning number line s) x.0 x.1)
+      → IfOk r (λ x. Answers s.kinds s.heard (meaning number line s) x.0 x.1)
   unfolding meaning standing_of
   answers_so (Err stop) session asks text emitted refused end = tt
   answers_so (Ok x) session asks text emitted refused end =
-      subst (λ (m : Meaning). Answers s.kinds m x.0 x.1) (sym same_meaning) (record {
-        next = standing_same s.kinds _ _ _ _
+      subst (λ (m : Meaning). Answers s.kinds s.heard m x.0 x.1) (sym same_meaning) (record {
+        next = standing_same s.kinds s.heard _ _ _ _
             (session ∙ ap (λ (d : Doing). settled_session (after d s.session)) printed.doing)
             (asks ∙ ap (λ (d : Doing). asks_kept d s.asks) printed.doing);
         reply = text
@@ -147,7 +172,7 @@ module _ (number : ℕ) (line : List ℕ) (s : Standing) (o : Outcome) (p : Prin
     outcome = o;
     is = is;
     records = ap (λ (m : Meaning). m.records) same_meaning ∙ ap (λ (d : Doing). records_of d) idle;
-    next = standing_same s.kinds _ _ _ _ left.0
+    next = standing_same s.kinds s.heard _ _ _ _ left.0
         (asks ∙ ap (λ (d : Doing). asks_kept d s.asks) (printed.doing ∙ idle));
     reply = left.1 ∙ printed.text;
     emissions = left.2;
@@ -155,14 +180,15 @@ module _ (number : ℕ) (line : List ℕ) (s : Standing) (o : Outcome) (p : Prin
   }
 
   -- a refused one does nothing
-  pub refused_so : {Stays : Type 0} → (is_refusal o.answer ≡ true → o.doing ≡ nothing)
+  pub refused_so : {Stays : Type 0} (Leaves : Engine × Output → Type 0)
+      → (is_refusal o.answer ≡ true → o.doing ≡ nothing)
       → (doing_of p.doing ≡ nothing → Stays) → (r : Result (Engine × Output) Stop)
       → IfOk r (λ x. x.1.refused ≡ p.refused)
-      → (o.doing ≡ nothing → IfOk r (λ x. LeavesAll number line s x.0 x.1))
-      → IfOk r (λ x. x.1.refused ≡ true → Stays × LeavesAll number line s x.0 x.1)
-  refused_so idle stays (Err stop) refused left = tt
-  refused_so idle stays (Ok x) refused left = λ yes.
-      let none = idle (sym printed.refused ∙ sym refused ∙ yes) in
+      → (o.doing ≡ nothing → IfOk r Leaves)
+      → IfOk r (λ x. x.1.refused ≡ true → Stays × Leaves x)
+  refused_so Leaves idle stays (Err stop) refused left = tt
+  refused_so Leaves idle stays (Ok x) refused left = λ is_so.
+      let none = idle (sym printed.refused ∙ sym refused ∙ is_so) in
       (stays (printed.doing ∙ none), left none)
 
   -- it is no turn
@@ -178,6 +204,10 @@ module _ (number : ℕ) (line : List ℕ) (s : Standing) (o : Outcome) (p : Prin
     in_time = λ t at. absurd (cc);
   }
 
+  -- nor is there a master elsewhere that could harm a fork
+  pub no_master_so : IsUnharmedBy line s
+  no_master_so c at = absurd (cc)
+
 -- ---- a line that makes a turn
 
 -- the engine and the output are those of the turn's meaning
@@ -187,10 +217,10 @@ pub turned_so : (number : ℕ) (name : List ℕ) (t : Turned) (s : Standing) (m 
     → string_bytes o.text
     ≡ answer_lines number (turn m.exchanges m.ended) ++ lines_of m.emissions.items
     → o.emissions ≡ length m.emissions.items → o.refused ≡ false → o.end ≡ Some m.ended
-    → Answers s.kinds (turn_meaning number name t s) m.engine o
+    → Answers s.kinds s.heard (turn_meaning number name t s) m.engine o
 unfolding standing_of
 turned_so number name t s m o made text emitted refused end = record {
-  next = standing_same s.kinds _ _ _ _ made.session made.asks;
+  next = standing_same s.kinds s.heard _ _ _ _ made.session made.asks;
   reply = text
       ∙ ap (λ (es : List Exchanged).
       answer_lines number (turn es m.ended) ++ lines_of m.emissions.items) made.exchanges
@@ -241,6 +271,60 @@ module _ (number : ℕ) (line : List ℕ) (s : Standing) (u : ToTurn)
         in_time = ok_so turn_in_time;
       }
 
+  -- its master is no one elsewhere
+  pub no_other_so : IsUnharmedBy line s
+  no_other_so c at = absurd (cc)
+
   -- it isn't idle
   pub busy_so : IsIdleTask (task s.kinds line s.session) → ⊥
   busy_so idle = subst IsIdleTask is idle
+
+-- ---- a line that makes a turn to a master elsewhere
+
+module _ (number : ℕ) (line : List ℕ) (s : Standing) (d : ToCall)
+    (is : task s.kinds line s.session ≡ calls d) where
+  -- its meaning is the line's
+  pub call_so : turn_meaning number d.name (called d s).turned (to_hear (called d s).later s)
+      ≡ meaning number line s
+  unfolding meaning
+  call_so = sym (ap (λ (t : Task). task_meaning number t s) is)
+
+  -- it is no turn to a master here
+  pub no_level_so : (r : Result (Engine × Output) Stop) → IfOk r (λ x. QuietIsLevel line s x.0)
+  no_level_so (Err stop) = tt
+  no_level_so (Ok x) = λ t at quiet. absurd (cc)
+
+  -- nor are its exchanges bounded
+  pub no_bound_so : IsBounded line s
+  no_bound_so = record {
+    lowered = λ t at. absurd (cc);
+    twice = λ t at. absurd (cc);
+    in_time = λ t at. absurd (cc);
+  }
+
+  -- but none of them harms the fork
+  pub unharmed_so : 1 ≤ d.batch
+      → MayCall (terms d.name s.session.moment s.kinds) s.session.world (asks_of d.name s.asks)
+      → IsUnharmedBy line s
+  unharmed_so some may c at =
+      let same : d ≡ c = cc in
+      subst (λ (c : ToCall). EachIsUnharmed (terms c.name s.session.moment s.kinds) c.batch
+      c.budget s.heard s.session.world (asks_of c.name s.asks)) same
+      (remote_turn_unharmed (terms d.name s.session.moment s.kinds) d.batch d.budget s.heard
+      s.session.world (asks_of d.name s.asks) some may)
+
+  -- it isn't idle
+  pub calling_so : IsIdleTask (task s.kinds line s.session) → ⊥
+  calling_so idle = subst IsIdleTask is idle
+
+-- what holds of each holds of all
+pub of_each : {A H : Type 0} (P : H → A → Type 0) (r : Result A Stop) → ((h : H) → IfOk r (P h))
+    → IfOk r (λ x. (h : H) → P h x)
+of_each P (Err stop) each = tt
+of_each P (Ok x) each = each
+
+-- nor is it refused
+pub not_refused : (P : Engine × Output → Type 0) (r : Result (Engine × Output) Stop)
+    → IfOk r (λ x. x.1.refused ≡ false) → IfOk r (λ x. x.1.refused ≡ true → P x)
+not_refused P (Err stop) is = tt
+not_refused P (Ok x) is = λ is_so. absurd (true≢false (sym is_so ∙ is))

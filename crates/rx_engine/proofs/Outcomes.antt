@@ -1,5 +1,5 @@
 -- What no line does but the one that is asked for it.
-use Rattle.std.proofs.Common.{◌≡◌, ◌⊎◌, inl, inr, ℕ, length, not, nat_lt, codes, is_none, List, ◌∷◌, [], map, Bool, true, false, true≢false, Option, Some, None, option_map, Result, Ok, Err, refl, sym, ◌∙◌, ap, subst}
+use Rattle.std.proofs.Common.{◌≡◌, ◌⊎◌, inl, inr, ℕ, length, not, nat_lt, is_none, List, ◌∷◌, [], map, Bool, true, false, true≢false, Option, Some, None, option_map, Result, Ok, Err, refl, sym, ◌∙◌, ap, subst}
 use Rattle.serde_json.specs.Data.{Data}
 use Rattle.rx_value.specs.Due.{◌>>◌, demand, lifted, or_fault}
 use Rattle.rx_value.specs.Named.{named}
@@ -13,17 +13,18 @@ use Rattle.rx_collection.specs.Commit.{rows_of}
 use Rattle.rx_collection.specs.Time.{stamp}
 use Rattle.rx_record.specs.Content.{Content, replication, rows}
 use Rattle.rx_record.specs.declared.record.MasterName.{MasterName}
+use Rattle.rx_record.specs.declared.record.MasterName.TheVariants.{Local, Port}
 use Rattle.rx_record.specs.declared.record.RowOut.{RowOut}
 use Rattle.rx_handler.specs.Handlers.{Kinds}
 use Rattle.rx_query.specs.Asked.{Asked as Query}
 use Rattle.rx_reply.specs.Answer.{Answer, refused, insert, upsert, patch, remove, get, find, count, observe, unobserve, explain, replicate, tick, digest}
 use Rattle.rx_reply.specs.declared.refusal.Refusal.{Refusal}
-use Rattle.rx_reply.specs.declared.refusal.Refusal.TheVariants.{Chain, Clock, Exists, Line, NoHandler, NoQuery, SchemaDiffers, TooMany}
+use Rattle.rx_reply.specs.declared.refusal.Refusal.TheVariants.{Chain, Clock, Exists, NoHandler, NoQuery, SchemaDiffers, TooMany}
 use Rattle.rx_reply.specs.Reply.{is_refusal}
 use Rattle.rx_script.specs.Asked.{Asked, Collection, Insert, Bulk, Upsert, Patch, Remove, Get, Find, Count, Observe, Unobserve, Explain, Replicate, Turn, Changes, Tick, Restart, Digest}
 use Rattle.rx_script.specs.Line.{line_of}
 use Rattle.rx_script.specs.declared.fault.LineFault.{LineFault}
-use Rattle.rx_script.specs.declared.fault.LineFault.TheVariants.{Unexpected}
+use Rattle.rx_script.specs.declared.happening.Happening.{Happening}
 use Rattle.rx_session.specs.Doing.{Doing, nothing, restart, set_clock, unwatch, watch, write}
 use Rattle.rx_session.specs.Session.{Session, counts_of, is_observed}
 use Rattle.rx_world.specs.Chain.{may_follow}
@@ -32,12 +33,13 @@ use Rattle.rx_world.specs.Commit.{commit_to, out_of}
 use Rattle.rx_world.proofs.Sounds.{IsNoExchange}
 use Rattle.rx_engine.specs.Shown.{WritesNoExchange}
 use Rattle.rx_engine.specs.Documents.{document_at, next_revision}
+use Rattle.rx_world.specs.declared.replication.Replication.{Replication}
 use Rattle.rx_engine.specs.Faults.{of_line, of_schema}
-use Rattle.rx_engine.specs.Lines.{IsRestart, Task, answered, turns, asked_outcome, asked_task, task, task_or_refusal}
+use Rattle.rx_engine.specs.Lines.{IsRestart, Task, answered, turns, calls, asked_outcome, asked_task, task, task_or_refusal, turn_to}
 use Rattle.rx_engine.specs.Listing.{changes_answer, place_named}
 use Rattle.rx_engine.specs.Outcome.{Outcome, answer_alone, collection_at, write_outcome}
-use Rattle.rx_engine.specs.Replicate.{has_handler, has_schema, is_here, master_at, master_of, replicate_line}
-use Rattle.rx_engine.specs.Turning.{Turn as ToTurn, turn_line}
+use Rattle.rx_engine.specs.Replicate.{has_handler, has_schema, master_at, master_of, replicate_line}
+use Rattle.rx_engine.specs.Turning.{turned_at}
 use Rattle.rx_engine.specs.Queries.{max_queries, observe_line, query_on, rows_found}
 use Rattle.rx_engine.specs.Writes.{collection_with, commit_all, commit_one, insert_state, patch_state, remove_state, rows_states, upsert_state}
 use Rattle.rx_engine.specs.declared.fault.Fault.{Fault}
@@ -194,15 +196,9 @@ module _ (kinds : Kinds) (name fork : List ℕ) (master : MasterName) (handler :
   abbrev with_fork : Result Outcome Fault
   with_fork = collection_at fork s >> λ c. with_master c
 
-  abbrev with_name : Result Outcome Fault
-  with_name =
-      demand (is_none (named s.world.replications name)) (Refused Exists) >> λ _. with_fork
-
   begun_plain : ArePlain (replicate_line kinds name fork master handler field s)
   begun_plain =
-      after (demand (is_here master) (Refused (Line (Unexpected (codes "port"))))) (λ _. with_name)
-      (λ _. after (demand (is_none (named s.world.replications name)) (Refused Exists))
-      (λ _. with_fork)
+      after (demand (is_none (named s.world.replications name)) (Refused Exists)) (λ _. with_fork)
       (λ _. after (collection_at fork s) (λ c. with_master c)
       (λ c. after (master_at master s) (λ held. with_handler c held)
       (λ held. after (demand (has_handler kinds c.schema handler field) (Refused NoHandler))
@@ -211,7 +207,7 @@ module _ (kinds : Kinds) (name fork : List ℕ) (master : MasterName) (handler :
       (λ _. with_schema c held)
       (λ _. after (demand (has_schema c held) (Refused SchemaDiffers)) (λ _. with_room)
       (λ _. after (demand (nat_lt (length s.world.replications) max_replications) (Refused TooMany))
-      (λ _. Ok begins) (λ _. just begins refl refl tt))))))))
+      (λ _. Ok begins) (λ _. just begins refl refl tt)))))))
 
 -- a restart alone opens the journal again
 plain_but : (kinds : Kinds) (ask : Asked) (s : Session)
@@ -305,9 +301,19 @@ does_is : (r : Result Outcome Fault) (o : Outcome)
 does_is (Ok x) o is = let same : x ≡ o = cc in ap Ok same
 does_is (Err fault) o is = absurd (cc)
 
-no_turn : (r : Result ToTurn Fault) (o : Outcome) → (r >> λ t. Ok (turns t)) ≡ Ok (answered o) → ⊥
-no_turn (Ok t) o is = cc
-no_turn (Err fault) o is = cc
+turn_no_outcome : (m : MasterName) (name : List ℕ) (batch budget : ℕ)
+    (link : Option (List Happening)) (o : Outcome)
+    → turn_to m name batch budget link ≡ Ok (answered o) → ⊥
+turn_no_outcome (Local at) name batch budget link o is = cc
+turn_no_outcome (Port port) name batch budget None o is = cc
+turn_no_outcome (Port port) name batch budget (Some link) o is = cc
+
+no_turn : (r : Result Replication Fault) (name : List ℕ) (batch budget : ℕ)
+    (link : Option (List Happening)) (o : Outcome)
+    → (r >> λ r. turn_to r.master name batch budget link) ≡ Ok (answered o) → ⊥
+no_turn (Ok r) name batch budget link o is =
+    turn_no_outcome r.master name batch budget link o is
+no_turn (Err fault) name batch budget link o is = cc
 
 answered_is : (kinds : Kinds) (ask : Asked) (s : Session) (o : Outcome)
     → asked_task kinds ask s ≡ Ok (answered o) → asked_outcome kinds ask s ≡ Ok o
@@ -325,7 +331,7 @@ answered_is kinds (Unobserve name) s o is = does_is _ o is
 answered_is kinds (Explain name) s o is = does_is _ o is
 answered_is kinds (Replicate name fork master handler field) s o is = does_is _ o is
 answered_is kinds (Turn name batch budget link) s o is =
-    absurd (no_turn (turn_line kinds name batch budget link s) o is)
+    absurd (no_turn (turned_at kinds name s) name batch budget link o is)
 answered_is kinds (Changes coll since batch) s o is = does_is _ o is
 answered_is kinds (Tick at) s o is = does_is (asked_outcome kinds (Tick at) s) o is
 answered_is kinds Restart s o is = does_is (asked_outcome kinds Restart s) o is

@@ -26,3 +26,13 @@ same_cause {A} {B} before now stop r is cause =
 pub done_cause : {A B : Type 0} (before now : ℕ) (x : A) (y : B) → HasDiskCause before now (Ok x)
     → HasDiskCause before now (Ok y)
 done_cause before now x y cause = record { later = cause.later; failed = λ is. absurd (cc) }
+
+-- nor is a want of memory behind it one by the disk
+pub memory_cause : {A B : Type 0} (before now : ℕ) (x : A) (r : Result B Stop) → r ≡ Err Memory
+    → HasDiskCause before now (Ok x) → HasDiskCause before now r
+memory_cause {A} {B} before now x r is cause =
+    let here : HasDiskCause {A = B} before now (Err Memory) = record {
+      later = cause.later;
+      failed = λ h. absurd (cc);
+    } in
+    subst (λ (r : Result B Stop). HasDiskCause before now r) (sym is) here

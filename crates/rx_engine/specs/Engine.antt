@@ -12,11 +12,14 @@ use Rattle.rx_sync.specs.Asks.{Asks}
 use Rattle.rx_sync.specs.Bound.{AreOk, EachLowersLeft, EndsInTime, PushesAtMostTwice}
 use Rattle.rx_sync.specs.Exchange.{Terms}
 use Rattle.rx_sync.specs.Laws.{IsLevel}
+use Rattle.rx_sync.specs.Remote.{Heard, RemoteTurned}
+use Rattle.rx_sync.specs.RemoteLaws.{EachIsUnharmed}
 use Rattle.rx_sync.specs.Turn.{Turned}
 use Rattle.rx_value.specs.Named.{put_named}
 use Rattle.rx_world.specs.World.{World}
-use Rattle.rx_engine.specs.Lines.{answered, turns, task}
-use Rattle.rx_engine.specs.Meaning.{Meaning, meaning}
+use Rattle.rx_engine.specs.Calling.{Call}
+use Rattle.rx_engine.specs.Lines.{answered, turns, calls, task}
+use Rattle.rx_engine.specs.Meaning.{Meaning, meaning, turn_meaning}
 use Rattle.rx_engine.specs.Outcome.{Outcome}
 use Rattle.rx_engine.specs.Standing.{Standing, asks_of, standing_with}
 use Rattle.rx_engine.specs.Turning.{Turn, terms, turned, written}
@@ -32,9 +35,9 @@ session_of e = e.session.session
 unfoldable pub asks_in : Engine → List (List ℕ × Asks)
 asks_in e = e.session.asks
 
--- how things stand with an engine, where conflicts are resolved so
-unfoldable pub standing_of : Kinds → Engine → Standing
-standing_of kinds e = standing_with (session_of e) (asks_in e) kinds
+-- how things stand with an engine, where conflicts are resolved so and that is to be heard
+unfoldable pub standing_of : Kinds → List Heard → Engine → Standing
+standing_of kinds heard e = standing_with (session_of e) (asks_in e) kinds heard
 
 abbrev pub limit_of : Engine → ℕ
 limit_of e = e.journal.limit
@@ -43,9 +46,11 @@ limit_of e = e.journal.limit
 abbrev pub IsAt : {D : Type 0} → Ghosts D → D → Engine → List (List ℕ) → Type 0
 IsAt d disk e bodies = Holds d disk e.journal bodies (session_of e).world
 
--- an engine and an output are those of a meaning, where conflicts are resolved so
-pub record Answers (kinds : Kinds) (m : Meaning) (e : Engine) (o : Output) : Type 0 where
-  pub next : standing_of kinds e ≡ m.next
+-- an engine and an output are those of a meaning, where conflicts are resolved so and that is to be
+-- heard later
+pub record Answers (kinds : Kinds) (later : List Heard) (m : Meaning) (e : Engine) (o : Output)
+    : Type 0 where
+  pub next : standing_of kinds later e ≡ m.next
   pub reply : string_bytes o.text ≡ m.reply
   pub emissions : o.emissions ≡ m.emissions
   pub refused : o.refused ≡ m.refused
@@ -58,7 +63,7 @@ pub record LeavesAll (number : ℕ) (line : List ℕ) (s : Standing) (e : Engine
   pub outcome : Outcome
   pub is : task s.kinds line s.session ≡ answered outcome
   pub records : (meaning number line s).records ≡ []
-  pub next : standing_of s.kinds e ≡ s
+  pub next : standing_of s.kinds s.heard e ≡ s
   pub reply : string_bytes o.text ≡ answer_lines number outcome.answer
   pub emissions : o.emissions ≡ 0
   pub ended : o.end ≡ None
@@ -71,6 +76,20 @@ pub record IsAfterTurn (name : List ℕ) (t : Turned) (s : Standing) (m : AfterT
   pub due : m.emissions.items ≡ emissions (written t.records s.session)
   pub exchanges : m.exchanges ≡ t.exchanges
   pub ended : m.ended ≡ t.ended
+
+-- an engine is as it is after a turn of the replication of a name to a master elsewhere, where that
+-- is still to be heard
+pub record IsAfterCall (name : List ℕ) (kinds : Kinds) (e : Engine) (u : RemoteTurned)
+    (later : List Heard) (m : AfterTurn) : Type 0 where
+  pub after : IsAfterTurn name u.turned (standing_of kinds later e) m
+  pub later_so : u.later ≡ later
+
+-- an engine and an output are those of the meaning of such a turn
+pub record AnswersCall (number : ℕ) (name : List ℕ) (kinds : Kinds) (e : Engine) (u : RemoteTurned)
+    (later : List Heard) (p : Engine × Output) : Type 0 where
+  pub answers : Answers kinds later
+      (turn_meaning number name u.turned (standing_of kinds later e)) p.0 p.1
+  pub later_so : u.later ≡ later
 
 -- where the line is a turn that ends quiet, its fork and its master have the same states in the
 -- engine
@@ -97,3 +116,12 @@ pub record IsBounded (line : List ℕ) (s : Standing) : Type 0 where
   pub twice : OfOkTurn PushesAtMostTwice line s
   -- as many exchanges as are enough end it quiet, or where no write time is left
   pub in_time : OfOkTurn EndsInTime line s
+
+-- ---- what no master can do
+
+-- where the line makes a turn to a master elsewhere, no exchange of it harms the fork, whatever is heard
+abbrev pub IsUnharmedBy : List ℕ → Standing → Type 0
+IsUnharmedBy line s =
+    (c : Call) → task s.kinds line s.session ≡ calls c
+    → EachIsUnharmed (terms c.name s.session.moment s.kinds) c.batch c.budget s.heard s.session.world
+    (asks_of c.name s.asks)

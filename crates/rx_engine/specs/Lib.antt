@@ -8,12 +8,16 @@ pub mod Queries
 pub mod Listing
 pub mod Replicate
 pub mod Turning
+pub mod Calling
 pub mod Lines
 pub mod Meaning
 pub mod Shown
 pub mod Judged
 pub mod Carried
 pub mod Play
+pub mod Dialled
+pub mod Callings
 pub mod Opening
 pub mod Engine
+pub mod Hearing
 pub mod SoundSession

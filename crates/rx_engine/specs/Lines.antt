@@ -1,13 +1,18 @@
 -- What a line does, by what it asks.
-use Rattle.std.specs.Prelude.{◌≡◌, ℕ, ◌+◌, List, Result, Ok, Err}
-use Rattle.rx_value.specs.Due.{◌>>◌, lifted}
+use Rattle.std.specs.Prelude.{◌≡◌, ℕ, ◌+◌, List, codes, Option, is_none, Result, Ok, Err}
+use Rattle.rx_value.specs.Due.{◌>>◌, demand, lifted}
 use Rattle.rx_handler.specs.Handlers.{Kinds}
 use Rattle.rx_reply.specs.Answer.{tick, restart, refused}
-use Rattle.rx_reply.specs.declared.refusal.Refusal.TheVariants.{Clock, NoReplication}
+use Rattle.rx_record.specs.declared.record.MasterName.{MasterName}
+use Rattle.rx_record.specs.declared.record.MasterName.TheVariants as master
+use Rattle.rx_reply.specs.declared.refusal.Refusal.TheVariants.{Clock, Line, NoReplication}
 use Rattle.rx_script.specs.Asked.{Asked, Collection, Insert, Bulk, Upsert, Patch, Remove, Get, Find, Count, Observe, Unobserve, Explain, Replicate, Turn, Changes, Tick, Restart, Digest}
 use Rattle.rx_script.specs.Line.{line_of}
+use Rattle.rx_script.specs.declared.fault.LineFault.TheVariants.{Unexpected}
+use Rattle.rx_script.specs.declared.happening.Happening.{Happening}
 use Rattle.rx_session.specs.Doing.{nothing, set_clock, restart as open_again}
 use Rattle.rx_session.specs.Session.{Session}
+use Rattle.rx_engine.specs.Calling.{Call}
 use Rattle.rx_engine.specs.Faults.{of_line}
 use Rattle.rx_engine.specs.Listing.{changes_line, digest_line}
 use Rattle.rx_engine.specs.Outcome.{Outcome, answer_alone}
@@ -15,7 +20,7 @@ use Rattle.rx_engine.specs.Queries.{get_line, find_line, count_line, observe_lin
 use Rattle.rx_engine.specs.Writes.{collection_line, insert_line, upsert_line, patch_line, remove_line, bulk_line}
 use Rattle.rx_engine.specs.Replicate.{master_of, replicate_line}
 use Rattle.rx_engine.specs.Standing.{Standing}
-use Rattle.rx_engine.specs.Turning.{Turn as ToTurn, turn_line}
+use Rattle.rx_engine.specs.Turning.{Turn as ToTurn, turn_here, turned_at}
 use Rattle.rx_engine.specs.declared.fault.Fault.{Fault}
 use Rattle.rx_engine.specs.declared.fault.Fault.TheVariants.{Refused, Memory}
 
@@ -52,14 +57,29 @@ asked_outcome kinds (Tick at) s = tick_line at
 asked_outcome kinds Restart s = restart_line s
 asked_outcome kinds (Digest coll) s = digest_line coll s
 
--- what a line comes to: an outcome, or a turn, which is answered once it is made
+-- what a line comes to: an outcome; or a turn, to a master of this journal or to one elsewhere, which
+-- is answered once it is made
 pub data Task : Type 0 where
   answered : Outcome → Task
   turns : ToTurn → Task
+  calls : Call → Task
+
+-- the turn to a master; nothing is said of the link to one elsewhere
+abbrev pub turn_to : MasterName → List ℕ → ℕ → ℕ → Option (List Happening) → Result Task Fault
+turn_to (master.Local at) name batch budget link =
+    Ok (turns (turn_here name batch budget link))
+turn_to (master.Port port) name batch budget link =
+    demand (is_none link) (Refused (Line (Unexpected (codes "link")))) >> λ _.
+    Ok (calls (record { name = name; port = port; batch = batch; budget = budget }))
+
+-- the turn that is made, or why none is
+abbrev pub turn_line : Kinds → List ℕ → ℕ → ℕ → Option (List Happening) → Session
+    → Result Task Fault
+turn_line kinds name batch budget link s =
+    turned_at kinds name s >> λ r. turn_to r.master name batch budget link
 
 abbrev pub asked_task : Kinds → Asked → Session → Result Task Fault
-asked_task kinds (Turn name batch budget link) s =
-    turn_line kinds name batch budget link s >> λ t. Ok (turns t)
+asked_task kinds (Turn name batch budget link) s = turn_line kinds name batch budget link s
 asked_task kinds other s = asked_outcome kinds other s >> λ o. Ok (answered o)
 
 -- what it comes to, or why it is refused
@@ -79,6 +99,7 @@ task kinds line s = task_or_refusal (line_task kinds line s)
 abbrev pub IsIdleTask : Task → Type 0
 IsIdleTask (answered o) = o.doing ≡ nothing
 IsIdleTask (turns t) = ⊥
+IsIdleTask (calls c) = ⊥
 
 -- so it is of a line
 abbrev pub IsIdle : List ℕ → Standing → Type 0

@@ -12,7 +12,8 @@ use Rattle.rx_session.specs.Doing.{Doing, write, restart, after}
 use Rattle.rx_session.specs.Emissions.{emissions, settled_session}
 use Rattle.rx_sync.specs.Asks.{Asks}
 use Rattle.rx_sync.specs.Turn.{Turned}
-use Rattle.rx_engine.specs.Lines.{Task, answered, turns, task}
+use Rattle.rx_engine.specs.Calling.{called, to_hear}
+use Rattle.rx_engine.specs.Lines.{Task, answered, turns, calls, task}
 use Rattle.rx_engine.specs.Outcome.{Outcome}
 use Rattle.rx_engine.specs.Standing.{Standing}
 use Rattle.rx_engine.specs.Turning.{turned, written}
@@ -79,6 +80,8 @@ turn_meaning number name t s = record {
 abbrev pub task_meaning : ℕ → Task → Standing → Meaning
 task_meaning number (answered o) s = meaning_of number o s
 task_meaning number (turns t) s = turn_meaning number t.name (turned t s) s
+task_meaning number (calls c) s =
+    let u = called c s in turn_meaning number c.name u.turned (to_hear u.later s)
 
 -- what a line of that number means
 unfoldable pub meaning : ℕ → List ℕ → Standing → Meaning

@@ -5,6 +5,7 @@ use Rattle.rx_world.specs.World.{World}
 use Rattle.rx_world.specs.Step.{step}
 use Rattle.rx_handler.specs.Handlers.{Kinds}
 use Rattle.rx_session.specs.Session.{Session}
+use Rattle.rx_sync.specs.Remote.{Heard}
 use Rattle.rx_engine.specs.Standing.{Standing, standing_with}
 
 -- the record of the next epoch
@@ -19,6 +20,6 @@ session_on w = record { world = w; moment = 0; queries = [] }
 abbrev pub next_epoch : World → World
 next_epoch w = step (epoch (w.epoch + 1)) w
 
--- how things stand after an opening
-unfoldable pub opened : Kinds → World → Standing
-opened kinds w = standing_with (session_on (next_epoch w)) [] kinds
+-- how things stand after an opening, where that is to be heard
+unfoldable pub opened : Kinds → List Heard → World → Standing
+opened kinds heard w = standing_with (session_on (next_epoch w)) [] kinds heard

@@ -1,5 +1,5 @@
 -- The line that makes a collection the fork of a master.
-use Rattle.std.specs.Prelude.{⊤, ◌≤◌, ℕ, List, length, codes, Bool, true, false, nat_lt, Option, Some, None, is_none, Result, Ok}
+use Rattle.std.specs.Prelude.{⊤, ◌≤◌, ℕ, List, length, Bool, true, false, nat_lt, Option, Some, None, is_none, Result, Ok}
 use Rattle.std.specs.Option.{option_map_or}
 use Rattle.rx_value.specs.Due.{◌>>◌, demand}
 use Rattle.rx_value.specs.Named.{named}
@@ -15,8 +15,7 @@ use Rattle.rx_record.specs.Content.{replication}
 use Rattle.rx_record.specs.declared.record.MasterName.{MasterName}
 use Rattle.rx_record.specs.declared.record.MasterName.TheVariants as master
 use Rattle.rx_reply.specs.Answer.{replicate}
-use Rattle.rx_reply.specs.declared.refusal.Refusal.TheVariants.{Line, Exists, NoHandler, Chain, SchemaDiffers, TooMany}
-use Rattle.rx_script.specs.declared.fault.LineFault.TheVariants.{Unexpected}
+use Rattle.rx_reply.specs.declared.refusal.Refusal.TheVariants.{Exists, NoHandler, Chain, SchemaDiffers, TooMany}
 use Rattle.rx_script.specs.declared.target.Target.{Target}
 use Rattle.rx_script.specs.declared.target.Target.TheVariants as target
 use Rattle.rx_session.specs.Doing.{write}
@@ -62,20 +61,13 @@ master_at (master.Port port) s = Ok None
 abbrev pub has_schema : Held → Option Held → Bool
 has_schema fork held = option_map_or (has_schema_of fork) held true
 
--- the master is of this journal
-abbrev pub is_here : MasterName → Bool
-is_here (master.Local name) = true
-is_here (master.Port port) = false
-
 -- ---- the line
 
--- No master at a port is followed yet. The name is free, the fork is held and so is a master that
--- is named, the handler is there, the fork may follow the master, both have one schema, and there
--- is room.
+-- The name is free, the fork is held and so is a master that is named, the handler is there, the fork
+-- may follow the master, both have one schema, and there is room.
 abbrev pub replicate_line : Kinds → List ℕ → List ℕ → MasterName → List ℕ → Option (List ℕ)
     → Session → Result Outcome Fault
 replicate_line kinds name fork master handler field s =
-    demand (is_here master) (Refused (Line (Unexpected (codes "port")))) >> λ _.
     demand (is_none (named s.world.replications name)) (Refused Exists) >> λ _.
     collection_at fork s >> λ c.
     master_at master s >> λ held.

@@ -5,14 +5,16 @@ use Rattle.rx_reply.specs.Answer.{answer_of}
 use Rattle.rx_session.specs.Doing.{Doing, write, restart, MayDo}
 use Rattle.rx_session.specs.Session.{Session}
 use Rattle.rx_session.specs.Shown.{done_by}
-use Rattle.rx_engine.specs.Lines.{Task, answered, turns}
+use Rattle.rx_engine.specs.Calling.{Call}
+use Rattle.rx_engine.specs.Lines.{Task, answered, turns, calls}
 use Rattle.rx_world.proofs.Sounds.{IsNoExchange}
 use Rattle.rx_engine.specs.Outcome.{Outcome}
 use Rattle.rx_engine.specs.Turning.{Turn}
 use Rattle.rx_engine.specs.declared.outcome.Outcome.{Outcome as Planned}
 use Rattle.rx_engine.specs.declared.outcome.LineDoing.{LineDoing}
 use Rattle.rx_engine.specs.declared.outcome.Task.{Task as ToDo}
-use Rattle.rx_engine.specs.declared.outcome.Task.TheVariants.{Answered, Turns}
+use Rattle.rx_engine.specs.declared.outcome.Task.TheVariants.{Answered, Turns, Calls}
+use Rattle.rx_engine.specs.declared.remote.Call.{Call as ToCall}
 use Rattle.rx_engine.specs.declared.turning.Turn.{Turn as Made}
 use Rattle.rx_engine.specs.declared.outcome.LineDoing.TheVariants.{InSession, Restart}
 
@@ -36,11 +38,17 @@ HasOrder _ = ⊤
 abbrev pub turn_of : Made → Turn
 turn_of t = record { name = t.name; batch = t.batch; budget = t.budget; link = t.link.items }
 
+abbrev pub call_of : ToCall → Call
+call_of c = record { name = c.name; port = c.port; batch = c.batch; budget = c.budget }
+
 abbrev pub task_of : ToDo → Task
 task_of (Answered p) = answered (outcome_of p)
 task_of (Turns t) = turns (turn_of t)
+task_of (Calls c) = calls (call_of c)
 
--- it may be done in a session; an exchange is of one document at least
+-- it may be done in a session; an exchange is of one document at least, and a turn to a master
+-- elsewhere has one at least
 abbrev pub MayDoTask : ToDo → Session → Type 0
 MayDoTask (Answered p) s = MayDo (doing_of p.doing) s
 MayDoTask (Turns t) s = 1 ≤ t.batch
+MayDoTask (Calls c) s = (1 ≤ c.batch) × (1 ≤ c.budget)

@@ -15,7 +15,7 @@ use Rattle.rx_sync.specs.Exchange.{Terms}
 use Rattle.rx_sync.specs.Laws.{HasMasterHere}
 use Rattle.rx_sync.specs.Turn.{Turned, turn}
 use Rattle.rx_world.specs.declared.replication.Replication.{Replication}
-use Rattle.rx_engine.specs.Replicate.{has_handler, is_here}
+use Rattle.rx_engine.specs.Replicate.{has_handler}
 use Rattle.rx_engine.specs.Standing.{Standing, asks_of}
 use Rattle.rx_engine.specs.declared.fault.Fault.{Fault}
 use Rattle.rx_engine.specs.declared.fault.Fault.TheVariants.{Refused}
@@ -29,25 +29,23 @@ pub record Turn : Type 0 where
   pub budget : ℕ
   pub link : List Happening
 
--- the replication of a name; one whose master is elsewhere makes no turns yet
-abbrev pub turned_at : List ℕ → Session → Result Replication Fault
-turned_at name s =
-    or_fault (Refused NoReplication) (named s.world.replications name) >> λ r.
-    demand (is_here r.master) (Refused NoReplication) >> λ _. Ok r
-
 -- its handler is there, and takes its field
 abbrev pub is_handled : Kinds → Session → Replication → Bool
 is_handled kinds s r =
     option_map_or (λ fork. has_handler kinds fork.schema r.handler r.field)
     (named s.world.collections r.fork) false
 
--- the turn that is made, or why none is
-abbrev pub turn_line : Kinds → List ℕ → ℕ → ℕ → Option (List Happening) → Session
-    → Result Turn Fault
-turn_line kinds name batch budget link s =
-    turned_at name s >> λ r.
-    demand (is_handled kinds s r) (Refused NoHandler) >> λ _.
-    Ok (record { name = name; batch = batch; budget = budget; link = unwrap_or link [] })
+-- the replication of a name, which is to be held, as its handler is
+abbrev pub turned_at : Kinds → List ℕ → Session → Result Replication Fault
+turned_at kinds name s =
+    or_fault (Refused NoReplication) (named s.world.replications name) >> λ r.
+    demand (is_handled kinds s r) (Refused NoHandler) >> λ _. Ok r
+
+-- the turn that is made, where the master is of this journal: nothing is done to its exchanges, where
+-- nothing is said of the link
+abbrev pub turn_here : List ℕ → ℕ → ℕ → Option (List Happening) → Turn
+turn_here name batch budget link =
+    record { name = name; batch = batch; budget = budget; link = unwrap_or link [] }
 
 -- ---- what it does
 

@@ -1,5 +1,5 @@
 // Does what a line was judged to be, and answers it.
-ghost use Rattle.std.specs.Prelude.{◌≡◌, ◌≤◌, ◌++◌, ℕ, List, None, length, IfOk, IsErrOf, string_bytes};
+ghost use Rattle.std.specs.Prelude.{◌≡◌, ◌≤◌, ◌++◌, ℕ, List, [], None, length, IfOk, IsErrOf, string_bytes};
 ghost use Rattle.rx_handler.specs.Shown.{kinds_of};
 ghost use Rattle.rx_outside.specs.declared.stop.Stop.TheVariants as Stop;
 ghost use Rattle.rx_reply.specs.declared.turn.TurnEnd.TheVariants.{Quiet};
@@ -7,6 +7,7 @@ ghost use Rattle.rx_session.specs.Doing.{nothing, restart, after, MayDo};
 ghost use Rattle.rx_session.specs.Emissions.{emissions, settled_session};
 ghost use Rattle.rx_store.specs.Safe.{HasDiskCause, IsCrashSafe};
 ghost use Rattle.rx_sync.specs.Laws.{IsLevel};
+ghost use Rattle.rx_sync.specs.Remote.{Heard};
 ghost use Rattle.rx_engine.specs.Meaning.{asks_kept, turn_meaning, bodies_of, lines_of, records_of};
 ghost use Rattle.rx_engine.specs.Shown.{doing_of, turn_of, WritesNoExchange};
 ghost use Rattle.rx_engine.specs.Turning.{CanTurn, turned};
@@ -81,18 +82,19 @@ impl Engine {
         requires at { D.tells → (bodies : List (List ℕ)) × IsAt D.Disk disk.old self bodies }
         requires batch { 1 ≤ wanted.now.batch }
         requires can { CanTurn (kinds_of handlers.now) (session_of self) wanted.now.name }
-        ensures answers { IfOk result (λ p. Answers (kinds_of handlers.now)
+        ensures answers { (heard : List Heard)
+            → IfOk result (λ p. Answers (kinds_of handlers.now) heard
             (turn_meaning number wanted.now.name
-            (turned (turn_of wanted.now) (standing_of (kinds_of handlers.now) self))
-            (standing_of (kinds_of handlers.now) self)) p.0 p.1) }
+            (turned (turn_of wanted.now) (standing_of (kinds_of handlers.now) heard self))
+            (standing_of (kinds_of handlers.now) heard self)) p.0 p.1) }
         ensures limit { IfOk result (λ p. limit_of p.0 ≡ limit_of self) }
         ensures safe { D.tells → (bodies : List (List ℕ)) → IsAt D.Disk disk.old self bodies
             → IsCrashSafe D.Disk disk.old disk.new bodies
             (bodies_of (turned (turn_of wanted.now)
-            (standing_of (kinds_of handlers.now) self)).records) (limit_of self)
+            (standing_of (kinds_of handlers.now) [] self)).records) (limit_of self)
             (λ p. IsAt D.Disk disk.new p.0) result }
         ensures quiet { IfOk result (λ p.
-            (turned (turn_of wanted.now) (standing_of (kinds_of handlers.now) self)).ended ≡ Quiet
+            (turned (turn_of wanted.now) (standing_of (kinds_of handlers.now) [] self)).ended ≡ Quiet
             → IsLevel (session_of p.0).world wanted.now.name) }
         ensures not_journal { IsErrOf result Stop.NotJournal → ⊥ }
         ensures cause { HasDiskCause (D.faults disk.old) (D.faults disk.new) result }

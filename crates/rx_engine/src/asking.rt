@@ -79,7 +79,7 @@ fn plan_task<'a>(
             batch,
             budget,
             link,
-        } => Ok(Task::Turns(turn_line(alloc, session, handlers, name, batch, budget, link)?)),
+        } => turn_line(alloc, session, handlers, name, batch, budget, link),
         line => Ok(Task::Answered(plan_line(alloc, session, handlers, line)?)),
     }
 }

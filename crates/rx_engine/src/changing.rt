@@ -162,16 +162,16 @@ impl Engine {
         requires batch { 1 ≤ wanted.now.batch }
         requires can { CanTurn (kinds_of handlers.now) (session_of self) wanted.now.name }
         ensures turned { IfOk result (IsAfterTurn wanted.now.name
-            (turned (turn_of wanted.now) (standing_of (kinds_of handlers.now) self))
-            (standing_of (kinds_of handlers.now) self)) }
+            (turned (turn_of wanted.now) (standing_of (kinds_of handlers.now) [] self))
+            (standing_of (kinds_of handlers.now) [] self)) }
         ensures limit { IfOk result (λ m. limit_of m.engine ≡ limit_of self) }
         ensures safe { D.tells → (bodies : List (List ℕ)) → IsAt D.Disk disk.old self bodies
             → IsCrashSafe D.Disk disk.old disk.new bodies
             (bodies_of (turned (turn_of wanted.now)
-            (standing_of (kinds_of handlers.now) self)).records) (limit_of self)
+            (standing_of (kinds_of handlers.now) [] self)).records) (limit_of self)
             (λ m. IsAt D.Disk disk.new m.engine) result }
         ensures quiet { IfOk result (λ m.
-            (turned (turn_of wanted.now) (standing_of (kinds_of handlers.now) self)).ended ≡ Quiet
+            (turned (turn_of wanted.now) (standing_of (kinds_of handlers.now) [] self)).ended ≡ Quiet
             → IsLevel (session_of m.engine).world wanted.now.name) }
         ensures not_journal { IsErrOf result Stop.NotJournal → ⊥ }
         ensures cause { HasDiskCause (D.faults disk.old) (D.faults disk.new) result }

@@ -5,12 +5,13 @@ ghost use Rattle.rx_handler.specs.Handlers.{Kinds};
 ghost use Rattle.rx_handler.specs.Shown.{kinds_of};
 ghost use Rattle.rx_journal.specs.Reading.{IsUntouched};
 ghost use Rattle.rx_outside.specs.declared.stop.Stop.TheVariants as Stop;
+ghost use Rattle.rx_sync.specs.Remote.{Heard};
 ghost use Rattle.rx_store.specs.Holds.{IsIllegalFile, IsJournalOfSome, IsLegalFile};
 ghost use Rattle.rx_store.specs.Safe.{HasDiskCause, IsCrashSafe};
 ghost use Rattle.rx_value.specs.Named.{named};
 ghost use Rattle.rx_world.specs.World.{World};
-ghost use Rattle.rx_engine.specs.Lines.{IsIdle, IsRestart};
-ghost use Rattle.rx_engine.specs.Meaning.{meaning, bodies_of};
+ghost use Rattle.rx_engine.specs.Calling.{Call};
+ghost use Rattle.rx_engine.specs.Lines.{IsIdle, IsRestart, calls, task};
 ghost use Rattle.rx_engine.specs.Opening.{epoch_body, opened};
 
 use crate::judging::{Judged, judge};
@@ -24,7 +25,7 @@ use rx_digest::digest;
 use rx_disk::Disk;
 use rx_handler::Handlers;
 use rx_journal::Journal;
-use rx_outside::Stop;
+use rx_outside::{Dial, Stop};
 use rx_session::Session;
 use rx_value::RxText;
 use std::alloc::{AllocError, Global};
@@ -40,7 +41,8 @@ pub struct Engine {
 }
 
 impl Engine {
-    ghost use Rattle.rx_engine.specs.Engine.{IsAt, Answers, IsBounded, LeavesAll, QuietIsLevel, session_of, standing_of, limit_of};
+    ghost use Rattle.rx_engine.specs.Engine.{IsAt, IsBounded, IsUnharmedBy, LeavesAll, QuietIsLevel, session_of, standing_of, limit_of};
+    ghost use Rattle.rx_engine.specs.Hearing.{PlaysLine};
 
     /// Opens a journal, plays its records, and begins a new epoch.
     pub fn open<D: Disk>(alloc: Global, disk: &mut D, limit: u64) -> Result<Engine, Stop>
@@ -53,9 +55,11 @@ impl Engine {
             → IsJournalOfSome (D.content disk.old) }
         ensures opened { D.tells → (bodies : List (List ℕ)) (w : World)
             → IsLegalFile (D.content disk.old) bodies w
-            → IfOk result (λ engine. (kinds : Kinds) → standing_of kinds engine ≡ opened kinds w) }
+            → IfOk result (λ engine. (kinds : Kinds) (heard : List Heard)
+            → standing_of kinds heard engine ≡ opened kinds heard w) }
         ensures begun { IfOk result (λ engine. (w : World)
-            × ((kinds : Kinds) → standing_of kinds engine ≡ opened kinds w)) }
+            × ((kinds : Kinds) (heard : List Heard)
+            → standing_of kinds heard engine ≡ opened kinds heard w)) }
         ensures limit { IfOk result (λ engine. limit_of engine ≡ limit) }
 
         // Over a legal file: what holds at each moment, at `Ok`, and at `Full`.
@@ -83,50 +87,71 @@ impl Engine {
         })
     }
 
-    /// Plays a line that isn't blank. Its records are on the disk before its output exists. The
-    /// engine is spent on a stop.
-    pub fn line<D: Disk>(
+    /// Plays a line that isn't blank. Its records are on the disk before its output exists. A turn to
+    /// a master elsewhere dials once, and hands the wire back. The engine is spent on a stop.
+    pub fn line<D: Disk, L: Dial>(
         self,
         alloc: Global,
         disk: &mut D,
+        dial: &mut L,
         handlers: &Handlers,
         text: &[u8],
         number: u64,
     ) -> Result<(Engine, Output), Stop>
         requires { D.tells → (bodies : List (List ℕ)) × IsAt D.Disk disk.old self bodies }
-        ensures answers { IfOk result (λ p.
-            Answers (kinds_of handlers.now)
-            (meaning number text.now (standing_of (kinds_of handlers.now) self)) p.0 p.1) }
+
+        // Its answer is that of its meaning, by what was heard of masters elsewhere, as the dial
+        // shows; and its records: what holds at each moment, at `Ok`, and at `Full`.
+        ensures plays { PlaysLine D.Disk L.W.tells (kinds_of handlers.now) number text.now disk.old
+            disk.new
+            (record {
+              faults = L.faults dial.old;
+              broken = L.broken dial.old;
+              talks = L.talks dial.old;
+            })
+            (record {
+              faults = L.faults dial.new;
+              broken = L.broken dial.new;
+              talks = L.talks dial.new;
+            }) self result }
         ensures limit { IfOk result (λ p. limit_of p.0 ≡ limit_of self) }
 
         // Where a turn ends quiet, its fork and its master have the same states.
         ensures quiet { IfOk result (λ p.
-            QuietIsLevel text.now (standing_of (kinds_of handlers.now) self) p.0) }
+            QuietIsLevel text.now (standing_of (kinds_of handlers.now) [] self) p.0) }
 
         // A turn whose link does nothing comes to its end in time.
         ensures bounded { OnOk result
-            (IsBounded text.now (standing_of (kinds_of handlers.now) self)) }
+            (IsBounded text.now (standing_of (kinds_of handlers.now) [] self)) }
 
-        // The line's records: what holds at each moment, at `Ok`, and at `Full`.
-        ensures safe { D.tells → (bodies : List (List ℕ)) → IsAt D.Disk disk.old self bodies
-            → IsCrashSafe D.Disk disk.old disk.new bodies
-            (bodies_of (meaning number text.now (standing_of (kinds_of handlers.now) self)).records)
-            (limit_of self) (λ p. IsAt D.Disk disk.new p.0) result }
+        // No master elsewhere, whatever it sends, harms a fork; nor does it at a stop.
+        ensures unharmed { (IsErrOf result Stop.Memory → ⊥) → (heard : List Heard)
+            → IsUnharmedBy text.now (standing_of (kinds_of handlers.now) heard self) }
 
-        // A refused line leaves the session and the disk, and so does one that tells what there is.
+        // A refused line leaves the session, the disk and the dial, and so does one that tells what
+        // there is.
         ensures refused { IfOk result (λ p. p.1.refused ≡ true → (disk.new ≡ disk.old)
-            × LeavesAll number text.now (standing_of (kinds_of handlers.now) self) p.0 p.1) }
-        ensures idle { IsIdle text.now (standing_of (kinds_of handlers.now) self)
-            → (disk.new ≡ disk.old) × IfOk result (λ p.
-            LeavesAll number text.now (standing_of (kinds_of handlers.now) self) p.0 p.1) }
+            × (dial.new ≡ dial.old) × ((heard : List Heard)
+            → LeavesAll number text.now (standing_of (kinds_of handlers.now) heard self) p.0 p.1)) }
+        ensures idle { IsIdle text.now (standing_of (kinds_of handlers.now) [] self)
+            → (disk.new ≡ disk.old) × (dial.new ≡ dial.old) × IfOk result (λ p.
+            (heard : List Heard)
+            → LeavesAll number text.now (standing_of (kinds_of handlers.now) heard self) p.0 p.1) }
+
+        // A line that makes no turn to a master elsewhere leaves the dial, whatever comes of it.
+        ensures undialled { ((c : Call)
+            → task (kinds_of handlers.now) text.now (session_of self) ≡ calls c → ⊥)
+            → dial.new ≡ dial.old }
 
         // Only where a journal is opened again, it may be none any more.
         ensures not_journal { IsErrOf result Stop.NotJournal → IsRestart text.now }
         ensures cause { HasDiskCause (D.faults disk.old) (D.faults disk.new) result }
+        ensures dial_count { L.faults dial.old ≤ L.faults dial.new }
     {
         match judge(alloc, self.session.session(), handlers, text, number)? {
             Judged::Printed(printed) => self.answer(alloc, disk, printed),
             Judged::Turns(turn) => self.answer_turn(alloc, disk, handlers, &turn, number),
+            Judged::Calls(call) => self.answer_call(alloc, disk, dial, handlers, &call, number),
         }
     }
 

@@ -7,7 +7,7 @@ ghost use Rattle.rx_store.specs.Safe.{HasDiskCause, IsCrashSafe};
 ghost use Rattle.rx_sync.specs.Asking.{asked_in, pending_in};
 ghost use Rattle.rx_sync.specs.Asks.{next_number, with_request};
 ghost use Rattle.rx_sync.specs.Exchange.{course, exchange};
-ghost use Rattle.rx_sync.specs.Laws.{IsAskedIn, IsLawfulIn, IsReady, MayTurn, RemembersLawful};
+ghost use Rattle.rx_sync.specs.Laws.{IsAskedIn, IsDueIn, IsLawfulIn, IsReady, MayTurn, RemembersLawful};
 ghost use Rattle.rx_world.specs.Sound.{IsSoundWorld};
 ghost use Rattle.rx_engine.specs.Carried.{carried};
 ghost use Rattle.rx_engine.specs.Meaning.{bodies_of};
@@ -62,33 +62,34 @@ pub(crate) fn make_exchange<D: Disk>(
     ensures not_journal { IsErrOf result Stop.NotJournal → ⊥ }
     ensures cause { HasDiskCause (D.faults disk.old) (D.faults disk.new) result }
 {
-    let asked = make_request(alloc, &play, asks, wanted, pulled)?;
     let name = wanted.name.as_str();
+    let asked = ask_next(alloc, &play, asks, name, wanted.batch, pulled)?;
     carry_request(
         alloc, disk, handlers, play, asks, name, &asked, happening, now,
     )
 }
 
-// Makes the next request, and remembers it.
-fn make_request(
+/// Makes the next request, and remembers it, where the exchange before it has pulled or not.
+pub(crate) fn ask_next(
     alloc: Global,
     play: &Play,
     asks: &mut Asks,
-    wanted: &Turn,
+    name: &str,
+    batch: u32,
     pulled: bool,
 ) -> Result<Asked, AllocError>
-    requires held { IsSome (named play.now.playing.world.replications wanted.now.name) }
+    requires held { IsSome (named play.now.playing.world.replications name.now) }
     requires sound { IsSoundWorld play.now.playing.world }
-    requires batch { 1 ≤ wanted.now.batch }
-    requires pulled { pulled ≡ true
-        → pending_in play.now.playing.world wanted.now.name ≡ Some 0 }
-    ensures asked { IfOk result (λ asked. asked_in play.now.playing.world wanted.now.name
-        (next_number asks.old) wanted.now.batch ≡ Some asked) }
+    requires batch { 1 ≤ batch }
+    requires pulled { pulled ≡ true → pending_in play.now.playing.world name.now ≡ Some 0 }
+    ensures asked { IfOk result (λ asked. asked_in play.now.playing.world name.now
+        (next_number asks.old) batch ≡ Some asked) }
     ensures lawful { IfOk result
-        (λ asked. IsLawfulIn play.now.playing.world wanted.now.name asked.request) }
+        (λ asked. IsLawfulIn play.now.playing.world name.now asked.request) }
+    ensures due { IfOk result (λ asked. IsDueIn play.now.playing.world name.now asked) }
     ensures asks { IfOk result (λ asked. asks.new ≡ with_request asked.request asks.old) }
 {
-    let asked = next_request(alloc, play, wanted, asks.next_number(), pulled)?;
+    let asked = next_request(alloc, play, name, asks.next_number(), batch, pulled)?;
     asks.push(copy_of_request(alloc, &asked.request)?)?;
     Ok(asked)
 }
@@ -98,26 +99,26 @@ fn make_request(
 fn next_request(
     alloc: Global,
     play: &Play,
-    wanted: &Turn,
+    name: &str,
     number: u64,
+    batch: u32,
     pulled: bool,
 ) -> Result<Asked, AllocError>
-    requires held { IsSome (named play.now.playing.world.replications wanted.now.name) }
+    requires held { IsSome (named play.now.playing.world.replications name.now) }
     requires sound { IsSoundWorld play.now.playing.world }
-    requires batch { 1 ≤ wanted.now.batch }
-    requires pulled { pulled ≡ true
-        → pending_in play.now.playing.world wanted.now.name ≡ Some 0 }
-    ensures asked { IfOk result (λ asked. asked_in play.now.playing.world wanted.now.name
-        number wanted.now.batch ≡ Some asked) }
+    requires batch { 1 ≤ batch }
+    requires pulled { pulled ≡ true → pending_in play.now.playing.world name.now ≡ Some 0 }
+    ensures asked { IfOk result
+        (λ asked. asked_in play.now.playing.world name.now number batch ≡ Some asked) }
     ensures lawful { IfOk result
-        (λ asked. IsLawfulIn play.now.playing.world wanted.now.name asked.request) }
+        (λ asked. IsLawfulIn play.now.playing.world name.now asked.request) }
+    ensures due { IfOk result (λ asked. IsDueIn play.now.playing.world name.now asked) }
 {
     let world = play.playing.world();
-    let name = wanted.name.as_str();
     if pulled {
-        return ask_to_pull(alloc, world, name, number, wanted.batch);
+        return ask_to_pull(alloc, world, name, number, batch);
     }
-    ask(alloc, world, name, number, wanted.batch)
+    ask(alloc, world, name, number, batch)
 }
 
 // What the link makes of the request that was made last.

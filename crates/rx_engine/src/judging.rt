@@ -7,6 +7,7 @@ ghost use Rattle.rx_engine.specs.Shown.{outcome_of};
 
 use crate::asking::plan;
 use crate::outcome::{LineDoing, Outcome, Task};
+use crate::remote::Call;
 use crate::turning::Turn;
 use rx_handler::Handlers;
 use rx_session::Session;
@@ -20,11 +21,13 @@ pub(crate) struct Printed {
     pub refused: bool,
 }
 
-/// What a line comes to: something to do, which is answered already, or a turn.
+/// What a line comes to: something to do, which is answered already; or a turn, to a master of this
+/// journal or to one elsewhere.
 #[derive(Drop)]
 pub(crate) enum Judged {
     Printed(Printed),
     Turns(Turn),
+    Calls(Call),
 }
 
 /// Judges a line that isn't blank.
@@ -42,6 +45,7 @@ pub(crate) fn judge(
     match plan(alloc, session, handlers, text)? {
         Task::Answered(outcome) => Ok(Judged::Printed(print(alloc, outcome, number)?)),
         Task::Turns(turn) => Ok(Judged::Turns(turn)),
+        Task::Calls(call) => Ok(Judged::Calls(call)),
     }
 }
 

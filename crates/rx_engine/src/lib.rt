@@ -5,7 +5,10 @@
 mod answering;
 mod asking;
 mod bulk;
+mod calling;
+mod calls;
 mod changing;
+mod dialling;
 mod documents;
 mod engine;
 mod exchanging;
@@ -19,6 +22,7 @@ mod outcome;
 mod output;
 mod play;
 mod queries;
+mod remote;
 mod replicate;
 mod requests;
 mod sound_session;

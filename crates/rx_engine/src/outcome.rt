@@ -1,3 +1,4 @@
+use crate::remote::Call;
 use crate::turning::Turn;
 use rx_reply::Reply;
 use rx_session::Doing;
@@ -16,9 +17,11 @@ pub(crate) struct Outcome<'a> {
     pub reply: Reply<'a>,
 }
 
-/// What a line comes to: an outcome, or a turn, which is answered once it is made.
+/// What a line comes to: an outcome; or a turn, to a master of this journal or to one elsewhere, which
+/// is answered once it is made.
 #[derive(Drop)]
 pub(crate) enum Task<'a> {
     Answered(Outcome<'a>),
     Turns(Turn),
+    Calls(Call),
 }

@@ -7,7 +7,7 @@ ghost use Rattle.rx_record.specs.Content.{replication};
 ghost use Rattle.rx_record.specs.Shown.{content};
 ghost use Rattle.rx_script.specs.Target.{IsTarget};
 ghost use Rattle.rx_session.specs.Doing.{MayDo};
-ghost use Rattle.rx_engine.specs.Replicate.{has_handler, has_schema, is_here, master_at, master_of, replicate_line, takes_field, HasPort};
+ghost use Rattle.rx_engine.specs.Replicate.{has_handler, has_schema, master_at, master_of, replicate_line, takes_field, HasPort};
 ghost use Rattle.rx_engine.specs.Shown.{doing_of, outcome_of};
 ghost use Rattle.rx_engine.specs.declared.fault.Fault.TheVariants.{Memory};
 
@@ -19,7 +19,7 @@ use rx_handler::{HandlerKind, Handlers};
 use rx_record::{MasterName, Record};
 use rx_reply::{Refusal, Reply};
 use rx_schema::Schema;
-use rx_script::{LineFault, Target};
+use rx_script::Target;
 use rx_session::{Doing, Session};
 use rx_value::{Kind, RxText};
 use rx_world::MAX_REPLICATIONS;
@@ -61,11 +61,6 @@ pub(crate) fn replicate_line<'a>(
         wanted.handler wanted.field session.now) }
     ensures may { IfOk result (λ p. MayDo (doing_of p.doing) session.now) }
 {
-    if !is_here(&wanted.master) {
-        return Err(Fault::Refused(Refusal::Line(LineFault::Unexpected(RxText::new(
-            alloc, "port",
-        )?))));
-    }
     let world = session.world();
     if world.replication(wanted.name.as_str()).is_some() {
         return Err(Fault::Refused(Refusal::Exists));
@@ -88,16 +83,6 @@ pub(crate) fn replicate_line<'a>(
         doing: LineDoing::InSession(Doing::Write(record_of(wanted))),
         reply: Reply::Replicate,
     })
-}
-
-/// Whether the master is of this journal.
-pub(crate) fn is_here(master: &MasterName) -> bool
-    ensures { result ≡ is_here master.now }
-{
-    match master {
-        MasterName::Local(_) => true,
-        MasterName::Port(_) => false,
-    }
 }
 
 fn record_of(wanted: Wanted) -> Record

@@ -56,8 +56,12 @@ pub(crate) fn turn_by_name<D: Disk>(
     }
 }
 
-// Makes room for the requests of a replication that has made none yet.
-fn remember(asks: &mut IndexMap<String, Asks>, alloc: Global, name: &str) -> Result<(), AllocError>
+/// Makes room for the requests of a replication that has made none yet.
+pub(crate) fn remember(
+    asks: &mut IndexMap<String, Asks>,
+    alloc: Global,
+    name: &str,
+) -> Result<(), AllocError>
     ensures { OnOk result (by_bytes asks.new.entries
         ≡ put_named (by_bytes asks.old.entries) name.now
         (asks_of name.now (by_bytes asks.old.entries))) }

@@ -110,15 +110,15 @@ fn happening_at(link: &[Happening], i: usize) -> Happening
     }
 }
 
-// Whether a reply to a pull was taken.
-fn has_pulled(exchanged: &Exchanged) -> bool
+/// Whether a reply to a pull was taken.
+pub(crate) fn has_pulled(exchanged: &Exchanged) -> bool
     ensures { result ≡ has_pulled (Some exchanged.now) }
 {
     matches!(exchanged, Exchanged::Pulled { .. })
 }
 
-// How an exchange ends the turn, if it does.
-fn end_by(batch: u32, exchanged: &Exchanged) -> Option<TurnEnd>
+/// How an exchange ends the turn, if it does.
+pub(crate) fn end_by(batch: u32, exchanged: &Exchanged) -> Option<TurnEnd>
     ensures { result ≡ end_by batch (Some exchanged.now) }
 {
     match exchanged {

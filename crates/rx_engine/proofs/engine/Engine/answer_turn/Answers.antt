@@ -34,12 +34,20 @@ returns-in_err-output-clause-safe g c told bodies at =
 
 pub returns-clause-answers : goal.returns-clause-answers
 unfolding standing_of
-returns-clause-answers g c =
-    let s = standing_of (kinds_of c.args.handlers.now) c.args.self in
+returns-clause-answers g c = λ heard.
+    let s = standing_of (kinds_of c.args.handlers.now) heard c.args.self in
     let m = c.in_ok-engine.field-0 in
     let same = c.as_slice.ensures.value in
+    let then = c.in_ok-engine.ensures.turned in
     turned_so c.args.number c.args.wanted.now.name (turned (turn_of c.args.wanted.now) s) s
-    m c.in_ok-output.output c.in_ok-engine.ensures.turned
+    m c.in_ok-output.output
+    (record {
+      session = then.session;
+      asks = then.asks;
+      due = then.due;
+      exchanges = then.exchanges;
+      ended = then.ended;
+    })
     (c.in_ok-output.ensures.text
     ∙ ap (λ (t : List ℕ). t ++ lines_of c.as_slice.result.now) c.in_ok-text.ensures
     ∙ ap (λ (es : List Emission). answer_lines c.args.number

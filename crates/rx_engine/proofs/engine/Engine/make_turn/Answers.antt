@@ -1,4 +1,4 @@
-use Rattle.std.proofs.Common.{◌∙◌, ◌++◌, ap, sym, subst, rules}
+use Rattle.std.proofs.Common.{◌∙◌, [], ◌++◌, ap, sym, subst, rules}
 use Rattle.rx_value.specs.Named.{by_bytes, put_named}
 use Rattle.rx_handler.specs.Shown.{kinds_of}
 use Rattle.rx_session.specs.Emissions.{emissions, settled_session}
@@ -31,7 +31,7 @@ turn_by_name-requires-clause-at g c told =
 pub turn_by_name-requires-clause-may : goal.turn_by_name-requires-clause-may
 unfolding session_of asks_in standing_of
 turn_by_name-requires-clause-may g c =
-    let s = standing_of (kinds_of c.args.handlers.now) c.args.self in
+    let s = standing_of (kinds_of c.args.handlers.now) [] c.args.self in
     let u = turn_of c.args.wanted.now in
     let parts = c.release-parts.ensures in
     may_here u s c.begin.result c.moment-now.result (by_bytes c.release-parts.result.1.entries)
@@ -42,7 +42,7 @@ turn_by_name-requires-clause-may g c =
 pub returns-in_err-made-clause-safe : goal.returns-in_err-made-clause-safe
 unfolding session_of asks_in standing_of
 returns-in_err-made-clause-safe g c told bodies at =
-    let s = standing_of (kinds_of c.args.handlers.now) c.args.self in
+    let s = standing_of (kinds_of c.args.handlers.now) [] c.args.self in
     let u = turn_of c.args.wanted.now in
     let parts = c.release-parts.ensures in
     let session = c.begin.ensures.same ∙ parts.same in
@@ -59,7 +59,7 @@ returns-in_err-made-clause-safe g c told bodies at =
 pub returns-in_err-session-clause-safe : goal.returns-in_err-session-clause-safe
 unfolding session_of asks_in standing_of
 returns-in_err-session-clause-safe g c told bodies at =
-    let s = standing_of (kinds_of c.args.handlers.now) c.args.self in
+    let s = standing_of (kinds_of c.args.handlers.now) [] c.args.self in
     let u = turn_of c.args.wanted.now in
     let parts = c.release-parts.ensures in
     let session = c.begin.ensures.same ∙ parts.same in
@@ -78,7 +78,7 @@ returns-in_err-session-clause-safe g c told bodies at =
 pub new-requires-clause-made : goal.new-requires-clause-made
 unfolding session_of asks_in standing_of
 new-requires-clause-made g c =
-    let s = standing_of (kinds_of c.args.handlers.now) c.args.self in
+    let s = standing_of (kinds_of c.args.handlers.now) [] c.args.self in
     let u = turn_of c.args.wanted.now in
     let parts = c.release-parts.ensures in
     let session = c.begin.ensures.same ∙ parts.same in
@@ -94,7 +94,7 @@ new-requires-clause-made g c =
 pub new-requires-clause-sound : goal.new-requires-clause-sound
 unfolding session_of asks_in standing_of
 new-requires-clause-sound g c =
-    let s = standing_of (kinds_of c.args.handlers.now) c.args.self in
+    let s = standing_of (kinds_of c.args.handlers.now) [] c.args.self in
     let u = turn_of c.args.wanted.now in
     let parts = c.release-parts.ensures in
     let session = c.begin.ensures.same ∙ parts.same in
@@ -110,7 +110,7 @@ new-requires-clause-sound g c =
 pub new-requires-clause-remembered : goal.new-requires-clause-remembered
 unfolding session_of asks_in standing_of
 new-requires-clause-remembered g c =
-    let s = standing_of (kinds_of c.args.handlers.now) c.args.self in
+    let s = standing_of (kinds_of c.args.handlers.now) [] c.args.self in
     let u = turn_of c.args.wanted.now in
     let parts = c.release-parts.ensures in
     let session = c.begin.ensures.same ∙ parts.same in
@@ -128,7 +128,7 @@ new-requires-clause-remembered g c =
 pub returns-clause-turned : goal.returns-clause-turned
 unfolding session_of asks_in standing_of
 returns-clause-turned g c =
-    let s = standing_of (kinds_of c.args.handlers.now) c.args.self in
+    let s = standing_of (kinds_of c.args.handlers.now) [] c.args.self in
     let u = turn_of c.args.wanted.now in
     let parts = c.release-parts.ensures in
     let session = c.begin.ensures.same ∙ parts.same in
@@ -149,7 +149,7 @@ returns-clause-turned g c =
 pub returns-clause-safe : goal.returns-clause-safe
 unfolding session_of asks_in standing_of
 returns-clause-safe g c told bodies at =
-    let s = standing_of (kinds_of c.args.handlers.now) c.args.self in
+    let s = standing_of (kinds_of c.args.handlers.now) [] c.args.self in
     let u = turn_of c.args.wanted.now in
     let parts = c.release-parts.ensures in
     let session = c.begin.ensures.same ∙ parts.same in
@@ -172,7 +172,7 @@ returns-clause-safe g c told bodies at =
 pub returns-clause-quiet : goal.returns-clause-quiet
 unfolding session_of asks_in standing_of
 returns-clause-quiet g c quiet =
-    let s = standing_of (kinds_of c.args.handlers.now) c.args.self in
+    let s = standing_of (kinds_of c.args.handlers.now) [] c.args.self in
     let u = turn_of c.args.wanted.now in
     let parts = c.release-parts.ensures in
     let session = c.begin.ensures.same ∙ parts.same in

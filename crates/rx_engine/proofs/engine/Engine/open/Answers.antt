@@ -35,8 +35,8 @@ new-sound-requires-clause-remembered g c =
 
 pub returns-clause-opened : goal.returns-clause-opened
 unfolding session_of asks_in standing_of opened
-returns-clause-opened g c told bodies w lawful kinds =
-    standing_same kinds _ _ _ _
+returns-clause-opened g c told bodies w lawful kinds heard =
+    standing_same kinds heard _ _ _ _
     (ap (λ (x : SessionWithAsks). x.session) c.new-sound.ensures ∙ c.new-session.ensures
     ∙ ap session_on (c.in_ok-journal.ensures.opened told bodies w lawful))
     (ap (λ (x : SessionWithAsks). x.asks) c.new-sound.ensures
@@ -47,7 +47,7 @@ unfolding session_of asks_in standing_of opened
 returns-clause-begun g c =
     let begun = c.in_ok-journal.ensures.begun in (
       begun.0,
-      λ kinds. standing_same kinds _ _ _ _
+      λ kinds heard. standing_same kinds heard _ _ _ _
           (ap (λ (x : SessionWithAsks). x.session) c.new-sound.ensures ∙ c.new-session.ensures
           ∙ ap session_on begun.1) (ap (λ (x : SessionWithAsks). x.asks) c.new-sound.ensures
           ∙ ap by_bytes c.new-asks.ensures.empty),
