@@ -8,7 +8,7 @@ ghost use Rattle.rx_handler.specs.Resolve.{resolve};
 use rx_disk::{Disk, FileDisk};
 use rx_handler::{Handler, HandlerFault, HandlerKind, Handlers, resolved};
 use rx_outside::{
-    Clock, Listen, Sink, Source, StdSink, StdSource, SystemClock, TcpDoor, write_all,
+    Clock, Dial, Listen, Sink, Source, StdSink, StdSource, SystemClock, TcpDial, TcpDoor, write_all,
 };
 use rx_top::rx;
 use rx_value::{RxText, State};
@@ -42,6 +42,7 @@ fn main(rt: HostRuntime) -> ExitCode {
         Ok((words, path)) => {
             let mut disk = FileDisk::new(&rt, path);
             let mut door = TcpDoor::new(&rt);
+            let mut dial = TcpDial::new(&rt);
             let mut clock = SystemClock::new(&rt);
             play(
                 rt.alloc(),
@@ -50,6 +51,7 @@ fn main(rt: HostRuntime) -> ExitCode {
                 &mut out,
                 &mut disk,
                 &mut door,
+                &mut dial,
                 &mut clock,
             )
         }
@@ -65,13 +67,14 @@ fn main(rt: HostRuntime) -> ExitCode {
 }
 
 // Runs the command with the handlers that a replication may name.
-fn play<S: Source, K: Sink, D: Disk, L: Listen, C: Clock>(
+fn play<S: Source, K: Sink, D: Disk, L: Listen, N: Dial, C: Clock>(
     alloc: Global,
     words: &Words,
     source: &mut S,
     out: &mut K,
     disk: &mut D,
     door: &mut L,
+    dial: &mut N,
     clock: &mut C,
 ) -> Result<u8, HandlerFault> {
     let mut handlers = Handlers::new(alloc);
@@ -87,7 +90,9 @@ fn play<S: Source, K: Sink, D: Disk, L: Listen, C: Clock>(
             Err(refused) => return Err(AllocError::from(refused).into()),
         }
     }
-    Ok(rx(alloc, words, source, out, disk, door, clock, &handlers))
+    Ok(rx(
+        alloc, words, source, out, disk, door, dial, clock, &handlers,
+    ))
 }
 
 // Opens the root folder in the place of each standard stream that is closed, so that the journal

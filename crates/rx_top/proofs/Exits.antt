@@ -1,19 +1,22 @@
 -- How the play of a script goes on, and how it ends.
-use Rattle.std.proofs.Common.{◌≡◌, ◌∙◌, refl, sym, ap, subst, ℕ, ◌+◌, ◌≤◌, Bool, false, ◌||◌, List, [], ◌∷◌, ◌++◌, length, take, ◌⊎◌, Option, None, Some, Result, Ok, Err, IsErrOf, OnOk, inl, inr, arith, append_assoc, append-nil, length-append}
+use Rattle.std.proofs.Common.{◌≡◌, ◌≢◌, ◌∙◌, refl, sym, ap, subst, ℕ, ◌+◌, ◌≤◌, Bool, false, ◌||◌, List, [], ◌∷◌, ◌++◌, length, take, ◌⊎◌, Option, None, Some, Result, Ok, Err, IsErrOf, IsOk, OnOk, inl, inr, arith, append_assoc, append-nil, length-append}
 use Rattle.std.proofs.Math.Seq.{take-append_seam}
 use Rattle.rx_disk.specs.declared.disk.Disk.{Ghosts}
-use Rattle.rx_engine.specs.Engine.{IsAt, session_of, standing_of, limit_of}
+use Rattle.rx_engine.specs.Dialled.{DialStanding}
+use Rattle.rx_engine.specs.Engine.{IsAt, IsUnharmedBy, session_of, limit_of}
 use Rattle.rx_store.specs.Holds.{GrowsLegally, ImagesStandFor, Leaves}
 use Rattle.rx_engine.specs.Standing.{Standing}
-use Rattle.rx_handler.specs.Handlers.{Kinds}
 use Rattle.rx_engine.specs.declared.engine.Engine.{Engine}
 use Rattle.rx_store.specs.Safe.{IsCrashSafe, IsFull}
 use Rattle.rx_store.proofs.Growing.{held}
 use Rattle.rx_frame.specs.File.{IsWhole, end_of}
 use Rattle.rx_outside.specs.Sink.{WritesFront}
 use Rattle.rx_outside.specs.declared.stop.Stop.{Stop}
+use Rattle.rx_outside.specs.declared.stop.Stop.TheVariants.{Memory}
+use Rattle.rx_sync.specs.Remote.{Heard}
 use Rattle.rx_top.specs.Chunks.{Keeps, all_of}
-use Rattle.rx_top.specs.Lines.{cut, lines}
+use Rattle.rx_top.specs.Hears.{HearsAll, HearsLines, IsShownAt}
+use Rattle.rx_top.specs.Lines.{cut, is_blank, lines}
 use Rattle.rx_top.specs.Reader.{Takes, TakesKept, StopsWithin, Took, max_input_bytes}
 use Rattle.rx_top.specs.Run.{KeepsFrom, Plays, Reads, Writes, stop_of}
 use Rattle.rx_top.specs.Script.{line_effect}
@@ -27,8 +30,9 @@ use Rattle.rx_top.specs.declared.cause.ReadFault.TheVariants as fault
 use Rattle.rx_top.specs.declared.reader.Next.{Next}
 use Rattle.rx_top.specs.declared.reader.Next.TheVariants.{Line, Last, End}
 use Rattle.rx_top.proofs.Chunks.{CountsNow, Kept, OnlyNow, all_of-push, keeps_all, keeps_stopped, kept_more, kept_none}
-use Rattle.rx_top.proofs.Kept.{kept_effect, kept_turn}
-use Rattle.rx_top.proofs.Story.{SoFar, none_yet, line_more, lines_more, rest_lines, lines_last, lines_next, begun, refused_more, replies-push, chunks-push, each-push}
+use Rattle.rx_top.proofs.Hears.{hears_push, nothing_last, then_shown}
+use Rattle.rx_top.proofs.Kept.{kept_effect, kept_shown, kept_turn, kept_unharmed}
+use Rattle.rx_top.proofs.Story.{SoFar, none_yet, line_more, lines_more, rest_lines, lines_last, lines_next, begun, refused_more, replies-push, chunks-push, each-push, state_after-push}
 
 -- ---- what was given
 
@@ -110,36 +114,40 @@ fits_all bodies more limit (inr le) before = le
 -- lines were played from an engine to another
 pub record Along
     {D : Type 0}
-    (kinds : Kinds)
+    (s0 s1 : Standing)
     (d : Ghosts D)
-    (k_tells : Type 0)
+    (k_tells wires : Type 0)
     (d0 d1 : D)
+    (n0 n1 : DialStanding)
     (first engine : Engine)
     (w0 w1 input rest : List ℕ)
     (n : ℕ)
     (r : Bool) : Type 0 where
   pub limit : limit_of engine ≡ limit_of first
   pub bytes : List ℕ
-  pub so : SoFar line_effect bytes input rest n r (standing_of kinds first) (standing_of kinds engine)
-  pub told : k_tells → w1 ≡ w0 ++ replies line_effect 1 (cut bytes).whole (standing_of kinds first)
-  pub each : EachLine line_effect HoldsOfTurn 1 (cut bytes).whole (standing_of kinds first)
+  pub so : SoFar line_effect bytes input rest n r s0 s1
+  pub told : k_tells → w1 ≡ w0 ++ replies line_effect 1 (cut bytes).whole s0
+  pub each : EachLine line_effect HoldsOfTurn 1 (cut bytes).whole s0
+  pub hears : HearsLines wires 1 (cut bytes).whole s0 n0 n1
   pub at : d.tells → (bodies : List (List ℕ)) → IsAt d d0 first bodies
-      → IsAt d d1 engine (bodies ++ all_of (chunks line_effect 1 (cut bytes).whole (standing_of kinds first)))
+      → IsAt d d1 engine (bodies ++ all_of (chunks line_effect 1 (cut bytes).whole s0))
   pub kept : d.tells → (bodies : List (List ℕ)) → IsAt d d0 first bodies
       → end_of bodies ≤ limit_of first
-      → Kept d d0 d1 bodies (chunks line_effect 1 (cut bytes).whole (standing_of kinds first)) (limit_of first)
+      → Kept d d0 d1 bodies (chunks line_effect 1 (cut bytes).whole s0) (limit_of first)
 
-pub begins : {kinds : Kinds} {D : Type 0} (d : Ghosts D) (k_tells : Type 0) (disk : D) (first : Engine)
-    (w input unread : List ℕ) → unread ≡ [] → (d.tells → OnlyNow d disk)
-    → Along kinds d k_tells disk disk first first w w input (unread ++ input) 0 false
-begins {kinds} d k_tells disk first w input unread none only_now = record {
+pub begins : (s0 : Standing) {D : Type 0} (d : Ghosts D) (k_tells wires : Type 0) (disk : D)
+    (dial : DialStanding) (first : Engine) (w input unread : List ℕ) → unread ≡ []
+    → (d.tells → OnlyNow d disk)
+    → Along s0 s0 d k_tells wires disk disk dial dial first first w w input (unread ++ input) 0 false
+begins s0 d k_tells wires disk dial first w input unread none only_now = record {
   limit = refl;
   bytes = [];
   so = subst (λ (v : List ℕ).
-      SoFar line_effect [] input (v ++ input) 0 false (standing_of kinds first) (standing_of kinds first))
-      (sym none) (none_yet line_effect input (standing_of kinds first));
+      SoFar line_effect [] input (v ++ input) 0 false s0 s0)
+      (sym none) (none_yet line_effect input s0);
   told = λ t. sym (append-nil w);
   each = tt;
+  hears = refl;
   at = λ t bodies at. subst (λ (bs : List (List ℕ)). IsAt d disk first bs) (sym (append-nil bodies))
       at;
   kept = λ t bodies at le. kept_none d disk bodies (limit_of first) (only_now t)
@@ -147,18 +155,21 @@ begins {kinds} d k_tells disk first w input unread none only_now = record {
 }
 
 -- an end with all that was due on the disk
-pub ends : (kinds : Kinds) {D : Type 0} (d : Ghosts D) (d0 d1 : D) (tells : Type 0) (w0 w1 : List ℕ)
-    (first : Engine) (ls rest : List (List ℕ)) (input left : List ℕ) (ended : Result Bool Cause)
+pub ends : (s : Standing) {D : Type 0} (d : Ghosts D) (d0 d1 : D) (tells wires : Type 0)
+    (n0 n1 : DialStanding) (w0 w1 : List ℕ) (first : Engine) (ls rest : List (List ℕ))
+    (input left : List ℕ) (ended : Result Bool Cause)
     → stop_of ended ≡ None → lines input ≡ ls ++ rest
-    → EachLine line_effect HoldsOfTurn 1 ls (standing_of kinds first)
-    → Reads line_effect ended input left ls rest (standing_of kinds first)
-    → (tells → Writes ended w0 w1 (replies line_effect 1 ls (standing_of kinds first)))
+    → EachLine line_effect HoldsOfTurn 1 ls s
+    → HearsAll wires s n0 n1 ended ls rest
+    → Reads line_effect ended input left ls rest s
+    → (tells → Writes ended w0 w1 (replies line_effect 1 ls s))
     → (d.tells → (bodies : List (List ℕ)) → IsAt d d0 first bodies → end_of bodies ≤ limit_of first
-    → Kept d d0 d1 bodies (chunks line_effect 1 ls (standing_of kinds first)) (limit_of first))
+    → Kept d d0 d1 bodies (chunks line_effect 1 ls s) (limit_of first))
     → (d.tells → OnlyNow d d1)
-    → Plays line_effect HoldsOfTurn tells w0 w1 input left (standing_of kinds first) ended (KeepsFrom kinds d d0 d1 first ended)
-ends kinds d d0 d1 tells w0 w1 first ls rest input left ended none whole each reads writes kept only_now =
-    let s = standing_of kinds first in
+    → Plays line_effect HoldsOfTurn tells w0 w1 input left s ended (HearsAll wires s n0 n1 ended)
+    (KeepsFrom s d d0 d1 first ended)
+ends s d d0 d1 tells wires n0 n1 w0 w1 first ls rest input left ended none whole each hears reads
+    writes kept only_now =
     let cs = chunks line_effect 1 ls s in
     let next = next_chunk line_effect (length ls + 1) rest (state_after line_effect 1 ls s) in
     record {
@@ -168,6 +179,7 @@ ends kinds d d0 d1 tells w0 w1 first ls rest input left ended none whole each re
       each = each;
       reads = reads;
       writes = writes;
+      shown = hears;
       kept = λ t bodies at le.
           subst (λ stop. Keeps d d0 d1 bodies cs next (limit_of first) stop) (sym none)
           (keeps_all d d0 d1 bodies cs next (limit_of first) (kept t bodies at le) (only_now t));
@@ -231,13 +243,10 @@ reader_reads fault.TooLong done input rest left n r s0 s lines so stops long too
     too_long_stopped done input rest left n r s0 s lines so (long refl) (took refl)
 
 module _
-    {kinds : Kinds} {D : Type 0} (d : Ghosts D) (k_tells : Type 0) (d0 d1 : D) (first engine : Engine)
-    (w0 w1 input rest : List ℕ) (n : ℕ) (r : Bool)
-    (a : Along kinds d k_tells d0 d1 first engine w0 w1 input rest n r)
+    (s0 s1 : Standing) {D : Type 0} (d : Ghosts D) (k_tells wires : Type 0) (d0 d1 : D)
+    (n0 n1 : DialStanding) (first engine : Engine) (w0 w1 input rest : List ℕ) (n : ℕ) (r : Bool)
+    (a : Along s0 s1 d k_tells wires d0 d1 n0 n1 first engine w0 w1 input rest n r)
   where
-    abbrev s0 : Standing
-    s0 = standing_of kinds first
-
     abbrev ls : List (List ℕ)
     ls = (cut a.bytes).whole
 
@@ -245,9 +254,10 @@ module _
     cs = chunks line_effect 1 ls s0
 
     -- how the play ends, and what the disk keeps then
-    abbrev Ends : D → List ℕ → List ℕ → Result Bool Cause → Type 0
-    Ends d2 w2 left ended =
-        Plays line_effect HoldsOfTurn k_tells w0 w2 input left s0 ended (KeepsFrom kinds d d0 d2 first ended)
+    abbrev Ends : D → DialStanding → List ℕ → List ℕ → Result Bool Cause → Type 0
+    Ends d2 n2 w2 left ended =
+        Plays line_effect HoldsOfTurn k_tells w0 w2 input left s0 ended
+        (HearsAll wires s0 n0 n2 ended) (KeepsFrom s0 d d0 d2 first ended)
 
     -- the lines so far, and more
     abbrev KeptAt : D → List (List ℕ) → Type 0
@@ -256,43 +266,54 @@ module _
         → Kept d d0 d2 bodies (chunks line_effect 1 done s0) (limit_of first)
 
     to_come : lines input ≡ ls ++ lines rest
-    to_come = rest_lines line_effect a.bytes input rest n r s0 (standing_of kinds engine) a.so
+    to_come = rest_lines line_effect a.bytes input rest n r s0 s1 a.so
 
-    pub reader_stopped : (why : ReadFault) (left : List ℕ)
+    -- between two lines, where nothing is to be heard any more
+    hears_none : (ended : Result Bool Cause) (more : List (List ℕ)) → s1.heard ≡ []
+        → HearsAll wires s0 n0 n1 ended ls more
+    hears_none ended more none = record {
+      between = n1;
+      lines = a.hears;
+      last = nothing_last wires ended more _ n1 n1
+          (ap (λ (x : Standing). x.heard) (sym a.so.state) ∙ none, refl);
+    }
+
+    pub reader_stopped : s1.heard ≡ [] → (why : ReadFault) (left : List ℕ)
         → (IsErrOf {T = Next} (Err why) fault.Failed → StopsWithin rest left)
         → (IsErrOf {T = Next} (Err why) fault.TooLong → (b : ℕ) × StopsWithin rest (b ∷ left))
         → (IsErrOf {T = Next} (Err why) fault.TooLong
         → Took 0 input left (λ k. k ≡ max_input_bytes + 1))
-        → (d.tells → OnlyNow d d1) → Ends d1 w1 left (Err (Read why))
-    reader_stopped why left stops long took only_now =
-        ends kinds d d0 d1 k_tells w0 w1 first ls (lines rest) input left (Err (Read why)) refl to_come
-        a.each (reader_reads why a.bytes input rest left n r s0 (standing_of kinds engine) (lines rest) a.so stops
+        → (d.tells → OnlyNow d d1) → Ends d1 n1 w1 left (Err (Read why))
+    reader_stopped none why left stops long took only_now =
+        ends s0 d d0 d1 k_tells wires n0 n1 w0 w1 first ls (lines rest) input left (Err (Read why)) refl
+        to_come a.each (hears_none (Err (Read why)) (lines rest) none) (reader_reads why a.bytes input rest left n r s0 s1 (lines rest) a.so stops
         long took)
         a.told a.kept only_now
 
     -- nothing is to come
-    pub ended : (left : List ℕ) → rest ≡ [] → (d.tells → OnlyNow d d1) → Ends d1 w1 left (Ok r)
-    ended left none only_now =
-        ends kinds d d0 d1 k_tells w0 w1 first ls [] input left (Ok r) refl
+    pub ended : s1.heard ≡ [] → (left : List ℕ) → rest ≡ [] → (d.tells → OnlyNow d d1)
+        → Ends d1 n1 w1 left (Ok r)
+    ended unheard left none only_now =
+        ends s0 d d0 d1 k_tells wires n0 n1 w0 w1 first ls [] input left (Ok r) refl
         (to_come ∙ ap (λ v. ls ++ lines v) none)
-        a.each (refl, a.so.refusals) a.told a.kept only_now
+        a.each (hears_none (Ok r) [] unheard) (refl, a.so.refusals) a.told a.kept only_now
 
     -- ---- a line was taken
 
     module _
-        (d2 : D) (w2 : List ℕ) (step : Next) (line rest' : List ℕ) (some : step ≡ End → ⊥)
-        (takes : TakesKept step line rest rest')
+        (d2 : D) (n2 : DialStanding) (w2 : List ℕ) (step : Next) (line rest' : List ℕ)
+        (some : step ≡ End → ⊥) (takes : TakesKept step line rest rest')
       where
         abbrev l : List ℕ
         l = takes.0
 
         abbrev m : Effect Standing
-        m = line_effect (n + 1) line (standing_of kinds engine)
+        m = line_effect (n + 1) line s1
 
-        pub same_line : m ≡ line_effect (n + 1) l (standing_of kinds engine)
+        pub same_line : m ≡ line_effect (n + 1) l s1
         same_line =
-            ap (λ v. line_effect (n + 1) v (standing_of kinds engine)) takes.1
-            ∙ kept_effect (n + 1) l (standing_of kinds engine)
+            ap (λ v. line_effect (n + 1) v s1) takes.1
+            ∙ kept_effect (n + 1) l s1
 
         same : m ≡ line_effect (n + 1) l (state_after line_effect 1 ls s0)
         same = same_line ∙ ap (λ (x : Standing). line_effect (n + 1) l x) a.so.state
@@ -302,16 +323,50 @@ module _
 
         -- what holds of the line as it was kept, from the engine on
         abbrev pub IsKeptTurn : Type 0
-        IsKeptTurn = HoldsOfTurn (n + 1) line (standing_of kinds engine) m.next
+        IsKeptTurn = HoldsOfTurn (n + 1) line s1 m.next
 
         pub each_line : IsKeptTurn → EachLine line_effect HoldsOfTurn 1 (ls ++ l ∷ []) s0
         each_line kept =
-            let here = standing_of kinds engine in
+            let here = s1 in
             let now = subst (λ (v : List ℕ). HoldsOfTurn (n + 1) v here m.next) takes.1 kept in
             let then = subst (λ (x : Effect Standing). HoldsOfTurn (n + 1) l here x.next) same_line
             (kept_turn (n + 1) l here m.next now) in
             each-push line_effect HoldsOfTurn 1 ls l s0 (n + 1) count a.each
             (subst (λ (x : Standing). HoldsOfTurn (n + 1) l x (line_effect (n + 1) l x).next) a.so.state then)
+
+        -- what the dial shows of the line as it was kept
+        abbrev pub IsKeptShown : List Heard → Type 0 → Type 0
+        IsKeptShown heard Done = IsShownAt wires line s1 n1 n2 heard Done
+
+        -- it shows of the line itself
+        shown_line : (heard : List Heard) (Done : Type 0) → IsKeptShown heard Done
+            → IsShownAt wires l (state_after line_effect 1 ls s0) n1 n2 heard Done
+        shown_line heard Done shown =
+            subst (λ (x : Standing). IsShownAt wires l x n1 n2 heard Done) a.so.state
+            (kept_shown wires l s1 n1 n2 heard Done
+            (subst (λ (v : List ℕ). IsShownAt wires v s1 n1 n2 heard Done) takes.1 shown))
+
+        pub hears_line : (heard : List Heard) → IsKeptShown heard (Unit {0})
+            → s1.heard ≡ heard ++ m.next.heard → HearsLines wires 1 (ls ++ l ∷ []) s0 n0 n2
+        hears_line heard shown took =
+            hears_push wires 1 ls l s0 (n + 1) n0 n1 n2 heard count a.hears
+            (shown_line heard (Unit {0}) shown)
+            (ap (λ (x : Standing). x.heard) (sym a.so.state) ∙ took
+            ∙ ap (λ (x : Effect Standing). heard ++ x.next.heard) same)
+
+        -- and nothing is to be heard any more
+        hears_last : (ended : Result Bool Cause) (more : List (List ℕ)) (heard : List Heard)
+            → IsKeptShown heard (Unit {0}) → s1.heard ≡ heard ++ m.next.heard → m.next.heard ≡ []
+            → HearsAll wires s0 n0 n2 ended (ls ++ l ∷ []) more
+        hears_last ended more heard shown took none = record {
+          between = n2;
+          lines = hears_line heard shown took;
+          last = nothing_last wires ended more _ n2 n2 (
+            ap (λ (x : Standing). x.heard) (state_after-push line_effect 1 ls l s0 (n + 1) count)
+                ∙ ap (λ (x : Effect Standing). x.next.heard) (sym same) ∙ none,
+            refl,
+          );
+        }
 
         stands : (more : List (List ℕ)) × (lines input ≡ ls ++ l ∷ more)
         stands =
@@ -378,10 +433,11 @@ module _
 
         -- the sink failed
         line_sunk : (left : List ℕ) → (k_tells → WritesFront w1 w2 m.reply) → IsKeptTurn
-            → KeptAt d2 (ls ++ l ∷ []) → (d.tells → OnlyNow d d2) → Ends d2 w2 left (Err Sink)
-        line_sunk left front turn kept only_now =
-            ends kinds d d0 d2 k_tells w0 w2 first (ls ++ l ∷ []) stands.0 input left (Err Sink) refl
-            (whole_with stands.0 stands.1) (each_line turn) tt (front_on front) kept only_now
+            → HearsAll wires s0 n0 n2 (Err Sink) (ls ++ l ∷ []) stands.0
+            → KeptAt d2 (ls ++ l ∷ []) → (d.tells → OnlyNow d d2) → Ends d2 n2 w2 left (Err Sink)
+        line_sunk left front turn hears kept only_now =
+            ends s0 d d0 d2 k_tells wires n0 n2 w0 w2 first (ls ++ l ∷ []) stands.0 input left (Err Sink)
+            refl (whole_with stands.0 stands.1) (each_line turn) hears tt (front_on front) kept only_now
 
         due : m.bodies ≡ next_chunk line_effect (length ls + 1) (l ∷ stands.0)
             (state_after line_effect 1 ls s0)
@@ -392,15 +448,32 @@ module _
 
         -- the work stopped
         line_stopped : (why : Stop) (left : List ℕ) → (k_tells → w2 ≡ w1)
+            → (why ≢ Memory → IsKeptShown s1.heard ⊥)
+            → (why ≢ Memory → is_blank line ≡ false → IsUnharmedBy line s1)
             → IsSafe (Err (Work why)) → (d.tells → CountsNow d d2)
-            → Ends d2 w2 left (Err (Work why))
-        line_stopped why left unsaid safe counts_now = record {
+            → Ends d2 n2 w2 left (Err (Work why))
+        line_stopped why left unsaid shown unharmed safe counts_now = record {
           done = ls;
           rest = l ∷ stands.0;
           whole = stands.1;
           each = a.each;
           reads = tt;
           writes = λ k. unsaid k ∙ a.told k;
+          shown = record {
+            between = n1;
+            lines = a.hears;
+            last = λ other. inr (
+              l,
+              stands.0,
+              refl,
+              subst (λ (hs : List Heard). IsShownAt wires l (state_after line_effect 1 ls s0) n1 n2 hs ⊥)
+                  (ap (λ (x : Standing). x.heard) a.so.state) (shown_line s1.heard ⊥ (shown other)),
+              subst (λ (x : Standing). is_blank l ≡ false → IsUnharmedBy l x) a.so.state
+                  (kept_unharmed l s1
+                  (subst (λ (v : List ℕ). is_blank v ≡ false → IsUnharmedBy v s1) takes.1
+                  (unharmed other))),
+            );
+          };
           kept = λ t bodies at le.
               let before = bodies ++ all_of cs in
               let here = a.at t bodies at in
@@ -416,66 +489,93 @@ module _
               ));
         }
 
+        same_stop : (why : Stop) → IsErrOf {T = Engine × Bool} (Err (Work why)) (Work Memory)
+            → why ≡ Memory
+        same_stop why same = cc
+
         pub line_failed : (why : Cause) (left : List ℕ)
             → ((f : ReadFault) → IsErrOf {T = Engine × Bool} (Err why) (Read f) → ⊥)
             → (k_tells → IsErrOf {T = Engine × Bool} (Err why) Sink → WritesFront w1 w2 m.reply)
             → (k_tells → (st : Stop) → IsErrOf {T = Engine × Bool} (Err why) (Work st) → w2 ≡ w1)
-            → OnOk (work_of (Err why)) IsKeptTurn
+            → OnOk (work_of (Err why)) IsKeptTurn → (heard : List Heard) → s1.heard ≡ heard
+            → OnOk (work_of (Err why)) (m.next.heard ≡ [])
+            → ((IsErrOf {T = Engine × Bool} (Err why) (Work Memory) → ⊥)
+            → IsKeptShown heard (IsOk (work_of (Err why))))
+            → ((IsErrOf {T = Engine × Bool} (Err why) (Work Memory) → ⊥) → is_blank line ≡ false
+            → IsUnharmedBy line s1)
             → IsSafe (Err why) → (d.tells → OnlyNow d d2) → (d.tells → CountsNow d d2)
-            → Ends d2 w2 left (Err why)
-        line_failed (Read f) left unread front unsaid turn safe only counts = absurd (unread f refl)
-        line_failed (Work why) left unread front unsaid turn safe only counts =
-            line_stopped why left (λ k. unsaid k why refl) safe counts
-        line_failed Sink left unread front unsaid turn safe only counts =
-            line_sunk left (λ k. front k refl) turn (line_kept (Err Sink) None refl safe only) only
+            → Ends d2 n2 w2 left (Err why)
+        line_failed (Read f) left unread front unsaid turn heard is later shown unharmed safe only counts =
+            absurd (unread f refl)
+        line_failed (Work why) left unread front unsaid turn heard is later shown unharmed safe only counts =
+            line_stopped why left (λ k. unsaid k why refl)
+            (λ other. subst (λ (hs : List Heard). IsKeptShown hs ⊥) (sym is)
+            (then_shown wires line n1 n2 heard (λ none. absurd none) s1
+            (shown (λ same. other (same_stop why same)))))
+            (λ other. unharmed (λ same. other (same_stop why same)))
+            safe counts
+        line_failed Sink left unread front unsaid turn heard is later shown unharmed safe only counts =
+            line_sunk left (λ k. front k refl) turn
+            (hears_last (Err Sink) stands.0 heard
+            (then_shown wires line n1 n2 heard (λ all. refl) s1 (shown (λ same. cc)))
+            (is ∙ sym (append-nil heard) ∙ ap (λ (hs : List Heard). heard ++ hs) (sym later)) later)
+            (line_kept (Err Sink) None refl safe only) only
 
         pub refused_too : (now : Bool) → now ≡ m.refused
-            → (r || now) ≡ (r || (line_effect (n + 1) l (standing_of kinds engine)).refused)
+            → (r || now) ≡ (r || (line_effect (n + 1) l s1).refused)
         refused_too now is =
             ap (λ v. r || v) (is ∙ ap (λ (x : Effect Standing). x.refused) same_line)
 
     -- the last line was played
-    pub last_played : (d2 : D) (w2 line rest' left : List ℕ) (now : Bool)
+    pub last_played : (d2 : D) (n2 : DialStanding) (w2 line rest' left : List ℕ) (now : Bool)
         (takes : TakesKept Last line rest rest')
-        → now ≡ (line_effect (n + 1) line (standing_of kinds engine)).refused
-        → (k_tells → w2 ≡ w1 ++ (line_effect (n + 1) line (standing_of kinds engine)).reply)
-        → IsKeptTurn d2 w2 Last line rest' (λ e. cc) takes
+        → now ≡ (line_effect (n + 1) line s1).refused
+        → (k_tells → w2 ≡ w1 ++ (line_effect (n + 1) line s1).reply)
+        → IsKeptTurn d2 n2 w2 Last line rest' (λ e. cc) takes → (heard : List Heard) → s1.heard ≡ heard
+        → IsKeptShown d2 n2 w2 Last line rest' (λ e. cc) takes heard (Unit {0})
+        → (line_effect (n + 1) line s1).next.heard ≡ []
         → KeptAt d2 (ls ++ takes.0 ∷ []) → (d.tells → OnlyNow d d2)
-        → Ends d2 w2 left (Ok (r || now))
-    last_played d2 w2 line rest' left now takes is had turn kept only_now =
+        → Ends d2 n2 w2 left (Ok (r || now))
+    last_played d2 n2 w2 line rest' left now takes is had turn heard all shown later kept only_now =
         let some : (Last ≡ End → ⊥) = λ e. cc in
-        ends kinds d d0 d2 k_tells w0 w2 first (ls ++ takes.0 ∷ []) [] input left (Ok (r || now)) refl
+        ends s0 d d0 d2 k_tells wires n0 n2 w0 w2 first (ls ++ takes.0 ∷ []) [] input left
+        (Ok (r || now)) refl
         (to_come
         ∙ ap (λ (v : List (List ℕ)). ls ++ v)
         (ap lines takes.2.0 ∙ lines_last takes.0 takes.2.1 takes.2.2)
         ∙ sym (append-nil (ls ++ takes.0 ∷ [])))
-        (each_line d2 w2 Last line rest' some takes turn) (
+        (each_line d2 n2 w2 Last line rest' some takes turn)
+        (hears_last d2 n2 w2 Last line rest' some takes (Ok (r || now)) [] heard shown
+        (all ∙ sym (append-nil heard) ∙ ap (λ (hs : List Heard). heard ++ hs) (sym later)) later) (
           refl,
-          refused_too d2 w2 Last line rest' some takes now is
-              ∙ refused_more line_effect ls takes.0 n r s0 (standing_of kinds engine) a.so.number a.so.refusals
+          refused_too d2 n2 w2 Last line rest' some takes now is
+              ∙ refused_more line_effect ls takes.0 n r s0 s1 a.so.number a.so.refusals
               a.so.state,
         )
-        (told_on d2 w2 Last line rest' some takes had) kept only_now
+        (told_on d2 n2 w2 Last line rest' some takes had) kept only_now
 
     -- a line was played, and more are to come
-    pub line_played : (d2 : D) (w2 line rest' : List ℕ) (now : Bool) (engine' : Engine)
-        (takes : TakesKept Line line rest rest')
+    pub line_played : (d2 : D) (n2 : DialStanding) (w2 line rest' : List ℕ) (now : Bool)
+        (engine' : Engine) (s2 : Standing) (takes : TakesKept Line line rest rest')
         → limit_of engine' ≡ limit_of engine
-        → now ≡ (line_effect (n + 1) line (standing_of kinds engine)).refused
-        → standing_of kinds engine' ≡ (line_effect (n + 1) line (standing_of kinds engine)).next
-        → (k_tells → w2 ≡ w1 ++ (line_effect (n + 1) line (standing_of kinds engine)).reply)
+        → now ≡ (line_effect (n + 1) line s1).refused
+        → s2 ≡ (line_effect (n + 1) line s1).next
+        → (k_tells → w2 ≡ w1 ++ (line_effect (n + 1) line s1).reply)
         → (d.tells → (before : List (List ℕ)) → IsAt d d1 engine before
-        → IsAt d d2 engine' (before ++ (line_effect (n + 1) line (standing_of kinds engine)).bodies))
-        → IsKeptTurn d2 w2 Line line rest' (λ e. cc) takes
+        → IsAt d d2 engine' (before ++ (line_effect (n + 1) line s1).bodies))
+        → IsKeptTurn d2 n2 w2 Line line rest' (λ e. cc) takes → (heard : List Heard)
+        → IsKeptShown d2 n2 w2 Line line rest' (λ e. cc) takes heard (Unit {0})
+        → s1.heard ≡ heard ++ (line_effect (n + 1) line s1).next.heard
         → KeptAt d2 (ls ++ takes.0 ∷ [])
-        → Along kinds d k_tells d0 d2 first engine' w0 w2 input rest' (n + 1) (r || now)
-    line_played d2 w2 line rest' now engine' takes same_limit is after had at turn kept =
+        → Along s0 s2 d k_tells wires d0 d2 n0 n2 first engine' w0 w2 input rest' (n + 1) (r || now)
+    line_played d2 n2 w2 line rest' now engine' s2 takes same_limit is after had at turn heard shown took
+        kept =
         let some : (Line ≡ End → ⊥) = λ e. cc in
         let l = takes.0 in
-        let e = same_line d2 w2 Line line rest' some takes in
-        let more = line_more line_effect a.bytes input rest rest' l n r s0 (standing_of kinds engine) a.so
+        let e = same_line d2 n2 w2 Line line rest' some takes in
+        let more = line_more line_effect a.bytes input rest rest' l n r s0 s1 a.so
         takes.2.0 takes.2.1 in
-        let same_r = sym (refused_too d2 w2 Line line rest' some takes now is) in
+        let same_r = sym (refused_too d2 n2 w2 Line line rest' some takes now is) in
         let same_s = sym (after ∙ ap (λ (x : Effect Standing). x.next) e) in
         let ls_more = sym (lines_more a.bytes l a.so.whole takes.2.1) in
         let played = a.bytes ++ (l ++ 10 ∷ []) in
@@ -485,12 +585,14 @@ module _
           so = subst (λ (x : Standing).
               SoFar line_effect played input rest' (n + 1) (r || now) s0 x) same_s
               (subst (λ (b : Bool). SoFar line_effect played input rest' (n + 1) b s0
-              (line_effect (n + 1) l (standing_of kinds engine)).next)
+              (line_effect (n + 1) l s1).next)
               same_r more);
           told = λ t. subst (λ (v : List (List ℕ)). w2 ≡ w0 ++ replies line_effect 1 v s0) ls_more
-              (told_on d2 w2 Line line rest' some takes had t);
+              (told_on d2 n2 w2 Line line rest' some takes had t);
           each = subst (λ (v : List (List ℕ)). EachLine line_effect HoldsOfTurn 1 v s0) ls_more
-              (each_line d2 w2 Line line rest' some takes turn);
+              (each_line d2 n2 w2 Line line rest' some takes turn);
+          hears = subst (λ (v : List (List ℕ)). HearsLines wires 1 v s0 n0 n2) ls_more
+              (hears_line d2 n2 w2 Line line rest' some takes heard shown took);
           at = λ t bodies here.
               subst (λ (v : List (List ℕ)).
               IsAt d d2 engine' (bodies ++ all_of (chunks line_effect 1 v s0))) ls_more
@@ -498,7 +600,7 @@ module _
               (append_assoc bodies (all_of cs) _
               ∙ ap (λ (bs : List (List ℕ)). bodies ++ bs) (sym (all_of-push cs _))
               ∙ ap (λ (ds : List (List (List ℕ))). bodies ++ all_of ds)
-              (sym (chunks_line d2 w2 Line line rest' some takes)))
+              (sym (chunks_line d2 n2 w2 Line line rest' some takes)))
               (at t (bodies ++ all_of cs) (a.at t bodies here)));
           kept = subst (λ (v : List (List ℕ)). KeptAt d2 v) ls_more kept;
         }

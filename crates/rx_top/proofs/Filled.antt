@@ -1,5 +1,5 @@
 -- Lines that aren't blank, as those of a generated script.
-use Rattle.std.proofs.Common.{◌≡◌, ◌∙◌, refl, ap, ℕ, zero, suc, Bool, true, false, cond, ◌&&◌, List, [], ◌∷◌, ◌++◌, All, arith}
+use Rattle.std.proofs.Common.{◌≡◌, ◌∙◌, refl, ap, subst, ℕ, zero, suc, Bool, true, false, cond, ◌&&◌, List, [], ◌∷◌, ◌++◌, All, arith}
 use Rattle.rx_engine.specs.Meaning.{meaning}
 use Rattle.rx_engine.specs.Standing.{Standing}
 use Rattle.rx_trial.specs.Lines.{script}
@@ -49,3 +49,12 @@ pub filled_effect : (n : ℕ) (line : List ℕ) (s : Standing) → IsFilled line
     → line_effect n line s ≡ effect_of (meaning n line s)
 filled_effect n line s filled =
     ap (λ b. cond b (no_effect s) (effect_of (meaning n line s))) filled
+
+-- the line behind others is filled as all are
+pub first_filled : (lines done : List (List ℕ)) (l : List ℕ) (left' left : List (List ℕ))
+    → lines ≡ done ++ left → left ≡ l ∷ left' → All IsFilled lines → IsFilled l
+first_filled lines done l left' left whole next filled =
+    all_first IsFilled l left'
+    (all_back IsFilled done (l ∷ left')
+    (subst (λ (v : List (List ℕ)). All IsFilled v)
+    (whole ∙ ap (λ (v : List (List ℕ)). done ++ v) next) filled))

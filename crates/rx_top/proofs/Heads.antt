@@ -2,7 +2,8 @@
 use Rattle.std.proofs.Common.{◌≡◌, ◌≤◌, inl, inr, ℕ, ◌+◌, List, length, [], ◌∷◌, ◌++◌, Bool, Result, Some, Err, IsErrOf, refl, sym, ap, subst, append-nil}
 use Rattle.rx_disk.specs.declared.disk.Disk.{Ghosts}
 use Rattle.rx_disk.proofs.Moments.{started}
-use Rattle.rx_engine.specs.Engine.{IsAt, limit_of, standing_of}
+use Rattle.rx_engine.specs.Dialled.{DialStanding}
+use Rattle.rx_engine.specs.Engine.{IsAt, limit_of}
 use Rattle.rx_store.specs.Holds.{GrowsLegally, Leaves, IsIllegalFile, IsJournalOfSome, StandsLegally}
 use Rattle.rx_engine.specs.declared.engine.Engine.{Engine}
 use Rattle.rx_engine.specs.Opening.{epoch_body, opened}
@@ -11,11 +12,13 @@ use Rattle.rx_frame.specs.File.{end_of}
 use Rattle.rx_journal.specs.Reading.{IsUntouched}
 use Rattle.rx_engine.specs.Standing.{Standing}
 use Rattle.rx_handler.specs.Handlers.{Kinds}
+use Rattle.rx_sync.specs.Remote.{Heard}
 use Rattle.rx_store.specs.Safe.{IsFull}
 use Rattle.rx_outside.specs.declared.stop.Stop.{Stop}
 use Rattle.rx_outside.specs.declared.stop.Stop.TheVariants.{Disk, NotJournal, Full, Memory}
 use Rattle.rx_world.specs.World.{World}
 use Rattle.rx_top.specs.Chunks.{Keeps}
+use Rattle.rx_top.specs.Hears.{HearsAll}
 use Rattle.rx_top.specs.Lines.{lines}
 use Rattle.rx_top.specs.Run.{KeepsFrom, KeepsRun, NeedsJournal, Plays, Reads, Writes, stop_of}
 use Rattle.rx_top.specs.Script.{line_effect}
@@ -25,6 +28,7 @@ use Rattle.rx_top.specs.declared.cause.Cause.{Cause}
 use Rattle.rx_top.specs.Turns.{HoldsOfTurn}
 use Rattle.rx_top.specs.declared.cause.Cause.TheVariants.{Read, Work}
 use Rattle.rx_top.specs.declared.cause.ReadFault.TheVariants as fault
+use Rattle.rx_top.proofs.Hears.{unheard}
 use Rattle.rx_top.proofs.Chunks.{CountsNow, OnlyNow, keeps_behind, leaves_then, stays_legal}
 
 pub same_open : (why st : Stop) → IsErrOf {T = Bool} (Err (Work why)) (Work st)
@@ -33,10 +37,10 @@ same_open why st h = let same : why ≡ st = cc in ap Err same
 
 -- what is said beside the play is said in other words
 pub said_as : {k_tells : Type 0} {w0 w1 input left : List ℕ} {s : Standing} {ended : Result Bool Cause}
-    (P Q : List (List ℕ) → List (List ℕ) → Type 0)
+    {Shown : List (List ℕ) → List (List ℕ) → Type 0} (P Q : List (List ℕ) → List (List ℕ) → Type 0)
     → ((done rest : List (List ℕ)) → P done rest → Q done rest)
-    → Plays line_effect HoldsOfTurn k_tells w0 w1 input left s ended P
-    → Plays line_effect HoldsOfTurn k_tells w0 w1 input left s ended Q
+    → Plays line_effect HoldsOfTurn k_tells w0 w1 input left s ended Shown P
+    → Plays line_effect HoldsOfTurn k_tells w0 w1 input left s ended Shown Q
 said_as P Q f p = record {
   done = p.done;
   rest = p.rest;
@@ -44,22 +48,24 @@ said_as P Q f p = record {
   each = p.each;
   reads = p.reads;
   writes = p.writes;
+  shown = p.shown;
   kept = f p.done p.rest p.kept;
 }
 
 -- nothing was played
-pub unplayed : (tells : Type 0) (w0 w1 input left : List ℕ) (s : Standing)
-    (ended : Result Bool Cause) (P : List (List ℕ) → List (List ℕ) → Type 0)
+pub unplayed : (tells wires : Type 0) (dial : DialStanding) (w0 w1 input left : List ℕ) (s : Standing)
+    (ended : Result Bool Cause) (P : List (List ℕ) → List (List ℕ) → Type 0) → s.heard ≡ []
     → Reads line_effect ended input left [] (lines input) s
     → (tells → Writes ended w0 w1 []) → P [] (lines input)
-    → Plays line_effect HoldsOfTurn tells w0 w1 input left s ended P
-unplayed tells w0 w1 input left s ended P reads writes kept = record {
+    → Plays line_effect HoldsOfTurn tells w0 w1 input left s ended (HearsAll wires s dial dial ended) P
+unplayed tells wires dial w0 w1 input left s ended P none reads writes kept = record {
   done = [];
   rest = lines input;
   whole = refl;
   each = tt;
   reads = reads;
   writes = writes;
+  shown = unheard wires dial s ended (lines input) none;
   kept = kept;
 }
 
@@ -78,7 +84,7 @@ module _ {D : Type 0} (d : Ghosts D) (bodies : List (List ℕ)) (w : World) wher
       stays_legal d disk disk bodies [] (nothing_yet disk only start) counts
 
 module _
-    (kinds : Kinds) {D : Type 0} (d : Ghosts D) (bodies : List (List ℕ)) (w : World) (limit : ℕ)
+    (kinds : Kinds) (heard : List Heard) {D : Type 0} (d : Ghosts D) (bodies : List (List ℕ)) (w : World) (limit : ℕ)
   where
     -- the opening stopped
     pub open_keeps : (d0 d1 : D) (why : Stop) (rest : List (List ℕ))
@@ -86,7 +92,7 @@ module _
         → ((would most : ℕ) → IsErrOf {T = Engine} (Err why) (Full would most)
         → (most ≡ limit) × IsFull d d1 bodies (epoch_body w ∷ []) would most)
         → OnlyNow d d0 → IsStart d d0 bodies w
-        → KeepsRun kinds d d0 d1 bodies w limit (Err (Work why)) [] rest
+        → KeepsRun kinds heard d d0 d1 bodies w limit (Err (Work why)) [] rest
     open_keeps d0 d1 why rest grows counts full only start = inl (
       λ none. none,
       refl,
@@ -114,7 +120,7 @@ module _
     -- memory ran out before the journal was opened
     pub no_reader_keeps : (disk : D) (rest : List (List ℕ)) → IsStart d disk bodies w
         → OnlyNow d disk → CountsNow d disk
-        → KeepsRun kinds d disk disk bodies w limit (Err (Read fault.Memory)) [] rest
+        → KeepsRun kinds heard d disk disk bodies w limit (Err (Read fault.Memory)) [] rest
     no_reader_keeps disk rest start only counts =
         let here = nothing_yet d bodies w disk only start in
         inl (
@@ -136,17 +142,17 @@ module _
     pub played_keeps : (d0 d1 d2 : D) (first : Engine) (ended : Result Bool Cause)
         (done rest : List (List ℕ)) → GrowsLegally d d0 d1 bodies (epoch_body w ∷ [])
         → end_of (bodies ++ epoch_body w ∷ []) ≤ limit → limit_of first ≡ limit
-        → standing_of kinds first ≡ opened kinds w → IsAt d d1 first (bodies ++ epoch_body w ∷ []) → d.tells
-        → KeepsFrom kinds d d1 d2 first ended done rest
-        → KeepsRun kinds d d0 d2 bodies w limit ended done rest
-    played_keeps d0 d1 d2 first ended done rest grows fits same_limit same at t kept =
+        → (s : Standing) → s ≡ opened kinds heard w → IsAt d d1 first (bodies ++ epoch_body w ∷ []) → d.tells
+        → KeepsFrom s d d1 d2 first ended done rest
+        → KeepsRun kinds heard d d0 d2 bodies w limit ended done rest
+    played_keeps d0 d1 d2 first ended done rest grows fits same_limit s same at t kept =
         let all = bodies ++ epoch_body w ∷ [] in
         let here = kept t all at (subst (λ (n : ℕ). end_of all ≤ n) (sym same_limit) fits) in
-        let K : Standing → ℕ → Type 0 = λ s n. Keeps d d1 d2 all (chunks line_effect 1 done s)
-        (next_chunk line_effect (length done + 1) rest (state_after line_effect 1 done s)) n (stop_of ended) in
-        inr (keeps_behind d d0 d1 d2 bodies (epoch_body w ∷ []) (chunks line_effect 1 done (opened kinds w)) _
+        let K : Standing → ℕ → Type 0 = λ x n. Keeps d d1 d2 all (chunks line_effect 1 done x)
+        (next_chunk line_effect (length done + 1) rest (state_after line_effect 1 done x)) n (stop_of ended) in
+        inr (keeps_behind d d0 d1 d2 bodies (epoch_body w ∷ []) (chunks line_effect 1 done (opened kinds heard w)) _
         limit (stop_of ended) grows
-        (subst (λ (s : Standing). K s limit) same (subst (λ (n : ℕ). K (standing_of kinds first) n) same_limit here))
+        (subst (λ (x : Standing). K x limit) same (subst (λ (n : ℕ). K s n) same_limit here))
         fits)
 
 -- nothing was done to a disk

@@ -1,11 +1,17 @@
 -- What is kept of a line says what the line means.
-use Rattle.std.proofs.Common.{◌≡◌, ◌∙◌, sym, ap, ℕ, ◌+◌, ◌<◌, false, cond, leb, List, length, refl, arith, inl, inr}
+use Rattle.std.proofs.Common.{◌≡◌, ◌∙◌, sym, ap, subst, ℕ, ◌+◌, ◌<◌, false, cond, leb, List, length, refl, arith, inl, inr}
 use Rattle.std.proofs.lemmas.Bool.Decides.{leb_tells}
 use Rattle.std.proofs.lemmas.List.{take_all, length-take-le}
 use Rattle.rx_engine.proofs.Cut.{same_task_when_cut, same_when_cut}
+use Rattle.rx_engine.specs.Dialled.{DialStanding}
+use Rattle.rx_engine.specs.Engine.{IsUnharmedBy}
+use Rattle.rx_engine.specs.Hearing.{IsShownBy}
+use Rattle.rx_engine.specs.Lines.{Task}
 use Rattle.rx_engine.specs.Meaning.{Meaning, meaning}
 use Rattle.rx_engine.specs.Standing.{Standing}
 use Rattle.rx_script.specs.Line.{max_line_bytes}
+use Rattle.rx_sync.specs.Remote.{Heard}
+use Rattle.rx_top.specs.Hears.{IsShownAt}
 use Rattle.rx_top.specs.Lines.{is_blank}
 use Rattle.rx_top.specs.Reader.{kept_front}
 use Rattle.rx_top.specs.Script.{effect_of, line_effect, no_effect}
@@ -48,4 +54,22 @@ kept_turn n line s next holds full =
         twice = λ t is. had.bounded.twice t (same ∙ is);
         in_time = λ t is. had.bounded.in_time t (same ∙ is);
       };
+      unharmed = λ c is. had.unharmed c (same ∙ is);
     }
+
+-- of what no master can do in it
+pub kept_unharmed : (line : List ℕ) (s : Standing)
+    → (is_blank (kept_front line) ≡ false → IsUnharmedBy (kept_front line) s)
+    → is_blank line ≡ false → IsUnharmedBy line s
+kept_unharmed line s unharmed full c is =
+    unharmed (kept_blank line ∙ full) c (same_task_when_cut line s ∙ is)
+
+-- and of what its dial shows
+pub kept_shown : (wires : Type 0) (line : List ℕ) (s : Standing) (old new : DialStanding)
+    (heard : List Heard) (Done : Type 0) → IsShownAt wires (kept_front line) s old new heard Done
+    → IsShownAt wires line s old new heard Done
+kept_shown wires line s old new heard Done shown = (
+  λ blank. shown.0 (kept_blank line ∙ blank),
+  λ full. subst (λ (t : Task). IsShownBy wires t s old new heard Done) (same_task_when_cut line s)
+      (shown.1 (kept_blank line ∙ full)),
+)

@@ -4,6 +4,7 @@ pub mod Coming
 pub mod Story
 pub mod Kept
 pub mod Chunks
+pub mod Hears
 pub mod Growth
 pub mod Exits
 pub mod Work
@@ -18,3 +19,4 @@ pub mod Tallies
 pub mod Through
 pub mod Told
 pub mod Tried
+pub mod TurnLines

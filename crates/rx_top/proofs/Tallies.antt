@@ -8,10 +8,12 @@ use Rattle.rx_engine.specs.Standing.{Standing}
 use Rattle.rx_engine.specs.declared.engine.Engine.{Engine}
 use Rattle.rx_engine.specs.declared.output.Output.{Output}
 use Rattle.rx_handler.specs.Handlers.{Kinds}
+use Rattle.rx_sync.specs.Remote.{Heard}
+use Rattle.rx_world.specs.World.{World}
 use Rattle.rx_reply.specs.declared.turn.TurnEnd.{TurnEnd}
 use Rattle.rx_top.specs.Script.{line_effect}
 use Rattle.rx_top.specs.Story.{Effect, state_after}
-use Rattle.rx_top.specs.Tally.{meanings, summary_of, summary_text, tally_of, with_line}
+use Rattle.rx_top.specs.Tally.{ComesTo, meanings, summary_of, summary_text, tally_of, with_line}
 use Rattle.rx_top.specs.declared.tally.Tally.{Tally}
 use Rattle.rx_top.proofs.Filled.{IsFilled, all_first, all_rest, filled_effect}
 
@@ -71,20 +73,27 @@ refused_among t ms is =
     let lines : t.lines ≡ length ms = ap (λ (x : Tally). x.lines) is in
     omega (arith, refused, lines, count_by-le-length (λ (m : Meaning). m.refused) ms)
 
-session_in : (kinds : Kinds) (e : Engine) → (standing_of kinds e).session ≡ session_of e
+session_in : (kinds : Kinds) (hs : List Heard) (e : Engine) → (standing_of kinds hs e).session ≡ session_of e
 unfolding standing_of
-session_in kinds e = refl
+session_in kinds hs e = refl
+
+-- what an engine comes to that lines led to
+pub comes_to : (kinds : Kinds) (hs : List Heard) (engine : Engine) (t : Tally) (lines : List (List ℕ))
+    (s : Standing) → t ≡ tally_of (meanings 1 lines s)
+    → standing_of kinds hs engine ≡ state_after line_effect 1 lines s → ComesTo lines s engine t
+comes_to kinds hs engine t lines s tally after = record {
+  tally = tally;
+  world = ap (λ x. x.world)
+      (sym (session_in kinds hs engine) ∙ ap (λ (x : Standing). x.session) after);
+}
 
 -- the summary of all lines
-pub summed_up : (kinds : Kinds) (first engine : Engine) (script : List (List ℕ)) (t : Tally)
-    (s : Standing) (text : List ℕ) → standing_of kinds first ≡ s
-    → t ≡ tally_of (meanings 1 script (standing_of kinds first))
-    → standing_of kinds engine ≡ state_after line_effect 1 script (standing_of kinds first)
+pub summed_up : (engine : Engine) (script : List (List ℕ)) (t : Tally) (first s : Standing)
+    (text : List ℕ) → first ≡ s → ComesTo script first engine t
     → text ≡ summary_text t (session_of engine).world → text ≡ summary_of script s
-summed_up kinds first engine script t s text begun tally after told =
+summed_up engine script t first s text begun comes told =
     let began : Standing → List ℕ = λ x.
     summary_text (tally_of (meanings 1 script x)) (state_after line_effect 1 script x).session.world in
-    told ∙ ap (λ (x : Tally). summary_text x (session_of engine).world) tally
-    ∙ ap (λ x. summary_text (tally_of (meanings 1 script (standing_of kinds first))) x.world)
-    (sym (session_in kinds engine) ∙ ap (λ (x : Standing). x.session) after)
+    told ∙ ap (λ (x : Tally). summary_text x (session_of engine).world) comes.tally
+    ∙ ap (λ (w : World). summary_text (tally_of (meanings 1 script first)) w) comes.world
     ∙ ap began begun

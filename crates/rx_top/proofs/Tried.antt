@@ -4,6 +4,7 @@ use Rattle.std.specs.Prelude.{String, string_bytes, ⊤}
 use Rattle.std.specs.Result.{result_err}
 use Rattle.std.specs.declared.alloc.Global.{Global}
 use Rattle.rx_disk.specs.declared.disk.Disk.{Ghosts}
+use Rattle.rx_engine.specs.Dialled.{DialStanding}
 use Rattle.rx_engine.specs.Engine.{IsAt, limit_of, standing_of}
 use Rattle.rx_engine.specs.Opening.{epoch_body, opened}
 use Rattle.rx_engine.specs.declared.engine.Engine.{Engine}
@@ -13,11 +14,13 @@ use Rattle.rx_handler.specs.Handlers.{Kinds}
 use Rattle.rx_outside.specs.Sink.{WritesFront}
 use Rattle.rx_outside.specs.declared.stop.Stop.{Stop}
 use Rattle.rx_outside.specs.declared.stop.Stop.TheVariants.{Full, Memory}
+use Rattle.rx_sync.specs.Remote.{Heard}
 use Rattle.rx_store.specs.Holds.{IsLegalFile}
 use Rattle.rx_store.specs.Safe.{IsCrashSafe}
 use Rattle.rx_store.proofs.Growing.{behind}
 use Rattle.rx_world.specs.World.{World}
 use Rattle.rx_top.specs.Chunks.{Keeps, ahead, all_of}
+use Rattle.rx_top.specs.Hears.{HearsAll}
 use Rattle.rx_top.specs.Run.{IsDue, KeepsFrom, KeepsRun, due_after, run_bodies, run_chunks}
 use Rattle.rx_top.specs.Start.{IsStart, StaysLegal}
 use Rattle.rx_top.specs.Stops.{EndsWith, full_line}
@@ -25,41 +28,71 @@ use Rattle.rx_top.specs.Tally.{summary_of}
 use Rattle.rx_top.specs.Tells.{TellsStop, TellsText}
 use Rattle.rx_top.specs.TriesScript.{DoesLines, HasTried, as_run}
 use Rattle.rx_top.proofs.Chunks.{CountsNow, OnlyNow}
+use Rattle.rx_top.proofs.Hears.{heard_at_first, unheard}
 use Rattle.rx_top.proofs.Heads.{open_keeps, played_keeps}
 use Rattle.rx_top.proofs.Statuses.{legal_now, past}
 use Rattle.rx_top.proofs.Through.{does_as}
 use Rattle.rx_top.proofs.Told as by
 
 -- a trial, from its play and what was told of it
-pub has_tried : (tells : Type 0) (f0 f1 : ℕ) (w0 w1 : List ℕ) (status : ℕ)
-    (r : Result (String Global) Stop) (lines : List (List ℕ)) (s : Standing)
+pub has_tried : (wires : Type 0) (n0 n1 : DialStanding) (tells : Type 0) (f0 f1 : ℕ) (w0 w1 : List ℕ)
+    (status : ℕ) (r : Result (String Global) Stop) (lines : List (List ℕ)) (s : Standing)
     (Kept : Option Stop → List (List ℕ) → List (List ℕ) → Type 0)
-    → DoesLines lines (result_err r) (Kept (result_err r))
+    → DoesLines lines (result_err r) (HearsAll wires s n0 n1 (as_run (result_err r)))
+    (Kept (result_err r))
     → IfOk r (λ t. string_bytes t ≡ summary_of lines s)
     → MatchResult r (λ t. TellsText tells f0 f1 w0 w1 status (string_bytes t))
     (λ why. TellsStop tells f0 f1 w0 w1 status why)
-    → HasTried tells f0 f1 w0 w1 lines s status Kept
-has_tried tells f0 f1 w0 w1 status r lines s Kept does summed told = record {
+    → HasTried wires n0 n1 tells f0 f1 w0 w1 lines s status Kept
+has_tried wires n0 n1 tells f0 f1 w0 w1 status r lines s Kept does summed told = record {
   stop = result_err r;
   does = does;
   told = by.told_as tells f0 f1 w0 w1 status r (summary_of lines s) summed told;
 }
 
--- the same lines, of which nothing is said but how they ended
-pub none_done : (why : Stop) (lines : List (List ℕ)) → DoesLines lines (Some why) (λ done rest. ⊤)
-none_done why lines = record {
+-- no line was done
+pub none_done : (wires : Type 0) (dial : DialStanding) (s : Standing) (why : Stop) (lines : List (List ℕ))
+    (Kept : List (List ℕ) → List (List ℕ) → Type 0) → s.heard ≡ [] → Kept [] lines
+    → DoesLines lines (Some why) (HearsAll wires s dial dial (as_run (Some why))) Kept
+none_done wires dial s why lines Kept none kept = record {
   done = [];
   rest = lines;
   whole = refl;
   all = λ is. cc;
-  kept = tt;
+  shown = unheard wires dial s (as_run (Some why)) lines none;
+  kept = kept;
 }
 
-pub all_done : {lines played : List (List ℕ)} {P : List (List ℕ) → List (List ℕ) → Type 0}
-    → played ≡ lines → DoesLines played None P → DoesLines lines None (λ done rest. ⊤)
-all_done same does =
-    subst (λ (v : List (List ℕ)). DoesLines v None (λ done rest. ⊤)) same
-    (does_as _ _ (λ done rest kept. tt) does)
+-- lines were done from an engine on, of which it is known where it began
+pub from_begun : {lines played : List (List ℕ)} {stop : Option Stop} (wires : Type 0)
+    (n0 n1 : DialStanding) {first s : Standing} {P : List (List ℕ) → List (List ℕ) → Type 0}
+    → played ≡ lines → first ≡ s → DoesLines played stop (HearsAll wires first n0 n1 (as_run stop)) P
+    → DoesLines lines stop (HearsAll wires s n0 n1 (as_run stop)) (λ done rest. ⊤)
+from_begun {played = played} {stop = stop} wires n0 n1 {s = s} same begun does =
+    subst (λ (v : List (List ℕ)). DoesLines v stop (HearsAll wires s n0 n1 (as_run stop)) (λ done rest. ⊤))
+    same
+    (subst (λ (x : Standing).
+    DoesLines played stop (HearsAll wires x n0 n1 (as_run stop)) (λ done rest. ⊤)) begun
+    (does_as _ _ (λ done rest kept. tt) does))
+
+-- memory ran out after the last line
+pub late : {lines : List (List ℕ)} (wires : Type 0) (n0 n1 : DialStanding) (s : Standing)
+    {P Q : List (List ℕ) → List (List ℕ) → Type 0}
+    (does : DoesLines lines None (HearsAll wires s n0 n1 (as_run None)) P)
+    → Q does.done does.rest
+    → DoesLines lines (Some Memory) (HearsAll wires s n0 n1 (as_run (Some Memory))) Q
+late wires n0 n1 s does kept = record {
+  done = does.done;
+  rest = does.rest;
+  whole = does.whole;
+  all = λ is. cc;
+  shown = record {
+    between = does.shown.between;
+    lines = does.shown.lines;
+    last = λ other. absurd (other refl);
+  };
+  kept = kept;
+}
 
 pub other_err : {A B : Type 0} (why st : Stop) → IsErrOf {T = A} (Err why) st
     → IsErrOf {T = B} (Err why) st
@@ -92,86 +125,86 @@ stays d old new bodies cs next limit stop k = record {
 }
 
 module _
-    (kinds : Kinds) {D : Type 0} (d : Ghosts D) (old new : D) (bodies : List (List ℕ)) (w : World)
-    (limit : ℕ)
+    (kinds : Kinds) (heard : List Heard) (wires : Type 0) {D : Type 0} (d : Ghosts D) (old new : D)
+    (bodies : List (List ℕ)) (w : World) (limit : ℕ)
   where
     -- what a run of these lines keeps, by how a trial ended
     abbrev pub KeepsTrial : Option Stop → List (List ℕ) → List (List ℕ) → Type 0
-    KeepsTrial stop = KeepsRun kinds d old new bodies w limit (as_run stop)
+    KeepsTrial stop = KeepsRun kinds heard d old new bodies w limit (as_run stop)
+
+    -- the same with what the dial shows
+    abbrev pub Does : DialStanding → DialStanding → List (List ℕ) → Option Stop → Type 0
+    Does n0 n1 lines stop =
+        DoesLines lines stop (HearsAll wires (opened kinds heard w) n0 n1 (as_run stop)) (KeepsTrial stop)
 
     -- the journal wasn't opened
-    pub unopened : (why : Stop) (lines : List (List ℕ)) → IsStart d old bodies w
+    pub unopened : (dial : DialStanding) (why : Stop) (lines : List (List ℕ)) → heard ≡ []
+        → IsStart d old bodies w
         → IsCrashSafe d old new bodies (epoch_body w ∷ []) limit
         (λ (e : Engine) (bs : List (List ℕ)). IsAt d new e bs) (Err why)
-        → OnlyNow d old → CountsNow d new
-        → DoesLines lines (Some why) (KeepsTrial (Some why))
-    unopened why lines start safe only counts = record {
-      done = [];
-      rest = lines;
-      whole = refl;
-      all = λ is. cc;
-      kept = open_keeps kinds d bodies w limit old new why lines (safe.moments start.alike) counts
-          safe.full only start;
-    }
+        → OnlyNow d old → CountsNow d new → Does dial dial lines (Some why)
+    unopened dial why lines none start safe only counts =
+        none_done wires dial (opened kinds heard w) why lines (KeepsTrial (Some why))
+        (heard_at_first kinds heard w ∙ none)
+        (open_keeps kinds heard d bodies w limit old new why lines (safe.moments start.alike) counts
+        safe.full only start)
 
     -- it was, and the lines were played from there
-    pub from_opened : (mid : D) (first : Engine) (lines played : List (List ℕ)) (stop : Option Stop)
-        → played ≡ lines → IsStart d old bodies w
+    pub from_opened : (n0 n1 : DialStanding) (mid : D) (first : Engine) (lines played : List (List ℕ))
+        (stop : Option Stop) → played ≡ lines → IsStart d old bodies w
         → IsCrashSafe d old mid bodies (epoch_body w ∷ []) limit
         (λ (e : Engine) (bs : List (List ℕ)). IsAt d mid e bs) (Ok first)
-        → limit_of first ≡ limit → standing_of kinds first ≡ opened kinds w → d.tells
-        → DoesLines played stop (KeepsFrom kinds d mid new first (as_run stop))
-        → DoesLines lines stop (KeepsTrial stop)
-    from_opened mid first lines played stop same start safe same_limit begun t does =
-        subst (λ (v : List (List ℕ)). DoesLines v stop (KeepsTrial stop)) same
+        → limit_of first ≡ limit → standing_of kinds heard first ≡ opened kinds heard w → d.tells
+        → DoesLines played stop (HearsAll wires (standing_of kinds heard first) n0 n1 (as_run stop))
+        (KeepsFrom (standing_of kinds heard first) d mid new first (as_run stop))
+        → Does n0 n1 lines stop
+    from_opened n0 n1 mid first lines played stop same start safe same_limit begun t does =
+        let s = standing_of kinds heard first in
+        subst (λ (v : List (List ℕ)). Does n0 n1 v stop) same
+        (subst (λ (x : Standing). DoesLines played stop (HearsAll wires x n0 n1 (as_run stop)) (KeepsTrial stop))
+        begun
         (does_as _ _
-        (λ done rest kept. played_keeps kinds d bodies w limit old mid new first (as_run stop) done rest
-        (safe.moments start.alike) (⊎_elim (λ none. cc) (λ le. le) safe.fits) same_limit begun safe.at t
-        kept)
-        does)
+        (λ done rest kept. played_keeps kinds heard d bodies w limit old mid new first (as_run stop) done
+        rest (safe.moments start.alike) (⊎_elim (λ none. cc) (λ le. le) safe.fits) same_limit s begun
+        safe.at t kept)
+        does))
 
     kept_whole : (done rest : List (List ℕ)) → KeepsTrial None done rest
-        → Keeps d old new bodies (run_chunks kinds w done) (due_after kinds w done rest) limit None
+        → Keeps d old new bodies (run_chunks kinds heard w done) (due_after kinds heard w done rest) limit None
     kept_whole done rest (inl un) = absurd (un.0 tt)
     kept_whole done rest (inr keeps) = keeps
 
     -- memory ran out after the last line
-    pub late_memory : (lines : List (List ℕ)) → DoesLines lines None (KeepsTrial None)
-        → DoesLines lines (Some Memory) (KeepsTrial (Some Memory))
-    late_memory lines does =
-        let none = does.all refl in
-        record {
-          done = does.done;
-          rest = does.rest;
-          whole = does.whole;
-          all = λ is. cc;
-          kept = inr (unaware d old new bodies _ _ limit
-              (ap (λ (v : List (List ℕ)). due_after kinds w does.done v) none)
-              (kept_whole does.done does.rest does.kept));
-        }
+    pub late_memory : (n0 n1 : DialStanding) (lines : List (List ℕ)) → Does n0 n1 lines None
+        → Does n0 n1 lines (Some Memory)
+    late_memory n0 n1 lines does =
+        late wires n0 n1 (opened kinds heard w) does
+        (inr (unaware d old new bodies _ _ limit
+        (ap (λ (v : List (List ℕ)). due_after kinds heard w does.done v) (does.all refl))
+        (kept_whole does.done does.rest does.kept)))
 
     -- all lines were done
-    all_kept : (stop : Option Stop) (lines : List (List ℕ)) → stop ≡ None
-        → DoesLines lines stop (KeepsTrial stop)
+    all_kept : {Shown : List (List ℕ) → List (List ℕ) → Type 0} (stop : Option Stop)
+        (lines : List (List ℕ)) → stop ≡ None → DoesLines lines stop Shown (KeepsTrial stop)
         → (rest : List (List ℕ))
-        × Keeps d old new bodies (run_chunks kinds w lines) (due_after kinds w lines rest) limit None
+        × Keeps d old new bodies (run_chunks kinds heard w lines) (due_after kinds heard w lines rest) limit None
     all_kept None lines is does =
         let whole : lines ≡ does.done =
         does.whole ∙ ap (λ (v : List (List ℕ)). does.done ++ v) (does.all refl)
         ∙ append-nil does.done in (
           does.rest,
           subst (λ (v : List (List ℕ)).
-              Keeps d old new bodies (run_chunks kinds w v) (due_after kinds w v does.rest) limit None)
+              Keeps d old new bodies (run_chunks kinds heard w v) (due_after kinds heard w v does.rest) limit None)
               (sym whole) (kept_whole does.done does.rest does.kept),
         )
     all_kept (Some why) lines is does = cc
 
     module _
-        (tells : Type 0) (f0 f1 : ℕ) (w0 w1 : List ℕ) (lines : List (List ℕ)) (status : ℕ)
-        (has : HasTried tells f0 f1 w0 w1 lines (opened kinds w) status KeepsTrial)
+        (n0 n1 : DialStanding) (tells : Type 0) (f0 f1 : ℕ) (w0 w1 : List ℕ) (lines : List (List ℕ))
+        (status : ℕ) (has : HasTried wires n0 n1 tells f0 f1 w0 w1 lines (opened kinds heard w) status KeepsTrial)
       where
         abbrev summary : List ℕ
-        summary = summary_of lines (opened kinds w)
+        summary = summary_of lines (opened kinds heard w)
 
         pub legal : StaysLegal d old new bodies
         legal = ⊎_elim (λ un. stays d old new bodies _ _ limit _ un.2)
@@ -185,22 +218,22 @@ module _
 
         whole : (status ≡ 0) ⊎ (status ≡ 5)
             → (rest : List (List ℕ))
-            × Keeps d old new bodies (run_chunks kinds w lines) (due_after kinds w lines rest) limit None
+            × Keeps d old new bodies (run_chunks kinds heard w lines) (due_after kinds heard w lines rest) limit None
         whole is = all_kept has.stop lines
             (by.unstopped tells f0 f1 w0 w1 status has.stop summary has.told is) has.does
 
         pub kept : (status ≡ 0) ⊎ (status ≡ 5) → (c : List ℕ) → d.image new c
-            → (after : World) × IsLegalFile c (bodies ++ run_bodies kinds w lines) after
+            → (after : World) × IsLegalFile c (bodies ++ run_bodies kinds heard w lines) after
         kept is c here =
-            legal_now (bodies ++ run_bodies kinds w lines) c ((whole is).1.sure c here)
+            legal_now (bodies ++ run_bodies kinds heard w lines) c ((whole is).1.sure c here)
 
-        pub fits : (status ≡ 0) ⊎ (status ≡ 5) → end_of (bodies ++ run_bodies kinds w lines) ≤ limit
+        pub fits : (status ≡ 0) ⊎ (status ≡ 5) → end_of (bodies ++ run_bodies kinds heard w lines) ≤ limit
         fits is = ⊎_elim (λ none. cc) (λ le. le) (whole is).1.fits
 
         -- a record was due that didn't fit
         pub full : status ≡ 8
             → (done : List (List ℕ)) × (rest : List (List ℕ)) × (would : ℕ)
-            × IsDue kinds d new bodies w lines done rest would limit
+            × IsDue kinds heard d new bodies w lines done rest would limit
             × EndsWith tells f0 f1 w0 w1 (full_line would limit)
         full is =
             let why = by.full tells f0 f1 w0 w1 status has.stop summary has.told is in
@@ -208,7 +241,7 @@ module _
             let rest = has.does.rest in
             let kept : KeepsTrial (Some (Full why.0 why.1)) done rest =
             subst (λ (x : Option Stop). KeepsTrial x done rest) why.2 has.does.kept in
-            let p = past kinds d old new bodies w limit why.0 why.1 done rest kept in (
+            let p = past kinds heard d old new bodies w limit why.0 why.1 done rest kept in (
               done,
               rest,
               why.0,

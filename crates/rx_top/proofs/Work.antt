@@ -1,29 +1,35 @@
 -- What the work on one line leaves, by what the engine says of it.
-use Rattle.std.proofs.Common.{◌≡◌, ◌∙◌, refl, sym, ap, subst, ℕ, Bool, true, false, cond, List, [], append-nil, Option, None, Some, Result, Ok, Err, IsErrOf, inl}
+use Rattle.std.proofs.Common.{◌≡◌, ◌∙◌, refl, sym, ap, subst, ℕ, Bool, true, false, true≢false, cond, List, [], ◌++◌, append-nil, string_bytes, Option, None, Some, Result, Ok, Err, IsErrOf, inl}
 use Rattle.rx_disk.specs.declared.disk.Disk.{Ghosts}
-use Rattle.rx_engine.specs.Engine.{Answers, IsAt, IsBounded, QuietIsLevel, limit_of, standing_of}
+use Rattle.rx_engine.specs.Dialled.{DialStanding}
+use Rattle.rx_engine.specs.Engine.{Answers, IsAt, IsBounded, IsUnharmedBy, QuietIsLevel, limit_of, standing_of}
+use Rattle.rx_engine.specs.Hearing.{PlaysLine}
 use Rattle.rx_engine.specs.Meaning.{meaning}
 use Rattle.rx_engine.specs.declared.engine.Engine.{Engine}
 use Rattle.rx_engine.specs.declared.output.Output.{Output}
+use Rattle.rx_outside.specs.Sink.{WritesFront}
 use Rattle.rx_outside.specs.declared.stop.Stop.{Stop}
+use Rattle.rx_outside.specs.declared.stop.Stop.TheVariants.{Memory}
 use Rattle.rx_engine.specs.Standing.{Standing}
 use Rattle.rx_handler.specs.Handlers.{Kinds}
+use Rattle.rx_sync.specs.Remote.{Heard}
 use Rattle.rx_store.specs.Safe.{IsCrashSafe}
 use Rattle.rx_sync.specs.Laws.{IsLevel}
 use Rattle.rx_top.specs.Lines.{is_blank}
 use Rattle.rx_top.specs.Script.{effect_of, line_effect, no_effect}
 use Rattle.rx_top.specs.Story.{Effect}
 use Rattle.rx_top.specs.Turns.{HoldsOfTurn}
-use Rattle.rx_top.specs.Work.{HasAll, work_of}
+use Rattle.rx_top.specs.Work.{HasAll, WorksLine, work_of}
 use Rattle.rx_top.specs.declared.cause.Cause.{Cause}
 use Rattle.rx_top.specs.declared.cause.Cause.TheVariants.{Sink, Work}
 use Rattle.rx_top.proofs.Chunks.{OnlyNow, still}
 use Rattle.rx_top.proofs.Exits.{leaves_at}
+use Rattle.rx_top.proofs.Hears.{shown_in}
 
-module _ (kinds : Kinds) {D : Type 0} (d : Ghosts D) (e : Engine) (n : ℕ) (line : List ℕ) where
+module _ (s : Standing) {D : Type 0} (d : Ghosts D) (e : Engine) (n : ℕ) (line : List ℕ) where
   -- what the line does
   abbrev effect : Effect Standing
-  effect = line_effect n line (standing_of kinds e)
+  effect = line_effect n line s
 
   -- work on the line is safe, by what it came to
   abbrev IsSafe : D → D → List (List ℕ) → Result (Engine × Bool) Cause → Type 0
@@ -32,7 +38,7 @@ module _ (kinds : Kinds) {D : Type 0} (d : Ghosts D) (e : Engine) (n : ℕ) (lin
 
   nothing_to_do : is_blank line ≡ true → [] ≡ effect.bodies
   nothing_to_do blank =
-      ap (λ b. (cond b (no_effect (standing_of kinds e)) (effect_of (meaning n line (standing_of kinds e)))).bodies)
+      ap (λ b. (cond b (no_effect s) (effect_of (meaning n line s))).bodies)
       (sym blank)
 
   -- a blank line leaves the disk as it is
@@ -50,31 +56,32 @@ module _ (kinds : Kinds) {D : Type 0} (d : Ghosts D) (e : Engine) (n : ℕ) (lin
         not_journal = λ is. cc;
       })
 
-  does : is_blank line ≡ false → effect_of (meaning n line (standing_of kinds e)) ≡ effect
+  does : is_blank line ≡ false → effect_of (meaning n line s) ≡ effect
   does full =
-      ap (λ b. cond b (no_effect (standing_of kinds e)) (effect_of (meaning n line (standing_of kinds e)))) (sym full)
+      ap (λ b. cond b (no_effect s) (effect_of (meaning n line s))) (sym full)
 
   -- what holds of a turn that was made
-  pub turn_done : (pair : Engine × Output) → is_blank line ≡ false
-      → Answers kinds (meaning n line (standing_of kinds e)) pair.0 pair.1
-      → QuietIsLevel line (standing_of kinds e) pair.0 → IsBounded line (standing_of kinds e)
-      → HoldsOfTurn n line (standing_of kinds e) effect.next
+  pub turn_done : (kinds : Kinds) (later : List Heard) (pair : Engine × Output)
+      → is_blank line ≡ false → Answers kinds later (meaning n line s) pair.0 pair.1
+      → QuietIsLevel line s pair.0 → IsBounded line s → IsUnharmedBy line s
+      → HoldsOfTurn n line s effect.next
   unfolding standing_of
-  turn_done pair full answers quiet bounded _ = record {
+  turn_done kinds later pair full answers quiet bounded unharmed _ = record {
     quiet = λ t is ended.
         subst (λ (x : Standing). IsLevel x.session.world t.name)
         (answers.next ∙ ap (λ (m : Effect Standing). m.next) (does full)) (quiet t is ended);
     bounded = bounded;
+    unharmed = unharmed;
   }
 
   -- a blank line makes none
-  pub turn_blank : is_blank line ≡ true → HoldsOfTurn n line (standing_of kinds e) effect.next
+  pub turn_blank : is_blank line ≡ true → HoldsOfTurn n line s effect.next
   turn_blank blank = λ full. absurd (cc)
 
   -- what the engine did to the disk
   abbrev IsDone : D → D → List (List ℕ) → Result (Engine × Output) Stop → Type 0
   IsDone old new bodies result =
-      IsCrashSafe d old new bodies (effect_of (meaning n line (standing_of kinds e))).bodies (limit_of e)
+      IsCrashSafe d old new bodies (effect_of (meaning n line s)).bodies (limit_of e)
       (λ (p : Engine × Output). IsAt d new p.0) result
 
   -- the engine stopped
@@ -123,3 +130,148 @@ module _ (kinds : Kinds) {D : Type 0} (d : Ghosts D) (e : Engine) (n : ℕ) (lin
         full = λ would most is. cc;
         not_journal = λ is. cc;
       })
+
+-- ---- the work on a line, by what was heard in it
+
+module _ (kinds : Kinds) (wires k_tells : Type 0) {D : Type 0} (d : Ghosts D) (e : Engine) (n : ℕ)
+    (line : List ℕ) where
+  abbrev standing : List Heard → Standing
+  standing heard = standing_of kinds heard e
+
+  abbrev does_for : List Heard → Effect Standing
+  does_for heard = line_effect n line (standing heard)
+
+  as_blank : {X : Type 0} (pick : Effect Standing → X) (heard : List Heard) → is_blank line ≡ true
+      → pick (no_effect (standing heard)) ≡ pick (does_for heard)
+  as_blank pick heard blank =
+      ap (λ b. pick (cond b (no_effect (standing heard)) (effect_of (meaning n line (standing heard)))))
+      (sym blank)
+
+  -- a blank line
+  pub blank_works : (disk : D) (dial : DialStanding) (w : List ℕ) → is_blank line ≡ true
+      → (d.tells → OnlyNow d disk)
+      → WorksLine d kinds wires k_tells n line e disk disk dial dial w w (Ok (e, false))
+  unfolding standing_of
+  blank_works disk dial w blank only = record {
+    heard = [];
+    next = λ later. as_blank (λ (m : Effect Standing). m.next) later blank;
+    refused = λ later. as_blank (λ (m : Effect Standing). m.refused) later blank;
+    told = λ later k. sym (append-nil w)
+        ∙ ap (λ (bs : List ℕ). w ++ bs) (as_blank (λ (m : Effect Standing). m.reply) later blank);
+    front = λ later k is. absurd (cc);
+    safe = λ later told bodies at.
+        blank_safe (standing later) d e n line disk bodies blank (only told) at;
+    turn = λ later. turn_blank (standing later) d e n line blank;
+    unharmed = λ later other full. absurd (true≢false (sym blank ∙ full));
+    later_so = λ later. blank_later later blank;
+    shown = λ later other. (λ is. (refl, refl), λ full. absurd (true≢false (sym blank ∙ full)));
+  }
+    where
+      blank_later : (later : List Heard) → is_blank line ≡ true → (does_for later).next.heard ≡ later
+      blank_later later blank = sym (as_blank (λ (m : Effect Standing). m.next.heard) later blank)
+
+  module _ (old new : D) (dial dial' : DialStanding) (full : is_blank line ≡ false) where
+    -- the engine stopped
+    pub stop_works : (w : List ℕ) (stop : Stop)
+        → PlaysLine d wires kinds n line old new dial dial' e (Err stop)
+        → ((IsErrOf {T = Engine × Output} (Err stop) Memory → ⊥) → (heard : List Heard)
+        → IsUnharmedBy line (standing heard))
+        → WorksLine d kinds wires k_tells n line e old new dial dial' w w (Err (Work stop))
+    unfolding standing_of
+    stop_works w stop plays unharmed = record {
+      heard = plays.heard;
+      next = λ later. tt;
+      refused = λ later. tt;
+      told = λ later k. tt;
+      front = λ later k is. absurd (cc);
+      safe = λ later told bodies at.
+          stop_safe (standing (plays.heard ++ later)) d e n line old new bodies stop full
+          (plays.safe later told bodies at);
+      turn = λ later. tt;
+      unharmed = λ later other full. unharmed (λ is. other (same_work is)) (plays.heard ++ later);
+      later_so = λ later. tt;
+      shown = λ later other. shown_in wires line kinds e dial dial' plays.heard (λ none. none)
+          (plays.heard ++ later) full (plays.shown (λ is. other (same_work is)));
+    }
+      where
+        same_work : {st : Stop} → IsErrOf {T = Engine × Output} (Err stop) st
+            → IsErrOf {T = Engine × Bool} (Err (Work stop)) (Work st)
+        same_work {st} h = let same : stop ≡ st = cc in ap (λ (x : Stop). Err (Work x)) same
+
+    module _ (w w' : List ℕ) (pair : Engine × Output)
+        (plays : PlaysLine d wires kinds n line old new dial dial' e (Ok pair))
+        (quiet : QuietIsLevel line (standing []) pair.0) (bounded : IsBounded line (standing []))
+        (unharmed : (heard : List Heard) → IsUnharmedBy line (standing heard))
+      where
+        -- how long a turn takes doesn't depend on what is to be heard
+        bounded_so : (heard : List Heard) → IsBounded line (standing heard)
+        unfolding standing_of
+        bounded_so heard =
+            record { lowered = bounded.lowered; twice = bounded.twice; in_time = bounded.in_time }
+
+        turn_so : (later : List Heard) → HoldsOfTurn n line (standing (plays.heard ++ later))
+            (does_for (plays.heard ++ later)).next
+        unfolding standing_of
+        turn_so later =
+            turn_done (standing (plays.heard ++ later)) d e n line kinds later pair full
+            (plays.answers later) quiet (bounded_so (plays.heard ++ later))
+            (unharmed (plays.heard ++ later))
+
+        left_so : (later : List Heard) → (does_for (plays.heard ++ later)).next.heard ≡ later
+        unfolding standing_of
+        left_so later =
+            sym (ap (λ (x : Standing). x.heard) ((plays.answers later).next
+            ∙ ap (λ (m : Effect Standing). m.next)
+            (does (standing (plays.heard ++ later)) d e n line full)))
+
+        reply_so : (later : List Heard) → string_bytes pair.1.text
+            ≡ (does_for (plays.heard ++ later)).reply
+        reply_so later =
+            (plays.answers later).reply
+            ∙ ap (λ (m : Effect Standing). m.reply)
+            (does (standing (plays.heard ++ later)) d e n line full)
+
+        -- the engine did all
+        pub done_works : (k_tells → w' ≡ w ++ string_bytes pair.1.text)
+            → WorksLine d kinds wires k_tells n line e old new dial dial' w w'
+            (Ok (pair.0, pair.1.refused))
+        unfolding standing_of
+        done_works had = record {
+          heard = plays.heard;
+          next = λ later. (plays.answers later).next
+              ∙ ap (λ (m : Effect Standing). m.next)
+              (does (standing (plays.heard ++ later)) d e n line full);
+          refused = λ later. (plays.answers later).refused
+              ∙ ap (λ (m : Effect Standing). m.refused)
+              (does (standing (plays.heard ++ later)) d e n line full);
+          told = λ later k. had k ∙ ap (λ (bs : List ℕ). w ++ bs) (reply_so later);
+          front = λ later k is. absurd (cc);
+          safe = λ later told bodies at.
+              done_safe (standing (plays.heard ++ later)) d e n line old new bodies pair
+              pair.1.refused full (plays.safe later told bodies at);
+          turn = turn_so;
+          unharmed = λ later other _. unharmed (plays.heard ++ later);
+          later_so = left_so;
+          shown = λ later other. shown_in wires line kinds e dial dial' plays.heard (λ all. all)
+              (plays.heard ++ later) full (plays.shown (λ is. cc));
+        }
+
+        -- it did, and the sink failed
+        pub sunk_works : (k_tells → WritesFront w w' (string_bytes pair.1.text))
+            → WorksLine d kinds wires k_tells n line e old new dial dial' w w' (Err Sink)
+        unfolding standing_of
+        sunk_works front = record {
+          heard = plays.heard;
+          next = λ later. tt;
+          refused = λ later. tt;
+          told = λ later k. tt;
+          front = λ later k is. subst (λ (bs : List ℕ). WritesFront w w' bs) (reply_so later) (front k);
+          safe = λ later told bodies at.
+              sunk_safe (standing (plays.heard ++ later)) d e n line old new bodies pair full
+              (plays.safe later told bodies at);
+          turn = turn_so;
+          unharmed = λ later other _. unharmed (plays.heard ++ later);
+          later_so = left_so;
+          shown = λ later other. shown_in wires line kinds e dial dial' plays.heard (λ all. all)
+              (plays.heard ++ later) full (plays.shown (λ is. cc));
+        }

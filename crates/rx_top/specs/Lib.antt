@@ -3,6 +3,8 @@ pub mod Reader
 pub mod Story
 pub mod Script
 pub mod Turns
+pub mod TurnLines
+pub mod Hears
 pub mod Stops
 pub mod Chunks
 pub mod Start

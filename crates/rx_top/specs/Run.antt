@@ -1,18 +1,21 @@
 -- What a run over a journal wrote and left, wherever it ended.
 use Rattle.std.specs.Prelude.{◌≡◌, ◌≤◌, ◌⊎◌, ⊤, ℕ, ◌+◌, List, [], ◌∷◌, ◌++◌, length, take, Bool, Option, None, Some, Result, Ok, Err}
 use Rattle.rx_disk.specs.declared.disk.Disk.{Ghosts}
-use Rattle.rx_engine.specs.Engine.{IsAt, limit_of, standing_of}
+use Rattle.rx_engine.specs.Dialled.{DialStanding}
+use Rattle.rx_engine.specs.Engine.{IsAt, limit_of}
 use Rattle.rx_engine.specs.declared.engine.Engine.{Engine}
 use Rattle.rx_engine.specs.Opening.{epoch_body, opened}
 use Rattle.rx_frame.specs.File.{end_of}
 use Rattle.rx_engine.specs.Standing.{Standing}
 use Rattle.rx_handler.specs.Handlers.{Kinds}
+use Rattle.rx_sync.specs.Remote.{Heard}
 use Rattle.rx_store.specs.Safe.{IsFull}
 use Rattle.rx_outside.specs.Sink.{WritesFront}
 use Rattle.rx_outside.specs.declared.stop.Stop.{Stop}
 use Rattle.rx_outside.specs.declared.stop.Stop.TheVariants.{Disk, NotJournal, Full, Memory}
 use Rattle.rx_world.specs.World.{World}
 use Rattle.rx_top.specs.Chunks.{Keeps, all_of}
+use Rattle.rx_top.specs.Hears.{HearsAll}
 use Rattle.rx_top.specs.Lines.{cut, lines}
 use Rattle.rx_top.specs.Reader.{max_input_bytes}
 use Rattle.rx_top.specs.Script.{line_effect, transcript}
@@ -53,7 +56,8 @@ Writes (Err (Work stop)) old new replies = new ≡ old ++ replies
 Writes (Err Sink) old new replies = WritesFront old new replies
 
 -- How the play of an input ends: some lines are done, and of no other was a byte of its reply
--- written. What a disk keeps of the lines done, and may keep of the rest, is said beside it.
+-- written. What a dial shows of them, and what a disk keeps of the lines done and may keep of the
+-- rest, is said beside it.
 pub record Plays
     {S : Type 0}
     (step : Step S)
@@ -63,7 +67,7 @@ pub record Plays
     (input left : List ℕ)
     (s : S)
     (ended : Result Bool Cause)
-    (Kept : List (List ℕ) → List (List ℕ) → Type 0) : Type 0 where
+    (Shown Kept : List (List ℕ) → List (List ℕ) → Type 0) : Type 0 where
   pub done : List (List ℕ)
   pub rest : List (List ℕ)
   pub whole : lines input ≡ done ++ rest
@@ -71,6 +75,7 @@ pub record Plays
   pub each : EachLine step Each 1 done s
   pub reads : Reads step ended input left done rest s
   pub writes : tells → Writes ended written written' (replies step 1 done s)
+  pub shown : Shown done rest
   pub kept : Kept done rest
 
 -- ---- what the disk holds
@@ -113,41 +118,45 @@ KeepsLines d old new bodies s limit ended done rest =
 
 -- the same from an engine on, whatever bodies its disk has within the limit
 abbrev pub KeepsFrom
-    : {D : Type 0} → Kinds → Ghosts D → D → D → Engine → Result Bool Cause → List (List ℕ)
+    : {D : Type 0} → Standing → Ghosts D → D → D → Engine → Result Bool Cause → List (List ℕ)
     → List (List ℕ) → Type 0
-KeepsFrom kinds d old new first ended done rest =
+KeepsFrom s d old new first ended done rest =
     d.tells → (bodies : List (List ℕ)) → IsAt d old first bodies → end_of bodies ≤ limit_of first
-    → KeepsLines d old new bodies (standing_of kinds first) (limit_of first) ended done rest
+    → KeepsLines d old new bodies s (limit_of first) ended done rest
 
 -- the chunks of a run: the record of its epoch, and those of its lines
-abbrev pub run_chunks : Kinds → World → List (List ℕ) → List (List (List ℕ))
-run_chunks kinds w done = (epoch_body w ∷ []) ∷ chunks line_effect 1 done (opened kinds w)
+abbrev pub run_chunks : Kinds → List Heard → World → List (List ℕ) → List (List (List ℕ))
+run_chunks kinds heard w done = (epoch_body w ∷ []) ∷ chunks line_effect 1 done (opened kinds heard w)
 
 -- their bodies
-abbrev pub run_bodies : Kinds → World → List (List ℕ) → List (List ℕ)
-run_bodies kinds w done = all_of (run_chunks kinds w done)
+abbrev pub run_bodies : Kinds → List Heard → World → List (List ℕ) → List (List ℕ)
+run_bodies kinds heard w done = all_of (run_chunks kinds heard w done)
 
 -- the chunk that is due after lines
-abbrev pub due_after : Kinds → World → List (List ℕ) → List (List ℕ) → List (List ℕ)
-due_after kinds w done rest =
-    next_chunk line_effect (length done + 1) rest (state_after line_effect 1 done (opened kinds w))
+abbrev pub due_after : Kinds → List Heard → World → List (List ℕ) → List (List ℕ) → List (List ℕ)
+due_after kinds heard w done rest =
+    next_chunk line_effect (length done + 1) rest (state_after line_effect 1 done (opened kinds heard w))
 
 -- The disk keeps the chunks of a run from the journal as it was found: where that wasn't opened none,
 -- and the record of the epoch was due; and where it was, that one with those of the lines done.
 abbrev pub KeepsRun
-    : {D : Type 0} → Kinds → Ghosts D → D → D → List (List ℕ) → World → ℕ → Result Bool Cause
+    : {D : Type 0} → Kinds → List Heard → Ghosts D → D → D → List (List ℕ) → World → ℕ → Result Bool Cause
     → List (List ℕ) → List (List ℕ) → Type 0
-KeepsRun kinds d old new bodies w limit ended done rest =
+KeepsRun kinds heard d old new bodies w limit ended done rest =
     ((WasPlayed ended → ⊥) × (done ≡ [])
     × Keeps d old new bodies [] (epoch_body w ∷ []) limit (stop_of ended))
-    ⊎ Keeps d old new bodies (run_chunks kinds w done) (due_after kinds w done rest) limit (stop_of ended)
+    ⊎ Keeps d old new bodies (run_chunks kinds heard w done) (due_after kinds heard w done rest) limit (stop_of ended)
 
 -- ---- both, and the end
 
 -- A run ended with this status, and its last line, or a front of it where the sink failed, stands
--- behind the replies. What it kept is said of how it ended, the lines done and the rest.
+-- behind the replies. What was heard in its lines its dial shows. What it kept is said of how it ended,
+-- the lines done and the rest.
 pub record HasRun
     (kinds : Kinds)
+    (heard : List Heard)
+    (wires : Type 0)
+    (dial dial' : DialStanding)
     (tells : Type 0)
     (faults faults' : ℕ)
     (written written' : List ℕ)
@@ -159,15 +168,18 @@ pub record HasRun
   pub is_status : status ≡ status_of ended
   -- what the sink had before the last line
   pub before : List ℕ
-  pub run : Plays line_effect HoldsOfTurn tells written before input left (opened kinds w) ended (Kept ended)
+  pub run : Plays line_effect HoldsOfTurn tells written before input left (opened kinds heard w) ended
+      (HearsAll wires (opened kinds heard w) dial dial' ended) (Kept ended)
   pub line : EndsWith tells faults faults' before written' (last_words ended)
 
 -- the same where nothing is known of the disk: some world has the session that the run began with
 abbrev pub HasRunSomewhere
-    : Kinds → Type 0 → ℕ → ℕ → List ℕ → List ℕ → List ℕ → List ℕ → ℕ → Type 0
-HasRunSomewhere kinds tells faults faults' written written' input left status =
+    : Kinds → List Heard → Type 0 → DialStanding → DialStanding → Type 0 → ℕ → ℕ → List ℕ → List ℕ
+    → List ℕ → List ℕ → ℕ → Type 0
+HasRunSomewhere kinds heard wires dial dial' tells faults faults' written written' input left status =
     (w : World)
-    × HasRun kinds tells faults faults' written written' w input left status (λ ended done rest. ⊤)
+    × HasRun kinds heard wires dial dial' tells faults faults' written written' w input left status
+    (λ ended done rest. ⊤)
 
 -- the replies to some lines, from the first on, and then a line that tells of a stop
 abbrev pub StopsAfter
@@ -181,6 +193,7 @@ StopsAfter tells faults faults' written written' lines s line =
 pub record IsDue
     {D : Type 0}
     (kinds : Kinds)
+    (heard : List Heard)
     (d : Ghosts D)
     (disk : D)
     (bodies : List (List ℕ))
@@ -189,4 +202,4 @@ pub record IsDue
     (would limit : ℕ) : Type 0 where
   pub whole : lines ≡ done ++ rest
   pub past : ((done ≡ []) × IsFull d disk bodies (epoch_body w ∷ []) would limit)
-      ⊎ IsFull d disk (bodies ++ run_bodies kinds w done) (due_after kinds w done rest) would limit
+      ⊎ IsFull d disk (bodies ++ run_bodies kinds heard w done) (due_after kinds heard w done rest) would limit

@@ -1,9 +1,11 @@
 -- What the lines of a script come to, and the line that sums them up.
-use Rattle.std.specs.Prelude.{ℕ, ◌+◌, List, [], ◌∷◌, ◌++◌, length, sum_by, count_by, Option, None, option_map, option_and_then, codes, if◌then◌else◌}
+use Rattle.std.specs.Prelude.{◌≡◌, ℕ, ◌+◌, List, [], ◌∷◌, ◌++◌, length, sum_by, count_by, Option, None, option_map, option_and_then, codes, if◌then◌else◌}
 use Rattle.std.specs.List.{last_or}
 use Rattle.rx_digest.specs.Digest.{digest_of}
+use Rattle.rx_engine.specs.Engine.{session_of}
 use Rattle.rx_engine.specs.Meaning.{Meaning, meaning}
 use Rattle.rx_engine.specs.Standing.{Standing}
+use Rattle.rx_engine.specs.declared.engine.Engine.{Engine}
 use Rattle.rx_engine.specs.declared.output.Output.{Output}
 use Rattle.rx_reply.specs.Turn.{end_word}
 use Rattle.rx_trial.specs.Summary.{summary_line}
@@ -56,3 +58,8 @@ summary_text t w = summary_line (record {
 abbrev pub summary_of : List (List ℕ) → Standing → List ℕ
 summary_of script s =
     summary_text (tally_of (meanings 1 script s)) (state_after line_effect 1 script s).session.world
+
+-- a tally and an engine are those that lines come to which are played as things stand
+pub record ComesTo (lines : List (List ℕ)) (s : Standing) (engine : Engine) (t : Tally) : Type 0 where
+  pub tally : t ≡ tally_of (meanings 1 lines s)
+  pub world : (session_of engine).world ≡ (state_after line_effect 1 lines s).session.world

@@ -1,6 +1,7 @@
 -- The command `trial`: what it promises, wherever it ends.
 use Rattle.std.specs.Prelude.{◌≡◌, ◌≤◌, ◌⊎◌, ⊤, ℕ, List, [], ◌++◌, codes, Bool, false, Option, None, Some, Result, Ok, Err, MatchOption}
 use Rattle.rx_disk.specs.declared.disk.Disk.{Ghosts}
+use Rattle.rx_engine.specs.Dialled.{DialStanding}
 use Rattle.rx_engine.specs.Opening.{opened}
 use Rattle.rx_engine.specs.Standing.{Standing}
 use Rattle.rx_frame.specs.File.{end_of}
@@ -8,11 +9,14 @@ use Rattle.rx_handler.specs.Handlers.{Kinds}
 use Rattle.rx_journal.specs.Reading.{IsUntouched}
 use Rattle.rx_outside.specs.Failed.{Rises}
 use Rattle.rx_outside.specs.Sink.{WritesFront}
+use Rattle.rx_outside.specs.declared.dial.Dial.{Ghosts as DialGhosts}
 use Rattle.rx_outside.specs.declared.sink.Sink.{Ghosts as SinkGhosts}
 use Rattle.rx_outside.specs.declared.stop.Stop.{Stop}
 use Rattle.rx_store.specs.Holds.{IsIllegalFile, IsJournalOfSome, IsLegalFile}
+use Rattle.rx_sync.specs.Remote.{Heard}
 use Rattle.rx_trial.specs.Lines.{script}
 use Rattle.rx_world.specs.World.{World}
+use Rattle.rx_top.specs.Hears.{HearsAll, stands}
 use Rattle.rx_top.specs.Run.{IsDue, KeepsRun, run_bodies}
 use Rattle.rx_top.specs.Start.{FromStart, StaysLegal}
 use Rattle.rx_top.specs.Stops.{EndsWith, full_line, stop_line}
@@ -23,16 +27,17 @@ use Rattle.rx_top.specs.declared.cause.Cause.TheVariants.{Work}
 
 -- ---- how it ends
 
--- Lines are done, one after another: all of them, or some where work stopped. What a disk keeps of
--- those done, and may keep of the rest, is said beside it.
+-- Lines are done, one after another: all of them, or some where work stopped. What a dial shows of
+-- them, and what a disk keeps of those done and may keep of the rest, is said beside it.
 pub record DoesLines
     (lines : List (List ℕ))
     (stop : Option Stop)
-    (Kept : List (List ℕ) → List (List ℕ) → Type 0) : Type 0 where
+    (Shown Kept : List (List ℕ) → List (List ℕ) → Type 0) : Type 0 where
   pub done : List (List ℕ)
   pub rest : List (List ℕ)
   pub whole : lines ≡ done ++ rest
   pub all : stop ≡ None → rest ≡ []
+  pub shown : Shown done rest
   pub kept : Kept done rest
 
 -- such an end as that of a run
@@ -43,6 +48,8 @@ as_run (Some why) = Err (Work why)
 -- A trial of lines, as things stand, ended with a status: they are done, and their summary is
 -- written, or a front of it where the sink failed; or work stopped, and the line that tells of it is.
 pub record HasTried
+    (wires : Type 0)
+    (dial dial' : DialStanding)
     (tells : Type 0)
     (faults faults' : ℕ)
     (written written' : List ℕ)
@@ -51,7 +58,7 @@ pub record HasTried
     (status : ℕ)
     (Kept : Option Stop → List (List ℕ) → List (List ℕ) → Type 0) : Type 0 where
   pub stop : Option Stop
-  pub does : DoesLines lines stop (Kept stop)
+  pub does : DoesLines lines stop (HearsAll wires s dial dial' (as_run stop)) (Kept stop)
   pub told : MatchOption stop
       (TellsText tells faults faults' written written' status (summary_of lines s))
       (λ why. TellsStop tells faults faults' written written' status why)
@@ -59,45 +66,50 @@ pub record HasTried
 -- ---- what it promises
 
 -- A trial of the script of a seed, with so many lines of its own, ended with a status, from one state
--- of its sink and its disk to a later one. Its journal may have so many bytes, and its conflicts are
--- resolved by handlers of these kinds.
+-- of its sink, its disk and its dial to a later one. Its journal may have so many bytes, and its conflicts
+-- are resolved by handlers of these kinds; and this was heard of masters elsewhere, exchange after
+-- exchange, where the journal has a replication with such a master under the script's name.
 pub record TriesScript
-    {K D : Type 0}
+    {K D N W : Type 0}
     (k : SinkGhosts K)
     (d : Ghosts D)
+    (n : DialGhosts N W)
+    (wires : Type 0)
     (kinds : Kinds)
+    (heard : List Heard)
     (limit seed count status : ℕ)
     (out out' : K)
-    (disk disk' : D) : Type 0 where
+    (disk disk' : D)
+    (dial dial' : N) : Type 0 where
   -- Wherever it ends: some lines of the script are done, and the summary or the stop line is written,
-  -- or a front of it where the sink failed. At each moment of the call each image of the disk is a
+  -- or a front of it where the sink failed. The dial shows what was heard in each line. At each moment of the call each image of the disk is a
   -- legal file of the old records and a front of those that are due, as in a run of these lines, and
   -- at its end it has all those of the lines done.
   pub headline : FromStart d disk (λ bodies w.
-      HasTried k.tells (k.faults out) (k.faults out') (k.written out) (k.written out')
-      (script seed count) (opened kinds w) status
-      (λ stop. KeepsRun kinds d disk disk' bodies w limit (as_run stop)))
+      HasTried wires (stands n dial) (stands n dial') k.tells (k.faults out) (k.faults out') (k.written out) (k.written out')
+      (script seed count) (opened kinds heard w) status
+      (λ stop. KeepsRun kinds heard d disk disk' bodies w limit (as_run stop)))
   -- So each image is a legal file that goes on from the old records.
   pub legal : FromStart d disk (λ bodies w. StaysLegal d disk disk' bodies)
   -- Over any disk: the same of what was written, from some world on.
   pub over_any_disk : (w : World)
-      × HasTried k.tells (k.faults out) (k.faults out') (k.written out) (k.written out')
-      (script seed count) (opened kinds w) status (λ stop done rest. ⊤)
+      × HasTried wires (stands n dial) (stands n dial') k.tells (k.faults out) (k.faults out') (k.written out) (k.written out')
+      (script seed count) (opened kinds heard w) status (λ stop done rest. ⊤)
   -- A file that isn't legal stays as it was, and nothing that a crash leaves is new.
   pub illegal : d.tells → IsIllegalFile (d.content disk) → IsUntouched d disk disk'
   -- The work was done: the summary was written.
   pub summary : status ≡ 0 → k.tells → FromStart d disk (λ bodies w.
-      k.written out' ≡ k.written out ++ summary_of (script seed count) (opened kinds w))
+      k.written out' ≡ k.written out ++ summary_of (script seed count) (opened kinds heard w))
   -- The sink failed, and took a front of it.
   pub sink_fault : status ≡ 5 → Rises (k.faults out) (k.faults out')
   pub sink : status ≡ 5 → k.tells → FromStart d disk (λ bodies w.
-      WritesFront (k.written out) (k.written out') (summary_of (script seed count) (opened kinds w)))
+      WritesFront (k.written out) (k.written out') (summary_of (script seed count) (opened kinds heard w)))
   -- Then the journal has the records of the whole script, within the limit.
   pub kept : (status ≡ 0) ⊎ (status ≡ 5) → FromStart d disk (λ bodies w.
       (c : List ℕ) → d.image disk' c → (after : World)
-      × IsLegalFile c (bodies ++ run_bodies kinds w (script seed count)) after)
+      × IsLegalFile c (bodies ++ run_bodies kinds heard w (script seed count)) after)
   pub fits : (status ≡ 0) ⊎ (status ≡ 5) → FromStart d disk (λ bodies w.
-      end_of (bodies ++ run_bodies kinds w (script seed count)) ≤ limit)
+      end_of (bodies ++ run_bodies kinds heard w (script seed count)) ≤ limit)
   -- The disk failed, memory ran out, or the file is no journal, and the stop line tells which.
   pub disk_fault : status ≡ 3 → Rises (d.faults disk) (d.faults disk')
   pub disk_line : status ≡ 3 → EndsWith k.tells (k.faults out) (k.faults out') (k.written out)
@@ -116,10 +128,11 @@ pub record TriesScript
   -- record isn't there.
   pub full : status ≡ 8 → FromStart d disk (λ bodies w.
       (done : List (List ℕ)) × (rest : List (List ℕ)) × (would : ℕ)
-      × IsDue kinds d disk' bodies w (script seed count) done rest would limit
+      × IsDue kinds heard d disk' bodies w (script seed count) done rest would limit
       × EndsWith k.tells (k.faults out) (k.faults out') (k.written out) (k.written out')
       (full_line would limit))
   -- no other status comes, and counts don't fall
   pub statuses : (status ≡ 0) ⊎ (status ≡ 3) ⊎ (status ≡ 5) ⊎ (status ≡ 6) ⊎ (status ≡ 7) ⊎ (status ≡ 8)
   pub sink_faults : k.faults out ≤ k.faults out'
   pub disk_faults : d.faults disk ≤ d.faults disk'
+  pub dial_faults : n.faults dial ≤ n.faults dial'

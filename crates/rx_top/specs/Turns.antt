@@ -2,7 +2,7 @@
 use Rattle.std.specs.Prelude.{◌≡◌, ℕ, List, false}
 use Rattle.rx_reply.specs.declared.turn.TurnEnd.TheVariants.{Quiet}
 use Rattle.rx_sync.specs.Laws.{IsLevel}
-use Rattle.rx_engine.specs.Engine.{IsBounded}
+use Rattle.rx_engine.specs.Engine.{IsBounded, IsUnharmedBy}
 use Rattle.rx_engine.specs.Lines.{task, turns}
 use Rattle.rx_engine.specs.Standing.{Standing}
 use Rattle.rx_engine.specs.Turning.{Turn, turned}
@@ -15,6 +15,8 @@ pub record IsTurnKept (line : List ℕ) (s next : Standing) : Type 0 where
       → IsLevel next.session.world t.name
   -- where its link does nothing, so many exchanges are enough
   pub bounded : IsBounded line s
+  -- where its master is elsewhere, that harms nothing
+  pub unharmed : IsUnharmedBy line s
 
 -- of each line that isn't blank
 abbrev pub HoldsOfTurn : ℕ → List ℕ → Standing → Standing → Type 0

@@ -1,4 +1,4 @@
-//! The program over any source, sink, disk, door and clock: a command from its words to its status,
+//! The program over any source, sink, disk, door, dial and clock: a command from its words to its status,
 //! and the play of a script from its bytes to its answers.
 //!
 //! `rx` is the call that the program makes. What it promises of each command is a record of specs/:
@@ -19,5 +19,5 @@ mod telling;
 mod top;
 mod trial;
 
-pub use laws::{goes_on, starts_empty};
+pub use laws::{goes_on, starts_empty, turn_lines_end_in_time};
 pub use top::rx;

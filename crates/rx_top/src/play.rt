@@ -10,39 +10,46 @@ ghost use Rattle.rx_outside.specs.declared.stop.Stop.TheVariants as stop;
 ghost use Rattle.rx_store.specs.Safe.{IsCrashSafe};
 ghost use Rattle.rx_top.specs.declared.cause.ReadFault.{ReadFault};
 ghost use Rattle.rx_top.specs.declared.cause.ReadFault.TheVariants as fault;
+ghost use Rattle.rx_top.specs.Hears.{HearsAll, stands};
 ghost use Rattle.rx_top.specs.Lines.{is_blank, is_space};
 ghost use Rattle.rx_top.specs.Reader.{Took, max_input_bytes};
 ghost use Rattle.rx_top.specs.Run.{KeepsFrom, Plays};
 ghost use Rattle.rx_top.specs.Script.{line_effect};
 ghost use Rattle.rx_top.specs.Start.{StaysLegal};
 ghost use Rattle.rx_top.specs.Turns.{HoldsOfTurn};
-ghost use Rattle.rx_top.specs.Work.{HasAll, work_of};
+ghost use Rattle.rx_sync.specs.Remote.{Heard};
+ghost use Rattle.rx_top.specs.Work.{WorksLine};
 
 use crate::cause::Cause;
 use crate::reader::{Next, Reader};
 use rx_disk::Disk;
 use rx_engine::Engine;
 use rx_handler::Handlers;
-use rx_outside::{Sink, Source, write_all};
+use rx_outside::{Dial, Sink, Source, write_all};
 use rx_script::MAX_LINE_BYTES;
 use std::alloc::Global;
 
 /// Plays the lines that the source gives to its end, and says whether one was refused. The reader
 /// stands behind a reference, so that no exit drops it.
-pub(crate) fn play<S: Source, K: Sink, D: Disk>(
+pub(crate) fn play<S: Source, K: Sink, D: Disk, N: Dial>(
     alloc: Global,
     first: Engine,
     reader: &mut Reader,
     source: &mut S,
     out: &mut K,
     disk: &mut D,
+    dial: &mut N,
     handlers: &Handlers,
 ) -> Result<bool, Cause>
     requires at { D.tells → (bodies : List (List ℕ)) × IsAt D.Disk disk.old first bodies }
     requires fresh { reader.old ≡ record { line = []; unread = []; given = 0 } }
-    ensures exit { S.tells → Plays line_effect HoldsOfTurn K.tells (K.written out.old) (K.written out.new)
-        (S.left source.old) (S.left source.new) (standing_of (kinds_of handlers.now) first) result
-        (KeepsFrom (kinds_of handlers.now) D.Disk disk.old disk.new first result) }
+    // By what was heard of masters elsewhere in all lines, as the dial shows.
+    ensures exit { (heard : List Heard) × (S.tells
+        → Plays line_effect HoldsOfTurn K.tells (K.written out.old) (K.written out.new)
+        (S.left source.old) (S.left source.new) (standing_of (kinds_of handlers.now) heard first)
+        result (HearsAll N.W.tells (standing_of (kinds_of handlers.now) heard first)
+        (stands N.Dial dial.old) (stands N.Dial dial.new) result) (KeepsFrom (standing_of (kinds_of handlers.now) heard first) D.Disk disk.old disk.new
+        first result)) }
     ensures legal { D.tells → (bodies : List (List ℕ)) → IsAt D.Disk disk.old first bodies
         → StaysLegal D.Disk disk.old disk.new bodies }
     ensures whole { S.tells → OnOk result (S.left source.new ≡ []) }
@@ -57,6 +64,7 @@ pub(crate) fn play<S: Source, K: Sink, D: Disk>(
     ensures source_faults { S.faults source.old ≤ S.faults source.new }
     ensures sink_faults { K.faults out.old ≤ K.faults out.new }
     ensures disk_faults { D.faults disk.old ≤ D.faults disk.new }
+    ensures dial_faults { N.faults dial.old ≤ N.faults dial.new }
 {
     let mut engine = first;
     let mut number = 0u64;
@@ -70,7 +78,16 @@ pub(crate) fn play<S: Source, K: Sink, D: Disk>(
             return Ok(refused);
         }
         number += 1;
-        let played = match play_line(alloc, engine, reader.line(), number, out, disk, handlers) {
+        let played = match play_line(
+            alloc,
+            engine,
+            reader.line(),
+            number,
+            out,
+            disk,
+            dial,
+            handlers,
+        ) {
             Ok(played) => played,
             Err(cause) => return Err(cause),
         };
@@ -83,33 +100,25 @@ pub(crate) fn play<S: Source, K: Sink, D: Disk>(
 }
 
 // Plays one line and writes its reply, and says whether it was refused.
-fn play_line<K: Sink, D: Disk>(
+fn play_line<K: Sink, D: Disk, N: Dial>(
     alloc: Global,
     engine: Engine,
     line: &[u8],
     number: u64,
     out: &mut K,
     disk: &mut D,
+    dial: &mut N,
     handlers: &Handlers,
 ) -> Result<(Engine, bool), Cause>
     requires { D.tells → (bodies : List (List ℕ)) × IsAt D.Disk disk.old engine bodies }
-    ensures next { IfOk result (λ p. standing_of (kinds_of handlers.now) p.0 ≡ (line_effect number line.now (standing_of (kinds_of handlers.now) engine)).next) }
-    ensures refused { IfOk result (λ p. p.1 ≡ (line_effect number line.now (standing_of (kinds_of handlers.now) engine)).refused) }
-    ensures written { K.tells → OnOk result
-        (K.written out.new ≡ K.written out.old ++ (line_effect number line.now (standing_of (kinds_of handlers.now) engine)).reply) }
-    ensures front { K.tells → IsErrOf result Cause.Sink
-        → WritesFront (K.written out.old) (K.written out.new) (line_effect number line.now (standing_of (kinds_of handlers.now) engine)).reply }
+    // What was heard in it, and by that the next engine, the reply, and the records: what holds at
+    // each moment, where the work was done, and where it stopped.
+    ensures works { WorksLine D.Disk (kinds_of handlers.now) N.W.tells K.tells number line.now engine
+        disk.old disk.new
+        (stands N.Dial dial.old) (stands N.Dial dial.new) (K.written out.old) (K.written out.new) result }
     ensures unsaid { K.tells → (s : Stop) → IsErrOf result (Cause.Work s)
         → K.written out.new ≡ K.written out.old }
     ensures no_read { (f : ReadFault) → IsErrOf result (Cause.Read f) → ⊥ }
-    // The line's records: what holds at each moment, where the work was done, and where it stopped.
-    ensures safe { D.tells → (bodies : List (List ℕ)) → IsAt D.Disk disk.old engine bodies
-        → IsCrashSafe D.Disk disk.old disk.new bodies
-        (line_effect number line.now (standing_of (kinds_of handlers.now) engine)).bodies (limit_of engine)
-        (HasAll D.Disk disk.new) (work_of result) }
-    ensures turn { OnOk (work_of result) (HoldsOfTurn number line.now
-        (standing_of (kinds_of handlers.now) engine)
-        (line_effect number line.now (standing_of (kinds_of handlers.now) engine)).next) }
     ensures limit { IfOk result (λ p. limit_of p.0 ≡ limit_of engine) }
     ensures sink { IsErrOf result Cause.Sink → Rises (K.faults out.old) (K.faults out.new) }
     ensures disk_only { IsErrOf result (Cause.Work stop.Disk)
@@ -117,11 +126,12 @@ fn play_line<K: Sink, D: Disk>(
     ensures not_journal { D.tells → IsErrOf result (Cause.Work stop.NotJournal) → ⊥ }
     ensures sink_faults { K.faults out.old ≤ K.faults out.new }
     ensures disk_faults { D.faults disk.old ≤ D.faults disk.new }
+    ensures dial_faults { N.faults dial.old ≤ N.faults dial.new }
 {
     if is_blank(line) {
         return Ok((engine, false));
     }
-    let (engine, output) = match engine.line(alloc, disk, handlers, line, number) {
+    let (engine, output) = match engine.line(alloc, disk, dial, handlers, line, number) {
         Ok(pair) => pair,
         Err(stop) => return Err(Cause::Work(stop)),
     };

@@ -1,6 +1,7 @@
 // The program: a command, and its status.
 ghost use Rattle.std.specs.Prelude.{◌≡◌, ◌⊎◌, List, ℕ, None, Some, codes};
 ghost use Rattle.rx_handler.specs.Shown.{kinds_of};
+ghost use Rattle.rx_sync.specs.Remote.{Heard};
 ghost use Rattle.rx_words.specs.Words.{command_of};
 ghost use Rattle.rx_words.specs.declared.command.Command.TheVariants.{Run, Serve, Check, Trial};
 ghost use Rattle.rx_top.specs.PlaysScript.{PlaysScript};
@@ -16,7 +17,7 @@ use crate::serve::{Offer, serve};
 use crate::trial::trial;
 use rx_disk::Disk;
 use rx_handler::Handlers;
-use rx_outside::{Clock, Listen, Sink, Source, write_all};
+use rx_outside::{Clock, Dial, Listen, Sink, Source, write_all};
 use rx_words::{Command, Words, command_of};
 use std::alloc::Global;
 
@@ -24,7 +25,8 @@ use std::alloc::Global;
 ///
 /// `run JOURNAL` opens the journal, which is the disk, begins a new epoch, and plays the script
 /// that the source gives, a line of JSON a line. The records of a line are on the disk before a
-/// byte of its reply is written.
+/// byte of its reply is written. A turn whose master is at a port dials it once, and that it is lost
+/// ends no run.
 ///
 /// `serve JOURNAL COLLECTION PORT CONNECTIONS` opens the journal, and then the door at that port on
 /// loopback, and serves the collection as a master to so many connections, one after another.
@@ -49,25 +51,29 @@ use std::alloc::Global;
 /// | 10 | the collection to be served isn't held, or is a fork |
 ///
 /// From 2 on but for 5, the last line written tells the cause.
-pub fn rx<S: Source, K: Sink, D: Disk, L: Listen, C: Clock>(
+pub fn rx<S: Source, K: Sink, D: Disk, L: Listen, N: Dial, C: Clock>(
     alloc: Global,
     words: &Words,
     source: &mut S,
     out: &mut K,
     disk: &mut D,
     door: &mut L,
+    dial: &mut N,
     clock: &mut C,
     handlers: &Handlers,
 ) -> u8
-    // The command `run`, unless memory was wanting for its words.
+    // The command `run`, by what was heard of masters elsewhere, unless memory was wanting for its
+    // words.
     ensures runs { (path : List ℕ) (limit : ℕ)
         → command_of words.now.words.items ≡ Some (Run path limit)
-        → PlaysScript S.Source K.Sink D.Disk (kinds_of handlers.now) limit result
+        → ((heard : List Heard)
+        × PlaysScript S.Source K.Sink D.Disk N.Dial N.W.tells (kinds_of handlers.now) heard limit result
         source.old source.new out.old out.new disk.old disk.new
+        dial.old dial.new)
         ⊎ LacksMemory result K.tells (K.faults out.old) (K.faults out.new) (K.written out.old)
         (K.written out.new)
-        (record { source = source.old; disk = disk.old; door = door.old; clock = clock.old })
-        (record { source = source.new; disk = disk.new; door = door.new; clock = clock.new }) }
+        (record { source = source.old; disk = disk.old; door = door.old; dial = dial.old; clock = clock.old })
+        (record { source = source.new; disk = disk.new; door = door.new; dial = dial.new; clock = clock.new }) }
 
     // The command `serve`, likewise.
     ensures serves { (path name : List ℕ) (port connections limit : ℕ)
@@ -76,8 +82,8 @@ pub fn rx<S: Source, K: Sink, D: Disk, L: Listen, C: Clock>(
         out.old out.new disk.old disk.new door.old door.new clock.old clock.new
         ⊎ LacksMemory result K.tells (K.faults out.old) (K.faults out.new) (K.written out.old)
         (K.written out.new)
-        (record { source = source.old; disk = disk.old; door = door.old; clock = clock.old })
-        (record { source = source.new; disk = disk.new; door = door.new; clock = clock.new }) }
+        (record { source = source.old; disk = disk.old; door = door.old; dial = dial.old; clock = clock.old })
+        (record { source = source.new; disk = disk.new; door = door.new; dial = dial.new; clock = clock.new }) }
 
     // The command `check`, likewise.
     ensures reports { (path : List ℕ)
@@ -85,18 +91,20 @@ pub fn rx<S: Source, K: Sink, D: Disk, L: Listen, C: Clock>(
         → ReportsJournal K.Sink D.Disk result out.old out.new disk.old disk.new
         ⊎ LacksMemory result K.tells (K.faults out.old) (K.faults out.new) (K.written out.old)
         (K.written out.new)
-        (record { source = source.old; disk = disk.old; door = door.old; clock = clock.old })
-        (record { source = source.new; disk = disk.new; door = door.new; clock = clock.new }) }
+        (record { source = source.old; disk = disk.old; door = door.old; dial = dial.old; clock = clock.old })
+        (record { source = source.new; disk = disk.new; door = door.new; dial = dial.new; clock = clock.new }) }
 
     // The command `trial`, likewise.
     ensures tries { (path : List ℕ) (seed count limit : ℕ)
         → command_of words.now.words.items ≡ Some (Trial path seed count limit)
-        → TriesScript K.Sink D.Disk (kinds_of handlers.now) limit seed count result
+        → ((heard : List Heard)
+        × TriesScript K.Sink D.Disk N.Dial N.W.tells (kinds_of handlers.now) heard limit seed count result
         out.old out.new disk.old disk.new
+        dial.old dial.new)
         ⊎ LacksMemory result K.tells (K.faults out.old) (K.faults out.new) (K.written out.old)
         (K.written out.new)
-        (record { source = source.old; disk = disk.old; door = door.old; clock = clock.old })
-        (record { source = source.new; disk = disk.new; door = door.new; clock = clock.new }) }
+        (record { source = source.old; disk = disk.old; door = door.old; dial = dial.old; clock = clock.old })
+        (record { source = source.new; disk = disk.new; door = door.new; dial = dial.new; clock = clock.new }) }
 
     // What a command doesn't need it leaves alone.
     ensures run_alone { (path : List ℕ) (limit : ℕ)
@@ -104,10 +112,11 @@ pub fn rx<S: Source, K: Sink, D: Disk, L: Listen, C: Clock>(
         → (door.new ≡ door.old) × (clock.new ≡ clock.old) }
     ensures serve_alone { (path name : List ℕ) (port connections limit : ℕ)
         → command_of words.now.words.items ≡ Some (Serve path name port connections limit)
-        → source.new ≡ source.old }
+        → (source.new ≡ source.old) × (dial.new ≡ dial.old) }
     ensures check_alone { (path : List ℕ)
         → command_of words.now.words.items ≡ Some (Check path)
-        → (source.new ≡ source.old) × (door.new ≡ door.old) × (clock.new ≡ clock.old) }
+        → (source.new ≡ source.old) × (door.new ≡ door.old) × (dial.new ≡ dial.old)
+        × (clock.new ≡ clock.old) }
     ensures trial_alone { (path : List ℕ) (seed count limit : ℕ)
         → command_of words.now.words.items ≡ Some (Trial path seed count limit)
         → (source.new ≡ source.old) × (door.new ≡ door.old) × (clock.new ≡ clock.old) }
@@ -117,13 +126,13 @@ pub fn rx<S: Source, K: Sink, D: Disk, L: Listen, C: Clock>(
     ensures usage_only { command_of words.now.words.items ≡ None → (result ≡ 2) ⊎ (result ≡ 6) }
     ensures usage_line { result ≡ 2 → OnlyWrites K.tells (K.faults out.old) (K.faults out.new)
         (K.written out.old) (K.written out.new)
-        (record { source = source.old; disk = disk.old; door = door.old; clock = clock.old })
-        (record { source = source.new; disk = disk.new; door = door.new; clock = clock.new })
+        (record { source = source.old; disk = disk.old; door = door.old; dial = dial.old; clock = clock.old })
+        (record { source = source.new; disk = disk.new; door = door.new; dial = dial.new; clock = clock.new })
         (stop_line (codes "usage")) }
 {
     match command_of(alloc, words) {
         Ok(Some(command)) => match command {
-            Command::Run { limit, .. } => run(alloc, limit, source, out, disk, handlers),
+            Command::Run { limit, .. } => run(alloc, limit, source, out, disk, dial, handlers),
             Command::Serve {
                 collection,
                 port,
@@ -144,7 +153,7 @@ pub fn rx<S: Source, K: Sink, D: Disk, L: Listen, C: Clock>(
                 count,
                 limit,
                 ..
-            } => trial(alloc, limit, seed, count, out, disk, handlers),
+            } => trial(alloc, limit, seed, count, out, disk, dial, handlers),
         },
         Ok(None) => write_usage(out),
         Err(_) => {

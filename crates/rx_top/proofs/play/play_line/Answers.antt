@@ -1,45 +1,45 @@
-use Rattle.std.proofs.Common.{sym, ◌∙◌}
+use Rattle.std.proofs.Common.{◌≡◌, ◌∙◌, ◌++◌, ℕ, List, [], Err, sym, ap, subst}
+use Rattle.rx_outside.specs.Sink.{WritesFront}
+use Rattle.rx_outside.specs.declared.stop.Stop.TheVariants.{NotJournal}
 use Rattle.rx_handler.specs.Shown.{kinds_of}
-use Rattle.rx_top.proofs.Work.{blank_safe, done_safe, stop_safe, sunk_safe, turn_blank, turn_done}
+use Rattle.rx_top.proofs.Work.{blank_works, done_works, stop_works, sunk_works}
 use Rattle.rx_top.proofs.play.play_line.Goals as goal
 
-pub returns-then-is_blank-clause-safe : goal.returns-then-is_blank-clause-safe
-returns-then-is_blank-clause-safe g c = λ t bodies at.
-    blank_safe (kinds_of c.args.handlers.now) g.D.Disk c.args.engine c.args.number c.args.line.now c.args.disk.now bodies
+pub returns-then-is_blank-clause-works : goal.returns-then-is_blank-clause-works
+returns-then-is_blank-clause-works g c =
+    blank_works (kinds_of c.args.handlers.now) g.N.W.Wire.tells g.K.Sink.tells g.D.Disk c.args.engine
+    c.args.number c.args.line.now c.args.disk.now _ (g.K.Sink.written c.args.out.now)
     (sym c.is_blank.ensures ∙ c.if-is_blank.true)
-    (λ f. g.met.D.Disk.only_now c.args.disk.now f t) at
+    (λ t f. g.met.D.Disk.only_now c.args.disk.now f t)
 
-pub returns-in-Err-clause-safe : goal.returns-in-Err-clause-safe
-returns-in-Err-clause-safe g c = λ t bodies at.
-    stop_safe (kinds_of c.args.handlers.now) g.D.Disk c.args.engine c.args.number c.args.line.now c.args.disk.now c.line.new.disk
-    bodies c.in-Err.stop (sym c.is_blank.ensures ∙ c.if-is_blank.false)
-    (c.in-Err.ensures.safe t bodies at)
+pub returns-in-Err-clause-works : goal.returns-in-Err-clause-works
+returns-in-Err-clause-works g c =
+    stop_works (kinds_of c.args.handlers.now) g.N.W.Wire.tells g.K.Sink.tells g.D.Disk c.args.engine
+    c.args.number c.args.line.now c.args.disk.now c.line.new.disk _ _
+    (sym c.is_blank.ensures ∙ c.if-is_blank.false) (g.K.Sink.written c.args.out.now) c.in-Err.stop
+    c.in-Err.ensures.plays c.in-Err.ensures.unharmed
 
-pub returns-in-Ok-write_all-clause-safe : goal.returns-in-Ok-write_all-clause-safe
-returns-in-Ok-write_all-clause-safe g c = λ t bodies at.
-    done_safe (kinds_of c.args.handlers.now) g.D.Disk c.args.engine c.args.number c.args.line.now c.args.disk.now c.line.new.disk
-    bodies c.in-Ok.pair c.in-Ok.pair.1.refused (sym c.is_blank.ensures ∙ c.if-is_blank.false)
-    (c.in-Ok.ensures.safe t bodies at)
+pub returns-in-Ok-write_all-clause-works : goal.returns-in-Ok-write_all-clause-works
+returns-in-Ok-write_all-clause-works g c =
+    done_works (kinds_of c.args.handlers.now) g.N.W.Wire.tells g.K.Sink.tells g.D.Disk c.args.engine
+    c.args.number c.args.line.now c.args.disk.now c.line.new.disk _ _
+    (sym c.is_blank.ensures ∙ c.if-is_blank.false) (g.K.Sink.written c.args.out.now)
+    (g.K.Sink.written c.write_all.new.sink) c.in-Ok.pair c.in-Ok.ensures.plays c.in-Ok.ensures.quiet
+    c.in-Ok.ensures.bounded (c.in-Ok.ensures.unharmed (λ is. cc)) (λ k. c.in-Ok-write_all.ensures.ok k
+    ∙ ap (λ (bs : List ℕ). g.K.Sink.written c.args.out.now ++ bs) c.as_bytes.ensures.value)
 
-pub returns-in-Err-write_all-clause-safe : goal.returns-in-Err-write_all-clause-safe
-returns-in-Err-write_all-clause-safe g c = λ t bodies at.
-    sunk_safe (kinds_of c.args.handlers.now) g.D.Disk c.args.engine c.args.number c.args.line.now c.args.disk.now c.line.new.disk
-    bodies c.in-Ok.pair (sym c.is_blank.ensures ∙ c.if-is_blank.false)
-    (c.in-Ok.ensures.safe t bodies at)
+pub returns-in-Err-write_all-clause-works : goal.returns-in-Err-write_all-clause-works
+returns-in-Err-write_all-clause-works g c =
+    sunk_works (kinds_of c.args.handlers.now) g.N.W.Wire.tells g.K.Sink.tells g.D.Disk c.args.engine
+    c.args.number c.args.line.now c.args.disk.now c.line.new.disk _ _
+    (sym c.is_blank.ensures ∙ c.if-is_blank.false) (g.K.Sink.written c.args.out.now)
+    (g.K.Sink.written c.write_all.new.sink) c.in-Ok.pair c.in-Ok.ensures.plays c.in-Ok.ensures.quiet
+    c.in-Ok.ensures.bounded (c.in-Ok.ensures.unharmed (λ is. cc)) (λ k. subst (λ (bs : List ℕ). WritesFront (g.K.Sink.written c.args.out.now)
+    (g.K.Sink.written c.write_all.new.sink) bs) c.as_bytes.ensures.value
+    (c.in-Err-write_all.ensures.err k))
 
-pub returns-then-is_blank-clause-turn : goal.returns-then-is_blank-clause-turn
-returns-then-is_blank-clause-turn g c =
-    turn_blank (kinds_of c.args.handlers.now) g.D.Disk c.args.engine c.args.number c.args.line.now
-    (sym c.is_blank.ensures ∙ c.if-is_blank.true)
-
-pub returns-in-Ok-write_all-clause-turn : goal.returns-in-Ok-write_all-clause-turn
-returns-in-Ok-write_all-clause-turn g c =
-    turn_done (kinds_of c.args.handlers.now) g.D.Disk c.args.engine c.args.number c.args.line.now
-    c.in-Ok.pair (sym c.is_blank.ensures ∙ c.if-is_blank.false)
-    c.in-Ok.ensures.answers c.in-Ok.ensures.quiet c.in-Ok.ensures.bounded
-
-pub returns-in-Err-write_all-clause-turn : goal.returns-in-Err-write_all-clause-turn
-returns-in-Err-write_all-clause-turn g c =
-    turn_done (kinds_of c.args.handlers.now) g.D.Disk c.args.engine c.args.number c.args.line.now
-    c.in-Ok.pair (sym c.is_blank.ensures ∙ c.if-is_blank.false)
-    c.in-Ok.ensures.answers c.in-Ok.ensures.quiet c.in-Ok.ensures.bounded
+pub returns-in-Err-clause-not_journal : goal.returns-in-Err-clause-not_journal
+returns-in-Err-clause-not_journal g c = λ t is.
+    let at = c.requires t in
+    let same : c.in-Err.stop ≡ NotJournal = cc in
+    (c.in-Err.ensures.plays.safe [] t at.0 at.1).not_journal (ap Err same)

@@ -1,10 +1,12 @@
 use Rattle.std.proofs.Common.{◌++◌, ◌∷◌, [], ⊎_elim, Err, ap, sym, append-nil, subst}
+use Rattle.rx_engine.specs.Engine.{standing_of}
 use Rattle.rx_engine.specs.Opening.{epoch_body, opened}
 use Rattle.rx_outside.specs.declared.stop.Stop.TheVariants.{NotJournal}
 use Rattle.std.specs.Prelude.{⊤}
 use Rattle.rx_engine.specs.Standing.{Standing}
 use Rattle.rx_handler.specs.Shown.{kinds_of}
 use Rattle.rx_world.specs.World.{empty}
+use Rattle.rx_top.specs.Hears.{HearsAll, stands}
 use Rattle.rx_top.specs.Lines.{lines}
 use Rattle.rx_top.specs.Run.{KeepsRun, Plays}
 use Rattle.rx_top.specs.Script.{line_effect}
@@ -13,18 +15,31 @@ use Rattle.rx_top.specs.declared.cause.Cause.TheVariants.{Read, Work}
 use Rattle.rx_top.specs.declared.cause.ReadFault.TheVariants as ReadFault
 use Rattle.rx_top.proofs.Chunks.{stays_legal}
 use Rattle.rx_top.proofs.Growth.{legal_on}
+use Rattle.rx_top.proofs.Hears.{heard_at_first}
 use Rattle.rx_top.proofs.Heads.{needs_journal, no_reader_keeps, not_both, open_keeps, played_keeps, said_as, same_open, still_legal, unplayed, untouched}
 use Rattle.rx_top.proofs.run.open_and_play.Goals as goal
 
 pub returns-in-Err-clause-run : goal.returns-in-Err-clause-run
-returns-in-Err-clause-run g c = λ told t bodies w start.
+returns-in-Err-clause-run g c =
+    let kinds = kinds_of c.args.handlers.now in
     let input = g.S.Source.left c.args.source.now in
-    unplayed g.K.Sink.tells _ _ input _ (opened (kinds_of c.args.handlers.now) w) (Err (Read ReadFault.Memory))
-    (KeepsRun (kinds_of c.args.handlers.now) g.D.Disk c.args.disk.now c.args.disk.now bodies w c.args.limit (Err (Read ReadFault.Memory)))
-    tt (λ k. sym (append-nil (g.K.Sink.written c.args.out.now)))
-    (no_reader_keeps (kinds_of c.args.handlers.now) g.D.Disk bodies w c.args.limit c.args.disk.now (lines input) start
-    (λ f. g.met.D.Disk.only_now c.args.disk.now f t)
-    (λ s f le now. g.met.D.Disk.counts_now c.args.disk.now s f t le now))
+    let dial = stands g.N.Dial c.args.dial.now in
+    let none = λ (k : g.K.Sink.tells). sym (append-nil (g.K.Sink.written c.args.out.now)) in (
+      [],
+      λ told t bodies w start.
+          unplayed g.K.Sink.tells g.N.W.Wire.tells dial _ _ input _ (opened kinds [] w)
+          (Err (Read ReadFault.Memory))
+          (KeepsRun kinds [] g.D.Disk c.args.disk.now c.args.disk.now bodies w c.args.limit
+          (Err (Read ReadFault.Memory))) (heard_at_first kinds [] w) tt none
+          (no_reader_keeps kinds [] g.D.Disk bodies w c.args.limit c.args.disk.now (lines input) start
+          (λ f. g.met.D.Disk.only_now c.args.disk.now f t)
+          (λ s f le now. g.met.D.Disk.counts_now c.args.disk.now s f t le now)),
+      λ told. (
+        empty,
+        unplayed g.K.Sink.tells g.N.W.Wire.tells dial _ _ input _ (opened kinds [] empty)
+            (Err (Read ReadFault.Memory)) (λ done rest. ⊤) (heard_at_first kinds [] empty) tt none tt,
+      ),
+    )
 
 pub returns-in-Err-clause-legal : goal.returns-in-Err-clause-legal
 returns-in-Err-clause-legal g c = λ t bodies w start.
@@ -38,19 +53,40 @@ play-requires-clause-at g c = λ t.
     (stood.0 ++ epoch_body stood.1 ∷ [], (c.in-Ok-open.ensures.safe t stood.0 stood.1 stood.2).at)
 
 pub returns-in-Ok-open-clause-run : goal.returns-in-Ok-open-clause-run
-returns-in-Ok-open-clause-run g c = λ told t bodies w start.
-    let found = c.in-Ok-open.ensures.opened t bodies w start.legal (kinds_of c.args.handlers.now) in
-    let safe = c.in-Ok-open.ensures.safe t bodies w start.legal in
-    subst (λ (s : Standing). Plays line_effect HoldsOfTurn g.K.Sink.tells (g.K.Sink.written c.args.out.now)
-    (g.K.Sink.written c.play.new.out) (g.S.Source.left c.args.source.now)
-    (g.S.Source.left c.play.new.source) s c.play.result
-    (KeepsRun (kinds_of c.args.handlers.now) g.D.Disk c.args.disk.now c.play.new.disk bodies w c.args.limit c.play.result)) found
-    (said_as _ _
-    (λ done rest kept. played_keeps (kinds_of c.args.handlers.now) g.D.Disk bodies w c.args.limit c.args.disk.now c.open.new.disk
-    c.play.new.disk c.in-Ok-open.engine c.play.result done rest
-    (safe.moments start.alike) (⊎_elim (λ none. cc) (λ le. le) safe.fits) c.in-Ok-open.ensures.limit found
-    safe.at t kept)
-    (c.play.ensures.exit told))
+returns-in-Ok-open-clause-run g c =
+    let kinds = kinds_of c.args.handlers.now in
+    let exit = c.play.ensures.exit in
+    let heard = exit.0 in
+    let first = standing_of kinds heard c.in-Ok-open.engine in
+    let n0 = stands g.N.Dial c.args.dial.now in
+    let n2 = stands g.N.Dial c.play.new.dial in (
+      heard,
+      λ told t bodies w start.
+          let found = c.in-Ok-open.ensures.opened t bodies w start.legal kinds heard in
+          let safe = c.in-Ok-open.ensures.safe t bodies w start.legal in
+          subst (λ (s : Standing). Plays line_effect HoldsOfTurn g.K.Sink.tells
+          (g.K.Sink.written c.args.out.now) (g.K.Sink.written c.play.new.out)
+          (g.S.Source.left c.args.source.now) (g.S.Source.left c.play.new.source) s c.play.result
+          (HearsAll g.N.W.Wire.tells s n0 n2 c.play.result)
+          (KeepsRun kinds heard g.D.Disk c.args.disk.now c.play.new.disk bodies w c.args.limit
+          c.play.result)) found
+          (said_as _ _
+          (λ done rest kept. played_keeps kinds heard g.D.Disk bodies w c.args.limit
+          c.args.disk.now c.open.new.disk c.play.new.disk c.in-Ok-open.engine c.play.result done
+          rest (safe.moments start.alike) (⊎_elim (λ none. cc) (λ le. le) safe.fits)
+          c.in-Ok-open.ensures.limit first found safe.at t kept)
+          (exit.1 told)),
+      λ told.
+          let begun = c.in-Ok-open.ensures.begun in (
+            begun.0,
+            subst (λ (s : Standing). Plays line_effect HoldsOfTurn g.K.Sink.tells
+                (g.K.Sink.written c.args.out.now) (g.K.Sink.written c.play.new.out)
+                (g.S.Source.left c.args.source.now) (g.S.Source.left c.play.new.source) s
+                c.play.result (HearsAll g.N.W.Wire.tells s n0 n2 c.play.result) (λ done rest. ⊤))
+                (begun.1 kinds heard)
+                (said_as _ _ (λ done rest kept. tt) (exit.1 told)),
+          ),
+    )
 
 pub returns-in-Ok-open-clause-legal : goal.returns-in-Ok-open-clause-legal
 returns-in-Ok-open-clause-legal g c = λ t bodies w start.
@@ -59,17 +95,29 @@ returns-in-Ok-open-clause-legal g c = λ t bodies w start.
     (safe.moments start.alike) (c.play.ensures.legal t (bodies ++ epoch_body w ∷ []) safe.at)
 
 pub returns-clause-run : goal.returns-clause-run
-returns-clause-run g c = λ told t bodies w start.
+returns-clause-run g c =
+    let kinds = kinds_of c.args.handlers.now in
     let input = g.S.Source.left c.args.source.now in
-    unplayed g.K.Sink.tells _ _ input _ (opened (kinds_of c.args.handlers.now) w) (Err (Work c.in-Err-open.stop))
-    (KeepsRun (kinds_of c.args.handlers.now) g.D.Disk c.args.disk.now c.open.new.disk bodies w c.args.limit (Err (Work c.in-Err-open.stop)))
-    tt (λ k. sym (append-nil (g.K.Sink.written c.args.out.now)))
-    (open_keeps (kinds_of c.args.handlers.now) g.D.Disk bodies w c.args.limit c.args.disk.now c.open.new.disk c.in-Err-open.stop
-    (lines input)
-    ((c.in-Err-open.ensures.safe t bodies w start.legal).moments start.alike)
-    (λ s f le now. g.met.D.Disk.counts_now c.open.new.disk s f t le now)
-    (c.in-Err-open.ensures.safe t bodies w start.legal).full
-    (λ f. g.met.D.Disk.only_now c.args.disk.now f t) start)
+    let dial = stands g.N.Dial c.args.dial.now in
+    let none = λ (k : g.K.Sink.tells). sym (append-nil (g.K.Sink.written c.args.out.now)) in (
+      [],
+      λ told t bodies w start.
+          unplayed g.K.Sink.tells g.N.W.Wire.tells dial _ _ input _ (opened kinds [] w)
+          (Err (Work c.in-Err-open.stop))
+          (KeepsRun kinds [] g.D.Disk c.args.disk.now c.open.new.disk bodies w c.args.limit
+          (Err (Work c.in-Err-open.stop))) (heard_at_first kinds [] w) tt none
+          (open_keeps kinds [] g.D.Disk bodies w c.args.limit c.args.disk.now c.open.new.disk
+          c.in-Err-open.stop (lines input)
+          ((c.in-Err-open.ensures.safe t bodies w start.legal).moments start.alike)
+          (λ s f le now. g.met.D.Disk.counts_now c.open.new.disk s f t le now)
+          (c.in-Err-open.ensures.safe t bodies w start.legal).full
+          (λ f. g.met.D.Disk.only_now c.args.disk.now f t) start),
+      λ told. (
+        empty,
+        unplayed g.K.Sink.tells g.N.W.Wire.tells dial _ _ input _ (opened kinds [] empty)
+            (Err (Work c.in-Err-open.stop)) (λ done rest. ⊤) (heard_at_first kinds [] empty) tt none tt,
+      ),
+    )
 
 pub returns-clause-legal : goal.returns-clause-legal
 returns-clause-legal g c = λ t bodies w start.
@@ -80,34 +128,6 @@ returns-clause-legal g c = λ t bodies w start.
 pub returns-clause-not_journal : goal.returns-clause-not_journal
 returns-clause-not_journal g c = λ t is bodies w legal.
     (c.in-Err-open.ensures.safe t bodies w legal).not_journal (same_open c.in-Err-open.stop NotJournal is)
-
--- ---- over any disk
-
-pub returns-in-Err-clause-over_any_disk : goal.returns-in-Err-clause-over_any_disk
-returns-in-Err-clause-over_any_disk g c = λ told. (
-  empty,
-  unplayed g.K.Sink.tells _ _ (g.S.Source.left c.args.source.now) _ (opened (kinds_of c.args.handlers.now) empty)
-      (Err (Read ReadFault.Memory)) (λ done rest. ⊤) tt
-      (λ k. sym (append-nil (g.K.Sink.written c.args.out.now))) tt,
-)
-
-pub returns-clause-over_any_disk : goal.returns-clause-over_any_disk
-returns-clause-over_any_disk g c = λ told. (
-  empty,
-  unplayed g.K.Sink.tells _ _ (g.S.Source.left c.args.source.now) _ (opened (kinds_of c.args.handlers.now) empty)
-      (Err (Work c.in-Err-open.stop)) (λ done rest. ⊤) tt
-      (λ k. sym (append-nil (g.K.Sink.written c.args.out.now))) tt,
-)
-
-pub returns-in-Ok-open-clause-over_any_disk : goal.returns-in-Ok-open-clause-over_any_disk
-returns-in-Ok-open-clause-over_any_disk g c = λ told.
-    let begun = c.in-Ok-open.ensures.begun in (
-      begun.0,
-      subst (λ (s : Standing). Plays line_effect HoldsOfTurn g.K.Sink.tells (g.K.Sink.written c.args.out.now)
-          (g.K.Sink.written c.play.new.out) (g.S.Source.left c.args.source.now)
-          (g.S.Source.left c.play.new.source) s c.play.result (λ done rest. ⊤)) (begun.1 (kinds_of c.args.handlers.now))
-          (said_as _ _ (λ done rest kept. tt) (c.play.ensures.exit told)),
-    )
 
 -- ---- files that aren't legal
 

@@ -1,0 +1,111 @@
+-- How a dial shows what was heard in lines, one after another.
+use Rattle.std.proofs.Common.{◌≡◌, ◌∙◌, refl, sym, subst, ℕ, ◌+◌, List, [], ◌∷◌, ◌++◌, length, Bool, false, true≢false, inl, Result, Ok, Err, arith}
+use Rattle.rx_engine.specs.Calling.{to_hear}
+use Rattle.rx_engine.specs.Dialled.{DialStanding}
+use Rattle.rx_engine.specs.Engine.{session_of, standing_of}
+use Rattle.rx_engine.specs.Hearing.{IsShownBy}
+use Rattle.rx_engine.specs.Lines.{Task, answered, turns, calls, task}
+use Rattle.rx_engine.specs.Opening.{opened}
+use Rattle.rx_engine.specs.Standing.{Standing}
+use Rattle.rx_engine.specs.declared.engine.Engine.{Engine}
+use Rattle.rx_handler.specs.Handlers.{Kinds}
+use Rattle.rx_sync.specs.Remote.{Heard}
+use Rattle.rx_world.specs.World.{World}
+use Rattle.rx_top.specs.Hears.{HearsAll, HearsLast, HearsLines, HearsNothing, IsShownAt}
+use Rattle.rx_top.specs.Lines.{is_blank}
+use Rattle.rx_top.specs.Script.{line_effect}
+use Rattle.rx_top.specs.Story.{state_after}
+use Rattle.rx_top.specs.declared.cause.Cause.{Cause}
+use Rattle.rx_top.specs.declared.cause.Cause.TheVariants.{Read, Sink, Work}
+
+-- ---- what is to be heard
+
+pub heard_in : (kinds : Kinds) (hs : List Heard) (e : Engine) → (standing_of kinds hs e).heard ≡ hs
+unfolding standing_of
+heard_in kinds hs e = refl
+
+pub heard_at_first : (kinds : Kinds) (hs : List Heard) (w : World) → (opened kinds hs w).heard ≡ hs
+unfolding opened
+heard_at_first kinds hs w = refl
+
+-- ---- what is shown of a line
+
+module _ {Done Then : Type 0} (wires : Type 0) (old new : DialStanding) (heard : List Heard)
+    (as_done : Then → Done) where
+  -- it doesn't depend on what is to be heard later
+  pub shown_by : (hs : List Heard) (s : Standing) (t : Task) → IsShownBy wires t s old new heard Done
+      → IsShownBy wires t (to_hear hs s) old new heard Then
+  shown_by hs s (answered o) shown = shown
+  shown_by hs s (turns t) shown = shown
+  shown_by hs s (calls c) shown = record {
+    requests = shown.requests;
+    made = λ later. let m = shown.made later in (m.0, m.1, λ done. m.2 (as_done done));
+    dialled = shown.dialled;
+  }
+
+pub then_shown : {Done Then : Type 0} (wires : Type 0) (line : List ℕ) (old new : DialStanding)
+    (heard : List Heard) → (Then → Done) → (s : Standing)
+    → IsShownAt wires line s old new heard Done → IsShownAt wires line s old new heard Then
+then_shown wires line old new heard as_done s shown = (
+  shown.0,
+  λ full. shown_by wires old new heard as_done s.heard s (task s.kinds line s.session) (shown.1 full),
+)
+
+-- so an engine shows it of a line that isn't blank
+pub shown_in : {Done Then : Type 0} (wires : Type 0) (line : List ℕ) (kinds : Kinds) (e : Engine)
+    (old new : DialStanding) (heard : List Heard) → (Then → Done) → (hs : List Heard)
+    → is_blank line ≡ false
+    → IsShownBy wires (task kinds line (session_of e)) (standing_of kinds [] e) old new heard Done
+    → IsShownAt wires line (standing_of kinds hs e) old new heard Then
+unfolding standing_of
+shown_in wires line kinds e old new heard as_done hs full shown = (
+  λ blank. absurd (true≢false (sym blank ∙ full)),
+  λ _. shown_by wires old new heard as_done hs (standing_of kinds [] e)
+      (task kinds line (session_of e)) shown,
+)
+
+-- ---- lines that are done
+
+-- a line more
+pub hears_push : (wires : Type 0) (n : ℕ) (ls : List (List ℕ)) (l : List ℕ) (s : Standing) (k : ℕ)
+    (old between new : DialStanding) (heard : List Heard) → k ≡ n + length ls
+    → HearsLines wires n ls s old between
+    → IsShownAt wires l (state_after line_effect n ls s) between new heard (Unit {0})
+    → (state_after line_effect n ls s).heard
+    ≡ heard ++ (line_effect k l (state_after line_effect n ls s)).next.heard
+    → HearsLines wires n (ls ++ l ∷ []) s old new
+hears_push wires n [] l s k old between new heard is before shown took =
+    let same : k ≡ n = omega (arith, is) in (
+      heard,
+      new,
+      subst (λ (m : ℕ). s.heard ≡ heard ++ (line_effect m l s).next.heard) same took,
+      subst (λ (x : DialStanding). IsShownAt wires l s x new heard (Unit {0})) before shown,
+      refl,
+    )
+hears_push wires n (y ∷ ys) l s k old between new heard is before shown took = (
+  before.0,
+  before.1,
+  before.2,
+  before.3,
+  hears_push wires (n + 1) ys l (line_effect n y s).next k before.1 between new heard
+      (omega (arith, is)) before.4 shown took,
+)
+
+-- ---- ends
+
+-- no line was begun and not done
+pub nothing_last : (wires : Type 0) (ended : Result Bool Cause) (rest : List (List ℕ)) (s : Standing)
+    (old new : DialStanding) → HearsNothing s old new → HearsLast wires ended rest s old new
+nothing_last wires (Ok refused) rest s old new none = none
+nothing_last wires (Err (Read fault)) rest s old new none = none
+nothing_last wires (Err Sink) rest s old new none = none
+nothing_last wires (Err (Work why)) rest s old new none = λ other. inl none
+
+-- no line was
+pub unheard : (wires : Type 0) (dial : DialStanding) (s : Standing) (ended : Result Bool Cause)
+    (rest : List (List ℕ)) → s.heard ≡ [] → HearsAll wires s dial dial ended [] rest
+unheard wires dial s ended rest none = record {
+  between = dial;
+  lines = refl;
+  last = nothing_last wires ended rest s dial dial (none, refl);
+}
