@@ -8,14 +8,16 @@
 //     > I(c,a,1)                                 a line of its script
 //     < {"line":L,"ok":"insert","rev":"1-c"}     a line that is due, with L for the number of the script's line
 //     * a peer                                   one more that dials
-//     @ {"ask":"pull",..}                        a line that it sends
-//     & {"docs":[],..}                           a line that a peer is sent
+//     + 2                                        one more master elsewhere; calls of its wire that fail
+//     @ {"ask":"pull",..}                        a line that the last of these sends
+//     ~ {"docs":                                 a text that it sends, without the end of a line
+//     & {"docs":[],..}                           a line that peers are sent, and then masters
 //     ! 8                                        the status, where it isn't 1 after a refused line and 0 after none
 //     = 52584a4f55524e31 00                      bytes that the journal holds afterwards
 //
 // Without a `$` the words are `run journal`. Bytes are in hex, and texts between apostrophes. The
 // journal that the last run leaves has to open again, unless it was no journal before.
-use crate::run::{PEER, RUN, Ran, Setting, run};
+use crate::run::{MASTER, PEER, RUN, Ran, Setting, run};
 use crate::short::{due_line, journal_bytes, script_line};
 use std::alloc::{AllocError, Global};
 use std::test::Fail;
@@ -50,8 +52,11 @@ struct Case<'a> {
     script: String,
     count: u64,
     due: String,
-    // What the peers send, as `Setting` has it, and what they are to be sent.
+    // What peers and masters send, as `Setting` has it, and what they are to be sent. A fact that
+    // tells what is sent adds to the masters' where the last of them was a master.
     peers: String,
+    masters: String,
+    at_master: bool,
     replies: String,
     status: u8,
     after: Vec<u8>,
@@ -70,6 +75,8 @@ pub fn play(alloc: Global, piece: usize, name: &str, facts: &str) -> Result<(), 
         count: 0,
         due: String::new(alloc),
         peers: String::new(alloc),
+        masters: String::new(alloc),
+        at_master: false,
         replies: String::new(alloc),
         status: 0,
         after: Vec::new(alloc),
@@ -89,14 +96,43 @@ impl<'a> Case<'a> {
             ">" => self.read_script(alloc, rest)?,
             "<" => self.read_due(alloc, rest)?,
             "$" => self.read_words(alloc, rest)?,
-            "*" => self.peers.push_str(PEER)?,
-            "@" => write!(self.peers, "{rest}\n")?,
+            "*" => {
+                self.at_master = false;
+                self.peers.push_str(PEER)?;
+            }
+            "+" => self.read_master(rest)?,
+            "@" => {
+                self.read_sent(rest)?;
+                self.read_sent("\n")?;
+            }
+            "~" => self.read_sent(rest)?,
             "&" => write!(self.replies, "{rest}\n")?,
             "!" => self.status = rest.parse()?,
             "^" => journal_bytes(alloc, rest, &mut self.journal)?,
             "=" => journal_bytes(alloc, rest, &mut self.after)?,
             "" => {}
             _ => return Err(Fail::new(format_args!("{}: what is {fact}", self.name))),
+        }
+        Ok(())
+    }
+
+    fn read_master(&mut self, calls: &str) -> Result<(), Fail> {
+        for call in calls.split_whitespace() {
+            let _: u64 = call.parse()?;
+        }
+        self.at_master = true;
+        self.masters.push_str(MASTER)?;
+        write!(self.masters, "{calls}\n")?;
+        Ok(())
+    }
+
+    fn read_sent(&mut self, text: &str) -> Result<(), Fail> {
+        if self.at_master {
+            self.masters.push_str(text)?;
+        } else if self.peers.is_empty() {
+            return Err(Fail::new(format_args!("{}: nobody sends {text}", self.name)));
+        } else {
+            self.peers.push_str(text)?;
         }
         Ok(())
     }
@@ -137,6 +173,8 @@ impl<'a> Case<'a> {
         self.count = 0;
         self.due = String::new(alloc);
         self.peers = String::new(alloc);
+        self.masters = String::new(alloc);
+        self.at_master = false;
         self.replies = String::new(alloc);
         self.status = 0;
         self.after = Vec::new(alloc);
@@ -147,6 +185,7 @@ impl<'a> Case<'a> {
         let setting = Setting {
             piece: self.piece,
             peers: self.peers.as_str(),
+            masters: self.masters.as_str(),
             ..Setting::PLAIN
         };
         let script = self.script.as_str().as_bytes();

@@ -7,6 +7,7 @@ ghost use Rattle.rx_engine.specs.Opening.{opened};
 ghost use Rattle.rx_handler.specs.Shown.{kinds_of};
 ghost use Rattle.rx_outside.specs.MemorySink.{sink_written};
 ghost use Rattle.rx_outside.specs.MemorySource.{source_left};
+ghost use Rattle.rx_sync.specs.Remote.{Heard};
 ghost use Rattle.rx_top.specs.Lines.{lines};
 ghost use Rattle.rx_top.specs.Run.{run_bodies};
 ghost use Rattle.rx_top.specs.Script.{has_refusal, transcript};
@@ -16,7 +17,7 @@ ghost use Rattle.rx_world.specs.World.{World, empty};
 
 use rx_disk::MemoryDisk;
 use rx_handler::Handlers;
-use rx_outside::{MemoryClock, MemoryDoor, MemorySink, MemorySource};
+use rx_outside::{MemoryClock, MemoryDial, MemoryDoor, MemorySink, MemorySource};
 use rx_top::rx;
 use rx_value::RxText;
 use rx_words::Words;
@@ -41,15 +42,15 @@ pub fn play_in_memory(
 ) -> Result<Played, AllocError>
     // Where it was played to its end, what was written is its transcript, and the journal has the
     // record of its epoch and those of its lines.
-    ensures transcript { IfOk result (λ played. played.status < 2
-        → played.output.items
-        ≡ transcript (lines script.items) (opened (kinds_of handlers.now) empty)) }
-    ensures journal { IfOk result (λ played. played.status < 2 → (after : World)
-        × IsLegalFile played.journal.items
-        (run_bodies (kinds_of handlers.now) empty (lines script.items)) after) }
-    ensures refusal { IfOk result (λ played. played.status < 2
-        → played.status ≡ (if has_refusal (lines script.items)
-        (opened (kinds_of handlers.now) empty) then 1 else 0)) }
+    ensures transcript { IfOk result (λ played. played.status < 2 → (heard : List Heard)
+        × (played.output.items
+        ≡ transcript (lines script.items) (opened (kinds_of handlers.now) heard empty))) }
+    ensures journal { IfOk result (λ played. played.status < 2 → (heard : List Heard)
+        × (after : World) × IsLegalFile played.journal.items
+        (run_bodies (kinds_of handlers.now) heard empty (lines script.items)) after) }
+    ensures refusal { IfOk result (λ played. played.status < 2 → (heard : List Heard)
+        × (played.status ≡ (if has_refusal (lines script.items)
+        (opened (kinds_of handlers.now) heard empty) then 1 else 0))) }
 {
     let words = run_words(alloc)?;
     let mut source = MemorySource::new(script, PIECE, Vec::new(alloc));
@@ -77,21 +78,21 @@ fn play(
     requires only { Only [] (IsLeft disk.old) }
     requires runs { (path : List ℕ) × (limit : ℕ)
         × (command_of words.now.words.items ≡ Some (Run path limit)) }
-    ensures transcript { result < 2
-        → sink_written sink.new
-        ≡ transcript (lines (source_left source.old)) (opened (kinds_of handlers.now) empty) }
-    ensures journal { result < 2 → (after : World)
+    ensures transcript { result < 2 → (heard : List Heard) × (sink_written sink.new
+        ≡ transcript (lines (source_left source.old)) (opened (kinds_of handlers.now) heard empty)) }
+    ensures journal { result < 2 → (heard : List Heard) × (after : World)
         × IsLegalFile (content_of disk.new)
-        (run_bodies (kinds_of handlers.now) empty (lines (source_left source.old))) after }
-    ensures refusal { result < 2
-        → result ≡ (if has_refusal (lines (source_left source.old))
-        (opened (kinds_of handlers.now) empty) then 1 else 0) }
+        (run_bodies (kinds_of handlers.now) heard empty (lines (source_left source.old))) after }
+    ensures refusal { result < 2 → (heard : List Heard)
+        × (result ≡ (if has_refusal (lines (source_left source.old))
+        (opened (kinds_of handlers.now) heard empty) then 1 else 0)) }
 {
-    // A run leaves the door and the clock alone.
+    // A run leaves the door and the clock alone, and this dial gives no wire.
     let mut door = MemoryDoor::new(alloc, Vec::new(alloc), Vec::new(alloc));
+    let mut dial = MemoryDial::new(alloc, Vec::new(alloc), Vec::new(alloc));
     let mut clock = MemoryClock::new(Vec::new(alloc));
     rx(
-        alloc, words, source, sink, disk, &mut door, &mut clock, handlers,
+        alloc, words, source, sink, disk, &mut door, &mut dial, &mut clock, handlers,
     )
 }
 

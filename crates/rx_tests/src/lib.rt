@@ -3,6 +3,8 @@
 #![tactic(auto)]
 
 #[cfg(test)]
+mod audit;
+#[cfg(test)]
 mod bytes;
 #[cfg(test)]
 mod case;
@@ -11,12 +13,16 @@ mod commands;
 #[cfg(test)]
 mod counted;
 #[cfg(test)]
+mod elsewhere;
+#[cfg(test)]
 mod endless;
 #[cfg(test)]
 mod explained;
 #[cfg(test)]
 mod hashes;
 mod headline;
+#[cfg(test)]
+mod hostile;
 #[cfg(test)]
 mod indexed;
 #[cfg(test)]
@@ -34,11 +40,15 @@ mod planned;
 #[cfg(test)]
 mod played;
 #[cfg(test)]
+mod prefixes;
+#[cfg(test)]
 mod queries;
 #[cfg(test)]
 mod random;
 #[cfg(test)]
 mod reading;
+#[cfg(test)]
+mod record_stops;
 #[cfg(test)]
 mod replicating;
 #[cfg(test)]

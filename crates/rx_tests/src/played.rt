@@ -1,7 +1,9 @@
-// The run whose contract is its transcript, on a script that reaches its end.
-use crate::headline::play_in_memory;
+// The run whose contract is its transcript, on a script that reaches its end, and on one that doesn't.
+use crate::headline::{Played, play_in_memory};
 use crate::short::{journal_bytes, script_line};
-use rx_handler::Handlers;
+use rx_handler::{Handler, HandlerKind, Handlers};
+use rx_value::{RxText, State};
+use std::alloc::{AllocError, Global};
 use std::test::Fail;
 
 const DUE: &str = r#"{"line":1,"new":true,"ok":"collection"}
@@ -10,17 +12,57 @@ const DUE: &str = r#"{"line":1,"new":true,"ok":"collection"}
 
 #[test]
 fn a_script_over_an_empty_journal(rt: HostRuntime) -> Result<(), Fail> {
-    let mut script = String::new(rt.alloc());
-    for line in ["C(c)", "I(d,a,1)"] {
-        script.push_str(script_line(rt.alloc(), line)?.as_str())?;
-        script.push('\n')?;
-    }
     let mut journal = Vec::new(rt.alloc());
     journal_bytes(rt.alloc(), "BASE 00", &mut journal)?;
-    let script = script.as_str().as_bytes().to_vec(rt.alloc())?;
-    let played = play_in_memory(rt.alloc(), script, &Handlers::new(rt.alloc()))?;
+    let played = play(
+        rt.alloc(),
+        &["C(c)", "I(d,a,1)"],
+        &Handlers::new(rt.alloc()),
+    )?;
     assert_eq!(rt; played.status, 1);
     assert!(rt; played.output.as_slice() == DUE.as_bytes());
     assert!(rt; played.journal.as_slice() == journal.as_slice());
+    Ok(())
+}
+
+fn play(alloc: Global, lines: &[&str], handlers: &Handlers) -> Result<Played, AllocError> {
+    let mut script = String::new(alloc);
+    for line in lines {
+        script.push_str(script_line(alloc, line)?.as_str())?;
+        script.push('\n')?;
+    }
+    play_in_memory(alloc, script.as_str().as_bytes().to_vec(alloc)?, handlers)
+}
+
+// Its turn pushes a document that the master has with another number.
+const CONFLICT: [&str; 6] = [
+    "C(m)",
+    "C(f)",
+    r#"{"do":"replicate","name":"r","fork":"f","master":"m","handler":"none"}"#,
+    "I(m,a,1)",
+    "I(f,a,2)",
+    r#"{"do":"turn","name":"r"}"#,
+];
+
+const BEFORE_THE_TURN: &str = r#"{"line":1,"new":true,"ok":"collection"}
+{"line":2,"new":true,"ok":"collection"}
+{"line":3,"ok":"replicate"}
+{"line":4,"ok":"insert","rev":"1-m"}
+{"line":5,"ok":"insert","rev":"1-f"}
+{"stop":"memory"}
+"#;
+
+#[test]
+fn a_handler_that_wants_memory_ends_the_run(rt: HostRuntime) -> Result<(), Fail> {
+    let alloc = rt.alloc();
+    let call = Box::new(
+        alloc,
+        |_alloc: Global, _field: &str, _real: &State, _new: &State| { Err(AllocError) },
+    )?;
+    let mut handlers = Handlers::new(alloc);
+    handlers.add(Handler::new(RxText::new(alloc, "none")?, HandlerKind::Join, call))?;
+    let played = play(alloc, &CONFLICT, &handlers)?;
+    assert_eq!(rt; played.status, 6);
+    assert!(rt; played.output.as_slice() == BEFORE_THE_TURN.as_bytes());
     Ok(())
 }

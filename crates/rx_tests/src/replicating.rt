@@ -29,8 +29,8 @@ fn a_link_loses_what_it_is_told_to(rt: HostRuntime) -> Result<(), Fail> {
 }
 
 #[test]
-fn an_observed_fork_tells_what_a_turn_brought(rt: HostRuntime) -> Result<(), Fail> {
-    play_all(rt.alloc(), TODOS)
+fn observed_sides_tell_what_a_turn_brought(rt: HostRuntime) -> Result<(), Fail> {
+    play_all(rt.alloc(), OBSERVED)
 }
 
 const MEMBERS: &str = r#"
@@ -88,7 +88,7 @@ const MEMBERS: &str = r#"
 > {"do":"replicate","name":"r","fork":"f","port":null,"handler":"join"}
 < {"code":7,"line":L,"name":"port","refused":"wrong_type"}
 > {"do":"replicate","name":"r","fork":"f","port":65535,"handler":"join"}
-< {"code":6,"line":L,"name":"port","refused":"unexpected"}
+< {"code":10,"line":L,"name":"f","refused":"no_collection"}
 
 == a member of a replication that is no name
 > {"do":"replicate","name":"R","fork":"F","master":"M","handler":"H"}
@@ -272,15 +272,51 @@ const REFUSED_TURNS: &str = r#"
 > {"do":"turn","name":"r","batch":1,"budget":100000,"link":["ok","lose_request","lose_reply","twice",{"late":1},{"late":16},"stale"]}
 < {"code":18,"line":L,"refused":"no_replication"}
 
-== a master at a port isn't followed yet, which is told before all that is stored
-> {"do":"replicate","name":"r","fork":"f","port":4001,"handler":"nobody"}
-< {"code":6,"line":L,"name":"port","refused":"unexpected"}
-> C(f)
-< made
-> {"do":"replicate","name":"r","fork":"f","port":4001,"handler":"master_wins"}
-< {"code":6,"line":L,"name":"port","refused":"unexpected"}
+== a handler that isn't there
+^ BASE 01 000000a4 01 00000001 'f' 0000009a
+^ '{"indexes":[],"primaryKey":"id","properties":{"id":{"maxLength":20,"type":"string"},"n":{"type":"integer"}},"required":["id"],"type":"object","version":0}'
+^ 01 0000001c 03 00000001 'r' 00000001 'f' 00 00000001 'c' 00000006 'nobody' 00 00
+> I(f,a,1)
+< insert 1-f
 > {"do":"turn","name":"r"}
-< {"code":18,"line":L,"refused":"no_replication"}
+< {"code":19,"line":L,"refused":"no_handler"}
+
+== a handler that isn't there is told before a link over a port, and nothing is written
+^ BASE 01 00000019 03 00000001 'r' 00000001 'c' 01 0fa1 00000006 'nobody' 00 00
+> {"do":"turn","name":"r"}
+< {"code":19,"line":L,"refused":"no_handler"}
+> {"do":"turn","name":"r","link":["ok"]}
+< {"code":19,"line":L,"refused":"no_handler"}
+= BASE 01 00000019 03 00000001 'r' 00000001 'c' 01 0fa1 00000006 'nobody' 00
+= 01 00000009 05 0000000000000002 00
+
+== the greater without a field
+^ BASE 01 0000001a 03 00000001 'r' 00000001 'c' 01 0fa1 00000007 'greater' 00 00
+> {"do":"turn","name":"r"}
+< {"code":19,"line":L,"refused":"no_handler"}
+
+== the greater of texts
+^ BASE 01 00000020 03 00000001 'r' 00000001 'c' 01 0fa1 00000007 'greater' 01 00000002 'id' 00
+> {"do":"turn","name":"r"}
+< {"code":19,"line":L,"refused":"no_handler"}
+
+== the greater by a field that no document has
+^ BASE 01 0000001f 03 00000001 'r' 00000001 'c' 01 0fa1 00000007 'greater' 01 00000001 'z' 00
+> {"do":"turn","name":"r"}
+< {"code":19,"line":L,"refused":"no_handler"}
+
+== a handler that takes no field
+^ BASE 01 00000023 03 00000001 'r' 00000001 'c' 01 0fa1 0000000b 'master_wins' 01 00000001 'n' 00
+> {"do":"turn","name":"r"}
+< {"code":19,"line":L,"refused":"no_handler"}
+
+== the greater by a number is there
+^ BASE 01 0000001f 03 00000001 'r' 00000001 'c' 01 0fa1 00000007 'greater' 01 00000001 'n' 00
+> {"do":"turn","name":"r"}
+< {"exchange":1,"lost":"dial","sent":"pull"}
+< {"end":"lost","exchanges":1,"line":L,"ok":"turn"}
+> {"do":"turn","name":"r","link":["ok"]}
+< {"code":6,"line":L,"name":"link","refused":"unexpected"}
 "#;
 
 const TURNS: &str = r#"
@@ -626,7 +662,7 @@ const LINKS: &str = r#"
 < {"doc":{"id":"a","n":2},"line":L,"lwt":3,"ok":"get","rev":"3-f"}
 "#;
 
-const TODOS: &str = r#"
+const OBSERVED: &str = r#"
 == ten documents come into a window of three
 > {"do":"collection","name":"server","schema":{"title":"todo schema","version":0,"description":"todos","primaryKey":"id","type":"object","properties":{"id":{"type":"string","maxLength":100},"name":{"type":"string"},"done":{"type":"boolean"},"timestamp":{"type":"string","format":"date-time","maxLength":32},"rank":{"type":"number","minimum":0,"maximum":1000,"multipleOf":1}},"required":["id","name","done","timestamp"],"indexes":["timestamp",["done","rank"]]}}
 < made
@@ -663,4 +699,43 @@ const TODOS: &str = r#"
 < {"emit":"open","rows":[{"done":false,"id":"t9","name":"n9","rank":9,"timestamp":"2024-01-01T00:00:09Z"},{"done":false,"id":"t8","name":"n8","rank":8,"timestamp":"2024-01-01T00:00:08Z"},{"done":false,"id":"t7","name":"n7","rank":7,"timestamp":"2024-01-01T00:00:07Z"}]}
 > {"do":"explain","name":"open"}
 < {"actions":{"insertFirst":3,"removeLastInsertFirst":7},"asked":123,"changes":10,"full":0,"line":L,"ok":"explain"}
+
+== a fork and its master tell what a turn brought them, in the order in which they were observed
+> C(m)
+< made
+> C(f)
+< made
+> {"do":"replicate","name":"r","fork":"f","master":"m","handler":"master_wins"}
+< {"line":L,"ok":"replicate"}
+> {"do":"observe","name":"q","in":"f","query":{"selector":{"n":2}}}
+< {"line":L,"ok":"observe"}
+< {"emit":"q","rows":[]}
+> {"do":"observe","name":"p","in":"m","query":{"selector":{"n":1}}}
+< {"line":L,"ok":"observe"}
+< {"emit":"p","rows":[]}
+> I(f,a,1)
+< insert 1-f
+> I(m,b,2)
+< insert 1-m
+> {"do":"turn","name":"r"}
+< {"conflicts":[],"exchange":1,"rows":["a"],"sent":"push"}
+< {"exchange":2,"place":{"id":"a","lwt":2},"rows":["b","a"],"sent":"pull"}
+< {"end":"quiet","exchanges":2,"line":L,"ok":"turn"}
+< {"emit":"q","rows":[{"id":"b","n":2}]}
+< {"emit":"p","rows":[{"id":"a","n":1}]}
+> {"do":"unobserve","name":"q"}
+< {"line":L,"ok":"unobserve"}
+> {"do":"observe","name":"q","in":"f","query":{"selector":{"n":2}}}
+< {"line":L,"ok":"observe"}
+< {"emit":"q","rows":[{"id":"b","n":2}]}
+> I(f,d,1)
+< insert 1-f
+> I(m,e,2)
+< insert 1-m
+> {"do":"turn","name":"r"}
+< {"conflicts":[],"exchange":1,"rows":["d"],"sent":"push"}
+< {"exchange":2,"place":{"id":"d","lwt":4},"rows":["e","d"],"sent":"pull"}
+< {"end":"quiet","exchanges":2,"line":L,"ok":"turn"}
+< {"emit":"p","rows":[{"id":"a","n":1},{"id":"d","n":1}]}
+< {"emit":"q","rows":[{"id":"b","n":2},{"id":"e","n":2}]}
 "#;

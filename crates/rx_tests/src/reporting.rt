@@ -19,7 +19,7 @@ fn a_large_trial_comes_to_the_same_twice(rt: HostRuntime) -> Result<(), Fail> {
     let first = run(alloc, &Setting::PLAIN, LARGE, &[], &[])?;
     let second = run(alloc, &Setting::PLAIN, LARGE, &[], &[])?;
     let line = str::from_utf8(first.output.as_slice())?;
-    if first.status != 0 || !line.contains(",\"lines\":406,") || line.lines().count() != 1 {
+    if first.status != 0 || !line.contains(",\"lines\":4006,") || line.lines().count() != 1 {
         return Err(Fail::new(format_args!("status {}: {line}", first.status)));
     }
     if first.output.as_slice() != second.output.as_slice() {
@@ -28,7 +28,7 @@ fn a_large_trial_comes_to_the_same_twice(rt: HostRuntime) -> Result<(), Fail> {
     Ok(())
 }
 
-const LARGE: &str = "trial journal 7 400";
+const LARGE: &str = "trial journal 7 4000";
 
 const REPORTS: &str = r#"
 == a file that isn't there

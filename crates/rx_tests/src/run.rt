@@ -5,7 +5,9 @@ ghost use Rattle.rx_outside.specs.MemoryWire.{Unused};
 
 use rx_disk::MemoryDisk;
 use rx_handler::{Handler, HandlerFault, HandlerKind, Handlers, resolved};
-use rx_outside::{MemoryClock, MemoryDoor, MemorySink, MemorySource, MemoryWire, Source};
+use rx_outside::{
+    MemoryClock, MemoryDial, MemoryDoor, MemorySink, MemorySource, MemoryWire, Source,
+};
 use rx_top::rx;
 use rx_value::{RxText, State};
 use rx_words::Words;
@@ -17,8 +19,16 @@ pub const RUN: &str = "run journal";
 /// The line before what a peer sends.
 pub const PEER: &str = "*\n";
 
+/// The line before what a master elsewhere sends. Its character stands for no byte.
+pub const MASTER: &str = "→\n";
+
 /// What stands around a command: the most bytes that a read gives, the numbers of the reads, the
-/// writes and the calls of the disk that fail, and what the peers send that dial, each behind `PEER`.
+/// writes and the calls of the disk that fail, what the peers send that dial, each behind `PEER`, and
+/// what the masters send that are dialled.
+///
+/// A master's text stands behind `MASTER`, and a line of the numbers of the calls of its wire that
+/// fail. Each of its characters stands for the byte of that number, so that what is no UTF-8 can be
+/// sent too.
 #[derive(Clone, Copy)]
 pub struct Setting<'a> {
     pub piece: usize,
@@ -26,6 +36,7 @@ pub struct Setting<'a> {
     pub write_fails: &'a [u64],
     pub disk_fails: &'a [u64],
     pub peers: &'a str,
+    pub masters: &'a str,
 }
 
 impl<'a> Setting<'a> {
@@ -36,10 +47,12 @@ impl<'a> Setting<'a> {
         write_fails: &[],
         disk_fails: &[],
         peers: "",
+        masters: "",
     };
 }
 
-/// The status of a run, what it wrote, what its peers were sent, and the disk after it.
+/// The status of a run, what it wrote, what its peers and then its masters were sent, and the disk
+/// after it.
 #[derive(Drop)]
 pub struct Ran {
     pub status: u8,
@@ -75,11 +88,19 @@ pub fn run_from<S: Source>(
     let mut disk = MemoryDisk::new(alloc, held.to_vec(alloc)?, fails);
     let wires = wires_of(alloc, setting.peers)?;
     let mut door = MemoryDoor::new(alloc, wires, Vec::new(alloc));
-    let Ok(status) = play(alloc, words, source, &mut sink, &mut disk, &mut door) else {
+    let masters = masters_of(alloc, setting.masters)?;
+    let mut dial = MemoryDial::new(alloc, masters, Vec::new(alloc));
+    let played = play(
+        alloc, words, source, &mut sink, &mut disk, &mut door, &mut dial,
+    );
+    let Ok(status) = played else {
         return Err(AllocError);
     };
     let mut sent = Vec::new(alloc);
     for wire in door.closed_wires() {
+        sent.extend_from_slice(wire.sent())?;
+    }
+    for wire in dial.closed_wires() {
         sent.extend_from_slice(wire.sent())?;
     }
     let output = sink.bytes().to_vec(alloc)?;
@@ -103,6 +124,36 @@ fn wires_of(alloc: Global, peers: &str) -> Result<Vec<MemoryWire>, AllocError>
     Ok(wires)
 }
 
+// The wires to masters that send this, in turn. None was used.
+fn masters_of(alloc: Global, masters: &str) -> Result<Vec<MemoryWire>, AllocError>
+    ensures { IfOk result (λ wires. Unused wires.items) }
+{
+    let mut wires = Vec::new(alloc);
+    for master in masters.split(MASTER).skip(1) {
+        let (calls, text) = master.split_once('\n').unwrap_or((master, ""));
+        let bytes = bytes_of(alloc, text)?;
+        wires.push(MemoryWire::new(alloc, bytes, 4096, numbers_of(alloc, calls)?))?;
+    }
+    Ok(wires)
+}
+
+fn numbers_of(alloc: Global, text: &str) -> Result<Vec<u64>, AllocError> {
+    let mut numbers = Vec::new(alloc);
+    for word in text.split_whitespace() {
+        // No call has the number 0.
+        numbers.push(word.parse().unwrap_or(0))?;
+    }
+    Ok(numbers)
+}
+
+fn bytes_of(alloc: Global, text: &str) -> Result<Vec<u8>, AllocError> {
+    let mut bytes = Vec::new(alloc);
+    for character in text.chars() {
+        bytes.push(u8::try_from(character).unwrap_or(b'?'))?;
+    }
+    Ok(bytes)
+}
+
 const HANDLERS: [(&str, HandlerKind); 4] = [
     ("master_wins", HandlerKind::MasterWins),
     ("fork_wins", HandlerKind::ForkWins),
@@ -118,6 +169,7 @@ fn play<S: Source>(
     sink: &mut MemorySink,
     disk: &mut MemoryDisk,
     door: &mut MemoryDoor,
+    dial: &mut MemoryDial,
 ) -> Result<u8, HandlerFault> {
     let mut handlers = Handlers::new(alloc);
     for (name, kind) in HANDLERS {
@@ -132,7 +184,7 @@ fn play<S: Source>(
             Err(refused) => return Err(AllocError::from(refused).into()),
         }
     }
-    Ok(status_of(alloc, words, source, sink, disk, door, &handlers))
+    Ok(status_of(alloc, words, source, sink, disk, door, dial, &handlers))
 }
 
 // A call of its own, since what `rx` ensures would burden the proof of its caller.
@@ -143,10 +195,13 @@ fn status_of<S: Source>(
     sink: &mut MemorySink,
     disk: &mut MemoryDisk,
     door: &mut MemoryDoor,
+    dial: &mut MemoryDial,
     handlers: &Handlers,
 ) -> u8 {
     let mut clock = MemoryClock::new(Vec::new(alloc));
-    rx(alloc, words, source, sink, disk, door, &mut clock, handlers)
+    rx(
+        alloc, words, source, sink, disk, door, dial, &mut clock, handlers,
+    )
 }
 
 /// The words that stand in a text, between spaces.

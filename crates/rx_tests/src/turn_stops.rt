@@ -1,6 +1,7 @@
 // A turn on a disk that fails at each of its calls, and stops within each: the next run's turn goes on
 // from what stands, and is quiet.
-use crate::run::{RUN, Setting, run};
+use crate::record_stops::{STEPS, calls_of};
+use crate::run::{RUN, Ran, Setting, run};
 use crate::short::script_line;
 use crate::stops::{CALLS, PICKS, play_failing, replies};
 use std::alloc::{AllocError, Global};
@@ -23,7 +24,7 @@ const LINES: [(&str, &str); 5] = [
     ),
 ];
 
-// Once so many lines were answered the insert stands.
+// So many lines were answered before the turn, and the insert stands.
 const INSERTED: usize = 4;
 
 const NEXT: &str = r#"{"do":"turn","name":"r"}
@@ -55,31 +56,63 @@ const DIGESTS: &str =
 {"count":1,"digest":"64e11706edc12e198f0d3edef2c3527856fe519c808369279e5d6ebb255c6cc3","line":3,"ok":"digest"}
 "#;
 
+// The last calls of the run append the turn's records. So where the first write of the fork's record
+// of its push fails, the master's alone stands, and the state pushed again is the one that it holds.
 #[test]
 fn a_turn_goes_on_after_any_stop(rt: HostRuntime) -> Result<(), Fail> {
-    let mut seen = [false; 4];
-    for failing in 1..CALLS {
-        let ran = play_failing(rt.alloc(), &LINES, failing)?;
-        let answered = replies(rt.alloc(), &LINES, &ran)?;
-        if answered < INSERTED {
-            continue;
-        }
-        for stop in failing..failing + 2 {
-            for pick in PICKS {
-                let left = ran.disk.stopped(stop, pick)?;
-                let stands = records_before(rt.alloc(), left.as_slice())?;
-                assert!(rt;
-                    answered == INSERTED || stands == 3,
-                    "call {failing} fails, stop within {stop}: {stands}"
-                );
-                if let Some(place) = seen.get_mut(stands) {
-                    *place = true;
-                }
-            }
-        }
+    let mut last = calls_of(rt.alloc(), &LINES)?;
+    for before in [2, 1, 0] {
+        try_record(rt.alloc(), last, before)?;
+        last = last.saturating_sub(4);
     }
-    // Each has come: a stop leaves none of the three records, one, two or all.
-    assert!(rt; seen == [true; 4]);
+    let whole = play_failing(rt.alloc(), &LINES, 0)?;
+    for pick in PICKS {
+        try_stop(rt.alloc(), &whole, CALLS, pick, 3)?;
+    }
+    Ok(())
+}
+
+// The record that is appended up to this call, behind so many others of the turn.
+fn try_record(alloc: Global, last: u64, before: usize) -> Result<(), Fail> {
+    for (back, gate) in STEPS {
+        try_call(alloc, last.saturating_sub(back), before, gate)?;
+    }
+    Ok(())
+}
+
+// The call fails and the run stops within it or behind it, or the call doesn't fail and the run stops
+// within it. The record stands where its gate is found open.
+fn try_call(alloc: Global, call: u64, before: usize, gate: bool) -> Result<(), Fail> {
+    let failed = play_failing(alloc, &LINES, call)?;
+    let whole = play_failing(alloc, &LINES, 0)?;
+    let answered = replies(alloc, &LINES, &failed)?;
+    if answered != INSERTED {
+        return Err(Fail::new(format_args!("call {call} fails: {answered} lines answered")));
+    }
+    for pick in PICKS {
+        let stands = gate && pick.first() == Some(&1);
+        let due = if stands {
+            before.saturating_add(1)
+        } else {
+            before
+        };
+        try_stop(alloc, &failed, call, pick, due)?;
+        try_stop(alloc, &failed, call.saturating_add(1), pick, due)?;
+        try_stop(alloc, &whole, call, pick, due)?;
+    }
+    Ok(())
+}
+
+// So many of the turn's records stand in what a stop within this call left.
+fn try_stop(alloc: Global, ran: &Ran, call: u64, pick: &[u8], due: usize) -> Result<(), Fail> {
+    let left = ran.disk.stopped(call, pick)?;
+    let stands = records_before(alloc, left.as_slice())?;
+    if stands != due {
+        return Err(Fail::new(format_args!(
+            "status {}, stop within {call}: {stands} records stand, due {due}",
+            ran.status
+        )));
+    }
     Ok(())
 }
 

@@ -1,5 +1,6 @@
 // Random turns of a fork and its master over a link that loses, repeats and delays: after each turn
-// that ends quiet, both have the same documents.
+// that ends quiet, both have the same documents, and no write of the fork is ever lost.
+use crate::audit::follow;
 use crate::random::Random;
 use crate::run::{RUN, Setting, run};
 use crate::short::S2;
@@ -7,27 +8,35 @@ use std::alloc::{AllocError, Global};
 use std::test::Fail;
 
 // Of each script.
-const LINES: u64 = 1_000;
-
-const HANDLERS: [&str; 4] = [
-    r#""master_wins""#,
-    r#""fork_wins""#,
-    r#""greater","field":"n""#,
-    r#""join""#,
-];
+const LINES: u64 = 4_000;
 
 #[test]
-fn after_a_quiet_turn_both_sides_are_the_same(rt: HostRuntime) -> Result<(), Fail> {
-    let alloc = rt.alloc();
-    let mut random = Random::new(7_919);
-    for handler in HANDLERS {
-        let script = random_script(alloc, &mut random, handler)?;
-        let ran = run(alloc, &Setting::PLAIN, RUN, script.as_str().as_bytes(), &[])?;
-        let output = str::from_utf8(ran.output.as_slice())?;
-        check_ends(handler, output)?;
-        check_digests(handler, output)?;
-    }
-    Ok(())
+fn turns_with_master_wins_lose_no_write(rt: HostRuntime) -> Result<(), Fail> {
+    try_handler(rt.alloc(), 7_919, r#""master_wins""#)
+}
+
+#[test]
+fn turns_with_fork_wins_lose_no_write(rt: HostRuntime) -> Result<(), Fail> {
+    try_handler(rt.alloc(), 7_927, r#""fork_wins""#)
+}
+
+#[test]
+fn turns_with_greater_lose_no_write(rt: HostRuntime) -> Result<(), Fail> {
+    try_handler(rt.alloc(), 7_933, r#""greater","field":"n""#)
+}
+
+#[test]
+fn turns_with_join_lose_no_write(rt: HostRuntime) -> Result<(), Fail> {
+    try_handler(rt.alloc(), 7_937, r#""join""#)
+}
+
+fn try_handler(alloc: Global, seed: u64, handler: &str) -> Result<(), Fail> {
+    let script = random_script(alloc, &mut Random::new(seed), handler)?;
+    let ran = run(alloc, &Setting::PLAIN, RUN, script.as_str().as_bytes(), &[])?;
+    let output = str::from_utf8(ran.output.as_slice())?;
+    check_ends(handler, output)?;
+    check_digests(handler, output)?;
+    check_writes(alloc, handler, script.as_str(), output)
 }
 
 // Turns end in each way that a link and a budget bring about.
@@ -65,6 +74,22 @@ fn check_digests(handler: &str, output: &str) -> Result<(), Fail> {
     Ok(())
 }
 
+// The audit had much to compare, and found nothing lost.
+fn check_writes(alloc: Global, handler: &str, script: &str, output: &str) -> Result<(), Fail> {
+    let audit = follow(alloc, script, output)?;
+    for (what, count) in [
+        ("conflicts", audit.conflicts),
+        ("rows pushed", audit.pushed),
+        ("rows pulled", audit.pulled),
+        ("documents compared", audit.compared),
+    ] {
+        if count < 200 {
+            return Err(Fail::new(format_args!("{handler}: {count} {what}")));
+        }
+    }
+    Ok(())
+}
+
 // Lines at random, after those that make a fork m's, with turns and digests in between and at the end.
 fn random_script(alloc: Global, random: &mut Random, handler: &str) -> Result<String, AllocError> {
     let begin = BEGIN.replace(alloc, "SCHEMA", S2)?;
@@ -73,7 +98,7 @@ fn random_script(alloc: Global, random: &mut Random, handler: &str) -> Result<St
         script.push_str(random_line(alloc, random)?.as_str())?;
     }
     script.push_str("{\"do\":\"turn\",\"name\":\"r\",\"budget\":100000}\n")?;
-    script.push_str(DIGESTS)?;
+    script.push_str(SIDES)?;
     Ok(script)
 }
 
@@ -82,8 +107,9 @@ const BEGIN: &str = r#"{"do":"collection","name":"m","schema":SCHEMA}
 {"do":"replicate","name":"r","fork":"f","master":"m","handler":HANDLER}
 "#;
 
-const DIGESTS: &str = r#"{"do":"digest","in":"m"}
+const SIDES: &str = r#"{"do":"digest","in":"m"}
 {"do":"digest","in":"f"}
+{"do":"changes","in":"f"}
 "#;
 
 // Of few fields, so that documents come back to what they were.
@@ -96,10 +122,11 @@ fn random_line(alloc: Global, random: &mut Random) -> Result<String, AllocError>
     let key = random.below(20);
     match random.below(64) {
         0..=31 => {
+            let what = random.one_of(&["insert", "upsert", "upsert", "upsert"]);
             let n = random.one_of(&NUMBERS);
             let t = random.one_of(&TEXTS);
             format!(in alloc;
-                "{{\"do\":\"upsert\",\"in\":\"{side}\",\"doc\":{{\"id\":\"k{key}\"{n}{t}}}}}\n"
+                "{{\"do\":\"{what}\",\"in\":\"{side}\",\"doc\":{{\"id\":\"k{key}\"{n}{t}}}}}\n"
             )
         }
         32..=39 => format!(in alloc;
@@ -133,6 +160,6 @@ fn random_turn(alloc: Global, random: &mut Random) -> Result<String, AllocError>
     let first = random.one_of(&HAPPENINGS);
     let second = random.one_of(&HAPPENINGS);
     format!(in alloc;
-        "{{\"do\":\"turn\",\"name\":\"r\",\"batch\":{batch},\"budget\":{budget},\"link\":[{first},{second}]}}\n{DIGESTS}"
+        "{{\"do\":\"turn\",\"name\":\"r\",\"batch\":{batch},\"budget\":{budget},\"link\":[{first},{second}]}}\n{SIDES}"
     )
 }

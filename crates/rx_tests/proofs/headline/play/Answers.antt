@@ -14,10 +14,13 @@ pub returns-clause-transcript : goal.returns-clause-transcript
 returns-clause-transcript g c = λ is.
     let command = c.requires.runs in
     elim (c.rx.ensures.runs command.0 command.1 command.2) [
-      | inl plays ↦ plays.whole_transcript is tt tt tt [] empty
-          (starts_empty _ _ (record { content = c.requires.empty; only = c.requires.only }))
-          ∙ ap (λ v. v ++ transcript (lines (source_left c.args.source.now))
-          (opened (kinds_of c.args.handlers.now) empty)) c.requires.fresh
+      | inl plays ↦ (
+        plays.0,
+        plays.1.whole_transcript is tt tt tt [] empty
+            (starts_empty _ _ (record { content = c.requires.empty; only = c.requires.only }))
+            ∙ ap (λ v. v ++ transcript (lines (source_left c.args.source.now))
+            (opened (kinds_of c.args.handlers.now) plays.0 empty)) c.requires.fresh,
+      )
       | inr lacks ↦ absurd (omega (arith, is, lacks.is))
     ]
 
@@ -25,9 +28,11 @@ pub returns-clause-journal : goal.returns-clause-journal
 returns-clause-journal g c = λ is.
     let command = c.requires.runs in
     elim (c.rx.ensures.runs command.0 command.1 command.2) [
-      | inl plays ↦ plays.kept is tt tt [] empty
+      | inl plays ↦
+          let kept = plays.1.kept is tt tt [] empty
           (starts_empty _ _ (record { content = c.requires.empty; only = c.requires.only }))
-          (content_of c.rx.new.disk) (reads_as_of (history_of c.rx.new.disk))
+          (content_of c.rx.new.disk) (reads_as_of (history_of c.rx.new.disk)) in
+          (plays.0, kept.0, kept.1)
       | inr lacks ↦ absurd (omega (arith, is, lacks.is))
     ]
 
@@ -35,7 +40,10 @@ pub returns-clause-refusal : goal.returns-clause-refusal
 returns-clause-refusal g c = λ is.
     let command = c.requires.runs in
     elim (c.rx.ensures.runs command.0 command.1 command.2) [
-      | inl plays ↦ plays.refusal is tt tt [] empty
-          (starts_empty _ _ (record { content = c.requires.empty; only = c.requires.only }))
+      | inl plays ↦ (
+        plays.0,
+        plays.1.refusal is tt tt [] empty
+            (starts_empty _ _ (record { content = c.requires.empty; only = c.requires.only })),
+      )
       | inr lacks ↦ absurd (omega (arith, is, lacks.is))
     ]
