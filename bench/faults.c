@@ -5,6 +5,7 @@
 #define _GNU_SOURCE
 #include <dlfcn.h>
 #include <errno.h>
+#include <poll.h>
 #include <stdio.h>
 #include <stdlib.h>
 #include <string.h>
@@ -64,12 +65,23 @@ static size_t most(size_t n) { return kind == SHORT && calls == target && n ? 1 
 #define COMMA ,
 MOVES(read, (int d, void *b, size_t n), d COMMA b, )
 MOVES(write, (int d, const void *b, size_t n), d COMMA b, )
+MOVES(pread, (int d, void *b, size_t n, off_t o), d COMMA b, COMMA o)
+MOVES(pwrite, (int d, const void *b, size_t n, off_t o), d COMMA b, COMMA o)
 MOVES(pread64, (int d, void *b, size_t n, off_t o), d COMMA b, COMMA o)
 MOVES(pwrite64, (int d, const void *b, size_t n, off_t o), d COMMA b, COMMA o)
 MOVES(recv, (int d, void *b, size_t n, int f), d COMMA b, COMMA f)
 MOVES(send, (int d, const void *b, size_t n, int f), d COMMA b, COMMA f)
 int fsync(int d) { return failed() ? -1 : NEXT(fsync)(d); }
 int fdatasync(int d) { return failed() ? -1 : NEXT(fdatasync)(d); }
+int socket(int f, int t, int p) { return failed() ? -1 : NEXT(socket)(f, t, p); }
+int connect(int d, const struct sockaddr *a, socklen_t n) { return failed() ? -1 : NEXT(connect)(d, a, n); }
+int poll(struct pollfd *f, nfds_t n, int t) { return failed() ? -1 : NEXT(poll)(f, n, t); }
+int setsockopt(int d, int l, int o, const void *v, socklen_t n) {
+    return failed() ? -1 : NEXT(setsockopt)(d, l, o, v, n);
+}
+int getsockopt(int d, int l, int o, void *v, socklen_t *n) {
+    return failed() ? -1 : NEXT(getsockopt)(d, l, o, v, n);
+}
 int accept4(int d, struct sockaddr *a, socklen_t *n, int f) {
     return failed() ? -1 : NEXT(accept4)(d, a, n, f);
 }

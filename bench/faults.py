@@ -3,13 +3,17 @@
 
     bench/faults.py [PROGRAM] [EACH]
 
-It plays every script of examples/, a trial, and a served connection with pulls and pushes. At each
-fault the status is the one that the fault may cause, what was written is a front of the whole output
-and then the stop line, the journal opens, and it holds what was answered. A call that moves one byte
-where more were asked for changes nothing. With EACH only every so many faults are tried. It needs gcc
-and a Linux with the GNU C library, and ends with 1 where something went wrong.
+It plays every script of examples/, a trial, a served connection with pulls and pushes, and turns with a
+served master. At each fault the status is the one that the fault may cause, what was written is a front
+of the whole output and then the stop line, the journal opens, and it holds what was answered. A socket
+that fails loses a turn with a served master at most, and after any fault the next turn brings both sides
+together. A call that moves one byte where more were asked for changes nothing. With EACH only every so
+many faults are tried. examples/apart, which takes two processes at once, isn't played here: the turns with
+a served master stand for it. It needs gcc and a Linux with the GNU C library, and ends with 1 where
+something went wrong.
 """
 import collections
+import contextlib
 import json
 import os
 import socket
@@ -121,6 +125,70 @@ class Served(Play):
                 insist(keys <= found, f"the answered push {n} is lost")
 
 
+class Dialled(Play):
+    """Two turns with a served master, of which a failing socket may lose one."""
+
+    # Far ahead of the clock, so that what a server writes has the same times in each play.
+    MASTER = [compact({"do": "collection", "name": "m", "schema": SCHEMA}),
+              compact({"do": "tick", "at": 9_000_000_000_000}),
+              *(compact({"do": "insert", "in": "m", "doc": {"id": key, "n": 1}}) for key in "ab")]
+
+    def __init__(self):
+        self.port = free_port()
+        replicate = {"do": "replicate", "name": "r", "fork": "f", "port": self.port, "handler": "fork_wins"}
+        self.begin = [compact({"do": "collection", "name": "f", "schema": SCHEMA}), compact(replicate)]
+        self.turn = compact({"do": "turn", "name": "r", "batch": 2})
+        edits = [compact({"do": "insert", "in": "f", "doc": {"id": key, "n": 2}}) for key in "bcd"]
+        script = text([*self.begin, *edits[:2], self.turn, edits[2], self.turn])
+        super().__init__("turns with a served master", lambda path: ["run", path], script)
+
+    def play(self, folder, env):
+        self.master = os.path.join(folder, "master")
+        if os.path.exists(self.master):
+            os.remove(self.master)
+        insist(run(self.master, self.MASTER)[0] == 0, "no master")
+        with self.served():
+            return super().play(folder, env)
+
+    @contextlib.contextmanager
+    def served(self):
+        words = [RX, "serve", self.master, "m", str(self.port), "1000000"]
+        child = subprocess.Popen(words, stdout=subprocess.DEVNULL, stderr=subprocess.DEVNULL)
+        try:
+            dial(self.port, child).close()
+            yield
+        finally:
+            child.kill()
+            child.wait(SECONDS)
+
+    def front_of(self, whole, written):
+        """What was written before a turn that was lost, where one was, is a front of the whole."""
+        front, lost, why = written.partition(b'"lost":')
+        if not lost:
+            return super().front_of(whole, written)
+        insist(why.startswith((b'"dial"', b'"wire"')) and why.count(lost) == 0, f"lost: {written[-200:]}")
+        insist(b"refused" not in why, f"refused: {written[-200:]}")
+        super().front_of(whole, front[:front.rfind(b"\n") + 1])
+        return written
+
+    def compare(self, folder, written, whole):
+        """The next turn brings both sides together, with each insert that was answered."""
+        journal = os.path.join(folder, "journal")
+        after = [*self.begin, self.turn, *(compact({"do": do, "in": "f", **more}) for do, more in
+                                           (("digest", {}), ("find", {"query": {}})))]
+        with self.served():
+            status, replies = run(journal, after)
+        insist(status in (0, 1), f"the next run ended with {status}")
+        turn, digest, found = (reply for reply in replies if reply.get("ok") in ("turn", "digest", "find"))
+        insist(turn["end"] == "quiet", f"the next turn ended {turn}")
+        done = subprocess.run([RX, "check", self.master], capture_output=True, timeout=SECONDS, check=False)
+        insist(json.loads(done.stdout.splitlines()[0])["digest"] == digest["digest"], "the sides differ")
+        answered = [json.loads(line) for line in written.splitlines()]
+        kept = sum(it.get("ok") == "insert" for it in answered)
+        keys = {row["id"] for row in found["rows"]}
+        insist({"a", "b", *"bcd"[:kept]} <= keys, f"an answered insert is lost: {keys}")
+
+
 def records(path):
     """The bodies of a journal's records, by docs/JOURNAL.md."""
     bodies, at = [], 8
@@ -164,6 +232,7 @@ def plays():
     yield Play("a report", lambda path: ["check", path], before=text(
         [collection(), *map(insert, "abc")]))
     yield Served()
+    yield Dialled()
 
 
 def try_faults(play, kind, folder, env, whole, count):
@@ -173,7 +242,8 @@ def try_faults(play, kind, folder, env, whole, count):
         ended, came = play.play(folder, {**env, "RX_FAULT": f"{kind} {number}"})
         at = f"{kind} {number} of {count}: "
         insist(ended == status or ended in KINDS[kind], f"{at}status {ended}")
-        insist(kind != "short" or (ended, came) == (status, written), f"{at}another output: {came[-100:]}")
+        insist(kind != "short" or ended == status, f"{at}status {ended}")
+        insist(kind == "call" or ended != status or came == written, f"{at}another output: {came[-100:]}")
         try:
             play.compare(folder, play.front_of(written, came), content)
             insist(run(os.path.join(folder, "journal"), [])[0] == 0, "the journal doesn't open")

@@ -1,6 +1,7 @@
 """What the benchmarks share: one program run on lines, timed, and the lines that both peers get."""
 import json
 import os
+import resource
 import shutil
 import subprocess
 import sys
@@ -39,6 +40,12 @@ def documents(count):
     """Each key below the count once, in an order that the seed mixes, with a number."""
     for place in range(count):
         yield f"k{place * SEED % count}", place % 2
+
+
+def processor():
+    """The processor time of all programs that were run and have ended."""
+    used = resource.getrusage(resource.RUSAGE_CHILDREN)
+    return used.ru_utime + used.ru_stime
 
 
 def measure(command, lines):

@@ -365,8 +365,8 @@ def killed(folder):
         talk.child.kill()
         rest = answers(talk.child.communicate(timeout=SECONDS)[0])
         kept |= set(more[:sum(reply.get("ok") == "insert" for reply in rest)])
-    all_there(journal, kept)
-    return f"{rounds} times: the next run goes on, and all {len(kept):,} acknowledged inserts are there"
+        all_there(journal, kept)
+    return f"{rounds} times: the next run has all acknowledged inserts, {len(kept):,} in the end"
 
 
 def killed_in_a_turn(folder):

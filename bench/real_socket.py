@@ -1,11 +1,11 @@
 #!/usr/bin/env python3
-"""The built program as a master over real sockets, with peers that no clause speaks of.
+"""The built program over real sockets, as a master with peers that no clause speaks of, and killed in turns.
 
     bench/real_socket.py [PROGRAM]
 
 One line for each thing that is tried: what was seen, or what went wrong. It ends with 1 where one
 went wrong. All files lie in a temporary folder of its own, and all sockets on 127.0.0.1. A peer that
-says nothing is waited for as long as the program waits, a minute or two.
+says nothing is waited for as long as the program waits, a minute to three.
 """
 import json
 import os
@@ -19,15 +19,15 @@ import sys
 import time
 
 from measuring import HERE, SCHEMA, SEED, collection, compact
-from real_file import RX, SECONDS, answers, held, insist, insert, main, run, text
+from real_file import RX, SECONDS, Talk, answers, held, insist, insert, main, run, text
 
 sys.path.insert(0, os.path.join(HERE, "..", "examples"))
 from client import hash_of  # noqa: E402
 
 HASH = hash_of(SCHEMA)
 LONGEST = 268_435_456
-# A call waits for a minute. A reply that was sent in part before is one more.
-HANG_SECONDS = 120
+# A call waits for a minute. A reply that was sent in part is one more, and some systems take a part twice.
+HANG_SECONDS = 180
 
 
 def pull(n, place=None):
@@ -49,11 +49,12 @@ def free_port():
 class Server:
     """A master with so many connections, over a journal that is made with these documents."""
 
-    def __init__(self, folder, connections, keys=(), prepare=None, name="c", journal="journal"):
-        self.journal, self.port = os.path.join(folder, journal), free_port()
+    def __init__(self, folder, connections, keys=(), prepare=None, name="c", journal="journal", port=None,
+                 more=()):
+        self.journal, self.port = os.path.join(folder, journal), port or free_port()
         if not os.path.exists(self.journal):
             insist(run(self.journal, [collection(), *map(insert, keys)])[0] == 0, "no journal")
-        words = [RX, "serve", self.journal, name, str(self.port), str(connections)]
+        words = [RX, "serve", self.journal, name, str(self.port), str(connections), *more]
         self.child = subprocess.Popen(words, stdout=subprocess.PIPE, stderr=subprocess.DEVNULL,
                                       preexec_fn=prepare)
 
@@ -261,7 +262,9 @@ def statuses(folder):
 
 
 def full_disk(folder):
-    most = os.path.getsize(Server(folder, 1, journal="seen").journal)
+    seen = Server(folder, 1, journal="seen")
+    killed(seen)
+    most = os.path.getsize(seen.journal)
     tried = 0
     for room in range(most + 1, most + 400, 20):
         def limit(room=room):
@@ -285,7 +288,7 @@ def full_disk(folder):
     return f"at {tried} lengths: 3, and each answered push is there"
 
 
-def killed(folder):
+def killed_in_a_loop(folder):
     moments, kept, rounds = random.Random(SEED), set(), 40
     for number in range(rounds):
         server = Server(folder, 1)
@@ -302,9 +305,149 @@ def killed(folder):
                 kept |= {f"more{number}-{json.loads(line)['n']}" for line in said(wire).split(b"\n")[:-1]}
             except OSError:
                 pass
-    found = held(os.path.join(folder, "journal"))
-    insist(kept <= found, f"lost: {sorted(kept - found)[:3]}")
-    return f"{rounds} times: all {len(kept):,} answered pushes are there"
+        found = held(server.journal)
+        insist(kept <= found, f"round {number}: lost: {sorted(kept - found)[:3]}")
+    return f"{rounds} times: the next run has all answered pushes, {len(kept):,} in the end"
+
+
+def bulk(into, number):
+    """As many documents as take a turn some time."""
+    docs = [{"id": f"{into}{number}-{n}", "n": n} for n in range(100)]
+    return compact({"do": "bulk", "in": into, "docs": docs})
+
+
+class Follower(Talk):
+    """A run over a journal with a fork f of the master at a port."""
+
+    def __init__(self, folder, port, number):
+        super().__init__(os.path.join(folder, "fork"))
+        replicate = {"do": "replicate", "name": "r", "fork": "f", "port": port, "handler": "join"}
+        self.ask(compact({"do": "collection", "name": "f", "schema": SCHEMA}))
+        insist(self.ask(compact(replicate)).get("code", 9) == 9, "a replication")
+        if number is not None:
+            insist(self.ask(bulk("f", number)).get("ok") == "bulk", "documents of the fork")
+
+    def begin(self):
+        self.child.stdin.write(text([compact({"do": "turn", "name": "r", "batch": 4})]))
+        self.child.stdin.flush()
+
+    def turned(self):
+        """The last exchange of the turn that was begun, and its end."""
+        last, reply = {}, json.loads(self.child.stdout.readline())
+        while "exchange" in reply:
+            last, reply = reply, json.loads(self.child.stdout.readline())
+        return last, reply["end"]
+
+    def kill(self):
+        """Whether the turn had no reply yet."""
+        self.child.kill()
+        return self.child.communicate(timeout=SECONDS)[0] == b""
+
+
+def serve_more(folder, port, number):
+    """A server to whose documents some came."""
+    insist(run(os.path.join(folder, "journal"), [bulk("c", number)])[0] == 0, "documents of the master")
+    server = Server(folder, 1_000_000, port=port)
+    server.dial().close()
+    return server
+
+
+def killed(server):
+    server.child.kill()
+    server.child.communicate(timeout=SECONDS)
+
+
+def kill_in_a_turn(folder, port, number, wait):
+    """Kills the fork, the master or both, and whether the turn was cut off. The next one is quiet."""
+    who = number % 3
+    server, fork = serve_more(folder, port, number), Follower(folder, port, number)
+    fork.begin()
+    time.sleep(wait)
+    if who:
+        killed(server)
+    was_cut = fork.kill() if who != 1 else None
+    if who == 1:
+        last, end = fork.turned()
+        insist(end == "quiet" or last.get("lost") in ("dial", "reply", "wire"), f"{last} {end}")
+        was_cut = end == "lost"
+    else:
+        fork = Follower(folder, port, None)
+    if who:
+        server = Server(folder, 1_000_000, port=port)
+        server.dial().close()
+    finish_turn(fork, 200 * (number + 1))
+    killed(server)
+    return was_cut
+
+
+def finish_turn(fork, count):
+    """The fork has so many documents once a turn is quiet. Its seconds, and the digest."""
+    begun = time.monotonic()
+    fork.begin()
+    insist(fork.turned()[1] == "quiet", "the next turn")
+    seconds = time.monotonic() - begun
+    told = fork.ask(compact({"do": "digest", "in": "f"}))
+    insist(fork.end() in (0, 1), "the run of the fork failed")
+    insist(told["count"] == count, f"{told['count']} documents of {count}")
+    return seconds, told["digest"]
+
+
+def killed_in_a_remote_turn(folder):
+    insist(run(os.path.join(folder, "journal"), [collection()])[0] == 0, "no journal")
+    moments, port, rounds, cut = random.Random(SEED), free_port(), 60, 0
+    server, fork = serve_more(folder, port, 0), Follower(folder, port, 0)
+    seconds, _ = finish_turn(fork, 200)
+    killed(server)
+    for number in range(1, rounds + 1):
+        cut += kill_in_a_turn(folder, port, number, moments.uniform(0, seconds / 2))
+    master = run(os.path.join(folder, "journal"), [compact({"do": "digest", "in": "c"})])[1][0]
+    fork = run(os.path.join(folder, "fork"), [compact({"do": "digest", "in": "f"})])[1][0]
+    insist(master["digest"] == fork["digest"], "the sides differ")
+    insist(cut > rounds // 6, f"{cut} of {rounds} turns were cut off")
+    return f"{cut} of {rounds} turns cut off: the next one is quiet, and all {fork['count']:,} documents are on both sides"
+
+
+def full_in_a_remote_turn(folder):
+    """The fork's journal, or the master's, is full in the middle of a turn."""
+    seen, port = [], free_port()
+    for number, room in enumerate(range(200, 12_000, 600)):
+        inner = os.path.join(folder, str(number))
+        os.mkdir(inner)
+        insist(run(os.path.join(inner, "journal"), [collection(), bulk("c", number)])[0] == 0, "no journal")
+        begun = Follower(inner, port, number)
+        insist(begun.end() == 0, "no fork")
+        sides = [["--max-journal", str(os.path.getsize(os.path.join(inner, name)) + room)]
+                 for name in ("journal", "fork")]
+        sides[number % 2] = []
+        seen.append(turn_with_limits(inner, port, *sides))
+        server = Server(inner, 1_000_000, port=port)
+        server.dial().close()
+        after = Follower(inner, port, None)
+        _, digest = finish_turn(after, 200)
+        killed(server)
+        done = run(os.path.join(inner, "journal"), [compact({"do": "digest", "in": "c"})])
+        insist(done[1][0]["digest"] == digest, f"room {room}: the sides differ")
+    insist({(0, 8), (8, None)} <= set(seen), f"{seen}")
+    return f"{len(seen)} times, of which {sum(it != (0, None) for it in seen)} are full: the next turn is quiet"
+
+
+def turn_with_limits(folder, port, master, fork):
+    """The statuses of the fork and, where it has ended by itself, of the master."""
+    server = Server(folder, 1_000_000, port=port, more=master)
+    server.dial().close()
+    words = [RX, "run", os.path.join(folder, "fork"), *fork]
+    line = text([compact({"do": "turn", "name": "r", "batch": 4})])
+    done = subprocess.run(words, input=line, capture_output=True, timeout=SECONDS, check=False)
+    last = answers(done.stdout)[-1]
+    if done.returncode == 8:
+        insist(last.get("stop") == "full", f"{last}")
+    else:
+        insist(done.returncode == 0 and last["end"] in ("quiet", "lost"), f"{done.returncode} {last}")
+    if last.get("end") == "lost":
+        insist(server.child.wait(SECONDS) == 8, "the master has ended otherwise")
+        return 0, 8
+    killed(server)
+    return done.returncode, None
 
 
 def output_that_goes_away(folder):
@@ -326,7 +469,9 @@ TRIED = {
     "peers that hang": peers_that_hang,
     "what else has the journal or the port": statuses,
     "a full disk": full_disk,
-    "kill -9 in a loop": killed,
+    "kill -9 in a loop": killed_in_a_loop,
+    "kill -9 of a fork or its master in a turn": killed_in_a_remote_turn,
+    "a full journal of a fork or its master in a turn": full_in_a_remote_turn,
     "an output that goes away": output_that_goes_away,
 }
 

@@ -11,6 +11,10 @@ and for the checkpoints, an index of what is to be pushed, and a transaction an 
 with synchronous=FULL. What it takes to make the documents is taken off both. The two take turns,
 three runs each, and the best time counts. Both make as many exchanges and have the same documents on
 both sides at the end, or the benchmark stops. A run that takes more than ten minutes is given up.
+
+Then turns of one exchange and one document over forks of 1,000, 10,000 and 100,000: pulled where the
+fork never pushed, and pulled and pushed where it did. What counts is the processor time of a document's
+insert and its turn, 50 in a block, in the best of five blocks. sqlite3 does the same over as many.
 """
 import json
 import os
@@ -30,6 +34,8 @@ PULLED, PUSHED, CONFLICTS = 100_000 // FEWER, 10_000 // FEWER, 1_000 // FEWER
 BATCHES = (1, 10, 100)
 BUDGET = 100_000
 HANDLERS = ("master_wins", "fork_wins", "greater", "join")
+FORKS = [count // FEWER for count in (1_000, 10_000, 100_000)]
+BLOCK, BLOCKS = 50, 5
 
 
 class Late(Exception):
@@ -245,6 +251,111 @@ def compare(load, count, filled, handler, batch):
           flush=True)
 
 
+# ---- turns of one exchange
+
+class Played:
+    """A run over a fork that is filled by pulls where `m` is the side that has the documents, or by pushes."""
+
+    def __init__(self, folder, side, count):
+        command = [program(), "run", os.path.join(folder, "file"), "--max-journal", "4294967295"]
+        self.child = subprocess.Popen(command, stdin=subprocess.PIPE, stdout=subprocess.PIPE)
+        for line in (*begun("master_wins"), *written(side, count, 0)):
+            self.ask([line])
+        self.level()
+
+    def ask(self, lines):
+        """The replies, without the lines of exchanges."""
+        self.child.stdin.write("".join(compact(line) + "\n" for line in lines).encode())
+        self.child.stdin.flush()
+        replies = []
+        while len(replies) < len(lines):
+            reply = self.child.stdout.readline()
+            if not reply.startswith((b'{"conflicts"', b'{"exchange"')):
+                replies.append(json.loads(reply))
+        return replies
+
+    def level(self):
+        self.ask([{"do": "turn", "name": "r", "budget": BUDGET}])
+
+    def seconds(self):
+        """Its processor time."""
+        with open(f"/proc/{self.child.pid}/schedstat", encoding="ascii") as file:
+            return int(file.read().split()[0]) / 1e9
+
+    def block(self, side, number):
+        """The seconds of inserts, each with a turn that brings it to the other side."""
+        docs = [{"id": f"{side}{number}-{n}", "n": n} for n in range(BLOCK)]
+        turn = {"do": "turn", "name": "r", "budget": 1}
+        lines = [line for doc in docs for line in ({"do": "insert", "in": side, "doc": doc}, turn)]
+        start = self.seconds()
+        replies = self.ask(lines)
+        seconds = self.seconds() - start
+        due = "more" if side == "f" else "quiet"
+        if any(reply["end"] != due or reply["exchanges"] != 1 for reply in replies[1::2]):
+            sys.exit(f"rx: other turns, {replies[1]}")
+        return seconds
+
+    def end(self):
+        digests = self.ask([{"do": "digest", "in": side} for side in "mf"])
+        if digests[0]["digest"] != digests[1]["digest"]:
+            sys.exit("rx: the sides differ")
+        self.child.stdin.close()
+        self.child.wait(SECONDS)
+
+
+class SqlPlayed:
+    """The same by sqlite3."""
+
+    def __init__(self, folder, side, count):
+        self.db = sqlite3.connect(os.path.join(folder, "file"), isolation_level=None)
+        self.db.executescript(TABLES)
+        fill(self.db, side, count, 0)
+        self.level()
+
+    def level(self):
+        sql_turn(self.db, 100, "master_wins")
+
+    def block(self, side, number):
+        more = ", 1" if side == "f" else ""
+        insert = f"INSERT INTO {side} VALUES(?, ?, 0, 1, (SELECT max(lwt) + 1 FROM {side}){more})"
+        start = time.process_time()
+        for n in range(BLOCK):
+            self.db.execute(insert, (f"{side}{number}-{n}", n))
+            if exchange(self.db, 100, "master_wins") != (side == "m"):
+                sys.exit("sqlite3: another exchange")
+        return time.process_time() - start
+
+    def end(self):
+        sides = [self.db.execute(f"SELECT id, n FROM {side} ORDER BY id").fetchall() for side in "mf"]
+        if sides[0] != sides[1]:
+            sys.exit("sqlite3: the sides differ")
+        self.db.close()
+
+
+def one_by_one(kind, filled, sides, count):
+    """The best seconds of one insert and its turn, by the side that is written."""
+    best = {}
+    with tempfile.TemporaryDirectory(dir=STORAGE) as folder:
+        played = kind(folder, filled, count)
+        for number in range(BLOCKS):
+            for side in sides:
+                seconds = played.block(side, number) / BLOCK
+                best[side] = min(best.get(side, seconds), seconds)
+                played.level()
+        played.end()
+    return best
+
+
+def table():
+    for load, filled, sides in (("only pulls", "m", "m"), ("pushes", "f", "fm")):
+        for count in FORKS:
+            ours, theirs = (one_by_one(kind, filled, sides, count) for kind in (Played, SqlPlayed))
+            for side in sides:
+                done = "pulled" if side == "m" else "pushed"
+                print(f"a fork of {count:,} that {load}, one {done}: rx {ours[side] * 1e6:,.1f} us, "
+                      f"sqlite3 {theirs[side] * 1e6:,.1f} us", flush=True)
+
+
 def main():
     for batch in BATCHES:
         compare("first pull", PULLED, [("m", 0)], "master_wins", batch)
@@ -253,6 +364,8 @@ def main():
     for handler in HANDLERS:
         for batch in BATCHES:
             compare(f"conflicts by {handler}", CONFLICTS, [("m", 1), ("f", 2)], handler, batch)
+    table()
 
 
-main()
+if __name__ == "__main__":
+    main()

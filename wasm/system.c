@@ -42,11 +42,15 @@ int fchmod(int file, int mode) { return 0; }
 long lseek(int file, long to, int whence) { return told(-ENOSYS); }
 int ftruncate(int file, long n) { return (int)told(-ENOSYS); }
 
-// A page has no sockets, and serving alone asks for the time.
+// A page has no sockets: what serves or dials gets none. Serving and dialling alone ask for the time.
 int socket(int family, int kind, int protocol) { return (int)told(-ENOSYS); }
 int setsockopt(int file, int level, int name, const void *at, unsigned n) { return (int)told(-ENOSYS); }
 int bind(int file, const void *address, unsigned n) { return (int)told(-ENOSYS); }
 int listen(int file, int waiting) { return (int)told(-ENOSYS); }
+int connect(int file, const void *address, unsigned n) { return (int)told(-ENOSYS); }
+int getsockopt(int file, int level, int name, void *at, unsigned *n) { return (int)told(-ENOSYS); }
+int poll(void *files, unsigned long n, int milliseconds) { return (int)told(-ENOSYS); }
+int rattle_set_nonblocking(int file, _Bool on) { return (int)told(-ENOSYS); }
 int accept4(int file, void *address, void *n, int flags) { return (int)told(-ENOSYS); }
 long recv(int file, byte *at, size_t n, int flags) { return told(-ENOSYS); }
 long send(int file, const byte *at, size_t n, int flags) { return told(-ENOSYS); }

@@ -101,15 +101,19 @@ export interface Counts {
   [count: string]: unknown;
 }
 
-export interface Replication {
+export type Replication = {
   name: string;
   fork: string;
-  /** The collection that it is a fork of, or the port at which one is served. */
-  master?: string;
-  port?: number;
   handler: 'master_wins' | 'fork_wins' | 'greater' | 'join';
   field?: string;
-}
+} & (
+  /** The collection that it is a fork of, or the port on 127.0.0.1 at which one is served. */
+  | { master: string; port?: undefined }
+  | { port: number; master?: undefined }
+);
+
+/** Why an exchange was lost: what was heard of a master at a port, or what the `link` did. */
+export type Lost = 'dial' | 'wire' | 'reply' | 'foreign' | 'bad_reply' | 'lose_request' | 'lose_reply' | 'stale';
 
 /** One exchange of a turn, with the keys of its documents. */
 export interface Exchange {
@@ -119,7 +123,7 @@ export interface Exchange {
   /** Of a push: the rows of which the master had another document than the fork assumed. They are resolved. */
   conflicts?: string[];
   place?: Place;
-  lost?: string;
+  lost?: Lost;
 }
 
 export interface Turn {
@@ -179,6 +183,7 @@ export interface Collection<T = Document> {
 export interface Database {
   collection<T = Document>(name: string, schema?: Schema): Promise<Collection<T>>;
   replicate(replication: Replication): Promise<void>;
+  /** `link` is for a master of the same journal alone. */
   turn(name: string, options?: { batch?: number; budget?: number; link?: (string | { late: number })[] }): Promise<Turn>;
   explain(name: string): Promise<Counts>;
   tick(at?: number): Promise<void>;

@@ -218,6 +218,27 @@ export const behaviours = {
     same([stopped.stop, stopped.limit], ['full', 1500], 'in the middle of a turn');
   },
 
+  async 'a master at a port that nobody serves: the turn is lost, and what was written stays'({ open, transport }) {
+    const db = await open(transport());
+    const fork = await db.collection('f', schema);
+    await db.replicate({ name: 'r', fork: 'f', port: 1, handler: 'join' });
+    const lost = { exchange: 1, lost: 'dial', sent: 'pull' };
+    same(await db.turn('r'), { end: 'lost', exchanges: 1, each: [lost] }, 'a pull');
+    await fork.insert({ id: 'a', n: 1 });
+    const push = { exchange: 1, lost: 'dial', rows: ['a'], sent: 'push' };
+    for (let i = 0; i < 3; i++) same(await db.turn('r', { batch: 1 }), { end: 'lost', exchanges: 1, each: [push] }, 'a push');
+    same(await fork.get('a'), { doc: { id: 'a', n: 1 }, lwt: 1, rev: '1-f' }, 'the fork');
+
+    const told = async (call) => (({ code, subject }) => [code, subject])(await fault(call));
+    const other = { name: 's', fork: 'f', handler: 'join' };
+    same(await told(() => db.turn('r', { link: ['ok'] })), [6, 'link'], 'a link');
+    same(await told(() => db.replicate({ ...other, master: 'f', port: 1 })), [6, 'port'], 'a port beside a master');
+    same(await told(() => db.replicate(other)), [5, 'master'], 'neither');
+    same(await told(() => db.replicate({ ...other, port: 0 })), [7, 'port'], 'no port');
+    same((await fault(() => db.replicate({ ...other, port: 2 }))).code, 21, 'a second master');
+    await db.close();
+  },
+
   async 'after close nothing is taken, and what was asked before is answered'({ open, transport }) {
     const db = await open(transport());
     const c = await db.collection('c', schema);

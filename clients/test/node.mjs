@@ -1,6 +1,7 @@
 // node clients/test/node.mjs PROGRAM: the client over a child process.
-import { spawnSync } from 'node:child_process';
+import { spawn, spawnSync } from 'node:child_process';
 import { cpSync, mkdtempSync, readFileSync, rmSync, writeFileSync } from 'node:fs';
+import { connect, createServer } from 'node:net';
 import { tmpdir } from 'node:os';
 import { join, resolve } from 'node:path';
 import { child, open } from '../js/rx.mjs';
@@ -61,6 +62,54 @@ tests['a child that is killed in mid-call'] = async () => {
   const rows = await (await again.collection('c')).find();
   same(answered.length >= 20 && answered.every((id) => rows.some((it) => it.id === id)), true, 'what was answered is there');
   await again.close();
+};
+
+const freePort = () => new Promise((go) => {
+  const door = createServer().listen(0, '127.0.0.1', () => {
+    const { port } = door.address();
+    door.close(() => go(port));
+  });
+});
+
+// Dials until it is answered.
+const dialled = (port) => new Promise((go) => {
+  const wire = connect(port, '127.0.0.1', () => { wire.end(); go(); });
+  wire.on('error', () => setTimeout(() => dialled(port).then(go), 10));
+});
+
+tests['a fork of a master that another process serves'] = async () => {
+  const path = journal(), port = await freePort();
+  const before = await open(child(program, path));
+  await (await before.collection('m', schema)).bulk([{ id: 'a', n: 1 }, { id: 'b', n: 1 }]);
+  await before.close();
+  const served = spawn(program, ['serve', path, 'm', String(port), '3'], { stdio: ['ignore', 'pipe', 'inherit'] });
+  let said = '';
+  served.stdout.on('data', (it) => { said += it; });
+  const over = new Promise((go) => served.on('close', go));
+  await dialled(port);
+
+  const db = await open(child(program, journal()));
+  const fork = await db.collection('f', schema);
+  await db.replicate({ name: 'r', fork: 'f', port, handler: 'fork_wins' });
+  const heard = [];
+  fork.observe({ sort: [{ n: 'desc' }], limit: 1 }).subscribe((rows) => heard.push(rows.map((it) => it.n).join()));
+  const told = ({ end, each }) => `${end}: ${each.map((it) => `${it.sent} ${it.rows}`).join(', ')}`;
+  same(told(await db.turn('r')), 'quiet: pull a,b', 'a first pull');
+  await fork.patch('a', { n: 5 });
+  await fork.insert({ id: 'ä', n: 7 });
+  same(told(await db.turn('r', { batch: 1 })), 'quiet: push a, push ä, pull a, pull ä, pull ', 'edits');
+  same(heard.join(' '), ' 1 5 7', 'emissions');
+  const mine = await fork.digest();
+  await db.close();
+
+  same(await over, 0, 'the status of the server');
+  const due = [0, 1, 5].map((requests, i) => `{"connection":${i + 1},"end":"peer","requests":${requests}}\n`);
+  same(said, due.join(''), 'what it said');
+  const after = await open(child(program, path));
+  const master = await after.collection('m');
+  same(JSON.stringify(await master.digest()), JSON.stringify(mine), 'both sides');
+  same((await master.get('a')).rev, '2-m', 'a push');
+  await after.close();
 };
 
 tests['a program that does not start, and a file that is no journal'] = async () => {

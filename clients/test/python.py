@@ -5,10 +5,12 @@ import json
 import os
 import re
 import signal
+import socket
 import subprocess
 import sys
 import tempfile
 import threading
+import time
 import traceback
 
 HERE = os.path.dirname(os.path.abspath(__file__))
@@ -148,7 +150,7 @@ def every_example_with_asyncio():
         asyncio.run(run(*it))
 
 
-def told(it):
+def members(it):
     return it.code, it.word, it.cause, it.subject, it.rev, it.row
 
 
@@ -158,15 +160,15 @@ def refusals_by_code():
         c = db.collection("c", SCHEMA)
         same((c.new, db.collection("c", SCHEMA).new), (True, False))
         c.insert({"id": "a", "n": 1})
-        same(told(fault(c.insert, {"id": "a"})), (14, "conflict", None, None, "1-c", None))
-        same(told(fault(c.bulk, [{"id": "b"}, {"id": "a"}])), (14, "conflict", None, None, "1-c", 1))
-        same(told(fault(c.insert, {"id": "b", "n": "x"})), (13, "invalid", "kind", "n", None, None))
-        same(told(fault(c.find, {"selector": {"m": 1}})), (16, "query", "field", "m", None, None))
-        same(told(fault(c.get, "z")), (15, "no_document", None, None, None, None))
-        same(told(fault(db.collection("d").count)), (10, "no_collection", None, "d", None, None))
-        same(told(fault(c.observe, {"limit": -1})), (16, "query", "limit", None, None, None))
-        same(told(fault(db.explain, "q")), (17, "no_query", None, None, None, None))
-        same(told(fault(db.line, "{")), (2, "not_json", None, None, None, None))
+        same(members(fault(c.insert, {"id": "a"})), (14, "conflict", None, None, "1-c", None))
+        same(members(fault(c.bulk, [{"id": "b"}, {"id": "a"}])), (14, "conflict", None, None, "1-c", 1))
+        same(members(fault(c.insert, {"id": "b", "n": "x"})), (13, "invalid", "kind", "n", None, None))
+        same(members(fault(c.find, {"selector": {"m": 1}})), (16, "query", "field", "m", None, None))
+        same(members(fault(c.get, "z")), (15, "no_document", None, None, None, None))
+        same(members(fault(db.collection("d").count)), (10, "no_collection", None, "d", None, None))
+        same(members(fault(c.observe, {"limit": -1})), (16, "query", "limit", None, None, None))
+        same(members(fault(db.explain, "q")), (17, "no_query", None, None, None, None))
+        same(members(fault(db.line, "{")), (2, "not_json", None, None, None, None))
         # What can't be written is refused before it counts as a line.
         try:
             c.insert({"id": "b", "n": float("nan")})
@@ -362,6 +364,75 @@ def a_fork_and_its_master_with_asyncio():
             same((await master.get("a")).doc, {"id": "a", "n": 2})
 
     asyncio.run(run())
+
+
+def served(docs):
+    """A server of a collection m with these documents, for a call that waits for it and two turns."""
+    path = journal()
+    with rx.open(PROGRAM, path) as db:
+        db.collection("m", SCHEMA).bulk(docs)
+    with socket.socket() as it:
+        it.bind(("127.0.0.1", 0))
+        port = it.getsockname()[1]
+    child = subprocess.Popen([PROGRAM, "serve", path, "m", str(port), "3"], stdout=subprocess.PIPE)
+    while True:
+        try:
+            socket.create_connection(("127.0.0.1", port)).close()
+            return path, port, child
+        except ConnectionRefusedError:
+            time.sleep(0.01)
+
+
+def told(turn):
+    return turn.end, [(it["sent"], it["rows"]) for it in turn.each]
+
+
+def same_as_served(path, child, requests, digest):
+    """The server has ended by itself, after so many requests of each connection, and has the same documents."""
+    said = [json.loads(line) for line in child.communicate()[0].splitlines()]
+    same((child.returncode, said), (0, [{"connection": i, "end": "peer", "requests": n} for i, n in enumerate(requests, 1)]))
+    with rx.open(PROGRAM, path) as db:
+        same(db.collection("m").digest(), digest, "both sides")
+
+
+@test
+def a_fork_of_a_master_that_another_process_serves():
+    path, port, child = served([{"id": "a", "n": 1}, {"id": "b", "n": 1}])
+    with rx.open(PROGRAM, journal()) as db:
+        fork = db.collection("f", SCHEMA)
+        db.replicate("r", "f", port=port, handler="fork_wins")
+        query = fork.observe({"sort": [{"n": "desc"}], "limit": 1})
+        same(told(db.turn("r")), ("quiet", [("pull", ["a", "b"])]))
+        fork.patch("a", {"n": 5})
+        fork.insert({"id": "ä", "n": 7})
+        edits = [("push", ["a"]), ("push", ["ä"]), ("pull", ["a"]), ("pull", ["ä"]), ("pull", [])]
+        same(told(db.turn("r", batch=1)), ("quiet", edits))
+        same([[row["n"] for row in rows] for rows in query.pending()], [[], [1], [5], [7]])
+        digest = fork.digest()
+        # The server ends by itself, and then there is nobody.
+        child.wait()
+        lost = {"exchange": 1, "lost": "dial", "sent": "pull"}
+        same(db.turn("r"), ("lost", 1, [lost]))
+        same(fault(lambda: db.turn("r", link=["ok"])).subject, "link")
+        same(fault(lambda: db.replicate("s", "f", "m", port=port, handler="join")).subject, "port")
+    same_as_served(path, child, [0, 1, 5], digest)
+
+
+@test
+def a_fork_of_a_served_master_with_asyncio():
+    path, port, child = served([{"id": "a", "n": 1}])
+
+    async def run():
+        async with rx.open_async(PROGRAM, journal()) as db:
+            fork = await db.collection("f", SCHEMA)
+            await db.replicate("r", "f", port=port, handler="greater", field="n")
+            await fork.insert({"id": "a", "n": 2})
+            turns = await asyncio.gather(db.turn("r", budget=1), db.turn("r"))
+            same(turns[0].each, [{"conflicts": ["a"], "exchange": 1, "rows": ["a"], "sent": "push"}])
+            same([told(it) for it in turns], [("more", [("push", ["a"])]), ("quiet", [("push", ["a"]), ("pull", ["a"])])])
+            return await fork.digest()
+
+    same_as_served(path, child, [0, 1, 2], asyncio.run(run()))
 
 
 @test
