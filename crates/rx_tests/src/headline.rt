@@ -1,19 +1,14 @@
 // The headline at its plainest: a script over an empty journal, with all that is outside in memory.
-ghost use Rattle.std.specs.Prelude.{◌≡◌, ◌<◌, ◌∷◌, ℕ, List, [], Some, IfOk, codes, if◌then◌else◌};
+ghost use Rattle.std.specs.Prelude.{◌≡◌, ◌<◌, ◌∷◌, ℕ, List, [], Some, IfOk, codes};
 ghost use Rattle.rx_disk.specs.Disk.{Only};
 ghost use Rattle.rx_disk.specs.MemoryDisk.{IsLeft, content_of};
-ghost use Rattle.rx_store.specs.Holds.{IsLegalFile};
-ghost use Rattle.rx_engine.specs.Opening.{opened};
 ghost use Rattle.rx_handler.specs.Shown.{kinds_of};
 ghost use Rattle.rx_outside.specs.MemorySink.{sink_written};
 ghost use Rattle.rx_outside.specs.MemorySource.{source_left};
 ghost use Rattle.rx_sync.specs.Remote.{Heard};
-ghost use Rattle.rx_top.specs.Lines.{lines};
-ghost use Rattle.rx_top.specs.Run.{run_bodies};
-ghost use Rattle.rx_top.specs.Script.{has_refusal, transcript};
+ghost use Rattle.rx_tests.specs.Headline.{IsPlayed};
 ghost use Rattle.rx_words.specs.Words.{command_of};
 ghost use Rattle.rx_words.specs.declared.command.Command.TheVariants.{Run};
-ghost use Rattle.rx_world.specs.World.{World, empty};
 
 use rx_disk::MemoryDisk;
 use rx_handler::Handlers;
@@ -40,17 +35,11 @@ pub fn play_in_memory(
     script: Vec<u8>,
     handlers: &Handlers,
 ) -> Result<Played, AllocError>
-    // Where it was played to its end, what was written is its transcript, and the journal has the
-    // record of its epoch and those of its lines.
-    ensures transcript { IfOk result (λ played. played.status < 2 → (heard : List Heard)
-        × (played.output.items
-        ≡ transcript (lines script.items) (opened (kinds_of handlers.now) heard empty))) }
-    ensures journal { IfOk result (λ played. played.status < 2 → (heard : List Heard)
-        × (after : World) × IsLegalFile played.journal.items
-        (run_bodies (kinds_of handlers.now) heard empty (lines script.items)) after) }
-    ensures refusal { IfOk result (λ played. played.status < 2 → (heard : List Heard)
-        × (played.status ≡ (if has_refusal (lines script.items)
-        (opened (kinds_of handlers.now) heard empty) then 1 else 0))) }
+    // Where it was played to its end: what was written is its transcript, the journal has the record of
+    // its epoch and those of its lines, and the status tells whether a line was refused.
+    ensures { IfOk result (λ played. played.status < 2 → (heard : List Heard)
+        × IsPlayed (kinds_of handlers.now) script.items heard played.status played.output.items
+        played.journal.items) }
 {
     let words = run_words(alloc)?;
     let mut source = MemorySource::new(script, PIECE, Vec::new(alloc));
@@ -78,14 +67,9 @@ fn play(
     requires only { Only [] (IsLeft disk.old) }
     requires runs { (path : List ℕ) × (limit : ℕ)
         × (command_of words.now.words.items ≡ Some (Run path limit)) }
-    ensures transcript { result < 2 → (heard : List Heard) × (sink_written sink.new
-        ≡ transcript (lines (source_left source.old)) (opened (kinds_of handlers.now) heard empty)) }
-    ensures journal { result < 2 → (heard : List Heard) × (after : World)
-        × IsLegalFile (content_of disk.new)
-        (run_bodies (kinds_of handlers.now) heard empty (lines (source_left source.old))) after }
-    ensures refusal { result < 2 → (heard : List Heard)
-        × (result ≡ (if has_refusal (lines (source_left source.old))
-        (opened (kinds_of handlers.now) heard empty) then 1 else 0)) }
+    ensures played { result < 2 → (heard : List Heard)
+        × IsPlayed (kinds_of handlers.now) (source_left source.old) heard result
+        (sink_written sink.new) (content_of disk.new) }
 {
     // A run leaves the door and the clock alone, and this dial gives no wire.
     let mut door = MemoryDoor::new(alloc, Vec::new(alloc), Vec::new(alloc));

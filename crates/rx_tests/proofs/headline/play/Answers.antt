@@ -8,42 +8,27 @@ use Rattle.rx_top.specs.Lines.{lines}
 use Rattle.rx_top.specs.Script.{transcript}
 use Rattle.rx_world.specs.World.{empty}
 use Rattle.rx_top.proofs.GoingOn.{starts_empty}
+use Rattle.rx_tests.proofs.Unheard.{unheard}
 use Rattle.rx_tests.proofs.headline.play.Goals as goal
 
-pub returns-clause-transcript : goal.returns-clause-transcript
-returns-clause-transcript g c = λ is.
+pub returns : goal.returns
+returns g c =
     let command = c.requires.runs in
-    elim (c.rx.ensures.runs command.0 command.1 command.2) [
-      | inl plays ↦ (
-        plays.0,
-        plays.1.whole_transcript is tt tt tt [] empty
-            (starts_empty _ _ (record { content = c.requires.empty; only = c.requires.only }))
-            ∙ ap (λ v. v ++ transcript (lines (source_left c.args.source.now))
-            (opened (kinds_of c.args.handlers.now) plays.0 empty)) c.requires.fresh,
-      )
-      | inr lacks ↦ absurd (omega (arith, is, lacks.is))
-    ]
-
-pub returns-clause-journal : goal.returns-clause-journal
-returns-clause-journal g c = λ is.
-    let command = c.requires.runs in
-    elim (c.rx.ensures.runs command.0 command.1 command.2) [
-      | inl plays ↦
-          let kept = plays.1.kept is tt tt [] empty
-          (starts_empty _ _ (record { content = c.requires.empty; only = c.requires.only }))
-          (content_of c.rx.new.disk) (reads_as_of (history_of c.rx.new.disk)) in
-          (plays.0, kept.0, kept.1)
-      | inr lacks ↦ absurd (omega (arith, is, lacks.is))
-    ]
-
-pub returns-clause-refusal : goal.returns-clause-refusal
-returns-clause-refusal g c = λ is.
-    let command = c.requires.runs in
-    elim (c.rx.ensures.runs command.0 command.1 command.2) [
-      | inl plays ↦ (
-        plays.0,
-        plays.1.refusal is tt tt [] empty
-            (starts_empty _ _ (record { content = c.requires.empty; only = c.requires.only })),
-      )
-      | inr lacks ↦ absurd (omega (arith, is, lacks.is))
-    ]
+    let start = starts_empty _ _ (record { content = c.requires.empty; only = c.requires.only }) in
+    record {
+      played = λ is. elim (c.rx.ensures.runs command.0 command.1 command.2) [
+        | inl plays ↦ (
+          plays.0,
+          record {
+            told = plays.1.whole_transcript is tt tt tt [] empty start
+                ∙ ap (λ v. v ++ transcript (lines (source_left c.args.source.now))
+                (opened (kinds_of c.args.handlers.now) plays.0 empty)) c.requires.fresh;
+            kept = plays.1.kept is tt tt [] empty start (content_of c.rx.new.disk)
+                (reads_as_of (history_of c.rx.new.disk));
+            refusal = plays.1.refusal is tt tt [] empty start;
+            unheard = unheard empty _ _ _ (plays.1.headline tt tt [] empty start) is;
+          },
+        )
+        | inr lacks ↦ absurd (omega (arith, is, lacks.is))
+      ];
+    }
