@@ -4,7 +4,7 @@ use Rattle.rx_document.specs.declared.change.Change.{Change}
 use Rattle.rx_table.specs.declared.action.Action.TheVariants.{RemoveLastInsertFirst, RemoveLastInsertLast, ReplaceExisting, InsertAtSortPosition, RemoveExistingAndInsertAtSortPosition, InsertAtSortPositionRemoveLast}
 use Rattle.rx_query.specs.After.{row_after, with_row, after}
 use Rattle.rx_query.specs.Asked.{Asked}
-use Rattle.rx_query.specs.Lists.{placed, without_last, without_first, replaced_first}
+use Rattle.rx_query.specs.Lists.{insert_in_order, without_last, without_first, replaced_first}
 use Rattle.rx_query.specs.States.{precedes, is_changed}
 use Rattle.rx_query.specs.declared.results.Row.{Row}
 use Rattle.rx_actions.specs.Moves.{IsFirst, IsFirstBut}
@@ -49,34 +49,34 @@ module _ (q : Asked) (c : Change) (row : Row) (is : row_after c ≡ Some row) (r
   in_order i n e h first =
       placed_is_insert (by_order q) row rows i h
       (subst (λ k. IsFirstBut (by_order q row) rows k i) e first)
-      ∙ with_is (placed (by_order q)) rows
+      ∙ with_is (insert_in_order (by_order q)) rows
 
   -- what goes in where the old row goes out
   pub placed_anew : (old : ℕ) → old < length rows → IsFirst (is_changed c) rows old
-      → placed (by_order q) row (remove rows old)
+      → insert_in_order (by_order q) row (remove rows old)
       ≡ after RemoveExistingAndInsertAtSortPosition q c rows
   placed_anew old h first =
-      ap (placed (by_order q) row) (remove_found (is_changed c) rows old h first)
-      ∙ with_is (placed (by_order q)) (without_first (is_changed c) rows)
+      ap (insert_in_order (by_order q) row) (remove_found (is_changed c) rows old h first)
+      ∙ with_is (insert_in_order (by_order q)) (without_first (is_changed c) rows)
 
   -- and where the last row does
   pub placed_for_last : (last : ℕ) → last ≡ length rows - 1
-      → placed (by_order q) row (remove rows last) ≡ after InsertAtSortPositionRemoveLast q c rows
+      → insert_in_order (by_order q) row (remove rows last) ≡ after InsertAtSortPositionRemoveLast q c rows
   placed_for_last last is =
-      ap (λ n. placed (by_order q) row (remove rows n)) is
-      ∙ ap (placed (by_order q) row) (remove_last rows)
-      ∙ with_is (placed (by_order q)) (without_last rows)
+      ap (λ n. insert_in_order (by_order q) row (remove rows n)) is
+      ∙ ap (insert_in_order (by_order q) row) (remove_last rows)
+      ∙ with_is (insert_in_order (by_order q)) (without_last rows)
 
 module _ (q : Asked) (row : Row) (rows : List Row) (out i : ℕ) (h : out < length rows)
     (but : IsFirstBut (by_order q row) rows out i) where
   -- in its new place, behind the row that goes out
   pub to_later : out < i → i ≤ length rows
-      → remove (insert rows i row) out ≡ placed (by_order q) row (remove rows out)
+      → remove (insert rows i row) out ≡ insert_in_order (by_order q) row (remove rows out)
   to_later lt le = placed_without_earlier (by_order q) row rows out i lt le but.earlier but.here
 
   -- in its new place, before it
   pub to_earlier : i ≤ out
-      → remove (insert rows i row) (out + 1) ≡ placed (by_order q) row (remove rows out)
+      → remove (insert rows i row) (out + 1) ≡ insert_in_order (by_order q) row (remove rows out)
   to_earlier le =
       let apart = but.not_out (omega arith) in
       let lower : i < out = grind (arith, apart) in

@@ -2,7 +2,7 @@
 use Rattle.std.specs.Prelude.{◌≡◌, ◌<◌, Bool, true, Option, Some, None, IsSome, List, [], ◌∷◌, ◌++◌, drop, length}
 use Rattle.std.specs.List.{list_any}
 use Rattle.rx_query.specs.After.{removes_end, uses_existing, inserts}
-use Rattle.rx_query.specs.Lists.{placed, without_last, without_first, replaced_first}
+use Rattle.rx_query.specs.Lists.{insert_in_order, without_last, without_first, replaced_first}
 use Rattle.rx_table.specs.declared.action.Action.{Action}
 use Rattle.rx_table.specs.declared.action.Action.TheVariants.{DoNothing, InsertFirst, InsertLast, RemoveFirstItem, RemoveLastItem, RemoveFirstInsertLast, RemoveLastInsertFirst, RemoveFirstInsertFirst, RemoveLastInsertLast, RemoveExisting, ReplaceExisting, InsertAtSortPosition, RemoveExistingAndInsertAtSortPosition, RunFullQueryAgain, InsertAtSortPositionRemoveLast}
 
@@ -18,7 +18,7 @@ module _ {X : Type 0} (before : X → X → Bool) (mine : X → Bool) (now : Opt
 
   -- in its place by the order
   abbrev pub with_placed : List X → List X
-  with_placed xs = elim now [ None ↦ xs | Some x ↦ placed before x xs ]
+  with_placed xs = elim now [ None ↦ xs | Some x ↦ insert_in_order before x xs ]
 
   -- in the place of the row that has the key
   abbrev pub with_replaced : List X → List X

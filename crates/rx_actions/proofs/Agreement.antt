@@ -4,6 +4,7 @@ use Rattle.std.proofs.lemmas.Bool.{cond_both}
 use Rattle.std.specs.List.{AllByRecursion}
 use Rattle.std.specs.Ordering.{is_lt}
 use Rattle.rx_value.specs.Fields.{Pairs}
+use Rattle.rx_value.proofs.Outcomes.{some_mapped}
 use Rattle.rx_document.specs.declared.change.Change.{Change}
 use Rattle.rx_table.specs.declared.action.Action.{Action}
 use Rattle.rx_table.specs.declared.action.Action.TheVariants.{DoNothing, InsertFirst, InsertLast, RemoveFirstItem, RemoveLastItem, RemoveFirstInsertLast, RemoveLastInsertFirst, RemoveFirstInsertFirst, RemoveLastInsertLast, RemoveExisting, ReplaceExisting, InsertAtSortPosition, RemoveExistingAndInsertAtSortPosition, RunFullQueryAgain, InsertAtSortPositionRemoveLast}
@@ -23,11 +24,6 @@ use Rattle.rx_actions.proofs.RowOrder.{rows_query, Carries, agrees, placed_agree
 -- ---- what is said of fields is said of their row
 
 module _ {A B : Type 0} (f : A → B) where
-  -- there is one as before
-  pub there_mapped : (o : Option A) → is_some o ≡ is_some (option_map f o)
-  there_mapped None = refl
-  there_mapped (Some x) = refl
-
   -- it passes as before
   pub passes_mapped : (p : B → Bool) (o : Option A)
       → some_passes (λ x. p (f x)) o ≡ some_passes p (option_map f o)
@@ -46,8 +42,8 @@ module _ {A B : Type 0} (f : A → B) where
   both_mapped : (g : Bool → Bool → Bool) (o r : Option A)
       → g (is_some o) (is_some r) ≡ g (is_some (option_map f o)) (is_some (option_map f r))
   both_mapped g o r =
-      ap (λ b. g b (is_some r)) (there_mapped o)
-      ∙ ap (g (is_some (option_map f o))) (there_mapped r)
+      ap (λ b. g b (is_some r)) (some_mapped f o)
+      ∙ ap (g (is_some (option_map f o))) (some_mapped f r)
 
 -- ---- the states
 

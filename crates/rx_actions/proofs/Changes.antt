@@ -1,7 +1,7 @@
 -- Queries over rows of any kind, collections of them, and the answers about a change of one row.
 use Rattle.rx_table.specs.declared.states.StateName.TheVariants.{IsInsert, IsUpdate, IsDelete, HasLimit, IsFindOne, HasSkip, WasResultsEmpty, PreviousUnknown, WasLimitReached, SortParamsChanged, WasInResult, WasFirst, WasLast, WasSortedBeforeFirst, WasSortedAfterLast, IsSortedBeforeFirst, IsSortedAfterLast, WasMatching, DoesMatchNow}
 use Rattle.std.specs.Prelude.{drop, ◌≡◌, ◌≢◌, ℕ, Bool, true, false, ◌&&◌, ◌||◌, not, Option, Some, None, is_some, List, [], ◌∷◌, filter, length, nat_lt, nat_le, ◌==◌, if◌then◌else◌}
-use Rattle.rx_query.specs.Result.{cut}
+use Rattle.rx_query.specs.Result.{at_most}
 use Rattle.rx_table.specs.Rows.{action_of}
 use Rattle.rx_table.specs.declared.states.StateName.{StateName}
 use Rattle.std.specs.List.{list_any, AllByRecursion}
@@ -29,7 +29,7 @@ pub record Query (X : Type 0) : Type 0 where
 
 -- the selected rows in order, in the window
 abbrev pub result : {X : Type 0} → Query X → List X → List X
-result q docs = cut q.limit (drop q.skip (sorted q.before (filter q.matches docs)))
+result q docs = at_most q.limit (drop q.skip (sorted q.before (filter q.matches docs)))
 
 -- how documents are told apart
 pub record Keys (X K : Type 0) : Type 0 where

@@ -2,26 +2,20 @@
 use Rattle.std.proofs.Common.{◌≡◌, Bool, true, false, not, cond, List, [], ◌∷◌, filter, refl, sym, ap, ◌∙◌, subst, Option, Some, None}
 use Rattle.std.proofs.lemmas.Bool.{false≢true, cond_both}
 use Rattle.std.specs.List.{AllByRecursion}
-use Rattle.rx_query.specs.Lists.{placed, sorted}
+use Rattle.rx_value.proofs.Lists.{all_passed}
+use Rattle.rx_query.specs.Lists.{insert_in_order, sorted}
 use Rattle.rx_actions.proofs.Changes.{Query, Keys, has_key, held, others_of, IsCollection, IsLawful}
 use Rattle.rx_actions.proofs.Ranks.{Ordered, NoneIs, Stands}
 use Rattle.rx_actions.proofs.Readings.{Others}
 
 -- what holds of each row holds of each kept row, and of the rows in order
 module _ {X : Type 0} (P : X → Type 0) where
-  -- a part
-  pub all-filter : (p : X → Bool) (xs : List X) → AllByRecursion P xs
-      → AllByRecursion P (filter p xs)
-  all-filter p [] h = tt
-  all-filter p (x ∷ xs) h = cond_both (p x) (x ∷ filter p xs) (filter p xs) (AllByRecursion P)
-      (λ _. (h.0, all-filter p xs h.1)) (λ _. all-filter p xs h.1)
-
   -- with one more
   pub all-placed : (before : X → X → Bool) (x : X) (xs : List X) → P x → AllByRecursion P xs
-      → AllByRecursion P (placed before x xs)
+      → AllByRecursion P (insert_in_order before x xs)
   all-placed before x [] h all = (h, tt)
   all-placed before x (y ∷ ys) h all =
-      cond_both (before x y) (x ∷ y ∷ ys) (y ∷ placed before x ys) (AllByRecursion P)
+      cond_both (before x y) (x ∷ y ∷ ys) (y ∷ insert_in_order before x ys) (AllByRecursion P)
       (λ _. (h, all)) (λ _. (all.0, all-placed before x ys h all.1))
 
   -- in another order
@@ -45,10 +39,10 @@ module _ {X : Type 0} (before : X → X → Bool)
 
   -- a row put in its place leaves the rows in order
   pub ordered-placed : (x : X) (xs : List X) → AllByRecursion (Apart x) xs → Ordered before xs
-      → Ordered before (placed before x xs)
+      → Ordered before (insert_in_order before x xs)
   ordered-placed x [] apart up = (tt, tt)
   ordered-placed x (y ∷ ys) apart up =
-      cond_both (before x y) (x ∷ y ∷ ys) (y ∷ placed before x ys) (Ordered before)
+      cond_both (before x y) (x ∷ y ∷ ys) (y ∷ insert_in_order before x ys) (Ordered before)
       (λ e. ((e, precedes_all x y ys e up.0), up))
       (λ e. (
         all-placed (λ z. before y z ≡ true) before x ys (apart.0 ∙ ap not e) up.0,
@@ -57,7 +51,7 @@ module _ {X : Type 0} (before : X → X → Bool)
 
   -- two rows may go in in either order
   pub placed-placed : (x y : X) (xs : List X) → Apart x y
-      → placed before x (placed before y xs) ≡ placed before y (placed before x xs)
+      → insert_in_order before x (insert_in_order before y xs) ≡ insert_in_order before y (insert_in_order before x xs)
   placed-placed x y [] apart =
       (elim (before x y) as (λ b. before y x ≡ not b
       → cond b (x ∷ y ∷ []) (y ∷ x ∷ []) ≡ cond (before y x) (y ∷ x ∷ []) (x ∷ y ∷ []))
@@ -66,8 +60,8 @@ module _ {X : Type 0} (before : X → X → Bool)
       (placed-placed x y zs apart)
     where
       go : (a b c : Bool) → before x y ≡ a → before x z ≡ b → before y z ≡ c
-          → placed before x (placed before y zs) ≡ placed before y (placed before x zs)
-          → placed before x (placed before y (z ∷ zs)) ≡ placed before y (placed before x (z ∷ zs))
+          → insert_in_order before x (insert_in_order before y zs) ≡ insert_in_order before y (insert_in_order before x zs)
+          → insert_in_order before x (insert_in_order before y (z ∷ zs)) ≡ insert_in_order before y (insert_in_order before x (z ∷ zs))
       go true true true p q r ih = simp (apart, p, q, r)
       go true true false p q r ih = simp (apart, p, q, r)
       go true false true p q r ih = absurd (false≢true (sym q ∙ trans x y z p r))
@@ -93,7 +87,7 @@ module _ {X : Type 0} (before : X → X → Bool)
   apart-filter p [] h = tt
   apart-filter p (x ∷ xs) h =
       cond_both (p x) (x ∷ filter p xs) (filter p xs) EachApart
-      (λ _. (all-filter (Apart x) p xs h.0, apart-filter p xs h.1)) (λ _. apart-filter p xs h.1)
+      (λ _. (all_passed (Apart x) p xs h.0, apart-filter p xs h.1)) (λ _. apart-filter p xs h.1)
 
 -- no other document has the key
 pub none-others : {X : Type 0} (mine : X → Bool) (xs : List X) → NoneIs mine (others_of mine xs)
@@ -140,14 +134,14 @@ module _ {X K : Type 0} (keys : Keys X K) (q : Query X) (law : IsLawful keys q) 
           (apart-filter q.before law.trans q.matches (others_of mine docs)
           (apart-filter q.before law.trans (λ x. not (mine x)) docs (each_apart docs c)));
       none = all-sorted (λ y. mine y ≡ false) q.before (filter q.matches (others_of mine docs))
-          (all-filter (λ y. mine y ≡ false) q.matches (others_of mine docs)
+          (all_passed (λ y. mine y ≡ false) q.matches (others_of mine docs)
           (none-others mine docs));
     }
 
     -- the document of the key, put in its place among the others, where it matches
     abbrev pub with_held : Option X → List X → List X
     with_held None rows = rows
-    with_held (Some x) rows = cond (q.matches x) (placed q.before x rows) rows
+    with_held (Some x) rows = cond (q.matches x) (insert_in_order q.before x rows) rows
 
     -- the document of the key has it
     pub held_is_mine : (docs : List X) (x : X) → held mine docs ≡ Some x → mine x ≡ true
@@ -164,13 +158,13 @@ module _ {X K : Type 0} (keys : Keys X K) (q : Query X) (law : IsLawful keys q) 
 
     -- another document may go in before it or after it
     placed-with_held : (y : X) → mine y ≡ false → (docs rows : List X) (o : Option X)
-        → held mine docs ≡ o → placed q.before y (with_held o rows) ≡ with_held o
-        (placed q.before y rows)
+        → held mine docs ≡ o → insert_in_order q.before y (with_held o rows) ≡ with_held o
+        (insert_in_order q.before y rows)
     placed-with_held y n docs rows None e = refl
     placed-with_held y n docs rows (Some x) e =
         let s = stands x (held_is_mine docs x e) in
-        elim (q.matches x) as (λ b. placed q.before y (cond b (placed q.before x rows) rows) ≡ cond
-        b (placed q.before x (placed q.before y rows)) (placed q.before y rows))
+        elim (q.matches x) as (λ b. insert_in_order q.before y (cond b (insert_in_order q.before x rows) rows) ≡ cond
+        b (insert_in_order q.before x (insert_in_order q.before y rows)) (insert_in_order q.before y rows))
         [ true ↦ sym (placed-placed q.before law.trans x y rows (s.either y n)) | false ↦ refl ]
 
     -- all matching rows in order are the others, with the document of the key in its place
@@ -189,7 +183,7 @@ module _ {X K : Type 0} (keys : Keys X K) (q : Query X) (law : IsLawful keys q) 
               rw (others_none ys none)
               (elim (q.matches y) as (λ b. sorted q.before
               (cond b (y ∷ filter q.matches ys) (filter q.matches ys)) ≡ cond b
-              (placed q.before y (sorted q.before (filter q.matches ys)))
+              (insert_in_order q.before y (sorted q.before (filter q.matches ys)))
               (sorted q.before (filter q.matches ys)))
               [ true ↦ refl | false ↦ refl ]))
           | false ↦ (λ n.
@@ -198,7 +192,7 @@ module _ {X K : Type 0} (keys : Keys X K) (q : Query X) (law : IsLawful keys q) 
               (held mine ys) (sorted q.before
               (cond b (y ∷ filter q.matches (others_of mine ys))
               (filter q.matches (others_of mine ys))))) [
-                | true ↦ ap (placed q.before y) (sorted_is ys c.1)
+                | true ↦ ap (insert_in_order q.before y) (sorted_is ys c.1)
                     ∙ placed-with_held y n ys (rest_of ys) (held mine ys) refl
                 | false ↦ sorted_is ys c.1
               ])

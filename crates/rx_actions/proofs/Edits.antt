@@ -2,7 +2,7 @@
 use Rattle.std.proofs.Common.{◌≡◌, ℕ, zero, suc, ◌+◌, ◌<◌, ◌≤◌, Bool, true, false, List, [], ◌∷◌, length, take, drop, refl, sym, ap, ◌∙◌, arith}
 use Rattle.std.proofs.lemmas.Bool.{or_left, or_right, false≢true}
 use Rattle.std.specs.List.{list_any}
-use Rattle.rx_query.specs.Lists.{placed, without_first, replaced_first, first_passes, last_passes}
+use Rattle.rx_query.specs.Lists.{insert_in_order, without_first, replaced_first, first_passes, last_passes}
 use Rattle.rx_actions.proofs.Windows.{put, window, last_step}
 use Rattle.rx_actions.proofs.Ranks.{NoneIs, rank, placed_is, rank-take, rank-drop}
 
@@ -88,9 +88,9 @@ pub last-some : {X : Type 0} (p : X → Bool) (xs : List X) → last_passes p xs
 last-some p [] e = absurd (false≢true e)
 last-some p (x ∷ xs) e = omega arith
 
--- in a window that has a row's place, the row is placed as in the whole
+-- in a window that has a row's place, the row is insert_in_order as in the whole
 pub placed_in_window : {X : Type 0} (before : X → X → Bool) (x : X) (s m q : ℕ) (xs : List X)
-    → rank before x xs ≡ s + q → q ≤ m → placed before x (window s m xs) ≡ put q x (window s m xs)
+    → rank before x xs ≡ s + q → q ≤ m → insert_in_order before x (window s m xs) ≡ put q x (window s m xs)
 placed_in_window before x s m q xs e h =
     let cut_at = rank-take before x m (drop s xs) in
     let from = rank-drop before x s xs (omega arith) in

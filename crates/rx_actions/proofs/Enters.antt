@@ -2,7 +2,7 @@
 use Rattle.std.proofs.Common.{◌≡◌, ℕ, suc, ◌+◌, ◌-◌, ◌<◌, ◌≤◌, Bool, true, false, List, [], ◌∷◌, ◌++◌, length, drop, min, sym, ap, ◌∙◌, arith}
 use Rattle.std.proofs.lemmas.Bool.{leb-true, ltb-true, leb-false, ltb-false}
 use Rattle.std.proofs.lemmas.List.{nil_from_length}
-use Rattle.rx_query.specs.Lists.{placed, without_last, first_passes, last_passes}
+use Rattle.rx_query.specs.Lists.{insert_in_order, without_last, first_passes, last_passes}
 use Rattle.rx_actions.proofs.Windows.{put, window, length-window, window_short, window_within, window_above, window_rest, without_last-window, put_end}
 use Rattle.rx_actions.proofs.Ranks.{rank, rank-le, Stands, not_after, not_before}
 use Rattle.rx_actions.proofs.Readings.{Others, first_after, last_before}
@@ -119,23 +119,23 @@ module _ {X : Type 0} (before : X → X → Bool) (mine : X → Bool) (T : List 
 
   -- it goes in by the order
   pub enters_between : 0 < length R → last_passes (not_before before mine new) R ≡ false
-      → first_passes (not_after before mine new) R ≡ false → length R ≤ m → placed before new R ≡ R'
+      → first_passes (not_after before mine new) R ≡ false → length R ≤ m → insert_in_order before new R ≡ R'
   enters_between some last first short =
       let near = last_no some last in
       let far = first_no some first in
       let here : j ≡ s + (j - s) = omega arith in
-      ap (placed before new) (sym (short_front short))
+      ap (insert_in_order before new) (sym (short_front short))
       ∙ placed_in_window before new s m (j - s) T here (omega arith)
       ∙ sym (in_window (j - s) here (omega arith))
 
   -- so it does in a full window, whose last row goes out
   pub enters_between_full : 0 < length R → last_passes (not_before before mine new) R ≡ false
       → first_passes (not_after before mine new) R ≡ false → length R ≡ suc m
-      → placed before new (without_last R) ≡ R'
+      → insert_in_order before new (without_last R) ≡ R'
   enters_between_full some last first full =
       let near = last_no some last in
       let far = first_no some first in
       let here : j ≡ s + (j - s) = omega arith in
-      ap (placed before new) (full_front full)
+      ap (insert_in_order before new) (full_front full)
       ∙ placed_in_window before new s m (j - s) T here (omega arith)
       ∙ sym (in_window (j - s) here (omega arith))

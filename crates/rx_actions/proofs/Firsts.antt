@@ -1,7 +1,7 @@
 -- Rows by their places, in the words of the actions.
 use Rattle.std.proofs.Common.{◌≡◌, ◌≢◌, ℕ, zero, suc, ◌-◌, ◌<◌, ◌≤◌, Bool, true, false, List, [], ◌∷◌, ◌++◌, length, get_or, insert, remove, refl, ap, ◌∙◌, arith}
 use Rattle.std.specs.List.{list_any}
-use Rattle.rx_query.specs.Lists.{placed, without_last, without_first, replaced_first}
+use Rattle.rx_query.specs.Lists.{insert_in_order, without_last, without_first, replaced_first}
 use Rattle.rx_actions.specs.Moves.{IsFirst, IsFirstBut}
 
 -- where none passes, none passes
@@ -67,7 +67,7 @@ module _ {X : Type 0} where
     place_found : (xs : List X) (i : ℕ) → i ≤ length xs
         → ((k : ℕ) (other : X) → k < i → precedes x (get_or xs k other) ≡ false)
         → ((other : X) → i < length xs → precedes x (get_or xs i other) ≡ true)
-        → insert xs i x ≡ placed precedes x xs
+        → insert xs i x ≡ insert_in_order precedes x xs
     place_found [] zero h lo hi = refl
     place_found [] (suc i) h lo hi = absurd (omega arith)
     place_found (y ∷ ys) zero h lo hi = rw (hi y (omega arith)) refl
@@ -77,7 +77,7 @@ module _ {X : Type 0} where
 
     -- none is left out
     pub placed_is_insert : (xs : List X) (i : ℕ) → i ≤ length xs
-        → IsFirstBut (precedes x) xs (length xs) i → insert xs i x ≡ placed precedes x xs
+        → IsFirstBut (precedes x) xs (length xs) i → insert xs i x ≡ insert_in_order precedes x xs
     placed_is_insert xs i h first =
         place_found xs i h (λ k o lt. first.earlier k o lt (λ e. omega arith)) first.here
 
@@ -85,7 +85,7 @@ module _ {X : Type 0} where
     pub placed_without_earlier : (xs : List X) (out i : ℕ) → out < i → i ≤ length xs
         → ((k : ℕ) (other : X) → k < i → k ≢ out → precedes x (get_or xs k other) ≡ false)
         → ((other : X) → i < length xs → precedes x (get_or xs i other) ≡ true)
-        → remove (insert xs i x) out ≡ placed precedes x (remove xs out)
+        → remove (insert xs i x) out ≡ insert_in_order precedes x (remove xs out)
     placed_without_earlier xs out zero le h lo hi = absurd (omega arith)
     placed_without_earlier [] out (suc i) le h lo hi = absurd (omega arith)
     placed_without_earlier (y ∷ ys) zero (suc i) le h lo hi =
@@ -101,7 +101,7 @@ module _ {X : Type 0} where
     pub placed_without_later : (xs : List X) (out i : ℕ) → i < out → out < length xs
         → ((k : ℕ) (other : X) → k < i → k ≢ out → precedes x (get_or xs k other) ≡ false)
         → ((other : X) → i < length xs → precedes x (get_or xs i other) ≡ true)
-        → remove (insert xs i x) (suc out) ≡ placed precedes x (remove xs out)
+        → remove (insert xs i x) (suc out) ≡ insert_in_order precedes x (remove xs out)
     placed_without_later [] out i lt h lo hi = absurd (omega arith)
     placed_without_later (y ∷ ys) zero i lt h lo hi = absurd (omega arith)
     placed_without_later (y ∷ ys) (suc out) zero lt h lo hi = rw (hi y (omega arith)) refl

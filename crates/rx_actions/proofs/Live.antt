@@ -15,6 +15,7 @@ use Rattle.rx_value.proofs.Ordered.{text_total, text_ties}
 use Rattle.rx_value.specs.Fields.{Pairs}
 use Rattle.rx_value.specs.Named.{named, AreRising}
 use Rattle.rx_value.specs.Order.{text_cmp}
+use Rattle.rx_value.proofs.Bytes.{bytes_turned}
 use Rattle.rx_document.specs.Documents.{Documents, live}
 use Rattle.rx_query.specs.declared.results.Row.{Row}
 use Rattle.rx_query.specs.Result.{row_of}
@@ -235,16 +236,6 @@ held_none : (mine : Row → Bool) (xs : List Row) → AllByRecursion (λ r. mine
 held_none mine [] h = refl
 held_none mine (x ∷ xs) h = rw (h.0) (held_none mine xs h.1)
 
--- a test of two texts is the same either way round
-flipped : (k l : List ℕ) → bytes_eq k l ≡ bytes_eq l k
-flipped k l = go (bytes_eq k l) (bytes_eq l k) refl refl
-  where
-    go : (b c : Bool) → bytes_eq k l ≡ b → bytes_eq l k ≡ c → b ≡ c
-    go true true p q = refl
-    go false false p q = refl
-    go true false p q = sym ((bytes_eq-Decides l k).1 (sym ((bytes_eq-Decides k l).0 p))) ∙ q
-    go false true p q = sym p ∙ (bytes_eq-Decides k l).1 (sym ((bytes_eq-Decides l k).0 q))
-
 -- the row of a key is that of its live document
 pub held_live : (k : List ℕ) (es : Documents) → AreRising es → Keyed es
     → held (has_key row_keys k) (live_rows es) ≡ option_map (row_with k) (live (named es k))
@@ -252,7 +243,7 @@ unfolding IsStrictlySortedBy
 held_live k [] up keyed = refl
 held_live k (e ∷ es) up keyed =
     go e.1.state.deleted (bytes_eq e.0 k) refl refl (ap (λ l. bytes_eq l k) keyed.0)
-    (flipped k e.0) (held_live k es up.1 keyed.1)
+    (bytes_turned k e.0) (held_live k es up.1 keyed.1)
   where
     key : bytes_eq e.0 k ≡ true → e.0 ≡ k
     key q = (bytes_eq-Decides e.0 k).0 q

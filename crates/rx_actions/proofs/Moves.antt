@@ -2,7 +2,7 @@
 use Rattle.std.proofs.Common.{◌≡◌, ℕ, suc, ◌+◌, ◌-◌, ◌<◌, ◌≤◌, ◌⊎◌, inl, inr, Bool, true, false, List, [], ◌∷◌, ◌++◌, length, drop, min, sym, ap, ◌∙◌, arith}
 use Rattle.std.proofs.lemmas.List.{nil_from_length}
 use Rattle.std.specs.List.{list_any}
-use Rattle.rx_query.specs.Lists.{placed, without_last, without_first, replaced_first, first_passes, last_passes}
+use Rattle.rx_query.specs.Lists.{insert_in_order, without_last, without_first, replaced_first, first_passes, last_passes}
 use Rattle.rx_actions.proofs.Windows.{put, window, length-put, length-window, window_below, window_within, window_above, window_rest, without_last-window, without_last-push, put_end}
 use Rattle.rx_actions.proofs.Ranks.{NoneIs, rank, rank-le, Stands, not_after, not_before}
 use Rattle.rx_actions.proofs.Readings.{Others, first_yes, first_no, last_yes, last_no}
@@ -155,7 +155,7 @@ module _ {X : Type 0} (before : X → X → Bool) (mine : X → Bool) (T : List 
   pub moves_within : list_any mine R ≡ true
       → (s ≡ 0) ⊎ (first_passes (not_after before mine new) R ≡ false)
       → (length R ≤ m) ⊎ (last_passes (not_before before mine new) R ≡ false)
-      → placed before new (without_first mine R) ≡ R'
+      → insert_in_order before new (without_first mine R) ≡ R'
   moves_within inside start end =
       let w = found mine s m i old T R others.none old_stands.is_mine place inside in
       let at = w.1 in
@@ -173,8 +173,8 @@ module _ {X : Type 0} (before : X → X → Bool) (mine : X → Bool) (T : List 
             (let read = isnt_last some l in let n = size in grind arith)
       ] in
       let here : j ≡ s + (j - s) = omega arith in
-      ap (λ xs. placed before new (without_first mine xs)) w.4
-      ∙ ap (placed before new) (without-put mine old old_stands.is_mine w.0 (window s m T) none)
+      ap (λ xs. insert_in_order before new (without_first mine xs)) w.4
+      ∙ ap (insert_in_order before new) (without-put mine old old_stands.is_mine w.0 (window s m T) none)
       ∙ placed_in_window before new s m (j - s) T here (omega arith)
       ∙ sym (in_window (j - s) here (omega arith))
 
@@ -261,7 +261,7 @@ module _ {X : Type 0} (before : X → X → Bool) (mine : X → Bool) (T : List 
   -- the row stood behind the window, and stands inside it
   pub moves_inside : list_any mine R ≡ false → last_passes (not_before before mine old) R ≡ true
       → first_passes (not_after before mine new) R ≡ false
-      → last_passes (not_before before mine new) R ≡ false → placed before new (without_last R) ≡ R'
+      → last_passes (not_before before mine new) R ≡ false → insert_in_order before new (without_last R) ≡ R'
   moves_inside out was isnt isnt' =
       let some = last-some (not_before before mine old) R was in
       let old_at = was_last was in
@@ -277,8 +277,8 @@ module _ {X : Type 0} (before : X → X → Bool) (mine : X → Bool) (T : List 
             let from = start.1 (omega arith) in
             let upto = end.1 (omega arith) in
             let here : j ≡ s + (j - s) = omega arith in
-            ap (λ xs. placed before new (without_last xs)) w.1
-            ∙ ap (placed before new) (without_last-window s m T (omega (arith, low_i)))
+            ap (λ xs. insert_in_order before new (without_last xs)) w.1
+            ∙ ap (insert_in_order before new) (without_last-window s m T (omega (arith, low_i)))
             ∙ placed_in_window before new s m (j - s) T here (omega arith)
             ∙ sym (in_window (j - s) here (omega arith)))
       ]

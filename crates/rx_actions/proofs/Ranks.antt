@@ -1,7 +1,7 @@
 -- The place of a row among rows in order, and what a test of a row says of it.
 use Rattle.std.proofs.Common.{◌≡◌, ℕ, zero, suc, ◌+◌, ◌<◌, ◌≤◌, Bool, true, false, cond, not, ◌||◌, List, [], ◌∷◌, length, take, drop, min, refl, ap, arith}
 use Rattle.std.specs.List.{AllByRecursion}
-use Rattle.rx_query.specs.Lists.{placed}
+use Rattle.rx_query.specs.Lists.{insert_in_order}
 use Rattle.rx_actions.proofs.Windows.{put, passes_at}
 
 -- how many rows stand before the first one that x precedes
@@ -11,10 +11,10 @@ rank before x (y ∷ ys) = cond (before x y) 0 (suc (rank before x ys))
 
 -- to put in by the order is to put in at the rank
 pub placed_is : {X : Type 0} (before : X → X → Bool) (x : X) (xs : List X)
-    → placed before x xs ≡ put (rank before x xs) x xs
+    → insert_in_order before x xs ≡ put (rank before x xs) x xs
 placed_is before x [] = refl
 placed_is before x (y ∷ ys) =
-    elim (before x y) as (λ b. cond b (x ∷ y ∷ ys) (y ∷ placed before x ys) ≡ put
+    elim (before x y) as (λ b. cond b (x ∷ y ∷ ys) (y ∷ insert_in_order before x ys) ≡ put
     (cond b 0 (suc (rank before x ys))) x (y ∷ ys))
     [ true ↦ refl | false ↦ ap (λ zs. y ∷ zs) (placed_is before x ys) ]
 

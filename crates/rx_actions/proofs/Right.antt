@@ -6,9 +6,9 @@ use Rattle.std.proofs.lemmas.Bool.Decides.{nat_tests}
 use Rattle.std.proofs.lemmas.List.{take_all}
 use Rattle.std.proofs.Common.{length-drop}
 use Rattle.std.specs.List.{list_any}
-use Rattle.rx_query.specs.Lists.{placed, some_passes}
+use Rattle.rx_query.specs.Lists.{insert_in_order, some_passes}
 use Rattle.rx_query.specs.Lists.{sorted}
-use Rattle.rx_query.specs.Result.{cut}
+use Rattle.rx_query.specs.Result.{at_most}
 use Rattle.rx_actions.proofs.Changes.{table}
 use Rattle.rx_actions.proofs.Actions.{after}
 use Rattle.rx_query.specs.After.{removes_end, uses_existing, inserts}
@@ -27,7 +27,7 @@ use Rattle.rx_actions.proofs.Collections.{stands, rest_of, others_rest, with_hel
 
 -- the limit as a window of suc m rows, over lists of at most one row more than the others
 record Limits (X : Type 0) (limit : Option ℕ) (skip size m : ℕ) : Type 0 where
-  cut_is : (xs : List X) → length xs ≤ suc size → cut limit (drop skip xs) ≡ window skip (suc m) xs
+  cut_is : (xs : List X) → length xs ≤ suc size → at_most limit (drop skip xs) ≡ window skip (suc m) xs
   full : (xs : List X) → some_passes (λ l. leb l (length (window skip (suc m) xs))) limit ≡ true
       → length (window skip (suc m) xs) ≡ suc m
   short : (xs : List X) → length xs ≤ suc size
@@ -313,7 +313,7 @@ length-with_held : {X K : Type 0} (keys : Keys X K) (q : Query X) (law : IsLawfu
     (o : Option X) (T : List X) → length (with_held keys q law k o T) ≤ suc (length T)
 length-with_held keys q law k None T = omega arith
 length-with_held keys q law k (Some x) T =
-    elim (q.matches x) as (λ b. length (cond b (placed q.before x T) T) ≤ suc (length T)) [
+    elim (q.matches x) as (λ b. length (cond b (insert_in_order q.before x T) T) ≤ suc (length T)) [
       | true ↦ omega (arith, ap length (placed_is q.before x T), length-put (rank q.before x T) x T)
       | false ↦ omega arith
     ]
@@ -330,11 +330,11 @@ table_is_right {X} {K} keys q law k was now docs docs' c c' same e f =
     let T = rest_of keys q law k docs in
     let lim = limits_of X q.limit q.skip (length T) law.limited in
     let old_is : result q docs ≡ window q.skip (suc lim.0) (with_held keys q law k was T) =
-    ap (λ xs. cut q.limit (drop q.skip xs))
+    ap (λ xs. at_most q.limit (drop q.skip xs))
     (sorted_is keys q law k docs c ∙ ap (λ o. with_held keys q law k o T) (sym e))
     ∙ lim.1.cut_is (with_held keys q law k was T) (length-with_held keys q law k was T) in
     let new_is : result q docs' ≡ window q.skip (suc lim.0) (with_held keys q law k now T) =
-    ap (λ xs. cut q.limit (drop q.skip xs))
+    ap (λ xs. at_most q.limit (drop q.skip xs))
     (sorted_is keys q law k docs' c' ∙ ap
     (λ o. with_held keys q law k o (rest_of keys q law k docs')) (sym f)
     ∙ ap (λ ds. with_held keys q law k now (sorted q.before (filter q.matches ds))) (sym same))
@@ -363,7 +363,7 @@ inside_matches {X} {K} keys q law k was docs c e inside = go (some_passes q.matc
         let mine = has_key keys k in
         let lim = limits_of X q.limit q.skip (length T) law.limited in
         let rows_are : result q docs ≡ window q.skip (suc lim.0) T =
-        ap (λ xs. cut q.limit (drop q.skip xs))
+        ap (λ xs. at_most q.limit (drop q.skip xs))
         (sorted_is keys q law k docs c ∙ ap (λ o. with_held keys q law k o T) (sym e)
         ∙ with_held_isnt keys q law k was T is)
         ∙ lim.1.cut_is T (omega arith) in

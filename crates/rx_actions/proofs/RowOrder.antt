@@ -13,9 +13,10 @@ use Rattle.rx_value.proofs.Ordered.{text_total, text_ties}
 use Rattle.rx_value.specs.Named.{named}
 use Rattle.rx_value.specs.Order.{order_of, text_cmp}
 use Rattle.rx_value.specs.declared.value.Value.TheVariants.{Text}
+use Rattle.rx_value.proofs.Orderings.{less_is, then_first}
 use Rattle.rx_query.proofs.Orders.{sorts_total, sorts_decide, key_decides}
 use Rattle.rx_query.specs.Asked.{Asked}
-use Rattle.rx_query.specs.Lists.{some_passes, placed}
+use Rattle.rx_query.specs.Lists.{some_passes, insert_in_order}
 use Rattle.rx_query.specs.Order.{sorts_cmp, query_cmp}
 use Rattle.rx_query.specs.States.{precedes, ties, is_match}
 use Rattle.rx_query.specs.declared.results.Row.{Row}
@@ -46,12 +47,6 @@ pub row_total : (q : Asked) → IsTotalOrder (row_cmp q)
 row_total q =
     then_total (on_total (λ (r : Row). r.fields) (sorts_total q.sorts))
     (on_total (λ (r : Row). r.id) text_total)
-
--- what is below
-pub less_is : (o : Ordering) → is_lt o ≡ true → o ≡ Less
-less_is Less h = refl
-less_is Equal h = cc
-less_is Greater h = cc
 
 -- what doesn't tie stands one way round
 one_way : (o : Ordering) → (o ≡ Equal → ⊥) → is_lt (ordering_reverse o) ≡ not (is_lt o)
@@ -100,12 +95,6 @@ lawful q some =
 abbrev pub Carries : Asked → Row → Type 0
 Carries q r = named r.fields q.primary ≡ Some (Text r.id)
 
--- an order that tells decides alone
-then_first : (a b : Ordering) → is_ne a ≡ true → ordering_then a b ≡ a
-then_first Less b h = refl
-then_first Equal b h = absurd (false≢true h)
-then_first Greater b h = refl
-
 -- one that doesn't leaves it to the next
 then_next : (a b : Ordering) → is_ne a ≡ false → ordering_then a b ≡ b
 then_next Less b h = absurd (false≢true (sym h))
@@ -129,10 +118,10 @@ agrees q x y at_x at_y =
 -- so rows are put in the same place
 pub placed_agrees : (q : Asked) (x : Row) (rows : List Row) → Carries q x
     → AllByRecursion (Carries q) rows
-    → placed (λ a b. precedes q a.fields b.fields) x rows ≡ placed (rows_query q).before x rows
+    → insert_in_order (λ a b. precedes q a.fields b.fields) x rows ≡ insert_in_order (rows_query q).before x rows
 placed_agrees q x [] at all = refl
 placed_agrees q x (y ∷ ys) at all =
-    ap (λ b. cond b (x ∷ y ∷ ys) (y ∷ placed (λ a c. precedes q a.fields c.fields) x ys))
+    ap (λ b. cond b (x ∷ y ∷ ys) (y ∷ insert_in_order (λ a c. precedes q a.fields c.fields) x ys))
     (ap is_lt (agrees q x y at all.0))
     ∙ ap (λ zs. cond ((rows_query q).before x y) (x ∷ y ∷ ys) (y ∷ zs))
     (placed_agrees q x ys at all.1)

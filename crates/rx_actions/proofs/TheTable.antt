@@ -1,11 +1,13 @@
 -- The table is right.
-use Rattle.std.proofs.Common.{◌≡◌, ℕ, Bool, true, false, cond, Option, Some, None, option_map, List, [], ◌∷◌, filter, take, drop, zero, suc, refl, sym, ap, ◌∙◌, subst}
+use Rattle.std.proofs.Common.{◌≡◌, ℕ, Bool, true, false, cond, Option, Some, None, option_map, List, [], ◌∷◌, filter, drop, zero, suc, refl, sym, ap, ◌∙◌, subst}
 use Rattle.std.proofs.lemmas.Bool.{cond_both}
 use Rattle.std.proofs.lemmas.Option.{same_Some}
 use Rattle.std.specs.List.{list_any, AllByRecursion}
 use Rattle.std.specs.Str.{bytes_eq}
 use Rattle.rx_value.specs.Fields.{Pairs}
 use Rattle.rx_value.specs.Named.{named}
+use Rattle.rx_value.proofs.Lists.{all_passed, all_taken}
+use Rattle.rx_value.proofs.Outcomes.{some_mapped}
 use Rattle.rx_document.specs.Change.{before_of, change_of}
 use Rattle.rx_document.specs.Documents.{Documents, live}
 use Rattle.rx_table.specs.Rows.{action_of, table_of}
@@ -13,13 +15,13 @@ use Rattle.rx_query.proofs.Numbers.{table_of-number_of}
 use Rattle.rx_query.specs.After.{row_after}
 use Rattle.rx_query.specs.Asked.{Asked}
 use Rattle.rx_query.specs.Lists.{sorted}
-use Rattle.rx_query.specs.Result.{cut, row_of, IsCollection}
+use Rattle.rx_query.specs.Result.{at_most, row_of, IsCollection}
 use Rattle.rx_query.specs.States.{live_before, is_unknown, is_changed, state_of, bits_of}
 use Rattle.rx_query.specs.declared.results.Row.{Row}
 use Rattle.rx_actions.specs.Right.{TableIsRight, OnlyMatchingAreRows}
-use Rattle.rx_actions.proofs.Agreement.{there_mapped, passes_mapped, states_agree, after_agrees}
+use Rattle.rx_actions.proofs.Agreement.{passes_mapped, states_agree, after_agrees}
 use Rattle.rx_actions.proofs.Changes.{held, result, states_at, IsPatch}
-use Rattle.rx_actions.proofs.Collections.{all-filter, all-sorted}
+use Rattle.rx_actions.proofs.Collections.{all-sorted}
 use Rattle.rx_actions.proofs.FromScratch.{fresh_is}
 use Rattle.rx_actions.proofs.Live.{same_but, live_rows, others_live, distinct_live, row_with, held_live}
 use Rattle.rx_actions.proofs.Right.{table_is_right, inside_matches}
@@ -28,12 +30,6 @@ use Rattle.rx_actions.proofs.RowOrder.{row_keys, rows_query, lawful, Carries}
 -- ---- rows carry their ids
 
 module _ (P : Row → Type 0) where
-  -- those of a front part
-  all_take : (n : ℕ) (xs : List Row) → AllByRecursion P xs → AllByRecursion P (take n xs)
-  all_take zero xs h = tt
-  all_take (suc n) [] h = tt
-  all_take (suc n) (x ∷ xs) h = (h.0, all_take n xs h.1)
-
   -- those of a back part
   all_drop : (n : ℕ) (xs : List Row) → AllByRecursion P xs → AllByRecursion P (drop n xs)
   all_drop zero xs h = h
@@ -42,9 +38,9 @@ module _ (P : Row → Type 0) where
 
   -- those that are left by a limit
   all_cut : (limit : Option ℕ) (xs : List Row) → AllByRecursion P xs
-      → AllByRecursion P (cut limit xs)
+      → AllByRecursion P (at_most limit xs)
   all_cut None xs h = h
-  all_cut (Some n) xs h = all_take n xs h
+  all_cut (Some n) xs h = all_taken P n xs h
 
   -- the row of a key too
   all_held : (mine : Row → Bool) (xs : List Row) → AllByRecursion P xs → (r : Row)
@@ -77,7 +73,7 @@ module _ (q : Asked) (es : Documents) (col : IsCollection q.primary es) where
       all_cut (Carries q) q.limit (drop q.skip in_order)
       (all_drop (Carries q) q.skip in_order
       (all-sorted (Carries q) (rows_query q).before chosen
-      (all-filter (Carries q) (rows_query q).matches (live_rows es) live_carry)))
+      (all_passed (Carries q) (rows_query q).matches (live_rows es) live_carry)))
 
   -- that of a key
   key_carries : (id : List ℕ) (o : Option Pairs) → o ≡ live (named es id) → (x : Pairs)
@@ -136,7 +132,7 @@ table_right q id old new rows some col col' differ scratch known =
       there = record {
         an_end = there.an_end;
         existing = there.existing;
-        to_insert = λ h. there_mapped (row_with id) c.after ∙ there.to_insert h;
+        to_insert = λ h. some_mapped (row_with id) c.after ∙ there.to_insert h;
       };
       from_scratch =
           after_agrees q c at_after action rows all ∙ p'.gives known ∙ sym (fresh_is q new col');

@@ -2,7 +2,7 @@ ghost use Rattle.std.specs.Prelude.{◌≡◌, ◌≢◌, ◌<◌, ◌≤◌, tr
 ghost use Rattle.std.specs.Option.{ForSome};
 ghost use Rattle.rx_query.specs.After.{row_after, after, inserts, AreThere};
 ghost use Rattle.rx_query.specs.Asked.{asked};
-ghost use Rattle.rx_query.specs.Lists.{placed};
+ghost use Rattle.rx_query.specs.Lists.{insert_in_order};
 ghost use Rattle.rx_query.specs.States.{precedes};
 ghost use Rattle.rx_table.specs.declared.action.Action.TheVariants.{RunFullQueryAgain};
 ghost use Rattle.rx_actions.specs.Moves.{moved};
@@ -136,7 +136,7 @@ fn sorted_place_for(
     ensures into { result.0 ≤ length results.now }
     ensures out { ForSome result.1 (λ out. out ≤ length results.now) }
     ensures moved { moved results.now result.0 result.1 row.now
-        ≡ placed (λ x y. precedes (asked query.now) x.fields y.fields) row.now
+        ≡ insert_in_order (λ x y. precedes (asked query.now) x.fields y.fields) row.now
         (remove results.now out) }
 {
     let into = sorted_place(query, &row.fields, results, out);

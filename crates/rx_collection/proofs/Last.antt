@@ -8,6 +8,7 @@ use Rattle.std.specs.Ordering.{is_lt, nat_cmp, ordering_then}
 use Rattle.std.specs.Str.{bytes_eq}
 use Rattle.rx_value.specs.Named.{named, AreRising}
 use Rattle.rx_value.specs.Order.{text_cmp}
+use Rattle.rx_value.proofs.Bytes.{bytes_itself}
 use Rattle.rx_document.specs.Documents.{Documents}
 use Rattle.rx_document.specs.Place.{place_cmp}
 use Rattle.rx_document.specs.declared.place.Place.{Place}
@@ -15,7 +16,7 @@ use Rattle.rx_document.specs.declared.stored.Stored.{Stored}
 use Rattle.rx_collection.specs.Held.{Held}
 use Rattle.rx_collection.specs.Lawful.{IsHeldAt, IsLawful, was_written_at, ArePlacesOf}
 use Rattle.rx_collection.specs.Time.{last_lwt, most_lwt}
-use Rattle.rx_collection.proofs.Named.{same_name, all_named}
+use Rattle.rx_collection.proofs.Named.{all_named}
 
 -- what is held was written no later
 pub within_last : (es : Documents) (k : List ℕ) (d : Stored) → named es k ≡ Some d
@@ -79,7 +80,8 @@ pub none_is : (documents : Documents) (places : BTreeMap Place (Unit {0}))
     → ArePlacesOf documents places → places.entries ≡ [] → 0 ≡ last_lwt documents
 none_is [] places agree empty = refl
 none_is (e ∷ es) places agree empty =
-    let held : named (e ∷ es) e.0 ≡ Some e.1 = ap (λ b. cond b (Some e.1) (named es e.0)) (same_name e.0) in
+    let held : named (e ∷ es) e.0 ≡ Some e.1 =
+    ap (λ b. cond b (Some e.1) (named es e.0)) (bytes_itself e.0) in
     let at = is_placed (e ∷ es) places agree e.0 e.1 held in
     let none : is_some (get place_cmp places (record { lwt = e.1.lwt; id = e.0 })) ≡ false = rw empty in
     absurd (true≢false (sym at ∙ none))

@@ -1,5 +1,5 @@
 -- Pages: the places of documents in order, and the documents that stand at them.
-use Rattle.std.proofs.Common.{T, ◌≡◌, ℕ, zero, suc, ◌==◌, ◌&&◌, Bool, true, false, cond, List, [], ◌∷◌, map, take, filter, Option, Some, None, is_some, IsSome, Bor, option_map, Less, Equal, Greater, refl, sym, ap, ◌∙◌, ◌⊎◌, inl, inr, subst, subst₂, true≢false}
+use Rattle.std.proofs.Common.{T, ◌≡◌, ℕ, suc, ◌==◌, ◌&&◌, Bool, true, false, cond, List, [], ◌∷◌, map, take, filter, Option, Some, None, is_some, IsSome, Bor, option_map, Less, Equal, Greater, refl, sym, ap, ◌∙◌, ◌⊎◌, inl, inr, subst, subst₂, true≢false}
 use Rattle.std.specs.BTreeMap.{BTreeMap, IsOrdered}
 use Rattle.std.specs.BTreeMap.Range.{entries_between, range_contains}
 use Rattle.std.specs.FinMap.Entries.{put, find, is_sorted, below_all, by_order, same_entries, find-put, is_sorted-put}
@@ -14,7 +14,11 @@ use Rattle.std.specs.Str.{bytes_eq}
 use Rattle.std.specs.declared.ops.Bound.{Bound}
 use Rattle.std.specs.declared.ops.Bound.TheVariants.{Excluded, Unbounded}
 use Rattle.std.proofs.lemmas.Slice.Eq.{bytes_eq-Decides}
+use Rattle.std.proofs.Math.Bool.{and-true}
+use Rattle.std.proofs.lemmas.List.Elements.{filter_agree}
 use Rattle.rx_value.specs.Named.{named, AreRising}
+use Rattle.rx_value.proofs.Outcomes.{some_if}
+use Rattle.rx_value.proofs.Lists.{all_passed}
 use Rattle.rx_document.specs.Documents.{Documents}
 use Rattle.rx_document.specs.Place.{place_cmp, place_total}
 use Rattle.rx_document.specs.declared.place.Place.{Place}
@@ -24,7 +28,7 @@ use Rattle.rx_collection.specs.Lawful.{IsHeldAt, was_written_at, ArePlacesOf}
 use Rattle.rx_collection.specs.Since.{place_of, by_place, is_above, since}
 use Rattle.rx_collection.specs.Standing.{standing, AllStand}
 use Rattle.rx_collection.proofs.Named.{first_alone, all_named, at_name}
-use Rattle.rx_collection.proofs.Placed.{place_tie_back, some_if, written_if, fresh}
+use Rattle.rx_collection.proofs.Placed.{place_tie_back, written_if, fresh}
 
 -- ---- the order of places
 
@@ -143,14 +147,6 @@ all_by_place P [] all = tt
 all_by_place P (e ∷ es) all =
     all_placed P (place_of e.1) e.1 (by_place es) all.0 (all_by_place P es all.1)
 
--- of those that pass a test
-pub all_passed : {X : Type 0} (P : X → Type 0) (test : X → Bool) (xs : List X)
-    → AllByRecursion P xs → AllByRecursion P (filter test xs)
-all_passed P test [] all = tt
-all_passed P test (x ∷ xs) all =
-    elim (test x) as (λ b. AllByRecursion P (cond b (x ∷ filter test xs) (filter test xs)))
-    [ true ↦ (all.0, all_passed P test xs all.1) | false ↦ all_passed P test xs all.1 ]
-
 -- those held at the keys of documents' places are the documents
 standing-marks : (documents : Documents) (es : List (Place × Stored))
     → AllByRecursion (λ e. named documents e.0.id ≡ Some e.1) es
@@ -163,14 +159,6 @@ all_stand : (documents : Documents) (es : List (Place × Stored))
     → AllByRecursion (λ e. named documents e.0.id ≡ Some e.1) es → AllStand documents (marks es)
 all_stand documents [] all = tt
 all_stand documents (e ∷ es) all = (ap is_some all.0, all_stand documents es all.1)
-
--- tests that answer alike pass the same
-passes_alike : {X : Type 0} (f g : X → Bool) (xs : List X) → ((x : X) → f x ≡ g x)
-    → filter f xs ≡ filter g xs
-passes_alike f g [] same = refl
-passes_alike f g (x ∷ xs) same =
-    ap (λ b. cond b (x ∷ filter f xs) (filter f xs)) (same x)
-    ∙ ap (λ ys. cond (g x) (x ∷ ys) ys) (passes_alike f g xs same)
 
 -- a test of the places alone
 passed_marks : (f : Place → Bool) (es : List (Place × Stored))
@@ -185,15 +173,11 @@ passed_marks f (e ∷ es) =
 abbrev pub IsFrom : Bound Place → Option Place → Type 0
 IsFrom after place = (q : Place) → range_contains place_cmp after Unbounded q ≡ is_above place q
 
-and_true : (b : Bool) → (b && true) ≡ b
-and_true true = refl
-and_true false = refl
-
 from_none : IsFrom Unbounded None
 from_none q = refl
 
 from_some : (p : Place) → IsFrom (Excluded p) (Some p)
-from_some p q = and_true (is_lt (place_cmp p q))
+from_some p q = and-true (is_lt (place_cmp p q))
 
 pub from_place : (after : Bound (Bor Place)) (place : Option (Bor Place))
     → ((after ≡ Unbounded) × (place ≡ None)) ⊎ ((p : Bor Place) × (after ≡ Excluded p) × (place ≡ Some p))
@@ -230,8 +214,8 @@ module _ (primary : List ℕ) (documents : Documents) (places : BTreeMap Place (
   part_is : part ≡ marks above
   part_is =
       between
-      ∙ passes_alike (λ e. range_contains place_cmp after Unbounded e.0) (λ e. is_above place e.0)
-      places.entries (λ e. from e.0)
+      ∙ filter_agree (λ e. range_contains place_cmp after Unbounded e.0) (λ e. is_above place e.0)
+      (λ e. from e.0) places.entries
       ∙ ap (filter (λ e. is_above place e.0)) (places_are primary documents places rising all agree up)
       ∙ passed_marks (is_above place) (by_place documents)
 

@@ -1,6 +1,7 @@
 -- A walk that counts the questions that it asks.
 use Rattle.std.proofs.Common.{◌≡◌, ◌≢◌, ℕ, suc, ◌+◌, ◌-◌, ◌<◌, ◌≤◌, ◌^◌, ◌↔◌, ◌⊎◌, inl, inr, Bool, true, false, List, length, refl, sym, ap, ◌∙◌, subst, arith}
 use Rattle.std.proofs.Math.Pow.{pow_mono}
+use Rattle.std.proofs.lemmas.Bool.{cases_eq}
 use Rattle.rx_table.specs.declared.action.Action.{Action}
 use Rattle.rx_table.specs.Rows.{table_of}
 use Rattle.rx_table.specs.States.{is_set, index_of}
@@ -9,7 +10,7 @@ use Rattle.rx_diagram.specs.declared.node.Edge.TheVariants.{Act, To}
 use Rattle.rx_diagram.specs.declared.node.Node.{Node}
 use Rattle.rx_diagram.specs.Nodes.{node, level, edge_of, answers_of, root_of, IsDiagram, final, From}
 use Rattle.rx_diagram.specs.Asked.{Matters, IsAsked}
-use Rattle.rx_diagram.proofs.Apart.{index_small, nat_same}
+use Rattle.rx_diagram.proofs.Apart.{index_small}
 use Rattle.rx_diagram.proofs.Differ.{rank, child_rank}
 use Rattle.rx_diagram.proofs.Walks.{final-act}
 use Rattle.rx_diagram.proofs.Paths.{IsRight, Reaches, reaches_root, reaches_next, matters, matters_not}
@@ -40,13 +41,13 @@ along_next ns root w n i k asked a = record {
   reaches = reaches_next ns root n i k w.reduced a.reaches;
   within = let s = index_small (node ns k).state in omega arith;
   small = rw (pow-suc l) (let s = fits in omega arith);
-  exact = λ j lt. elim (nat_same j l) [
+  exact = λ j lt. elim (cases_eq j l) [
     | inl e ↦ subst (λ (m : ℕ). is_set (asked + 2 ^ l) m
         ≡ true ↔ Matters n m) (sym e) (
           λ _. matters ns root w n i k a.reaches,
           λ _. bit-here asked l fits,
         )
-    | inr ne ↦ by_place j (omega arith) (nat_same (suc j - i) 0)
+    | inr ne ↦ by_place j (omega arith) (cases_eq (suc j - i) 0)
   ];
 }
   where
@@ -81,7 +82,7 @@ pub along_end : (ns : List Node) (root : Edge) → IsRight ns root → (n i aske
     → Along ns root n i (Act act) asked → IsAsked n asked
 along_end ns root w n i asked act a = record {
   in_range = let p : 2 ^ i ≤ 2 ^ 19 = pow_mono a.within in let s = a.small in omega arith;
-  exact = λ j lt. by_place j (nat_same (suc j - i) 0);
+  exact = λ j lt. by_place j (cases_eq (suc j - i) 0);
 }
   where
     by_place : (j : ℕ) → (suc j - i ≡ 0) ⊎ (suc j - i ≢ 0) → is_set asked j ≡ true ↔ Matters n j

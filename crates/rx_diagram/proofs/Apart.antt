@@ -1,5 +1,6 @@
 -- Actions, questions and edges can be told apart.
-use Rattle.std.proofs.Common.{◌≡◌, ◌≢◌, ℕ, zero, suc, ◌<◌, ◌⊎◌, inl, inr, List, [], ◌∷◌, get_or, refl, sym, ap, ◌∙◌, arith}
+use Rattle.std.proofs.Common.{◌≡◌, ◌≢◌, ◌<◌, ◌⊎◌, inl, inr, List, [], ◌∷◌, get_or, refl, sym, ap, ◌∙◌, arith}
+use Rattle.std.proofs.lemmas.Bool.{cases_eq}
 use Rattle.rx_table.specs.declared.action.Action.{Action}
 use Rattle.rx_table.specs.declared.action.Action.TheVariants.{DoNothing, InsertFirst, InsertLast, RemoveFirstItem, RemoveLastItem, RemoveFirstInsertLast, RemoveLastInsertFirst, RemoveFirstInsertFirst, RemoveLastInsertLast, RemoveExisting, ReplaceExisting, InsertAtSortPosition, RemoveExistingAndInsertAtSortPosition, RunFullQueryAgain, InsertAtSortPositionRemoveLast}
 use Rattle.rx_table.specs.declared.states.StateName.{StateName}
@@ -36,17 +37,6 @@ action_at_place RemoveExistingAndInsertAtSortPosition = refl
 action_at_place RunFullQueryAgain = refl
 action_at_place InsertAtSortPositionRemoveLast = refl
 
--- numbers are one or not
-pub nat_same : (m n : ℕ) → (m ≡ n) ⊎ (m ≢ n)
-nat_same zero zero = inl refl
-nat_same zero (suc n) = inr (λ e. cc)
-nat_same (suc m) zero = inr (λ e. cc)
-nat_same (suc m) (suc n) = elim (nat_same m n) [
-  | inl e ↦ inl (ap (λ k. suc k) e)
-  | inr e ↦ inr
-      (λ h. let f : m ≡ n = omega arith in e f)
-]
-
 -- actions of one place are one
 pub same_place : (a c : Action) → place_of a ≡ place_of c → a ≡ c
 same_place a c e =
@@ -54,7 +44,7 @@ same_place a c e =
 
 -- so are actions
 pub action_same : (a c : Action) → (a ≡ c) ⊎ (a ≢ c)
-action_same a c = elim (nat_same (place_of a) (place_of c)) [
+action_same a c = elim (cases_eq (place_of a) (place_of c)) [
   | inl e ↦ inl (same_place a c e)
   | inr e ↦ inr (λ h. e (ap place_of h))
 ]
@@ -65,7 +55,7 @@ edge_same (Act a) (Act c) =
     elim (action_same a c) [ inl e ↦ inl (ap Act e) | inr e ↦ inr (λ h. let g : a ≡ c = cc in e g) ]
 edge_same (Act a) (To k) = inr (λ h. cc)
 edge_same (To j) (Act c) = inr (λ h. cc)
-edge_same (To j) (To k) = elim (nat_same j k) [
+edge_same (To j) (To k) = elim (cases_eq j k) [
   | inl e ↦ inl (ap To e)
   | inr e ↦ inr (λ h. let g : j
       ≡ k = cc in e g)

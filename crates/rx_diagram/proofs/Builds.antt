@@ -7,6 +7,7 @@ use Rattle.std.proofs.lemmas.Nat.Bits.{bit_at_cat_high}
 use Rattle.std.proofs.lemmas.List.Folds.{Any-from_list_any}
 use Rattle.std.proofs.lemmas.List.{get_or_default}
 use Rattle.std.proofs.lemmas.Bool.Decides.{nat_tests}
+use Rattle.std.proofs.lemmas.Bool.{or_right, or_left, cases_eq}
 use Rattle.rx_table.specs.declared.action.Action.{Action}
 use Rattle.rx_table.specs.declared.action.Action.TheVariants.{DoNothing, RunFullQueryAgain}
 use Rattle.rx_table.specs.declared.states.StateName.{StateName}
@@ -18,10 +19,9 @@ use Rattle.rx_diagram.specs.declared.node.Edge.TheVariants.{Act, To}
 use Rattle.rx_diagram.specs.declared.node.Node.{Node}
 use Rattle.rx_diagram.specs.Nodes.{node, edge_of, root_of, final, From, answers_of, is_to, leads_to, IsReduced, IsDiagram}
 use Rattle.rx_diagram.specs.Building.{IsLater, IsLonger, IsShared, IsBuilt}
-use Rattle.rx_diagram.proofs.Apart.{nat_same}
 use Rattle.rx_diagram.proofs.Numbers.{pow-suc}
 use Rattle.rx_diagram.proofs.Walks.{from_lower, final-act, final_same}
-use Rattle.rx_diagram.proofs.Grows.{longer_refl, longer_trans, from_longer, final_longer, any_longer, to_is, either_left, either_right}
+use Rattle.rx_diagram.proofs.Grows.{longer_refl, longer_trans, from_longer, final_longer, any_longer, to_is}
 
 -- all questions are answered
 pub built_leaf : (ns : List Node) (k : ℕ) → IsReduced ns → IsBuilt ns ns 19 k (Act (table_of k))
@@ -64,8 +64,8 @@ built_node old mid late new i k low high e nd small level_is no_is yes_is a b s 
   right = λ n lt is. s.gives (answers_of n)
       ∙ ap (λ (j : ℕ). final new (answers_of n) (edge_of (is_set n j) nd)) level_is
       ∙ by_answer n lt is (is_set n i) refl;
-  led = λ j le lt. by_place j le lt (nat_same (suc j - length mid) 0)
-      (nat_same (suc j - length late) 0);
+  led = λ j le lt. by_place j le lt (cases_eq (suc j - length mid) 0)
+      (cases_eq (suc j - length late) 0);
 }
   where
     to_new : IsLonger mid new
@@ -93,7 +93,7 @@ built_node old mid late new i k low high e nd small level_is no_is yes_is a b s 
       where
         cases : (v : Bool) → is_to j c ≡ v → (is_to j e || list_any (leads_to j) new) ≡ true
         cases true v_is = s.led answer j (is ∙ to_is j c v_is)
-        cases false v_is = either_right (is_to j e) (list_any (leads_to j) new)
+        cases false v_is = or_right (is_to j e) (list_any (leads_to j) new)
             (any_longer (leads_to j) ns new g
             (sym (ap (λ (v : Bool). v || list_any (leads_to j) ns) v_is) ∙ h))
 
@@ -104,7 +104,7 @@ built_node old mid late new i k low high e nd small level_is no_is yes_is a b s 
     by_place j le lt (inl x) y = led_by j low false mid no_is to_new (a.led j le (omega arith))
     by_place j le lt (inr x) (inl y) = led_by j high true late yes_is s.grown
         (b.led j (omega arith) (omega arith))
-    by_place j le lt (inr x) (inr y) = either_left (is_to j e) (list_any (leads_to j) new)
+    by_place j le lt (inr x) (inr y) = or_left (is_to j e) (list_any (leads_to j) new)
         (s.fresh j (omega arith) lt)
 
 -- the same, as the code calls itself
@@ -266,7 +266,7 @@ is_diagram ns e b = record {
 
     some : 0 < length ns
     some =
-        elim (nat_same (length ns) 0) [
+        elim (cases_eq (length ns) 0) [
           | inl none ↦ absurd
               (no_node none e b.from (right 0 (omega arith)) (right 128 (omega arith)))
           | inr ne ↦ omega

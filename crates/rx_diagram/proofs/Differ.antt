@@ -4,9 +4,10 @@ use Rattle.rx_diagram.specs.declared.node.Edge.{Edge}
 use Rattle.rx_diagram.specs.declared.node.Edge.TheVariants.{Act, To}
 use Rattle.rx_diagram.specs.declared.node.Node.{Node}
 use Rattle.rx_diagram.specs.Nodes.{node, level, edge_of, IsReduced, final, From}
-use Rattle.rx_diagram.proofs.Apart.{same_state, edge_same, nat_same}
+use Rattle.rx_diagram.proofs.Apart.{same_state, edge_same}
 use Rattle.rx_diagram.proofs.Walks.{from_lower, from_next, final-act, final-to}
 use Rattle.std.proofs.lemmas.Bool.Decides.{nat_tests}
+use Rattle.std.proofs.lemmas.Bool.{cases_eq}
 
 -- the answers with that of one question put in
 abbrev pub put : ℕ → Bool → (ℕ → Bool) → ℕ → Bool
@@ -145,7 +146,7 @@ parts ns r (suc t) i (To j) (To k) b small fe ff ne = elim (order (level ns j) (
 ]
   where
     order : (m n : ℕ) → (m < n) ⊎ (n ≤ m)
-    order m n = elim (nat_same (suc m - n) 0) [
+    order m n = elim (cases_eq (suc m - n) 0) [
       | inl e ↦ inl (omega arith)
       | inr e ↦ inr
           (omega arith)

@@ -4,13 +4,13 @@ use Rattle.std.specs.List.{list_any}
 use Rattle.std.proofs.lemmas.List.Folds.{Any-from_list_any, list_any_at}
 use Rattle.std.proofs.lemmas.List.{get_or_append_left, get_or_push, get_or_default}
 use Rattle.std.proofs.lemmas.Bool.Decides.{nat_tests}
+use Rattle.std.proofs.lemmas.Bool.{or_right, or_left, cases_eq}
 use Rattle.rx_table.specs.States.{index_of}
 use Rattle.rx_diagram.specs.declared.node.Edge.{Edge}
 use Rattle.rx_diagram.specs.declared.node.Edge.TheVariants.{Act, To}
 use Rattle.rx_diagram.specs.declared.node.Node.{Node}
 use Rattle.rx_diagram.specs.Nodes.{node, level, edge_of, walk, final, From, is_to, leads_to, IsReduced}
 use Rattle.rx_diagram.specs.Building.{IsLater, IsLonger, IsShared}
-use Rattle.rx_diagram.proofs.Apart.{nat_same}
 use Rattle.rx_diagram.proofs.Walks.{from_lower, from_next, walk-zero, walk-act, walk-to, final-to}
 
 -- nodes begin with themselves
@@ -86,15 +86,6 @@ any_leads ns k j answer lt is = list_any_at (leads_to j) ns k _ lt (leads answer
         by_yes false y h = h
     leads false is = ap (λ x. x || is_to j (node ns k).yes) (ap (is_to j) is ∙ is_to_here j)
 
--- one of two
-pub either_left : (x y : Bool) → x ≡ true → (x || y) ≡ true
-either_left x y h = ap (λ v. v || y) h
-
--- or the other
-pub either_right : (x y : Bool) → y ≡ true → (x || y) ≡ true
-either_right true y h = refl
-either_right false y h = h
-
 -- two equal edges need no node
 pub shared_same : (ns : List Node) (nd : Node) → IsReduced ns → IsLater ns nd → nd.no ≡ nd.yes
     → IsShared ns ns nd nd.no
@@ -105,7 +96,7 @@ shared_same ns nd r l same = record {
   from = from_lower ns (index_of nd.state) (suc (index_of nd.state)) nd.no (omega arith)
       (l.later false);
   gives = λ b. ap (final ns b) (both (b (index_of nd.state)));
-  led = λ answer j is. either_left (is_to j nd.no) (list_any (leads_to j) ns)
+  led = λ answer j is. or_left (is_to j nd.no) (list_any (leads_to j) ns)
       (ap (is_to j) (both answer ∙ is) ∙ is_to_here j);
   fresh = λ j le lt. absurd (omega arith);
 }
@@ -128,7 +119,7 @@ shared_found ns nd k r lt is = record {
   );
   gives = λ b. final-to ns r b k lt
       ∙ ap (λ (x : Node). final ns b (edge_of (b (index_of x.state)) x)) is;
-  led = λ answer j to. either_right (is_to j (To k)) (list_any (leads_to j) ns)
+  led = λ answer j to. or_right (is_to j (To k)) (list_any (leads_to j) ns)
       (any_leads ns k j answer lt (ap (edge_of answer) is ∙ to));
   fresh = λ j le small. absurd (omega arith);
 }
@@ -154,7 +145,7 @@ shared_new ns nd r l two absent = record {
   );
   gives = λ b. final-to ns' r' b n (omega (arith, size))
       ∙ ap (λ (x : Node). final ns' b (edge_of (b (index_of x.state)) x)) last;
-  led = λ answer j to. either_right (is_to j (To n)) (list_any (leads_to j) ns')
+  led = λ answer j to. or_right (is_to j (To n)) (list_any (leads_to j) ns')
       (any_leads ns' n j answer (omega (arith, size)) (ap (edge_of answer) last ∙ to));
   fresh = λ j le lt. let same : j ≡ n = omega (arith, size) in rw same (is_to_here n);
 }
@@ -175,7 +166,7 @@ shared_new ns nd r l two absent = record {
     last = get_or_push ns nd _ n refl
 
     old_or_last : (j : ℕ) → j < length ns' → (j < length ns) ⊎ (j ≡ n)
-    old_or_last j lt = elim (nat_same j n) [ inl e ↦ inr e | inr ne ↦ inl (omega (arith, size)) ]
+    old_or_last j lt = elim (cases_eq j n) [ inl e ↦ inr e | inr ne ↦ inl (omega (arith, size)) ]
 
     ordered : (answer : Bool) (j k : ℕ) → (j < length ns) ⊎ (j ≡ n)
         → edge_of answer (node ns' j) ≡ To k → (k < j) × (level ns' j < level ns' k)

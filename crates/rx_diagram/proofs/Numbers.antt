@@ -1,20 +1,11 @@
 -- Numbers of given bits.
-use Rattle.std.proofs.Common.{◌≡◌, ◌≢◌, ℕ, zero, suc, ◌+◌, ◌-◌, ◌*◌, ◌/◌, ◌%◌, ◌^◌, ◌<◌, ◌≤◌, inl, inr, Bool, true, false, eqb, cond, refl, sym, ap, ◌∙◌, arith}
+use Rattle.std.proofs.Common.{◌≡◌, ◌≢◌, ℕ, zero, suc, ◌+◌, ◌-◌, ◌*◌, ◌^◌, ◌<◌, ◌≤◌, inl, inr, Bool, true, false, eqb, sym, ap, ◌∙◌, arith}
 use Rattle.std.proofs.lemmas.Nat.Bits.{bit_at-suc, bit_at_lowest, bit_at_above, bit_at_cat_low, bit_at_cat_high}
+use Rattle.std.proofs.lemmas.Bool.{cases_eq}
 use Rattle.std.specs.Int.{bit_at}
 use Rattle.rx_table.specs.States.{is_set}
+use Rattle.rx_table.proofs.Bits.{half, odd, small_step}
 use Rattle.rx_diagram.specs.Asked.{number}
-use Rattle.rx_diagram.proofs.Apart.{nat_same}
-
--- what is left of a number after its lowest bit
-half : (b : Bool) (n : ℕ) → (cond b 1 0 + 2 * n) / 2 ≡ n
-half true n = omega arith
-half false n = omega arith
-
--- and that bit
-odd : (b : Bool) (n : ℕ) → eqb ((cond b 1 0 + 2 * n) % 2) 1 ≡ b
-odd true n = let r : (1 + 2 * n) % 2 ≡ 1 = omega arith in rw r refl
-odd false n = let r : (0 + 2 * n) % 2 ≡ 0 = omega arith in rw r refl
 
 -- ---- the number of answers
 
@@ -29,11 +20,6 @@ bit-number (suc t) b (suc j) lt =
     ap (λ k. eqb k 1) (bit_at-suc (number (suc t) b) j)
     ∙ ap (λ (v : ℕ). is_set v j) (half (b 0) rest)
     ∙ bit-number t (λ i. b (suc i)) j (omega arith)
-
--- one bit more doubles the range
-small_step : (b : Bool) (n p : ℕ) → n < p → cond b 1 0 + 2 * n < 2 * p
-small_step true n p lt = omega arith
-small_step false n p lt = omega arith
 
 -- as powers do
 pub pow-suc : (t : ℕ) → 2 ^ suc t ≡ 2 * 2 ^ t
@@ -65,7 +51,7 @@ bit-here n k lt =
 
 -- and the others are as they were
 pub bit-other : (n k i : ℕ) → n < 2 ^ k → i ≢ k → is_set (n + 2 ^ k) i ≡ is_set n i
-bit-other n k i small ne = elim (nat_same (suc i - k) 0) [
+bit-other n k i small ne = elim (cases_eq (suc i - k) 0) [
   | inl e ↦ bit-low n k i (omega arith)
   | inr e ↦ bit-above (n + 2 ^ k) (suc k) i (rw (pow-suc k) (omega arith)) (omega arith)
       ∙ sym (bit-above n k i small (omega arith))

@@ -1,19 +1,20 @@
 -- There is one number of the asked questions, and the function gives it.
-use Rattle.std.proofs.Common.{◌≡◌, ◌≢◌, ℕ, zero, suc, ◌+◌, ◌/◌, ◌<◌, ◌↔◌, ◌%◌, ◌^◌, inl, inr, Bool, true, false, not, eqb, ◌||◌, ◌&&◌, refl, sym, ap, ◌∙◌, subst, arith}
+use Rattle.std.proofs.Common.{◌≡◌, ◌≢◌, ℕ, zero, suc, ◌+◌, ◌/◌, ◌<◌, ◌↔◌, ◌%◌, ◌^◌, inl, inr, Bool, true, false, not, eqb, ◌||◌, refl, sym, ap, ◌∙◌, subst, arith}
 use Rattle.std.proofs.Math.Nat.{mod-lt}
 use Rattle.std.proofs.Math.Pow.{split, pow-lt}
-use Rattle.std.proofs.lemmas.Bool.{or_left, or_right, not-true, false≢true, eqb-true}
+use Rattle.std.proofs.lemmas.Bool.{or_left, or_right, not-true, false≢true, eqb-true, and_from, cases_eq}
 use Rattle.std.proofs.lemmas.Bool.Decides.{nat_tests}
 use Rattle.std.proofs.lemmas.Nat.{pow_pos, xor_lt}
 use Rattle.std.proofs.lemmas.Nat.Bits.{same_from_bits_below, bit_at-lt, bit_at_cat_low, bit_at_xor, bit_at-pow_same, bit_at-pow_other}
 use Rattle.std.specs.Int.{bit_at}
 use Rattle.std.specs.Int.Bits.{bit_xor}
+use Rattle.std.specs.Cmp.{first_so, second_so}
 use Rattle.rx_table.specs.Counts.{place_of}
 use Rattle.rx_table.specs.Rows.{table_of}
 use Rattle.rx_table.specs.States.{is_set}
 use Rattle.rx_table.specs.declared.action.Action.{Action}
 use Rattle.rx_diagram.specs.Asked.{Matters, IsAsked, any_below, same_action, tells, is_asked, asked_of}
-use Rattle.rx_diagram.proofs.Apart.{nat_same, same_place}
+use Rattle.rx_diagram.proofs.Apart.{same_place}
 use Rattle.rx_diagram.proofs.Numbers.{bit-number, number-small}
 
 -- a bit is told by what it stands for
@@ -39,7 +40,7 @@ asked_once n a b p q = same_from_bits_below 19 a b p.in_range q.in_range
 below_any : (n : ℕ) (p : ℕ → Bool) (m : ℕ) → m < n → p m ≡ true → any_below n p ≡ true
 unfolding any_below
 below_any zero p m lt e = absurd (omega arith)
-below_any (suc n) p m lt e = elim (nat_same m n) [
+below_any (suc n) p m lt e = elim (cases_eq m n) [
   | inl same ↦ or_left (p n) (any_below n p) (ap p (sym same) ∙ e)
   | inr ne ↦ or_right (p n) (any_below n p) (below_any n p m (omega arith) e)
 ]
@@ -120,20 +121,6 @@ other_way true false h = refl
 other_way false true h = refl
 other_way false false h = absurd (h refl)
 
--- both of two tests
-both_left : (x y : Bool) → (x && y) ≡ true → x ≡ true
-both_left true y h = refl
-both_left false y h = absurd (false≢true h)
-
--- the other one
-both_right : (x y : Bool) → (x && y) ≡ true → y ≡ true
-both_right true y h = h
-both_right false y h = absurd (false≢true h)
-
--- and both of them
-both : (x y : Bool) → x ≡ true → y ≡ true → (x && y) ≡ true
-both x y h k = rw (h, k) refl
-
 -- an action is itself
 itself : (a b : Action) → a ≡ b → same_action a b ≡ true
 itself a b h = let e : place_of a ≡ place_of b = ap place_of h in grind (arith, nat_tests)
@@ -154,10 +141,10 @@ tells_matters : (n i m : ℕ) → i < 19 → m < 2 ^ 19 → tells n i m ≡ true
 tells_matters n i m small lt h =
     let flip = bit_xor m (2 ^ i) in
     let same : m % 2 ^ i ≡ n % 2 ^ i =
-    eqb-true (m % 2 ^ i) (n % 2 ^ i) (both_left _ (not (same_action (table_of m) (table_of flip)))
+    eqb-true (m % 2 ^ i) (n % 2 ^ i) (first_so _ (not (same_action (table_of m) (table_of flip)))
     h) in
     let unlike : same_action (table_of m) (table_of flip) ≡ false =
-    not-true _ (both_right (eqb (m % 2 ^ i) (n % 2 ^ i)) _ h) in
+    not-true _ (second_so (eqb (m % 2 ^ i) (n % 2 ^ i)) _ h) in
     let before : (j : ℕ) → j < i → is_set m j ≡ is_set n j =
     λ j below. bit_of_rest m i j below ∙ ap (λ (v : ℕ). is_set v j) same
     ∙ sym (bit_of_rest n i j below) in
@@ -180,13 +167,13 @@ matters_tells n i small w =
     let two_is : w.two ≡ flip =
     same_from_bits_below 19 w.two flip w.two_in (xor_in w.one i small w.one_in)
     (λ j lt. same_bit_at w.two flip j
-    (elim (nat_same j i) [
+    (elim (cases_eq j i) [
       | inl e ↦ subst (λ (k : ℕ). is_set w.two k ≡ is_set flip k) (sym e)
           (other_way (is_set w.one i) (is_set w.two i) w.here ∙ sym (xor_here w.one i))
       | inr ne ↦ sym (w.others j ne) ∙ sym (xor_other w.one i j ne)
     ])) in
     let same : w.one % 2 ^ i ≡ n % 2 ^ i = same_rest w.one n i w.one_before in
-    both (eqb (w.one % 2 ^ i) (n % 2 ^ i)) _ (grind (arith, nat_tests))
+    and_from (eqb (w.one % 2 ^ i) (n % 2 ^ i)) _ (grind (arith, nat_tests))
     (no_other (table_of w.one) (table_of flip) (λ e. w.apart (e ∙ ap table_of (sym two_is))))
 
 -- the function gives the asked questions

@@ -1,5 +1,6 @@
 -- The questions that a walk asks are those that matter.
 use Rattle.std.proofs.Common.{◌≡◌, ◌≢◌, ℕ, suc, ◌-◌, ◌<◌, ◌≤◌, ◌^◌, inl, inr, Bool, true, false, List, refl, sym, ap, ◌∙◌, arith}
+use Rattle.std.proofs.lemmas.Bool.{cases_eq}
 use Rattle.rx_table.specs.Rows.{table_of}
 use Rattle.rx_table.specs.States.{is_set}
 use Rattle.rx_diagram.specs.declared.node.Edge.{Edge}
@@ -7,7 +8,7 @@ use Rattle.rx_diagram.specs.declared.node.Edge.TheVariants.{Act, To}
 use Rattle.rx_diagram.specs.declared.node.Node.{Node}
 use Rattle.rx_diagram.specs.Nodes.{node, level, edge_of, answers_of, IsReduced, final, From}
 use Rattle.rx_diagram.specs.Asked.{Matters, number}
-use Rattle.rx_diagram.proofs.Apart.{index_small, nat_same}
+use Rattle.rx_diagram.proofs.Apart.{index_small}
 use Rattle.rx_diagram.proofs.Walks.{from_next, final-to, final_same}
 use Rattle.rx_diagram.proofs.Differ.{Parting, put, put_here, put_other, differ}
 use Rattle.rx_diagram.proofs.Numbers.{bit-number, number-small, bit-above}
@@ -101,7 +102,7 @@ matters ns root w n i k p = record {
 
     other : (j : ℕ) → j ≢ l → is_set (number 19 (with_answer false)) j
         ≡ is_set (number 19 (with_answer true)) j
-    other j ne = elim (nat_same (suc j - 19) 0) [
+    other j ne = elim (cases_eq (suc j - 19) 0) [
       | inl e ↦ bits false j (omega arith) ∙ put_other l false a j ne
           ∙ sym (put_other l true a j ne) ∙ sym (bits true j (omega arith))
       | inr e ↦ bit-above (number 19 (with_answer false)) 19 j (number-small 19 (with_answer false))

@@ -2,12 +2,13 @@
 use Rattle.std.proofs.Common.{◌≡◌, ◌≢◌, ℕ, suc, ◌+◌, ◌<◌, ◌≤◌, ◌^◌, ◌⊎◌, inl, inr, Bool, true, false, cond, eqb, ◌||◌, List, [], ◌∷◌, ◌++◌, refl, sym, ap, ◌∙◌, subst, arith, rules, Option, Some, None, append_assoc, append-nil}
 use Rattle.std.specs.List.{filter, list_any}
 use Rattle.std.proofs.lemmas.Bool.Decides.{nat_tests}
+use Rattle.std.proofs.lemmas.Bool.{cases_eq}
 use Rattle.rx_table.specs.declared.states.StateName.{StateName}
 use Rattle.rx_table.specs.declared.states.StateName.TheVariants.{IsInsert, IsUpdate, IsDelete, HasLimit, IsFindOne, HasSkip, WasResultsEmpty, PreviousUnknown, WasLimitReached, SortParamsChanged, WasInResult, WasFirst, WasLast, WasSortedBeforeFirst, WasSortedAfterLast, IsSortedBeforeFirst, IsSortedAfterLast, WasMatching, DoesMatchNow}
 use Rattle.rx_table.specs.Log.{Adds}
 use Rattle.rx_table.specs.States.{all_states, is_set, index_of}
 use Rattle.rx_diagram.specs.Asked.{questions_in}
-use Rattle.rx_diagram.proofs.Apart.{nat_same, same_state}
+use Rattle.rx_diagram.proofs.Apart.{same_state}
 use Rattle.rx_diagram.proofs.Numbers.{bit-above, bit-here, bit-other}
 
 -- numbers that differ are not equal
@@ -40,7 +41,7 @@ filter_more : (i : ℕ) (ss : List StateName) (p q : StateName → Bool) (s : St
     → filter q ss ≡ filter p ss ++ s ∷ []
 filter_more i [] p q s r has same none here = absurd (let bad : false ≡ true = has in cc)
 filter_more i (t ∷ ss) p q s r has same none here =
-    by_place (nat_same (index_of t) (index_of s))
+    by_place (cases_eq (index_of t) (index_of s))
     (λ again. filter_more (suc (index_of t)) ss p q s r.1 again same none here)
   where
     at_state : s ≡ t → filter q (t ∷ ss) ≡ filter p (t ∷ ss) ++ s ∷ []

@@ -2,7 +2,8 @@
 ghost use Rattle.std.specs.Prelude.{◌≡◌, ◌≤◌, [], List, length, IfOk};
 ghost use Rattle.rx_outside.specs.Failed.{Rises};
 
-use crate::{Disk, Failed};
+use crate::Disk;
+use rx_outside::Failed;
 use rx_value::RxText;
 use std::fs::{File, Files, OpenFile, OpenOptions};
 use std::io;

@@ -16,6 +16,6 @@ mod memory_disk;
 mod replay;
 mod stop;
 
-pub use disk::{Disk, Failed};
+pub use disk::Disk;
 pub use file_disk::FileDisk;
 pub use memory_disk::MemoryDisk;

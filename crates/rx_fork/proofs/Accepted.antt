@@ -1,12 +1,12 @@
 -- What holds of a plan that was made.
-use Rattle.std.proofs.Common.{◌≡◌, ℕ, true, ◌==◌, ◌&&◌, List, [], ◌∷◌, map, Option, Some, None, option_map, Result, Ok, Err, refl, sym, ap, ◌∙◌, subst, false, eqb-true}
+use Rattle.std.proofs.Common.{◌≡◌, ℕ, true, ◌==◌, ◌&&◌, List, [], ◌∷◌, map, Option, Some, None, option_map, Result, Ok, Err, refl, sym, ap, ◌∙◌, subst, eqb-true}
 use Rattle.std.specs.List.{AllByRecursion, IsDistinct}
 use Rattle.std.specs.Map.{values_of}
 use Rattle.std.specs.Prelude.{IfOk, Bool}
 use Rattle.std.specs.Str.{bytes_eq}
 use Rattle.rx_value.specs.Due.{Due, ◌>>◌, demand, unless, or_fault}
 use Rattle.rx_value.specs.declared.state.State.{State}
-use Rattle.rx_value.proofs.Outcomes.{ok_then, some_of}
+use Rattle.rx_value.proofs.Outcomes.{ok_then, some_of, some_same, not_none, demanded}
 use Rattle.rx_document.specs.Documents.{Documents}
 use Rattle.rx_document.specs.declared.place.Place.{Place}
 use Rattle.rx_collection.specs.Commit.{by_key}
@@ -21,7 +21,7 @@ use Rattle.rx_wire.specs.declared.message.Reply.{Reply}
 use Rattle.rx_replication.specs.Taking.{Resolve, KeepsKey, Taking, taking}
 use Rattle.rx_replication.specs.Throughout.{AllPass, AskPasses, BodyPasses, KeepsPassing}
 use Rattle.rx_replication.proofs.Distinct.{KeysDiffer, resolutions_differ, differences_differ}
-use Rattle.rx_replication.proofs.Lists.{some_same, not_none, all_at, all_each, from_values_of}
+use Rattle.rx_replication.proofs.Lists.{all_at, all_each, from_values_of}
 use Rattle.rx_replication.proofs.Throughout.{taking_passes}
 use Rattle.rx_fork.specs.Accept.{plan_of, answered, accepted}
 use Rattle.rx_fork.specs.Asked.{HasRowsApart, HasStatesApart}
@@ -79,10 +79,6 @@ pub record IsTaken (by : Resolve) (fork : Documents) (side : Side) (asked : Aske
   pub unmoved : last_lwt fork ≡ asked.lwt
   pub fits : bad_reply side.down asked.request.ask reply.body ≡ None
   pub of : IsOf by fork side asked.request.ask reply.body plan
-
-demanded : {E : Type 0} (b : Bool) (e : E) (x : Unit {0}) → demand b e ≡ Ok x → b ≡ true
-demanded true e x is = refl
-demanded false e x is = absurd (cc)
 
 without_fault : (o : Option ℕ) (rest : Result ExchangePlan AcceptFault) (plan : ExchangePlan)
     → unless BadReply o rest ≡ Ok plan → o ≡ None

@@ -1,6 +1,7 @@
 -- What a handler makes of two valid states is valid.
-use Rattle.std.proofs.Common.{◌≡◌, ℕ, Bool, true, false, cond, ◌&&◌, List, [], ◌∷◌, Option, Some, None, is_none, option_map, refl, sym, ap, ◌∙◌, true≢false}
+use Rattle.std.proofs.Common.{◌≡◌, ℕ, Bool, true, false, cond, List, [], ◌∷◌, Option, Some, None, is_none, option_map, refl, sym, ap, ◌∙◌, true≢false}
 use Rattle.std.proofs.lemmas.Slice.Eq.{bytes_eq-Decides}
+use Rattle.std.proofs.lemmas.Bool.{and_parts, and_from}
 use Rattle.std.specs.List.{AllByRecursion}
 use Rattle.std.specs.Map.{keys_of}
 use Rattle.std.specs.Option.{option_or}
@@ -13,7 +14,7 @@ use Rattle.rx_value.specs.Value.{is_text}
 use Rattle.rx_value.specs.declared.state.State.{State}
 use Rattle.rx_value.specs.declared.value.Value.{Value}
 use Rattle.rx_value.specs.declared.value.Value.TheVariants as value
-use Rattle.rx_value.proofs.Outcomes.{none_or, none_of, none_is}
+use Rattle.rx_value.proofs.Outcomes.{none_or, none_is, none_mapped}
 use Rattle.rx_schema.specs.Validity.{fault_of, first_missing, first_unknown, first_bad, first_fault, missing, unknown}
 use Rattle.rx_schema.specs.declared.shape.Shape.{Shape}
 use Rattle.rx_collection.proofs.Named.{at_name, all_put}
@@ -127,13 +128,13 @@ joined_valid s ps qs h k =
     let b = none_or (option_map unknown (first_unknown s.properties ps)) _ a.1 in
     let c = none_or (option_map missing (first_missing s.required qs)) _ k in
     let d = none_or (option_map unknown (first_unknown s.properties qs)) _ c.1 in
-    let these = all_fine s ps (none_of unknown (first_unknown s.properties ps) b.0) b.1 in
-    let those = all_fine s qs (none_of unknown (first_unknown s.properties qs) d.0) d.1 in
+    let these = all_fine s ps (none_mapped unknown (first_unknown s.properties ps) b.0) b.1 in
+    let those = all_fine s qs (none_mapped unknown (first_unknown s.properties qs) d.0) d.1 in
     let all = fine_joined s qs (keys_of qs) ps these those in
     ap (λ (o : Option (List ℕ)). option_or (option_map missing o)
     (option_or (option_map unknown (first_unknown s.properties (joined ps qs)))
     (first_bad s (joined ps qs))))
-    (missing_none s.required ps qs (none_of missing (first_missing s.required ps) a.0))
+    (missing_none s.required ps qs (none_mapped missing (first_missing s.required ps) a.0))
     ∙ ap (λ (o : Option (List ℕ)). option_or (option_map unknown o) (first_bad s (joined ps qs)))
     (fine_known s (joined ps qs) all)
     ∙ fine_good s (joined ps qs) all
@@ -148,24 +149,16 @@ greater_itself : (o : Option Value) → greater_of o o ≡ o
 greater_itself o =
     elim (is_lt (order_of o o)) as (λ b. cond b o o ≡ o) [ true ↦ refl | false ↦ refl ]
 
-both_are : (a b : Bool) → (a && b) ≡ true → (a ≡ true) × (b ≡ true)
-both_are true b h = (refl, h)
-both_are false b h = absurd (true≢false (sym h))
-
-both_hold : (a b : Bool) → a ≡ true → b ≡ true → (a && b) ≡ true
-both_hold true b h k = k
-both_hold false b h k = absurd (true≢false (sym h))
-
 joined_state : (schema : Shape) (field : List ℕ) (real new : State) → real.key ≡ new.key
     → is_valid schema real ≡ true → is_valid schema new ≡ true
     → is_valid schema (resolve Join field real new) ≡ true
 joined_state schema field real new same h k =
-    let a = both_are (is_none (first_fault schema real.fields)) _ h in
-    let b = both_are (is_none (first_fault schema new.fields)) _ k in
+    let a = and_parts (is_none (first_fault schema real.fields)) _ h in
+    let b = and_parts (is_none (first_fault schema new.fields)) _ k in
     let real_key = text_is real.key (named real.fields schema.primary) a.1 in
     let new_key = text_is new.key (named new.fields schema.primary) b.1
     ∙ ap (λ l. Some (value.Text l)) (sym same) in
-    both_hold (is_none (first_fault schema (joined real.fields new.fields)))
+    and_from (is_none (first_fault schema (joined real.fields new.fields)))
     (is_text real.key (named (joined real.fields new.fields) schema.primary))
     (ap is_none (joined_valid schema real.fields new.fields
     (none_is (first_fault schema real.fields) a.0) (none_is (first_fault schema new.fields) b.0)))

@@ -1,5 +1,6 @@
 -- The pending documents are those above the checkpoint.
 use Rattle.std.proofs.Common.{◌≡◌, ℕ, zero, ◌-◌, suc, true, cond, List, [], ◌∷◌, ◌++◌, length, map, filter, take, append-nil, Option, refl, sym, ap, ◌∙◌, arith}
+use Rattle.rx_value.proofs.Lists.{moved}
 use Rattle.rx_document.specs.declared.place.Place.{Place}
 use Rattle.rx_document.specs.declared.stored.Stored.{Stored}
 use Rattle.rx_collection.specs.Held.{Held}
@@ -12,7 +13,7 @@ use Rattle.rx_replication.proofs.Commits.{lawful-by_key}
 use Rattle.rx_replication.proofs.Distinct.{RowKeysDiffer, rows_differ}
 use Rattle.rx_replication.proofs.Walk.{pending-since}
 use Rattle.rx_fork.specs.Asked.{HasRowsApart}
-use Rattle.rx_fork.proofs.Items.{take_nil, moved}
+use Rattle.rx_fork.proofs.Items.{take_nil}
 
 -- those of the walk that are pending are the pending ones
 pub pending_above : (c : Held) (known : KnownStates) (up : Option Place) → IsLawful c

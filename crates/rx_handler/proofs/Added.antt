@@ -1,5 +1,5 @@
 -- A thing that is added under a name that isn't there.
-use Rattle.std.proofs.Common.{◌≡◌, ℕ, Bool, true, false, cond, List, [], ◌∷◌, ◌++◌, Option, Some, None, is_some, is_none, option_map, String, Global, string_bytes, refl, ap, ◌∙◌}
+use Rattle.std.proofs.Common.{◌≡◌, ℕ, Bool, true, false, cond, List, [], ◌∷◌, ◌++◌, Option, Some, None, is_some, is_none, String, Global, string_bytes, refl, ap, ◌∙◌}
 use Rattle.std.specs.Map.{lookup}
 use Rattle.std.specs.Prelude.{Ok, Err}
 use Rattle.std.specs.Str.{bytes_eq}
@@ -8,6 +8,7 @@ use Rattle.indexmap.specs.IndexMap.{insert_entry}
 use Rattle.rx_value.specs.Due.{demand}
 use Rattle.rx_value.specs.Named.{by_name, named, put_named}
 use Rattle.rx_value.proofs.Named.{by_name-insert_entry, lookup-by_name}
+use Rattle.rx_value.proofs.Outcomes.{some_mapped}
 use Rattle.rx_handler.specs.declared.fault.HandlerFault.TheVariants.{Twice}
 use Rattle.rx_handler.specs.declared.kind.HandlerKind.{HandlerKind}
 
@@ -36,17 +37,12 @@ added shown es new key name h is written none =
     ∙ ap (λ k. put_named (by_name shown es) k (shown h)) is
     ∙ put_named-new (by_name shown es) name (shown h) none
 
--- what is shown of a thing is there where the thing is
-is_mapped : {H X : Type 0} (shown : H → X) (o : Option H) → is_some o ≡ is_some (option_map shown o)
-is_mapped shown None = refl
-is_mapped shown (Some h) = refl
-
 -- whether a name is there
 pub there : {H X : Type 0} (shown : H → X) (es : List (String Global × H)) (looked name : List ℕ)
     (b : Bool) → looked ≡ name → b ≡ is_some (lookup (λ k. bytes_eq looked (string_bytes k)) es)
     → b ≡ is_some (named (by_name shown es) name)
 there shown es looked name b same is =
-    is ∙ is_mapped shown (lookup (λ k. bytes_eq looked (string_bytes k)) es)
+    is ∙ some_mapped shown (lookup (λ k. bytes_eq looked (string_bytes k)) es)
     ∙ ap is_some (lookup-by_name shown es looked)
     ∙ ap (λ n. is_some (named (by_name shown es) n)) same
 

@@ -13,16 +13,13 @@ use Rattle.rx_value.specs.Named.{named, put_in_order, AreRising}
 use Rattle.rx_value.specs.Order.{order_of, text_cmp}
 use Rattle.rx_value.specs.Value.{is_value}
 use Rattle.rx_value.specs.declared.value.Value.{Value}
-use Rattle.rx_value.proofs.Lists.{drop_at}
 use Rattle.rx_value.proofs.Named.{named-put_in_order}
 use Rattle.rx_value.proofs.Ordered.{text_total}
 use Rattle.rx_value.proofs.Setting.{put_fields}
-use Rattle.rx_handler.specs.Resolve.{greater_of, raised_to, joined_at, joined, JoinsFieldByField, JoinsToFields}
+use Rattle.rx_value.proofs.Outcomes.{some_same}
+use Rattle.rx_handler.specs.Resolve.{greater_of, raised_to, joined_at, JoinsFieldByField, JoinsToFields}
 
 -- ---- names and values by index
-
-some_same : {A : Type 0} {x y : A} → Some x ≡ Some y → x ≡ y
-some_same e = cc
 
 -- the names from a place on
 pub keys_from : (ps : Pairs) (i : ℕ) (p : Pair) → slice_get ps i ≡ Some p

@@ -1,5 +1,6 @@
 -- The keys between two bounds.
 use Rattle.std.proofs.Common.{◌≡◌, Bool, true, false, not, cond, ◌&&◌, List, [], ◌∷◌, map, filter, Less, Equal, Greater, refl, sym, ap, ◌∙◌}
+use Rattle.std.proofs.lemmas.List.Elements.{filter_agree}
 use Rattle.std.specs.BTreeMap.Range.{entries_between}
 use Rattle.std.specs.Map.{keys_of}
 use Rattle.std.specs.Ordering.{is_le, is_lt, is_gt, ordering_reverse}
@@ -17,14 +18,6 @@ keys_passed f (e ∷ es) =
     elim (f e.0) as (λ b. keys_of (cond b (e ∷ filter (λ e. f e.0) es) (filter (λ e. f e.0) es))
     ≡ cond b (e.0 ∷ filter f (keys_of es)) (filter f (keys_of es)))
     [ true ↦ ap (λ ks. e.0 ∷ ks) (keys_passed f es) | false ↦ keys_passed f es ]
-
--- tests that agree let the same pass
-passes_alike : {X : Type 0} (f g : X → Bool) (xs : List X) → ((x : X) → f x ≡ g x)
-    → filter f xs ≡ filter g xs
-passes_alike f g [] same = refl
-passes_alike f g (x ∷ xs) same =
-    ap (λ b. cond b (x ∷ filter f xs) (filter f xs)) (same x)
-    ∙ ap (λ ys. cond (g x) (x ∷ ys) ys) (passes_alike f g xs same)
 
 -- nothing passes a test and its negation
 never : (b : Bool) → (b && not b) ≡ false
@@ -58,7 +51,7 @@ pub ids_in : {X : Type 0} (low high end : Position) (es part : List (Position ×
 ids_in low high end es part same is =
     ap (λ ps. map id_of (keys_of ps)) is
     ∙ ap (map id_of) (keys_passed (is_between low end) es
-    ∙ passes_alike (is_between low end) (is_between low high) (keys_of es) same)
+    ∙ filter_agree (is_between low end) (is_between low high) same (keys_of es))
 
 -- where it is above it
 pub same_crossed : (low high end k : Position) → end ≡ low → is_lt (position_cmp high low) ≡ true

@@ -1,6 +1,6 @@
 -- What an index holds after a document is put.
 use Rattle.std.proofs.Common.{◌≡◌, ℕ, Bool, true, false, cond, ◌&&◌, List, [], ◌∷◌, ◌++◌, map, Option, Some, None, is_some, refl, sym, ap, ◌∙◌}
-use Rattle.std.proofs.lemmas.Bool.{false≢true}
+use Rattle.std.proofs.lemmas.Bool.{false≢true, and_parts}
 use Rattle.std.proofs.lemmas.List.{same_from_push}
 use Rattle.std.proofs.lemmas.Map.Made.{is_some-lookup}
 use Rattle.std.proofs.lemmas.Slice.Eq.{bytes_eq-Decides}
@@ -17,6 +17,7 @@ use Rattle.rx_value.specs.Fields.{Pairs}
 use Rattle.rx_value.specs.Named.{named, put_in_order}
 use Rattle.rx_value.specs.Order.{order_of}
 use Rattle.rx_value.specs.declared.value.Value.TheVariants.{Flag, Text}
+use Rattle.rx_value.proofs.Outcomes.{some_if, none_if}
 use Rattle.rx_document.specs.Documents.{Documents}
 use Rattle.rx_document.specs.declared.stored.Stored.{Stored}
 use Rattle.rx_index.specs.Index.{indexed_by, has_key, is_key_of, has_same_key, Holds}
@@ -54,16 +55,11 @@ same_tests x y (f ∷ fs) h =
     ap (λ b. b && list_all (λ field. is_eq (order_of (named x field) (named y field))) fs) is
     ∙ same_tests x y fs others
 
--- both of two tests
-both_true : (a b : Bool) → (a && b) ≡ true → (a ≡ true) × (b ≡ true)
-both_true true b h = (refl, h)
-both_true false b h = absurd (false≢true h)
-
 -- documents of one primary key that pass the test have one key
 pub one_key : (fields : List (List ℕ)) (d e : Stored) → has_same_key fields d e ≡ true
     → d.state.key ≡ e.state.key → key_of fields d ≡ key_of fields e
 one_key fields d e h same =
-    let parts = both_true (beq d.state.deleted e.state.deleted) _ h in
+    let parts = and_parts (beq d.state.deleted e.state.deleted) _ h in
     let marks : d.state.deleted ≡ e.state.deleted =
     (booleans_Decides d.state.deleted e.state.deleted).0 parts.0 in
     let values = same_values d.state.fields e.state.fields fields parts.1 in
@@ -95,16 +91,6 @@ key_if : (fields : List (List ℕ)) (b : Bool) (d : Stored) (o : Option Stored) 
     ≡ cond b (is_eq (position_cmp (key_of fields d) k)) (is_key_of fields o k)
 key_if fields true d o k = refl
 key_if fields false d o k = refl
-
-some_if : {X : Type 0} (b : Bool) (x : X) (o : Option X)
-    → is_some (cond b (Some x) o) ≡ cond b true (is_some o)
-some_if true x o = refl
-some_if false x o = refl
-
-none_if : {X : Type 0} (b : Bool) (o : Option X)
-    → is_some (cond b None o) ≡ cond b false (is_some o)
-none_if true o = refl
-none_if false o = refl
 
 -- a key that goes in
 pub added : (before after : BTreeMap Position (Unit {0})) (key k : Position)

@@ -1,32 +1,22 @@
 -- Only a position itself ties with it, and what a bound encloses.
-use Rattle.std.proofs.Common.{◌≡◌, ℕ, ◌+◌, ◌-◌, Bool, true, false, not, List, [], ◌∷◌, ◌++◌, map, length, slice_get, Option, Some, Ordering, Less, Equal, Greater, refl, sym, ap, ◌∙◌, arith, length-append}
+use Rattle.std.proofs.Common.{◌≡◌, ℕ, ◌+◌, ◌-◌, Bool, true, false, not, List, [], ◌∷◌, ◌++◌, map, length, slice_get, Option, Some, Equal, refl, sym, ap, ◌∙◌, arith, length-append}
 use Rattle.std.proofs.lemmas.Cmp.{tied_itself}
 use Rattle.std.proofs.lemmas.List.{get_or_push}
 use Rattle.std.proofs.lemmas.Option.{slice_get-get_or}
 use Rattle.std.specs.Bool.{Decides}
 use Rattle.std.specs.Cmp.{Equal-is}
-use Rattle.std.specs.Ordering.{bool_cmp, ordering_then, is_le, is_eq, eq_by_cmp}
-use Rattle.rx_value.proofs.Ordered.{order_total, order_ties}
+use Rattle.std.specs.Ordering.{ordering_then, is_le, is_eq, eq_by_cmp}
+use Rattle.rx_value.proofs.Ordered.{order_total, order_ties, flag_ties}
 use Rattle.rx_value.specs.Order.{order_of}
 use Rattle.rx_value.specs.declared.value.Value.{Value}
 use Rattle.rx_value.specs.declared.value.Value.TheVariants.{Flag, Text}
 use Rattle.rx_document.specs.declared.stored.Stored.{Stored}
 use Rattle.rx_value.specs.Named.{named}
+use Rattle.rx_value.proofs.Orderings.{both_tie}
 use Rattle.rx_index.specs.Ordered.{position_total}
 use Rattle.rx_index.specs.Position.{Position, values_cmp, position_cmp, key_of, text_in, id_of, TiesAreOnePosition, BoundsEnclose}
 
 -- ---- ties
-
--- both of two orders in turn tie
-both : (r s : Ordering) → ordering_then r s ≡ Equal → (r ≡ Equal) × (s ≡ Equal)
-both Equal s h = (refl, h)
-both Less s h = cc
-both Greater s h = cc
-
-flag_ties : (a b : Bool) → bool_cmp a b ≡ Equal → a ≡ b
-flag_ties true true h = refl
-flag_ties false false h = refl
-flag_ties _ _ h = cc
 
 values_tied : (xs : List (Option Value)) (a : Bool) (ys : List (Option Value)) (b : Bool)
     → values_cmp xs a ys b ≡ Equal → (xs ≡ ys) × (a ≡ b)
@@ -36,7 +26,7 @@ values_tied [] false (y ∷ ys) b h = cc
 values_tied (x ∷ xs) a [] true h = cc
 values_tied (x ∷ xs) a [] false h = cc
 values_tied (x ∷ xs) a (y ∷ ys) b h =
-    let parts = both (order_of x y) (values_cmp xs a ys b) h in
+    let parts = both_tie (order_of x y) (values_cmp xs a ys b) h in
     let rest = values_tied xs a ys b parts.1 in
     let first : x ≡ y = (order_ties x y).0 parts.0 in
     (λ i. first i ∷ rest.0 i, rest.1)

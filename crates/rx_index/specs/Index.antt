@@ -65,5 +65,5 @@ abbrev pub ids_between : Position → Position → List Position → List (List 
 ids_between low high keys = map id_of (filter (is_between low high) keys)
 
 -- a lent text as its bytes
-abbrev pub text_of : Bor (List ℕ) → List ℕ
-text_of text = text.now
+abbrev pub lent_bytes : Bor (List ℕ) → List ℕ
+lent_bytes text = text.now

@@ -2,7 +2,7 @@ ghost use Rattle.std.specs.Prelude.{◌≡◌, ◌<◌, ◌^◌, length, map};
 ghost use Rattle.std.specs.Iterator.{at_most};
 ghost use Rattle.std.specs.Map.{keys_of};
 ghost use Rattle.std.specs.Map.Iter.{TakesFirst};
-ghost use Rattle.rx_index.specs.Index.{text_of};
+ghost use Rattle.rx_index.specs.Index.{lent_bytes};
 ghost use Rattle.rx_index.specs.Position.{id_of};
 
 use crate::bound::Bound;
@@ -55,7 +55,7 @@ fn count_keys(keys: btree_map::Range<'_, Bound, ()>) -> usize
 impl<'a> Iterator for Range<'a> {
     type Item = &'a str;
 
-    ghost next_gives = { TakesFirst text_of };
+    ghost next_gives = { TakesFirst lent_bytes };
 
     ghost remaining = { λ s. at_most (length s) };
 

@@ -1,12 +1,8 @@
 -- What a wire in memory gives, by the place that it reached.
 use Rattle.std.proofs.Common.{◌≡◌, ℕ, ◌+◌, ◌<◌, List, ◌++◌, take, drop, length, min, sym, ap, ◌∙◌, arith}
 use Rattle.std.proofs.Math.Seq.{take-add}
-use Rattle.std.proofs.lemmas.List.{take-append-drop, nil_from_length}
-use Rattle.std.proofs.lemmas.Grind.{common_steps}
+use Rattle.std.proofs.lemmas.List.{take-append-drop, nil_from_length, drop-drop}
 use Rattle.rx_outside.specs.Source.{Gives}
-
-drop_add : (n m : ℕ) (bytes : List ℕ) → drop m (drop n bytes) ≡ drop (n + m) bytes
-drop_add n m bytes = grind (arith, common_steps)
 
 none_left : (most room left n : ℕ) → 0 < most → 0 < room → n ≡ min most (min room left) → n ≡ 0
     → left ≡ 0
@@ -23,7 +19,7 @@ module _
     gives_next most some is = record {
       front = sym (take-append-drop n (drop at bytes))
           ∙ ap (λ xs. xs ++ drop n (drop at bytes)) (sym copied)
-          ∙ ap (λ xs. take n piece ++ xs) (drop_add at n bytes);
+          ∙ ap (λ xs. take n piece ++ xs) (drop-drop n at bytes);
       at_end = λ more none. nil_from_length _ (none_left _ _ _ n some more is none);
     }
 

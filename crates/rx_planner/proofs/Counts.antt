@@ -12,12 +12,12 @@ use Rattle.rx_document.specs.declared.stored.Stored.{Stored}
 use Rattle.rx_query.proofs.Sorting.{In, sorted-permutes}
 use Rattle.rx_query.specs.Asked.{Asked}
 use Rattle.rx_query.specs.Lists.{sorted}
-use Rattle.rx_query.specs.Result.{is_due, stored_before, cut, result_of, IsCollection}
+use Rattle.rx_query.specs.Result.{is_due, stored_before, at_most, result_of, IsCollection}
 use Rattle.rx_index.proofs.Positions.{position_eq-Decides}
 use Rattle.rx_index.specs.Index.{Indexed, indexed_by, is_key_of, HoldsWhere, is_between, ids_between}
 use Rattle.rx_index.specs.Position.{Position, position_cmp, key_of, id_of}
 use Rattle.rx_planner.specs.Closed.{closed_of}
-use Rattle.rx_planner.specs.Count.{limited, in_window}
+use Rattle.rx_planner.specs.Count.{within_limit, in_window}
 use Rattle.rx_planner.specs.Exact.{is_exact}
 use Rattle.rx_planner.specs.Plan.{Names, path_of, bound_of, IsPlan}
 use Rattle.rx_planner.specs.Rows.{if_due, due_among}
@@ -38,7 +38,7 @@ all_given h (x ∷ xs) some =
     ∙ ap suc (all_given h xs (λ y i. some y (inr i)))
 
 cut_length : {X : Type 0} (limit : Option ℕ) (rows : List X)
-    → length (cut limit rows) ≡ limited limit (length rows)
+    → length (at_most limit rows) ≡ within_limit limit (length rows)
 cut_length None rows = refl
 cut_length (Some limit) rows = length-take limit rows
 
@@ -49,7 +49,7 @@ window_length q docs =
     let due = filter (is_due q) docs in
     let all = sorted (stored_before q) due in
     cut_length q.limit (drop q.skip all)
-    ∙ ap (limited q.limit) (length-drop q.skip all)
+    ∙ ap (within_limit q.limit) (length-drop q.skip all)
     ∙ ap (in_window q) (length_permutation due all (sorted-permutes (stored_before q) due))
 
 -- ---- what stands between the closed bounds

@@ -1,6 +1,6 @@
 -- Closed bounds take in all due documents, and nothing that the bounds of the plan leave out.
 use Rattle.std.proofs.Common.{◌≡◌, Bool, true, false, not, ◌&&◌, List, [], ◌∷◌, map, Option, Some, None, Ordering, Less, Equal, Greater, refl, ap, ◌∙◌}
-use Rattle.std.proofs.lemmas.Bool.{false≢true}
+use Rattle.std.proofs.lemmas.Bool.{false≢true, and_parts, not-true}
 use Rattle.std.proofs.lemmas.Cmp.{tied_itself}
 use Rattle.std.specs.Option.{option_or}
 use Rattle.std.specs.Ordering.{ordering_then, is_le}
@@ -20,7 +20,7 @@ use Rattle.rx_index.specs.Index.{is_between}
 use Rattle.rx_index.specs.Position.{Position, position_with, values_cmp, precedes, key_of}
 use Rattle.rx_planner.specs.Closed.{kind_end, bounding, closed_by, closed_end, closed_at, closed_of}
 use Rattle.rx_planner.specs.Plan.{Names, path_of, operand, strict, loose, end_by, end_at, fixed_or, bound_at, bound_of}
-use Rattle.rx_planner.proofs.Selected.{both_true, of_operand, fixed_value, past, at_end, key_is, due_parts}
+use Rattle.rx_planner.proofs.Selected.{of_operand, fixed_value, past, at_end, key_is, due_parts}
 
 -- what stands at a position or before it, or after it
 abbrev pub meets : Position → List (Option Value) → Bool → Bool
@@ -45,7 +45,8 @@ within_kind _ _ _ xs h = cc
 kind_at : (which : Compare) (x : Option Value) (v : Value) → compares which x v ≡ true
     → (w : Value) × (x ≡ Some w) × (same_kind w v ≡ true)
 kind_at which None v h = absurd (false≢true h)
-kind_at which (Some w) v h = (w, refl, (both_true (same_kind w v) (stands which (value_cmp w v)) h).0)
+kind_at which (Some w) v h =
+    (w, refl, (and_parts (same_kind w v) (stands which (value_cmp w v)) h).0)
 
 by_kind : (up : Bool) (which : Compare) (x : Option Value) (v : Value) (xs : List (Option Value))
     → compares which x v ≡ true → meets (kind_end up v) (x ∷ xs) false ≡ not up
@@ -152,16 +153,12 @@ wider q up (f ∷ fs) ys b h =
           (bounding q (not up) f) ys b
     ]) h
 
-not_true : (b : Bool) → not b ≡ true → b ≡ false
-not_true true h = absurd (false≢true h)
-not_true false h = refl
-
 -- of each bound
 pub between_parts : (low high k : Position) → is_between low high k ≡ true
     → (precedes low k ≡ true) × (precedes high k ≡ false)
 between_parts low high k h =
-    let parts = both_true (precedes low k) (not (precedes high k)) h in
-    (parts.0, not_true (precedes high k) parts.1)
+    let parts = and_parts (precedes low k) (not (precedes high k)) h in
+    (parts.0, not-true (precedes high k) parts.1)
 
 pub between_wider : (q : Asked) (path : Names) (k : Position)
     → is_between (closed_of q false path) (closed_of q true path) k ≡ true

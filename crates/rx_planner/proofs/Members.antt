@@ -1,19 +1,11 @@
 -- Members of lists, and lists whose members stand pair by pair in a relation.
-use Rattle.std.proofs.Common.{◌≡◌, inl, inr, Bool, true, false, cond, List, [], ◌∷◌, ◌++◌, map, filter, Option, Some, None, Ordering, Less, Greater, refl, sym, ap, ◌∙◌, subst}
+use Rattle.std.proofs.Common.{◌≡◌, inl, inr, Bool, true, false, cond, List, [], ◌∷◌, ◌++◌, map, filter, Option, Some, None, Ordering, Less, refl, sym, ap, ◌∙◌}
 use Rattle.std.proofs.lemmas.Bool.{false≢true}
-use Rattle.std.proofs.lemmas.Map.Keys.{sorted_head, sorted_tail}
-use Rattle.std.specs.Cmp.{IsTotalOrder}
 use Rattle.std.specs.List.{AllByRecursion, IsDistinct, filter_map, cons_option}
 use Rattle.std.specs.List.Sorted.{IsStrictlySortedBy}
-use Rattle.std.specs.Ordering.{ordering_reverse}
 use Rattle.rx_query.proofs.Sorting.{In}
 
 -- ---- members
-
-pub all_in : {X : Type 0} (P : X → Type 0) (xs : List X) → AllByRecursion P xs → (z : X) → In z xs → P z
-all_in P [] h z i = absurd i
-all_in P (x ∷ xs) h z (inl e) = subst P (sym e) h.0
-all_in P (x ∷ xs) h z (inr i) = all_in P xs h.1 z i
 
 pub in_filter : {X : Type 0} (p : X → Bool) (xs : List X) (z : X) → In z xs → p z ≡ true
     → In z (filter p xs)
@@ -135,49 +127,3 @@ module _ {X Y : Type 0} (R : X → X → Type 0) (S : Y → Y → Type 0) (h : X
           rest,
         ))
       ]) refl
-
--- ---- strictly sorted lists with the same members are one
-
-module _ {X : Type 0} (cmp : X → X → Ordering) (o : IsTotalOrder cmp) where
-  itself : (x : X) → cmp x x ≡ Less → ⊥
-  itself x h =
-      let back : cmp x x ≡ Greater = o.antisymm x x ∙ ap ordering_reverse h in
-      let bad : Less ≡ Greater = cc in cc
-
-  tail_in : (x : X) (xs ys : List X) → AllByRecursion (λ z. cmp x z ≡ Less) xs
-      → ((z : X) → In z (x ∷ xs) → In z (x ∷ ys)) → (z : X) → In z xs → In z ys
-  tail_in x xs ys h sub z i =
-      elim (sub z (inr i)) [
-        | inl e ↦ absurd (itself x (subst (λ w. cmp x w ≡ Less) e
-            (all_in (λ w. cmp x w ≡ Less) xs h z i)))
-        | inr k ↦ k
-      ]
-
-  pub same_members : (xs ys : List X) → IsStrictlySortedBy cmp xs → IsStrictlySortedBy cmp ys
-      → ((z : X) → In z xs → In z ys) → ((z : X) → In z ys → In z xs) → xs ≡ ys
-  same_members [] [] up up' to from = refl
-  same_members [] (y ∷ ys) up up' to from = absurd (from y (inl refl))
-  same_members (x ∷ xs) [] up up' to from = absurd (to x (inl refl))
-  same_members (x ∷ xs) (y ∷ ys) up up' to from =
-      let above_x = sorted_head cmp x xs up in
-      let above_y = sorted_head cmp y ys up' in
-      let same : x ≡ y =
-      elim (to x (inl refl)) [
-        | inl e ↦ e
-        | inr i ↦
-            elim (from y (inl refl)) [
-              | inl e ↦ sym e
-              | inr k ↦ absurd (itself x (o.trans x y x
-                  (all_in (λ w. cmp x w ≡ Less) xs above_x y k)
-                  (all_in (λ w. cmp y w ≡ Less) ys above_y x i)))
-            ]
-      ] in
-      let to' : (z : X) → In z (x ∷ xs) → In z (x ∷ ys) =
-      subst (λ w. (z : X) → In z (x ∷ xs) → In z (w ∷ ys)) (sym same) to in
-      let from' : (z : X) → In z (x ∷ ys) → In z (x ∷ xs) =
-      subst (λ w. (z : X) → In z (w ∷ ys) → In z (x ∷ xs)) (sym same) from in
-      let above : AllByRecursion (λ z. cmp x z ≡ Less) ys =
-      subst (λ w. AllByRecursion (λ z. cmp w z ≡ Less) ys) (sym same) above_y in
-      ap (λ w. w ∷ xs) same
-      ∙ ap (λ zs. y ∷ zs) (same_members xs ys (sorted_tail cmp x xs up) (sorted_tail cmp y ys up')
-      (tail_in x xs ys above_x to') (tail_in x ys xs above from'))

@@ -1,6 +1,6 @@
 -- An index whose plan is ordered has the due documents in the query's order.
 use Rattle.std.proofs.Common.{◌≡◌, ℕ, suc, true, false, not, cond, ◌&&◌, List, [], ◌∷◌, ◌++◌, map, drop, Some, None, is_some, Ordering, Less, Equal, Greater, refl, sym, ap, ◌∙◌}
-use Rattle.std.proofs.lemmas.Bool.{false≢true}
+use Rattle.std.proofs.lemmas.Bool.{false≢true, and_parts}
 use Rattle.std.proofs.lemmas.Cmp.{tied_itself}
 use Rattle.std.proofs.lemmas.Slice.Eq.{bytes_eq-Decides, slice_eq-Decides}
 use Rattle.std.specs.Cmp.Lexicographic.{pointwise}
@@ -20,7 +20,7 @@ use Rattle.rx_query.specs.Order.{field_cmp, sort_cmp, sorts_cmp, query_cmp}
 use Rattle.rx_query.specs.Result.{is_due, stored_cmp}
 use Rattle.rx_index.specs.Position.{position_with, values_cmp, position_cmp, key_of}
 use Rattle.rx_planner.specs.Plan.{Names, path_of, operand, is_fixed, leading, rest_of, sort_path, rises_freely, is_ordered}
-use Rattle.rx_planner.proofs.Selected.{both_true, fixed_value, key_is, due_parts}
+use Rattle.rx_planner.proofs.Selected.{fixed_value, key_is, due_parts}
 
 -- names as a sort by them
 abbrev rising : Names → Sorts
@@ -65,7 +65,7 @@ module _ (x y : Pairs) where
       → sorts_cmp ss x y ≡ sorts_cmp (rising (map (λ s. s.0) ss)) x y
   sorts_rise q [] h = refl
   sorts_rise q (s ∷ ss) h =
-      let parts = both_true (rises_freely q s) (list_all (rises_freely q) ss) h in
+      let parts = and_parts (rises_freely q s) (list_all (rises_freely q) ss) h in
       let up : s.1 ≡ false =
       (elim s.1 as (λ b. (not b && not (is_fixed q s.0)) ≡ true → b ≡ false)
       [ true ↦ (λ e. absurd (false≢true e)) | false ↦ (λ e. refl) ]) parts.0 in
@@ -109,7 +109,8 @@ keys_in_order q fields d e ordered due_d due_e carried_d carried_e less =
     let path = path_of q fields in
     let live_d = due_parts q d due_d in
     let live_e = due_parts q e due_e in
-    let parts = both_true (list_all (rises_freely q) q.sorts) (pointwise bytes_eq (sort_path q) (rest_of q path)) ordered in
+    let parts = and_parts (list_all (rises_freely q) q.sorts)
+    (pointwise bytes_eq (sort_path q) (rest_of q path)) ordered in
     let same : sort_path q ≡ rest_of q path =
     (slice_eq-Decides bytes_eq-Decides (sort_path q) (rest_of q path)
     (pointwise bytes_eq (sort_path q) (rest_of q path)) refl).0 parts.1 in

@@ -14,7 +14,7 @@ use Rattle.rx_query.proofs.Orders.{query_total}
 use Rattle.rx_query.proofs.Rows.{lent_cmp}
 use Rattle.rx_query.proofs.Sorting.{sorted-permutes, one_order, ordered-sorted, strict_from_sort}
 use Rattle.rx_query.specs.Asked.{Asked}
-use Rattle.rx_query.specs.Lists.{placed, sorted}
+use Rattle.rx_query.specs.Lists.{insert_in_order, sorted}
 use Rattle.rx_query.specs.Result.{stored_cmp, stored_before}
 use Rattle.rx_planner.proofs.Lists.{take_placed}
 
@@ -81,21 +81,21 @@ stored_total q = on_total (λ (d : Stored). d.state.fields) (query_total q)
 
 -- ---- one document after another
 
--- each placed in turn among rows in order
+-- each insert_in_order in turn among rows in order
 abbrev pub all_placed : Asked → List Stored → List Stored → List Stored
 all_placed q rows [] = rows
-all_placed q rows (d ∷ ds) = all_placed q (placed (stored_before q) d rows) ds
+all_placed q rows (d ∷ ds) = all_placed q (insert_in_order (stored_before q) d rows) ds
 
 -- the first n don't depend on rows behind them
 pub take_all_placed : (q : Asked) (n : ℕ) (rows ds : List Stored)
     → take n (all_placed q (take n rows) ds) ≡ take n (all_placed q rows ds)
 take_all_placed q n rows [] = take-take n n rows (omega arith)
 take_all_placed q n rows (d ∷ ds) =
-    sym (take_all_placed q n (placed (stored_before q) d (take n rows)) ds)
+    sym (take_all_placed q n (insert_in_order (stored_before q) d (take n rows)) ds)
     ∙ ap (λ xs. take n (all_placed q xs ds)) (take_placed (stored_before q) n d rows)
-    ∙ take_all_placed q n (placed (stored_before q) d rows) ds
+    ∙ take_all_placed q n (insert_in_order (stored_before q) d rows) ds
 
--- ---- placed one by one, or sorted
+-- ---- insert_in_order one by one, or sorted
 
 abbrev pub turned_onto : List Stored → List Stored → List Stored
 turned_onto [] xs = xs

@@ -20,10 +20,10 @@ use Rattle.rx_document.specs.Documents.{Documents}
 use Rattle.rx_document.specs.declared.stored.Stored.{Stored}
 use Rattle.rx_query.proofs.Orders.{keys_decide}
 use Rattle.rx_query.proofs.Rows.{one_result, are_keyed, other_key}
-use Rattle.rx_query.proofs.Sorting.{In, in-permutation, sorted-permutes, ordered-sorted}
+use Rattle.rx_query.proofs.Sorting.{In, in-permutation, sorted-permutes, ordered-sorted, same_members}
 use Rattle.rx_query.specs.Asked.{Asked}
 use Rattle.rx_query.specs.Lists.{sorted}
-use Rattle.rx_query.specs.Result.{is_due, stored_cmp, stored_before, cut, result_of, IsCollection}
+use Rattle.rx_query.specs.Result.{is_due, stored_cmp, stored_before, at_most, result_of, IsCollection}
 use Rattle.rx_index.proofs.Positions.{position_eq-Decides, id_of-key_of, itself}
 use Rattle.rx_index.specs.Index.{Indexed, indexed_by, has_key, is_key_of, HoldsWhere, is_between, ids_between}
 use Rattle.rx_index.specs.Position.{Position, position_cmp, key_of, id_of}
@@ -32,7 +32,7 @@ use Rattle.rx_planner.specs.Rows.{if_due, due_among, most_rows, IsFull}
 use Rattle.rx_planner.specs.declared.planned.Plan.{Plan}
 use Rattle.rx_planner.proofs.Best.{path_read}
 use Rattle.rx_planner.proofs.Lists.{cut_front}
-use Rattle.rx_planner.proofs.Members.{distinct_front, in_filter, from_filter, in_filter_map, from_filter_map, filter_map-map, Pairwise, pairwise_strict, strict_pairwise, distinct_pairwise, becomes, same_members}
+use Rattle.rx_planner.proofs.Members.{distinct_front, in_filter, from_filter, in_filter_map, from_filter_map, filter_map-map, Pairwise, pairwise_strict, strict_pairwise, distinct_pairwise, becomes}
 use Rattle.rx_planner.proofs.Ordered.{keys_in_order}
 use Rattle.rx_planner.proofs.Rising.{stored_total, differ, differ_moved, sorted_alike}
 use Rattle.rx_planner.proofs.Selected.{due_between}
@@ -272,15 +272,15 @@ module _ (q : Asked) (documents : Documents) (fields : Names) (keys : List Posit
 
 -- what is wanted, without what is skipped
 pub window : (q : Asked) (rows : List Stored)
-    → drop q.skip (cut (most_rows q) rows) ≡ cut q.limit (drop q.skip rows)
+    → drop q.skip (at_most (most_rows q) rows) ≡ at_most q.limit (drop q.skip rows)
 window q rows =
-    elim q.limit as (λ o. drop q.skip (cut (option_map (λ limit. q.skip + limit) o) rows)
-    ≡ cut o (drop q.skip rows))
+    elim q.limit as (λ o. drop q.skip (at_most (option_map (λ limit. q.skip + limit) o) rows)
+    ≡ at_most o (drop q.skip rows))
     [ None ↦ refl | Some limit ↦ drop-take q.skip limit rows ]
 
 -- so many first ones are those that are wanted
 pub wanted : (most : Option ℕ) (n : ℕ) (ids : List (List ℕ)) (rows : List Stored)
-    → IsFull most n ids → (ids ≡ [] → length rows ≡ n) → take n rows ≡ cut most rows
+    → IsFull most n ids → (ids ≡ [] → length rows ≡ n) → take n rows ≡ at_most most rows
 wanted None n ids rows full long =
     let h : length rows ≡ n = long full in take_all n rows (omega (arith, h))
 wanted (Some m) n ids rows (inl is) long = ap (λ k. take k rows) is
@@ -302,7 +302,7 @@ module _ (q : Asked) (documents : Documents) (fields : Names) (keys : List Posit
   run_ordered rows ids parts full ordered =
       ap (drop q.skip)
       (cut_front (most_rows q) rows (due_among q documents ids) ids full (λ e. ap (due_among q documents) e)
-      ∙ ap (cut (most_rows q)) (parts ∙ met_ordered q documents fields keys low high collection up held encloses ordered))
+      ∙ ap (at_most (most_rows q)) (parts ∙ met_ordered q documents fields keys low high collection up held encloses ordered))
       ∙ window q (sorted (stored_before q) (filter (is_due q) (values_of documents)))
 
   -- some in order, and the others

@@ -1,6 +1,6 @@
 -- What a selector that holds says of a field, and between which bounds its document stands.
 use Rattle.std.proofs.Common.{◌≡◌, ℕ, Bool, true, false, not, cond, ◌&&◌, List, [], ◌∷◌, ◌++◌, map, Option, Some, None, Ordering, Less, Equal, Greater, refl, sym, ap, ◌∙◌, subst}
-use Rattle.std.proofs.lemmas.Bool.{false≢true}
+use Rattle.std.proofs.lemmas.Bool.{false≢true, and_parts}
 use Rattle.std.proofs.lemmas.Cmp.{tied_itself}
 use Rattle.std.proofs.lemmas.List.{map-append}
 use Rattle.std.proofs.lemmas.Slice.Eq.{bytes_eq-Decides}
@@ -27,11 +27,6 @@ use Rattle.rx_index.specs.Index.{is_between}
 use Rattle.rx_index.specs.Position.{position_with, values_cmp, precedes, key_of}
 use Rattle.rx_planner.specs.Plan.{Names, path_of, operand, strict, loose, end_by, end_at, fixed_or, bound_at, bound_of}
 
--- both of two tests
-pub both_true : (a b : Bool) → (a && b) ≡ true → (a ≡ true) × (b ≡ true)
-both_true true b h = (refl, h)
-both_true false b h = absurd (false≢true h)
-
 -- ---- operands
 
 of_test : (which : Compare) (t : Test) (v : Value) (x : Option Value)
@@ -52,7 +47,7 @@ of_tests : (which : Compare) (ts : Tests) (v : Value) (x : Option Value)
     → operand_among which ts ≡ Some v → tests_hold ts x ≡ true → compares which x v ≡ true
 of_tests which no_tests v x is h = cc
 of_tests which (test t ts) v x is h =
-    let parts = both_true (test_holds t x) (tests_hold ts x) h in
+    let parts = and_parts (test_holds t x) (tests_hold ts x) h in
     (elim (operand_of which t) as (λ o. operand_of which t ≡ o
     → option_or o (operand_among which ts) ≡ Some v → compares which x v ≡ true) [
       | None ↦ (λ _ rest. of_tests which ts v x rest parts.1)
@@ -64,7 +59,7 @@ of_clauses : (name : List ℕ) (cs : Clauses) (fields : Pairs) (ts : Tests)
     → tests_hold ts (named fields name) ≡ true
 of_clauses name no_clauses fields ts is h = cc
 of_clauses name (clause (on_field n us) cs) fields ts is h =
-    let parts = both_true (tests_hold us (named fields n)) (all_hold cs fields) h in
+    let parts = and_parts (tests_hold us (named fields n)) (all_hold cs fields) h in
     (elim (bytes_eq n name) as (λ b. bytes_eq n name ≡ b
     → cond b (Some us) (tests_on name cs) ≡ Some ts → tests_hold ts (named fields name) ≡ true) [
       | true ↦ (λ e at.
@@ -74,11 +69,14 @@ of_clauses name (clause (on_field n us) cs) fields ts is h =
       | false ↦ (λ e at. of_clauses name cs fields ts at parts.1)
     ]) refl is
 of_clauses name (clause (all ds) cs) fields ts is h =
-    of_clauses name cs fields ts is (both_true (clause_holds (all ds) fields) (all_hold cs fields) h).1
+    of_clauses name cs fields ts is
+    (and_parts (clause_holds (all ds) fields) (all_hold cs fields) h).1
 of_clauses name (clause (any ds) cs) fields ts is h =
-    of_clauses name cs fields ts is (both_true (clause_holds (any ds) fields) (all_hold cs fields) h).1
+    of_clauses name cs fields ts is
+    (and_parts (clause_holds (any ds) fields) (all_hold cs fields) h).1
 of_clauses name (clause (nor ds) cs) fields ts is h =
-    of_clauses name cs fields ts is (both_true (clause_holds (nor ds) fields) (all_hold cs fields) h).1
+    of_clauses name cs fields ts is
+    (and_parts (clause_holds (nor ds) fields) (all_hold cs fields) h).1
 
 -- a field stands to each operand as its operator says
 pub of_operand : (q : Asked) (field : List ℕ) (which : Compare) (v : Value) (fields : Pairs)
@@ -96,7 +94,8 @@ of_operand q field which v fields is h =
 value_at : (which : Compare) (x : Option Value) (v : Value) → compares which x v ≡ true
     → (w : Value) × (x ≡ Some w) × (stands which (value_cmp w v) ≡ true)
 value_at which None v h = absurd (false≢true h)
-value_at which (Some w) v h = (w, refl, (both_true (same_kind w v) (stands which (value_cmp w v)) h).1)
+value_at which (Some w) v h =
+    (w, refl, (and_parts (same_kind w v) (stands which (value_cmp w v)) h).1)
 
 -- a fixed field has the value that is asked for
 pub fixed_value : (q : Asked) (field : List ℕ) (v : Value) (fields : Pairs)
@@ -220,7 +219,7 @@ key_is q fields d live carried =
 pub due_parts : (q : Asked) (d : Stored) → is_due q d ≡ true
     → (d.state.deleted ≡ false) × (all_hold q.clauses d.state.fields ≡ true)
 due_parts q d h =
-    let parts = both_true (not d.state.deleted) (all_hold q.clauses d.state.fields) h in (
+    let parts = and_parts (not d.state.deleted) (all_hold q.clauses d.state.fields) h in (
       (elim d.state.deleted as (λ b. not b ≡ true → b ≡ false)
           [ true ↦ (λ e. absurd (false≢true e)) | false ↦ (λ e. refl) ]) parts.0,
       parts.1,

@@ -1,7 +1,7 @@
 -- Rows that stand for all, as documents come.
-use Rattle.std.proofs.Common.{◌≡◌, ℕ, Some, None, zero, suc, length-append, ◌-◌, ◌<◌, ◌≤◌, Bool, true, false, cond, List, [], ◌∷◌, ◌++◌, take, drop, length, get_or, append_assoc, refl, sym, ap, ◌∙◌, subst, arith}
+use Rattle.std.proofs.Common.{◌≡◌, ℕ, Some, zero, suc, length-append, ◌-◌, ◌<◌, ◌≤◌, Bool, true, false, cond, List, [], ◌∷◌, ◌++◌, take, drop, length, get_or, append_assoc, refl, sym, ap, ◌∙◌, subst, arith}
 use Rattle.std.proofs.lemmas.Bool.{false≢true}
-use Rattle.std.proofs.lemmas.List.{append-nil, get_or-take, take-append-le, take-append-drop, take-take, length-take-le}
+use Rattle.std.proofs.lemmas.List.{get_or-take, take-append-le, take-append-drop, take-take, length-take-le}
 use Rattle.std.proofs.lemmas.List.Sorted.{IsPermutation-middle, IsPermutation-append_left, length_permutation}
 use Rattle.std.specs.List.{AllByRecursion, IsDistinct, cons_option}
 use Rattle.std.specs.List.Sorted.{IsPermutation, IsStrictlySortedBy}
@@ -9,11 +9,12 @@ use Rattle.std.specs.Ordering.{eq_by_cmp}
 use Rattle.std.specs.declared.cmp.Ordering.{Ordering}
 use Rattle.std.specs.declared.cmp.Ordering.TheVariants.{Less}
 use Rattle.rx_value.specs.Named.{named}
+use Rattle.rx_value.proofs.Lists.{all_taken}
 use Rattle.rx_document.specs.Documents.{Documents}
 use Rattle.rx_document.specs.declared.stored.Stored.{Stored}
 use Rattle.rx_query.proofs.Sorting.{sorted-permutes, ordered-sorted}
 use Rattle.rx_query.specs.Asked.{Asked}
-use Rattle.rx_query.specs.Lists.{placed, sorted}
+use Rattle.rx_query.specs.Lists.{insert_in_order, sorted}
 use Rattle.rx_query.specs.Result.{stored_cmp, stored_before}
 use Rattle.rx_planner.specs.Rows.{if_due, due_among, StandsFor}
 use Rattle.rx_planner.proofs.Members.{distinct_front}
@@ -23,12 +24,6 @@ use Rattle.rx_planner.proofs.Rising.{stored_total, rising_strict, upward, all_pl
 
 -- the first of what is in order are in order
 module _ {X : Type 0} where
-  all_taken : (P : X → Type 0) (n : ℕ) (xs : List X) → AllByRecursion P xs
-      → AllByRecursion P (take n xs)
-  all_taken P zero xs h = tt
-  all_taken P (suc n) [] h = tt
-  all_taken P (suc n) (x ∷ xs) h = (h.0, all_taken P n xs h.1)
-
   strict_take : (cmp : X → X → Ordering) (n : ℕ) (xs : List X) → IsStrictlySortedBy cmp xs
       → IsStrictlySortedBy cmp (take n xs)
   unfolding IsStrictlySortedBy
@@ -52,19 +47,13 @@ module _ {X : Type 0} where
   distinct_without same (x ∷ xs) ys zs h =
       (all_without (λ y. same x y ≡ false) xs ys zs h.0, distinct_without same xs ys zs h.1)
 
-  -- within a list no default counts
-  pub get_or_within : (xs : List X) (k : ℕ) (d e : X) → k < length xs → get_or xs k d ≡ get_or xs k e
-  get_or_within [] k d e h = absurd (omega arith)
-  get_or_within (x ∷ xs) zero d e h = refl
-  get_or_within (x ∷ xs) (suc k) d e h = get_or_within xs k d e (omega arith)
-
   -- one that precedes none stands behind all
   behind_all : (before : X → X → Bool) (x : X) (xs : List X)
       → ((k : ℕ) (d : X) → k < length xs → before x (get_or xs k d) ≡ false)
-      → take (length xs) (placed before x xs) ≡ xs
+      → take (length xs) (insert_in_order before x xs) ≡ xs
   behind_all before x [] none = refl
   behind_all before x (y ∷ ys) none =
-      ap (λ b. take (suc (length ys)) (cond b (x ∷ y ∷ ys) (y ∷ placed before x ys)))
+      ap (λ b. take (suc (length ys)) (cond b (x ∷ y ∷ ys) (y ∷ insert_in_order before x ys)))
       (none 0 y (omega arith))
       ∙ ap (λ zs. y ∷ zs) (behind_all before x ys (λ k d h. none (suc k) d (omega arith)))
 
@@ -119,14 +108,14 @@ module _ (q : Asked) where
       distinct_without (eq_by_cmp (stored_cmp q)) [] (d ∷ []) (first ++ others) with_parts in
       let alone : differ q first = distinct_front (eq_by_cmp (stored_cmp q)) first others without_it in
       let already : sorted before first ≡ first = sorted_already q first up alone in
-      let cut : take n (placed before d first) ≡ first =
-      subst (λ k. take k (placed before d first) ≡ first) long
+      let cut : take n (insert_in_order before d first) ≡ first =
+      subst (λ k. take k (insert_in_order before d first) ≡ first) long
       (behind_all before d first (λ k e h. none k e (omega (arith, long, h)))) in
       sym (ap (λ xs. take n (sorted before xs)) is)
       ∙ ap (take n) (sym (placed_sorted q first others without_it))
       ∙ ap (λ xs. take n (all_placed q xs others)) (already ∙ sym cut)
-      ∙ take_all_placed q n (placed before d first) others
-      ∙ ap (λ xs. take n (all_placed q (placed before d xs) others)) (sym already)
+      ∙ take_all_placed q n (insert_in_order before d first) others
+      ∙ ap (λ xs. take n (all_placed q (insert_in_order before d xs) others)) (sym already)
       ∙ ap (take n) (placed_sorted q (d ∷ first) others with_parts)
       ∙ ap (λ xs. take n (sorted before (d ∷ xs))) is
       ∙ ap (take n) (sym (sorted_alike q (rows ++ d ∷ rest) (d ∷ (rows ++ rest)) moved apart))

@@ -1,6 +1,6 @@
 -- Where the bounds say all that the selector does, what stands between them is due.
 use Rattle.std.proofs.Common.{◌≡◌, inl, inr, ◌⊎◌, ℕ, ◌≤◌, Bool, true, false, not, cond, ◌&&◌, List, [], ◌∷◌, map, Option, Some, None, is_some, Ordering, Less, Equal, Greater, refl, sym, ap, ◌∙◌, subst, arith}
-use Rattle.std.proofs.lemmas.Bool.{false≢true}
+use Rattle.std.proofs.lemmas.Bool.{false≢true, and_parts, and_from}
 use Rattle.std.proofs.lemmas.Slice.Eq.{bytes_eq-Decides}
 use Rattle.std.specs.Cmp.{Equal-is}
 use Rattle.std.specs.Option.{option_or}
@@ -25,10 +25,7 @@ use Rattle.rx_planner.specs.Closed.{kind_end, closed_by, closed_end, closed_at, 
 use Rattle.rx_planner.specs.Exact.{is_value, has_kind, have_kind, fixes, bounds, is_told, are_told, all_told, is_exact}
 use Rattle.rx_planner.specs.Plan.{Names, path_of, operand, end_by, fixed_or}
 use Rattle.rx_planner.proofs.Enclosed.{meets, between_parts}
-use Rattle.rx_planner.proofs.Selected.{both_true, past, key_with}
-
-both : (a b : Bool) → a ≡ true → b ≡ true → (a && b) ≡ true
-both a b h k = ap (λ c. c && b) h ∙ k
+use Rattle.rx_planner.proofs.Selected.{past, key_with}
 
 -- ---- kinds in their order
 
@@ -279,11 +276,11 @@ module _ (q : Asked) (f : List ℕ) (v : Value) (xs : List (Option Value)) where
   one_side Gt h = inl (some_first (operand q f Gt) (operand q f Gte) v h)
   one_side Gte h =
       inl (some_second (operand q f Gt) (operand q f Gte) v
-      (both_true (not (is_some (operand q f Gt))) (is_value (operand q f Gte) v) h).1)
+      (and_parts (not (is_some (operand q f Gt))) (is_value (operand q f Gte) v) h).1)
   one_side Lt h = inr (some_first (operand q f Lt) (operand q f Lte) v h)
   one_side Lte h =
       inr (some_second (operand q f Lt) (operand q f Lte) v
-      (both_true (not (is_some (operand q f Lt))) (is_value (operand q f Lte) v) h).1)
+      (and_parts (not (is_some (operand q f Lt))) (is_value (operand q f Lte) v) h).1)
 
   stands_so : (which : Compare) (w : Value)
       → meets (closed_end q false f) (Some w ∷ xs) false ≡ true
@@ -300,22 +297,22 @@ module _ (q : Asked) (f : List ℕ) (v : Value) (xs : List (Option Value)) where
     of which = has_kind (operand q f which) v
 
     three : (of Gt && of Gte && of Lt) ≡ true
-    three = (both_true (of Gt && of Gte && of Lt) (of Lte) kinds).0
+    three = (and_parts (of Gt && of Gte && of Lt) (of Lte) kinds).0
 
     of_lte : of Lte ≡ true
-    of_lte = (both_true (of Gt && of Gte && of Lt) (of Lte) kinds).1
+    of_lte = (and_parts (of Gt && of Gte && of Lt) (of Lte) kinds).1
 
     two : (of Gt && of Gte) ≡ true
-    two = (both_true (of Gt && of Gte) (of Lt) three).0
+    two = (and_parts (of Gt && of Gte) (of Lt) three).0
 
     of_lt : of Lt ≡ true
-    of_lt = (both_true (of Gt && of Gte) (of Lt) three).1
+    of_lt = (and_parts (of Gt && of Gte) (of Lt) three).1
 
     of_gt : of Gt ≡ true
-    of_gt = (both_true (of Gt) (of Gte) two).0
+    of_gt = (and_parts (of Gt) (of Gte) two).0
 
     of_gte : of Gte ≡ true
-    of_gte = (both_true (of Gt) (of Gte) two).1
+    of_gte = (and_parts (of Gt) (of Gte) two).1
 
     at_least : (which : Compare) (x : Option Value) → bounds q f which v ≡ true
         → meets (closed_end q false f) (x ∷ xs) false ≡ true → AtLeast v x
@@ -338,7 +335,7 @@ module _ (q : Asked) (f : List ℕ) (v : Value) (xs : List (Option Value)) where
         → compares which x v ≡ true
     next_holds which None low high h = absurd (at_least which None h low)
     next_holds which (Some w) low high h =
-        both (same_kind w v) (stands which (value_cmp w v))
+        and_from (same_kind w v) (stands which (value_cmp w v))
         (rank_same w v (at_least which (Some w) h low) (at_most which w h high))
         (stands_so which w low high h)
 
@@ -356,7 +353,8 @@ fixed_holds : (q : Asked) (f : List ℕ) (e v : Value) (which : Compare) (x : Op
     → operand q f Eq ≡ Some e → x ≡ Some e → fixes q f which v ≡ true → compares which x v ≡ true
 fixed_holds q f e v Eq x is at h =
     let same : is_eq (value_cmp e v) ≡ true = ap (λ o. is_value o v) (sym is) ∙ h in
-    ap (λ z. compares Eq z v) at ∙ both (same_kind e v) (is_eq (value_cmp e v)) (tied_kind e v same) same
+    ap (λ z. compares Eq z v) at
+    ∙ and_from (same_kind e v) (is_eq (value_cmp e v)) (tied_kind e v same) same
 fixed_holds q f e v Gt x is at h = absurd (false≢true h)
 fixed_holds q f e v Gte x is at h = absurd (false≢true h)
 fixed_holds q f e v Lt x is at h = absurd (false≢true h)
@@ -390,8 +388,8 @@ module _ (q : Asked) (fields : Pairs) (name : List ℕ) (which : Compare) (v : V
               | false ↦ (λ same k. told_holds fs r.1 r.2 k)
             ]) refl t)
         | None ↦ (λ is l h t.
-            let first = both_true (bytes_eq f name && bounds q f which v) (have_kind q f v) t in
-            let second = both_true (bytes_eq f name) (bounds q f which v) first.0 in
+            let first = and_parts (bytes_eq f name && bounds q f which v) (have_kind q f v) t in
+            let second = and_parts (bytes_eq f name) (bounds q f which v) first.0 in
             subst (λ n. compares which (named fields n) v ≡ true) ((bytes_eq-Decides f name).0 second.0)
             (next_holds q f v xs first.1 which (named fields f) l h second.1))
       ]) refl low high told
@@ -403,8 +401,8 @@ module _ (q : Asked) (fields : Pairs) (path : Names)
       → tests_hold ts (named fields name) ≡ true
   tests_told name no_tests h = refl
   tests_told name (test (compared which v) ts) h =
-      let parts = both_true (is_told q path name which v) (are_told q path name ts) h in
-      both (compares which (named fields name) v) (tests_hold ts (named fields name))
+      let parts = and_parts (is_told q path name which v) (are_told q path name ts) h in
+      and_from (compares which (named fields name) v) (tests_hold ts (named fields name))
       (told_holds q fields name which v path low high parts.0) (tests_told name ts parts.1)
   tests_told name (test (differs v) ts) h = absurd (false≢true h)
   tests_told name (test (one_of vs) ts) h = absurd (false≢true h)
@@ -416,8 +414,8 @@ module _ (q : Asked) (fields : Pairs) (path : Names)
   clauses_told : (cs : Clauses) → all_told q path cs ≡ true → all_hold cs fields ≡ true
   clauses_told no_clauses h = refl
   clauses_told (clause (on_field name ts) cs) h =
-      let parts = both_true (are_told q path name ts) (all_told q path cs) h in
-      both (tests_hold ts (named fields name)) (all_hold cs fields) (tests_told name ts parts.0)
+      let parts = and_parts (are_told q path name ts) (all_told q path cs) h in
+      and_from (tests_hold ts (named fields name)) (all_hold cs fields) (tests_told name ts parts.0)
       (clauses_told cs parts.1)
   clauses_told (clause (all ds) cs) h = absurd (false≢true h)
   clauses_told (clause (any ds) cs) h = absurd (false≢true h)
@@ -446,5 +444,5 @@ closed_due q fields d exact carried h =
     (values_cmp (closed_at q false path).values (closed_at q false path).after xs false)
     (values_cmp (closed_at q true path).values (closed_at q true path).after xs false)
     parts.0 parts.1 in
-    both (not d.state.deleted) (all_hold q.clauses d.state.fields) (kept d.state.deleted r.0)
+    and_from (not d.state.deleted) (all_hold q.clauses d.state.fields) (kept d.state.deleted r.0)
     (clauses_told q d.state.fields path r.1 r.2 q.clauses exact)

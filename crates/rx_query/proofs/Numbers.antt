@@ -1,21 +1,12 @@
 -- Answers as the bits of a number.
-use Rattle.std.proofs.Common.{◌≡◌, ℕ, zero, suc, ◌+◌, ◌*◌, ◌/◌, ◌%◌, ◌^◌, ◌<◌, Bool, true, false, eqb, cond, List, [], ◌∷◌, get_or, length, map, refl, sym, ap, ◌∙◌, arith}
+use Rattle.std.proofs.Common.{◌≡◌, ℕ, zero, suc, ◌*◌, ◌^◌, ◌<◌, Bool, false, eqb, List, [], ◌∷◌, get_or, length, map, refl, sym, ap, ◌∙◌, arith}
 use Rattle.std.proofs.lemmas.Nat.Bits.{bit_at-suc, bit_at_lowest, bit_at-zero}
 use Rattle.rx_query.specs.States.{number, number_of}
 use Rattle.rx_table.specs.States.{all_states, holds, is_set, index_of, state_count}
 use Rattle.rx_table.specs.Rows.{action_of, table_of}
 use Rattle.rx_table.specs.declared.states.StateName.{StateName}
 use Rattle.rx_table.specs.declared.states.StateName.TheVariants.{IsInsert, IsUpdate, IsDelete, HasLimit, IsFindOne, HasSkip, WasResultsEmpty, PreviousUnknown, WasLimitReached, SortParamsChanged, WasInResult, WasFirst, WasLast, WasSortedBeforeFirst, WasSortedAfterLast, IsSortedBeforeFirst, IsSortedAfterLast, WasMatching, DoesMatchNow}
-
--- what is left of the number after its lowest bit
-half : (b : Bool) (n : ℕ) → (cond b 1 0 + 2 * n) / 2 ≡ n
-half true n = omega arith
-half false n = omega arith
-
--- its lowest bit
-odd : (b : Bool) (n : ℕ) → eqb ((cond b 1 0 + 2 * n) % 2) 1 ≡ b
-odd true n = let r : (1 + 2 * n) % 2 ≡ 1 = omega arith in rw r refl
-odd false n = let r : (0 + 2 * n) % 2 ≡ 0 = omega arith in rw r refl
+use Rattle.rx_table.proofs.Bits.{half, odd, small_step}
 
 -- each bit by its place
 set-number : (i : ℕ) (bs : List Bool) → is_set (number bs) i ≡ get_or bs i false
@@ -58,11 +49,6 @@ state_held is s = sym (holds-number_of is s)
 -- the table of the number of the answers
 pub table_of-number_of : (is : StateName → Bool) → table_of (number_of is) ≡ action_of is
 table_of-number_of is = ap action_of (λ i s. holds-number_of is s i)
-
--- one bit more doubles the range
-small_step : (b : Bool) (n p : ℕ) → n < p → cond b 1 0 + 2 * n < 2 * p
-small_step true n p lt = omega arith
-small_step false n p lt = omega arith
 
 -- so many bits stay below that power
 number-small : (bs : List Bool) → number bs < 2 ^ length bs

@@ -13,6 +13,7 @@ use Rattle.rx_value.specs.Fields.{Pairs}
 use Rattle.rx_value.specs.Named.{named}
 use Rattle.rx_value.specs.Order.{order_of, text_cmp}
 use Rattle.rx_value.specs.declared.value.Value.TheVariants.{Text}
+use Rattle.rx_value.proofs.Orderings.{both_tie, then_first}
 use Rattle.rx_query.specs.Asked.{Sorts, Asked}
 use Rattle.rx_query.specs.Order.{field_cmp, sort_cmp, sorts_cmp, query_cmp, QueriesOrder, KeysDecide}
 
@@ -66,12 +67,6 @@ query_total q =
 
 -- ---- what ties has one primary key
 
--- both of two orders in turn tie
-both : (a b : Ordering) → ordering_then a b ≡ Equal → (a ≡ Equal) × (b ≡ Equal)
-both Equal b h = (refl, h)
-both Less b h = cc
-both Greater b h = cc
-
 -- a tie by a field, perhaps reversed
 field_tie : (name : List ℕ) (desc : Bool) (x y : Pairs) → sort_cmp name desc x y ≡ Equal
     → field_cmp name x y ≡ Equal
@@ -83,18 +78,12 @@ pub held_tie : (ss : Sorts) (key : List ℕ) (x y : Pairs) → is_some (named ss
     → sorts_cmp ss x y ≡ Equal → field_cmp key x y ≡ Equal
 held_tie [] key x y held h = absurd (false≢true held)
 held_tie (s ∷ ss) key x y held h =
-    let parts = both (sort_cmp s.0 s.1 x y) (sorts_cmp ss x y) h in
+    let parts = both_tie (sort_cmp s.0 s.1 x y) (sorts_cmp ss x y) h in
     (elim (bytes_eq key s.0) as (λ b. bytes_eq key s.0 ≡ b
     → is_some (cond b (Some s.1) (named ss key)) ≡ true → field_cmp key x y ≡ Equal) [
       | true ↦ (λ e _. rw ((bytes_eq-Decides key s.0).0 e) (field_tie s.0 s.1 x y parts.0))
       | false ↦ (λ e rest. held_tie ss key x y rest parts.1)
     ]) refl held
-
--- an order that doesn't tie decides alone
-then_apart : (a b : Ordering) → is_ne a ≡ true → ordering_then a b ≡ a
-then_apart Less b h = refl
-then_apart Equal b h = cc
-then_apart Greater b h = refl
 
 -- what is no difference is a tie
 tie_is : (a : Ordering) → is_ne a ≡ false → a ≡ Equal
@@ -112,7 +101,7 @@ pub sorts_decide : (q : Asked) (x y : Pairs) → is_ne (sorts_cmp q.sorts x y) �
     → query_cmp q x y ≡ sorts_cmp q.sorts x y
 sorts_decide q x y h =
     elim (is_some (named q.sorts q.primary)) as (λ b. by_sorts b q x y ≡ sorts_cmp q.sorts x y)
-    [ true ↦ refl | false ↦ then_apart (sorts_cmp q.sorts x y) (field_cmp q.primary x y) h ]
+    [ true ↦ refl | false ↦ then_first (sorts_cmp q.sorts x y) (field_cmp q.primary x y) h ]
 
 -- and else by the primary key
 pub key_decides : (q : Asked) (x y : Pairs) → is_ne (sorts_cmp q.sorts x y) ≡ false
@@ -131,7 +120,7 @@ key_tie q x y =
     (elim (is_some (named q.sorts q.primary)) as (λ b. is_some (named q.sorts q.primary) ≡ b
     → by_sorts b q x y ≡ Equal → field_cmp q.primary x y ≡ Equal) [
       | true ↦ (λ held h. held_tie q.sorts q.primary x y held h)
-      | false ↦ (λ _ h. (both (sorts_cmp q.sorts x y) (field_cmp q.primary x y) h).1)
+      | false ↦ (λ _ h. (both_tie (sorts_cmp q.sorts x y) (field_cmp q.primary x y) h).1)
     ]) refl
 
 -- so documents that carry different keys don't tie

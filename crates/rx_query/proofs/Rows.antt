@@ -1,6 +1,6 @@
 -- The result of a query: there is one, and a sort of lent documents gives it.
 use Rattle.std.proofs.Common.{◌≡◌, ℕ, zero, suc, Bool, true, false, cond, Bor, Option, Some, None, List, [], ◌∷◌, map, filter, take, drop, Ordering, Less, Equal, refl, sym, ap, ◌∙◌, subst}
-use Rattle.std.proofs.lemmas.Bool.{false≢true}
+use Rattle.std.proofs.lemmas.Bool.{false≢true, false_from_ne_true}
 use Rattle.std.proofs.lemmas.Cmp.{on_total, tied_itself}
 use Rattle.std.proofs.lemmas.List.Sorted.{IsPermutation-map, IsPermutation-sym, IsPermutation-trans}
 use Rattle.std.proofs.lemmas.Slice.Eq.{bytes_eq-Decides}
@@ -14,26 +14,18 @@ use Rattle.rx_value.proofs.Ordered.{text_total}
 use Rattle.rx_value.specs.Named.{named, AreRising}
 use Rattle.rx_value.specs.Order.{text_cmp}
 use Rattle.rx_value.specs.declared.value.Value.TheVariants.{Text}
+use Rattle.rx_value.proofs.Lists.{map-filter}
 use Rattle.rx_document.specs.Documents.{Documents}
 use Rattle.rx_document.specs.declared.stored.Stored.{Stored}
 use Rattle.rx_query.specs.Asked.{Asked}
 use Rattle.rx_query.specs.Lists.{sorted}
-use Rattle.rx_query.specs.Result.{is_due, stored_cmp, stored_before, cut, result_of, AreKeyed, ResultsAreDetermined, CollectionsAreKeyed}
+use Rattle.rx_query.specs.Result.{is_due, stored_cmp, stored_before, at_most, result_of, AreKeyed, ResultsAreDetermined, CollectionsAreKeyed}
 use Rattle.rx_query.proofs.Orders.{query_total, keys_decide}
 use Rattle.rx_query.proofs.Sorting.{sorted-permutes, one_order, ordered-sorted, strict_from_sort}
 
 -- ---- lists seen through a function
 
 module _ {A B : Type 0} (f : A → B) where
-  map-filter : (p : B → Bool) (xs : List A) → map f (filter (λ a. p (f a)) xs) ≡ filter p (map f xs)
-  map-filter p [] = refl
-  map-filter p (x ∷ xs) =
-      let rest = map-filter p xs in
-      let passed = filter (λ a. p (f a)) xs in
-      elim (p (f x)) as (λ b. map f (cond b (x ∷ passed) passed)
-      ≡ cond b (f x ∷ filter p (map f xs)) (filter p (map f xs)))
-      [ true ↦ ap (λ zs. f x ∷ zs) rest | false ↦ rest ]
-
   map-take : (n : ℕ) (xs : List A) → map f (take n xs) ≡ take n (map f xs)
   map-take zero xs = refl
   map-take (suc n) [] = refl
@@ -44,7 +36,7 @@ module _ {A B : Type 0} (f : A → B) where
   map-drop (suc n) [] = refl
   map-drop (suc n) (x ∷ xs) = map-drop n xs
 
-  pub map-cut : (limit : Option ℕ) (xs : List A) → map f (cut limit xs) ≡ cut limit (map f xs)
+  pub map-cut : (limit : Option ℕ) (xs : List A) → map f (at_most limit xs) ≡ at_most limit (map f xs)
   map-cut None xs = refl
   map-cut (Some n) xs = map-take n xs
 
@@ -74,17 +66,12 @@ module _ {A B : Type 0} (f : A → B) where
 
 -- ---- documents with distinct keys don't tie
 
--- what isn't so is not
-not_so : (b : Bool) → (b ≡ true → ⊥) → b ≡ false
-not_so true h = absurd (h refl)
-not_so false h = refl
-
 -- one that carries another key
 apart : (q : Asked) (x y : Stored) → named x.state.fields q.primary ≡ Some (Text x.state.key)
     → named y.state.fields q.primary ≡ Some (Text y.state.key)
     → bytes_eq x.state.key y.state.key ≡ false → eq_by_cmp (stored_cmp q) x y ≡ false
 apart q x y at_x at_y differ =
-    not_so (eq_by_cmp (stored_cmp q) x y)
+    false_from_ne_true (eq_by_cmp (stored_cmp q) x y)
     (λ tie. keys_decide q x.state.fields y.state.fields x.state.key y.state.key at_x at_y
     (λ same. false≢true (sym differ ∙ (bytes_eq-Decides x.state.key y.state.key).1 same))
     ((Equal-is (stored_cmp q x y)).0 tie))
@@ -131,7 +118,7 @@ one_result q docs keyed =
       is_result = record { all = all; each_once = once; in_order = up; window = refl };
       no_other = λ others r.
           r.window
-          ∙ ap (λ rows. cut q.limit (drop q.skip rows))
+          ∙ ap (λ rows. at_most q.limit (drop q.skip rows))
           (one_order (stored_cmp q) (stored_total q) r.all all r.in_order up
           (IsPermutation-trans r.all due all (IsPermutation-sym due r.all r.each_once) once));
     }
@@ -148,7 +135,7 @@ lent_cmp q a b = stored_cmp q a.now b.now
 
 pub sort_gives : (q : Asked) (docs all rows : List (Bor Stored)) → AreKeyed q.primary (lent docs)
     → IsPermutation (filter (λ d. is_due q d.now) docs) all
-    → IsSortedBy (λ a b. is_lt (lent_cmp q a b)) all → rows ≡ cut q.limit (drop q.skip all)
+    → IsSortedBy (λ a b. is_lt (lent_cmp q a b)) all → rows ≡ at_most q.limit (drop q.skip all)
     → lent rows ≡ result_of q (lent docs)
 sort_gives q docs all rows keyed moved up window =
     let now : Bor Stored → Stored = λ d. d.now in
@@ -166,7 +153,7 @@ sort_gives q docs all rows keyed moved up window =
           (strict_from_sort (lent_cmp q) (on_total now (stored_total q)) due all differ moved up);
       window =
           ap (map now) window ∙ map-cut now q.limit (drop q.skip all)
-          ∙ ap (cut q.limit) (map-drop now q.skip all);
+          ∙ ap (at_most q.limit) (map-drop now q.skip all);
     })
 
 -- ---- documents by rising keys have distinct ones
@@ -174,7 +161,7 @@ sort_gives q docs all rows keyed moved up window =
 -- a lower key is another
 pub other_key : (k l : List ℕ) → text_cmp k l ≡ Less → bytes_eq k l ≡ false
 other_key k l h =
-    not_so (bytes_eq k l) (λ e.
+    false_from_ne_true (bytes_eq k l) (λ e.
     let same = (bytes_eq-Decides k l).0 e in
     let level : text_cmp k l ≡ Equal =
     ap (λ n. text_cmp k n) (sym same) ∙ tied_itself text_total k in

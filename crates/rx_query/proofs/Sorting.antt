@@ -7,7 +7,8 @@ use Rattle.std.specs.Cmp.{IsTotalOrder}
 use Rattle.std.specs.List.{AllByRecursion, Contains, IsDistinct}
 use Rattle.std.specs.List.Sorted.{IsStrictlySortedBy, IsSortedBy, IsPermutation}
 use Rattle.std.specs.Ordering.{is_lt, is_eq, eq_by_cmp, ordering_reverse}
-use Rattle.rx_query.specs.Lists.{placed, sorted}
+use Rattle.rx_value.proofs.Orderings.{rises}
+use Rattle.rx_query.specs.Lists.{insert_in_order, sorted}
 
 -- ---- members
 
@@ -17,7 +18,8 @@ In z [] = ⊥
 In z (x ∷ xs) = (z ≡ x) ⊎ In z xs
 
 -- what holds of all holds of one
-all_in : {X : Type 0} (P : X → Type 0) (xs : List X) → AllByRecursion P xs → (z : X) → In z xs → P z
+pub all_in : {X : Type 0} (P : X → Type 0) (xs : List X) → AllByRecursion P xs → (z : X)
+    → In z xs → P z
 all_in P [] h z i = absurd i
 all_in P (x ∷ xs) h z (inl e) = subst P (sym e) h.0
 all_in P (x ∷ xs) h z (inr i) = all_in P xs h.1 z i
@@ -45,15 +47,15 @@ in-permutation xs ys z p i =
 
 -- one more
 placed-permutes : {X : Type 0} (before : X → X → Bool) (x : X) (xs : List X)
-    → IsPermutation (x ∷ xs) (placed before x xs)
+    → IsPermutation (x ∷ xs) (insert_in_order before x xs)
 placed-permutes before x [] = IsPermutation-refl (x ∷ [])
 placed-permutes before x (y ∷ ys) =
     elim (before x y) as (λ b. IsPermutation (x ∷ y ∷ ys)
-    (cond b (x ∷ y ∷ ys) (y ∷ placed before x ys))) [
+    (cond b (x ∷ y ∷ ys) (y ∷ insert_in_order before x ys))) [
       | true ↦ IsPermutation-refl (x ∷ y ∷ ys)
-      | false ↦ IsPermutation-trans (x ∷ y ∷ ys) (y ∷ x ∷ ys) (y ∷ placed before x ys)
+      | false ↦ IsPermutation-trans (x ∷ y ∷ ys) (y ∷ x ∷ ys) (y ∷ insert_in_order before x ys)
           (IsPermutation-middle (x ∷ []) y ys)
-          (IsPermutation-cons y (x ∷ ys) (placed before x ys) (placed-permutes before x ys))
+          (IsPermutation-cons y (x ∷ ys) (insert_in_order before x ys) (placed-permutes before x ys))
     ]
 
 -- each stays, once
@@ -61,7 +63,7 @@ pub sorted-permutes : {X : Type 0} (before : X → X → Bool) (xs : List X)
     → IsPermutation xs (sorted before xs)
 sorted-permutes before [] = IsPermutation-refl []
 sorted-permutes before (x ∷ xs) =
-    IsPermutation-trans (x ∷ xs) (x ∷ sorted before xs) (placed before x (sorted before xs))
+    IsPermutation-trans (x ∷ xs) (x ∷ sorted before xs) (insert_in_order before x (sorted before xs))
     (IsPermutation-cons x xs (sorted before xs) (sorted-permutes before xs))
     (placed-permutes before x (sorted before xs))
 
@@ -87,7 +89,8 @@ module _ {X : Type 0} (cmp : X → X → Ordering) (o : IsTotalOrder cmp) where
         | inr k ↦ k
       ]
 
-  same_members : (xs ys : List X) → IsStrictlySortedBy cmp xs → IsStrictlySortedBy cmp ys
+  -- of the same members
+  pub same_members : (xs ys : List X) → IsStrictlySortedBy cmp xs → IsStrictlySortedBy cmp ys
       → ((z : X) → In z xs → In z ys) → ((z : X) → In z ys → In z xs) → xs ≡ ys
   same_members [] [] up up' to from = refl
   same_members [] (y ∷ ys) up up' to from = absurd (from y (inl refl))
@@ -126,10 +129,10 @@ module _ {X : Type 0} (cmp : X → X → Ordering) (o : IsTotalOrder cmp) where
   -- ---- insertion sorts what doesn't tie
 
   all-placed : (P : X → Type 0) (x : X) (xs : List X) → P x → AllByRecursion P xs
-      → AllByRecursion P (placed before x xs)
+      → AllByRecursion P (insert_in_order before x xs)
   all-placed P x [] h hs = (h, tt)
   all-placed P x (y ∷ ys) h hs =
-      elim (before x y) as (λ b. AllByRecursion P (cond b (x ∷ y ∷ ys) (y ∷ placed before x ys)))
+      elim (before x y) as (λ b. AllByRecursion P (cond b (x ∷ y ∷ ys) (y ∷ insert_in_order before x ys)))
       [ true ↦ (h, hs) | false ↦ (hs.0, all-placed P x ys h hs.1) ]
 
   all-sorted : (P : X → Type 0) (xs : List X) → AllByRecursion P xs
@@ -144,12 +147,12 @@ module _ {X : Type 0} (cmp : X → X → Ordering) (o : IsTotalOrder cmp) where
   below_all x y (z ∷ zs) h hs = (o.trans x y z h hs.0, below_all x y zs h hs.1)
 
   ordered-placed : (x : X) (xs : List X) → AllByRecursion (λ y. eq_by_cmp cmp x y ≡ false) xs
-      → IsStrictlySortedBy cmp xs → IsStrictlySortedBy cmp (placed before x xs)
+      → IsStrictlySortedBy cmp xs → IsStrictlySortedBy cmp (insert_in_order before x xs)
   unfolding IsStrictlySortedBy
   ordered-placed x [] a up = (tt, tt)
   ordered-placed x (y ∷ ys) a up =
       (elim (cmp x y) as (λ r. cmp x y ≡ r
-      → IsStrictlySortedBy cmp (cond (is_lt r) (x ∷ y ∷ ys) (y ∷ placed before x ys))) [
+      → IsStrictlySortedBy cmp (cond (is_lt r) (x ∷ y ∷ ys) (y ∷ insert_in_order before x ys))) [
         | Less ↦ (λ e. ((e, below_all x y ys e up.0), up))
         | Equal ↦ (λ e. absurd (false≢true (sym a.0 ∙ ap is_eq e)))
         | Greater ↦ (λ e. (
@@ -175,12 +178,6 @@ module _ {X : Type 0} (cmp : X → X → Ordering) (o : IsTotalOrder cmp) where
       ap is_eq (o.antisymm x y)
       ∙ (elim (cmp y x) as (λ r. is_eq (ordering_reverse r) ≡ is_eq r)
       [ Less ↦ refl | Equal ↦ refl | Greater ↦ refl ])
-
-  -- neither a step down nor a tie
-  rises : (r : Ordering) → is_lt (ordering_reverse r) ≡ false → is_eq r ≡ false → r ≡ Less
-  rises Less h e = refl
-  rises Equal h e = cc
-  rises Greater h e = cc
 
   -- no step goes down, and nothing ties
   strict : (ys : List X) → IsDistinct (eq_by_cmp cmp) ys → IsSortedBy before ys

@@ -21,7 +21,7 @@ use Rattle.rx_table.specs.declared.action.Action.TheVariants.{
   InsertAtSortPositionRemoveLast,
 }
 use Rattle.rx_query.specs.Asked.{Asked}
-use Rattle.rx_query.specs.Lists.{placed, without_last, without_first, replaced_first}
+use Rattle.rx_query.specs.Lists.{insert_in_order, without_last, without_first, replaced_first}
 use Rattle.rx_query.specs.States.{precedes, is_changed}
 use Rattle.rx_query.specs.declared.results.Row.{Row}
 
@@ -43,7 +43,7 @@ with_last = with_row (λ row rows. rows ++ row ∷ [])
 
 -- with it before the first row that it precedes, or at the end
 abbrev pub with_placed : Asked → Change → List Row → List Row
-with_placed q = with_row (placed (λ x y. precedes q x.fields y.fields))
+with_placed q = with_row (insert_in_order (λ x y. precedes q x.fields y.fields))
 
 -- with it in the place of the document's old row
 abbrev pub with_replaced : Change → List Row → List Row

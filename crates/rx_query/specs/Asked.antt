@@ -1,6 +1,6 @@
 -- Queries, whatever memory they lie in.
 use Rattle.std.specs.Prelude.{ℕ, Bool, List, Option}
-use Rattle.rx_selector.specs.Tree.{Clauses, said}
+use Rattle.rx_selector.specs.Tree.{Clauses, selector_clauses}
 use Rattle.rx_query.specs.declared.query.Query.{Query}
 
 -- the fields to sort by, and whether the order of each is reversed
@@ -19,7 +19,7 @@ pub record Asked : Type 0 where
 -- what a query asks for
 abbrev pub asked : Query → Asked
 asked q = record {
-  clauses = said q.selector;
+  clauses = selector_clauses q.selector;
   sorts = q.sorts.items;
   skip = q.skip;
   limit = q.limit;

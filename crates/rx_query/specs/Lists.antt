@@ -15,14 +15,14 @@ abbrev pub last_passes : {X : Type 0} → (X → Bool) → List X → Bool
 last_passes p xs = some_passes p (slice_get xs (length xs - 1))
 
 -- with x before the first one that x precedes, or at the end
-abbrev pub placed : {X : Type 0} → (X → X → Bool) → X → List X → List X
-placed precedes x [] = x ∷ []
-placed precedes x (y ∷ ys) = if precedes x y then x ∷ y ∷ ys else y ∷ placed precedes x ys
+abbrev pub insert_in_order : {X : Type 0} → (X → X → Bool) → X → List X → List X
+insert_in_order precedes x [] = x ∷ []
+insert_in_order precedes x (y ∷ ys) = if precedes x y then x ∷ y ∷ ys else y ∷ insert_in_order precedes x ys
 
 -- in order: each is put before the first that it precedes
 abbrev pub sorted : {X : Type 0} → (X → X → Bool) → List X → List X
 sorted precedes [] = []
-sorted precedes (x ∷ xs) = placed precedes x (sorted precedes xs)
+sorted precedes (x ∷ xs) = insert_in_order precedes x (sorted precedes xs)
 
 -- without the last one
 abbrev pub without_last : {X : Type 0} → List X → List X

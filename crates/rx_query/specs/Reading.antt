@@ -3,7 +3,7 @@ use Rattle.std.specs.Prelude.{ℕ, nat_lt, ◌&&◌, Bool, true, false, List, []
 use Rattle.std.specs.Str.{bytes_eq}
 use Rattle.serde_json.specs.Data.{Data, Items, no_items, item, Members, no_members, member}
 use Rattle.serde_json.specs.Find.{get, as_str, as_object, as_array}
-use Rattle.rx_value.specs.Due.{◌>>◌, ◌>>=◌, only_if, or_fault, unless}
+use Rattle.rx_value.specs.Due.{◌>>◌, ◌>>=◌, only_if, or_fault, unless, lifted}
 use Rattle.rx_value.specs.Form.{unexpected, whole_within}
 use Rattle.rx_value.specs.Named.{named}
 use Rattle.rx_selector.specs.Reading.{KindPairs, selector_of}
@@ -22,15 +22,10 @@ query_members = codes "selector" ∷ codes "sort" ∷ codes "skip" ∷ codes "li
 abbrev pub most_rows : ℕ
 most_rows = 1000000000
 
--- a selector, with its fault as one of the query
-abbrev pub lifted : Result Clauses SelectorFault → Result Clauses QueryFault
-lifted (Ok cs) = Ok cs
-lifted (Err e) = Err (of_selector e)
-
 -- the selector, which may be missing
 abbrev pub selector_in : KindPairs → Option Data → Result Clauses QueryFault
 selector_in kinds None = Ok no_clauses
-selector_in kinds (Some d) = lifted (selector_of kinds d)
+selector_in kinds (Some d) = lifted of_selector (selector_of kinds d)
 
 -- whether the order is reversed
 abbrev pub is_desc : Data → Option Bool

@@ -25,18 +25,18 @@ abbrev pub stored_cmp : Asked → Stored → Stored → Ordering
 stored_cmp q x y = query_cmp q x.state.fields y.state.fields
 
 -- at most so many rows
-abbrev pub cut : {X : Type 0} → Option ℕ → List X → List X
-cut None rows = rows
-cut (Some limit) rows = take limit rows
+abbrev pub at_most : {X : Type 0} → Option ℕ → List X → List X
+at_most None rows = rows
+at_most (Some limit) rows = take limit rows
 
 -- one document precedes another
 abbrev pub stored_before : Asked → Stored → Stored → Bool
 stored_before q x y = is_lt (stored_cmp q x y)
 
 -- The result of a query over documents: the live matching ones in order, without the first `skip`,
--- cut at `limit`.
+-- at_most at `limit`.
 abbrev pub result_of : Asked → List Stored → List Stored
-result_of q docs = cut q.limit (drop q.skip (sorted (stored_before q) (filter (is_due q) docs)))
+result_of q docs = at_most q.limit (drop q.skip (sorted (stored_before q) (filter (is_due q) docs)))
 
 -- the row of a document
 abbrev pub row_of : Stored → Row
@@ -49,12 +49,12 @@ fresh_rows q documents = map row_of (result_of q (values_of documents))
 -- ---- that this is a result, and the only one
 
 -- such rows are the live matching documents, each once, each before those that it precedes, without
--- the first `skip`, cut at `limit`
+-- the first `skip`, at_most at `limit`
 pub record IsResult (q : Asked) (docs rows : List Stored) : Type 0 where
   pub all : List Stored
   pub each_once : IsPermutation (filter (is_due q) docs) all
   pub in_order : IsStrictlySortedBy (stored_cmp q) all
-  pub window : rows ≡ cut q.limit (drop q.skip all)
+  pub window : rows ≡ at_most q.limit (drop q.skip all)
 
 -- documents with distinct keys, which they carry as their primary key
 pub record AreKeyed (primary : List ℕ) (docs : List Stored) : Type 0 where

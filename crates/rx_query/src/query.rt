@@ -1,6 +1,6 @@
 ghost use Rattle.std.specs.Prelude.{◌≡◌, ◌≢◌, ◌<◌, length, slice_get, Some, IfSome};
 ghost use Rattle.rx_selector.specs.Holding.{all_hold};
-ghost use Rattle.rx_selector.specs.Tree.{said};
+ghost use Rattle.rx_selector.specs.Tree.{selector_clauses};
 
 use crate::comparing::compare;
 use rx_selector::Selector;
@@ -43,7 +43,7 @@ impl Query {
     }
 
     pub fn selector(&self) -> &Selector
-        ensures { said result.now ≡ (asked self.now).clauses }
+        ensures { selector_clauses result.now ≡ (asked self.now).clauses }
     {
         &self.selector
     }

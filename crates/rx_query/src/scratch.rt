@@ -1,6 +1,6 @@
 ghost use Rattle.std.specs.Prelude.{◌≡◌, IfOk, map, filter, drop};
 ghost use Rattle.rx_query.specs.Asked.{asked};
-ghost use Rattle.rx_query.specs.Result.{is_due, AreKeyed, cut, result_of};
+ghost use Rattle.rx_query.specs.Result.{is_due, AreKeyed, at_most, result_of};
 
 use crate::query::Query;
 use rx_document::Stored;
@@ -8,7 +8,7 @@ use std::alloc::{AllocError, Global};
 
 impl Query {
     /// The result over documents of distinct keys: the live matching ones in the order of the
-    /// query, without the first `skip`, cut at `limit`. The rows are lent.
+    /// query, without the first `skip`, at_most at `limit`. The rows are lent.
     pub fn scratch<'a>(
         &self,
         alloc: Global,
@@ -55,7 +55,7 @@ fn skip_rows<T: Drop>(rows: &mut Vec<T>, skip: usize)
 }
 
 fn limit_rows<T: Drop>(rows: &mut Vec<T>, limit: Option<u64>)
-    ensures { rows.new.items ≡ cut limit rows.old.items }
+    ensures { rows.new.items ≡ at_most limit rows.old.items }
 {
     if let Some(limit) = limit {
         rows.truncate(limit as usize);

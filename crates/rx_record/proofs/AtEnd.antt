@@ -1,5 +1,5 @@
 -- Fields grow at their end where their names rise.
-use Rattle.std.proofs.Common.{◌≡◌, List, [], ◌∷◌, ◌++◌, true, Ok, Err, refl, ap, ◌∙◌}
+use Rattle.std.proofs.Common.{◌≡◌, [], ◌∷◌, ◌++◌, true, Ok, Err, refl, ap, ◌∙◌}
 use Rattle.std.proofs.lemmas.Cmp.{nat_list_cmp_total}
 use Rattle.std.specs.List.{AllByRecursion}
 use Rattle.std.specs.List.Sorted.{IsStrictlySortedBy}
@@ -10,6 +10,7 @@ use Rattle.rx_value.specs.Fields.{Pair, Pairs, AreFields}
 use Rattle.rx_value.specs.Named.{AreRising, put_in_order}
 use Rattle.rx_value.specs.Order.{text_cmp}
 use Rattle.rx_value.specs.Value.{is_value}
+use Rattle.rx_value.proofs.Lists.{all_at}
 use Rattle.rx_record.specs.Reading.{Reading, is_whole, read_or}
 use Rattle.rx_record.proofs.Steps.{done}
 
@@ -19,14 +20,9 @@ whole_read none (Ok (x, [])) h = refl
 whole_read none (Ok (x, b ∷ bs)) h = cc
 whole_read none (Err left) h = cc
 
--- what all keep is kept by one among them
-at_middle : {A : Type 0} (P : A → Type 0) (xs : List A) (x : A) (ys : List A) → AllByRecursion P (xs ++ x ∷ ys) → P x
-at_middle P [] x ys all = all.0
-at_middle P (w ∷ xs) x ys all = at_middle P xs x ys all.1
-
 -- a pair among fields
 pub in_range_at : (ps : Pairs) (p : Pair) (rest : Pairs) → AreFields (ps ++ p ∷ rest) → is_value p.1 ≡ true
-in_range_at ps p rest fields = at_middle (λ q. is_value q.1 ≡ true) ps p rest fields.in_range
+in_range_at ps p rest fields = all_at (λ q. is_value q.1 ≡ true) ps p rest fields.in_range
 
 -- goes to the end of those before it
 pub put_at_end : (ps : Pairs) (p : Pair) (rest : Pairs) → AreRising (ps ++ p ∷ rest)

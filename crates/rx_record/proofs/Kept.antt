@@ -1,17 +1,18 @@
 -- What was read is in order, and can be written.
-use Rattle.std.proofs.Common.{◌≡◌, ℕ, zero, suc, List, [], ◌∷◌, map, length, Bool, true, Option, Some, None, Ok, refl, subst, is_lt, arith, w32, w64}
+use Rattle.std.proofs.Common.{◌≡◌, ℕ, zero, suc, List, [], ◌∷◌, map, length, Bool, true, Option, Some, None, Ok, refl, subst, arith, w32, w64}
 use Rattle.std.proofs.lemmas.Cmp.{nat_list_cmp_total}
 use Rattle.std.specs.Int.{cast_signed}
 use Rattle.std.specs.List.{AllByRecursion}
 use Rattle.std.specs.List.Sorted.{IsStrictlySortedBy}
-use Rattle.std.specs.declared.cmp.Ordering.{Ordering}
-use Rattle.std.specs.declared.cmp.Ordering.TheVariants.{Less, Equal, Greater}
+use Rattle.std.specs.declared.cmp.Ordering.TheVariants.{Less}
 use Rattle.rx_value.specs.Fields.{Pair, Pairs}
 use Rattle.rx_value.specs.Order.{text_cmp}
 use Rattle.rx_value.specs.Value.{is_number, is_value}
 use Rattle.rx_value.specs.declared.state.State.{State}
 use Rattle.rx_value.specs.declared.value.Value.{Value}
 use Rattle.rx_value.specs.declared.value.Value.TheVariants.{Flag, Int, Text}
+use Rattle.rx_value.proofs.Orderings.{less_is}
+use Rattle.rx_value.proofs.Lists.{all_weaker}
 use Rattle.rx_record.specs.Reading.{Reading}
 use Rattle.rx_record.specs.Parts.{number_bytes, number_of, flag_bytes, flag_of, text_bytes, text_of, is_above, text_above}
 use Rattle.rx_record.specs.Fields.{value_of, pair_bytes, pair_of, rising_of, fields_of}
@@ -24,11 +25,6 @@ use Rattle.rx_record.proofs.Texts.{above_is_read, text_fits, above_fits}
 use Rattle.rx_record.proofs.Lists.{PartIsRead, rising_are_read}
 use Rattle.rx_record.proofs.Values.{flag_is_read, value_foreign, pair_is_read}
 use Rattle.rx_record.proofs.States.{state_is_read, row_is_read}
-
-less_of : (o : Ordering) → is_lt o ≡ true → o ≡ Less
-less_of Less h = refl
-less_of Equal h = cc
-less_of Greater h = cc
 
 module _ {A : Type 0} (bytes name : A → List ℕ) (part : Option (List ℕ) → List ℕ → Reading A) (P : A → Type 0) where
   -- each thing keeps P, and its name is above the one before it
@@ -61,7 +57,7 @@ module _ {A : Type 0} (bytes name : A → List ℕ) (part : Option (List ℕ) �
   all_above : (k : List ℕ) (xs : List A) → Chain (Some k) xs → AllByRecursion (λ y. text_cmp k y ≡ Less) (map name xs)
   all_above k [] chain = tt
   all_above k (x ∷ xs) chain =
-      let first = less_of (text_cmp k (name x)) chain.0 in
+      let first = less_is (text_cmp k (name x)) chain.0 in
       (first, raised k (name x) (map name xs) first (all_above (name x) xs chain.2))
 
   chain_rises : (last : Option (List ℕ)) (xs : List A) → Chain last xs → IsStrictlySortedBy text_cmp (map name xs)
@@ -72,11 +68,6 @@ module _ {A : Type 0} (bytes name : A → List ℕ) (part : Option (List ℕ) �
   chain_keeps : (last : Option (List ℕ)) (xs : List A) → Chain last xs → AllByRecursion P xs
   chain_keeps last [] chain = tt
   chain_keeps last (x ∷ xs) chain = (chain.1, chain_keeps (Some (name x)) xs chain.2)
-
--- of what all keep, a part
-all_of : {A : Type 0} {P Q : A → Type 0} (f : (x : A) → P x → Q x) (xs : List A) → AllByRecursion P xs → AllByRecursion Q xs
-all_of f [] all = tt
-all_of f (x ∷ xs) all = (f x all.0, all_of f xs all.1)
 
 -- a value that was read
 value_keeps : (bs : List ℕ) (v : Value) (rest : List ℕ) → AreBytes bs → value_of bs ≡ Ok (v, rest)
@@ -121,9 +112,9 @@ fields_writable bs ps rest small h =
       count = let fits = number_below_32 bs p.part p.more small p.first in let many = read.many in omega arith;
       fields = record {
         rising = chain_rises pair_bytes (λ q. q.0) pair_of Kept None ps chain;
-        in_range = all_of (λ q k. k.0) ps keeps;
+        in_range = all_weaker _ _ (λ q k. k.0) ps keeps;
       };
-      pairs = all_of (λ q k. k.1) ps keeps;
+      pairs = all_weaker _ _ (λ q k. k.1) ps keeps;
     }
 
 -- a state that was read

@@ -1,5 +1,5 @@
 -- One part after another, and what a reading tells of the bytes.
-use Rattle.std.proofs.Common.{◌≡◌, ℕ, zero, suc, ◌-◌, ◌+◌, List, [], ◌∷◌, ◌++◌, length, take, Bool, true, false, if◌then◌else◌, Ok, Err, ap, sym, refl, ◌∙◌, append-nil, arith, length-append, ◌<◌, ◌≤◌, get_or, get_or-append-add, subst, subst₂, append_assoc, ◌&&◌}
+use Rattle.std.proofs.Common.{◌≡◌, ℕ, zero, suc, ◌-◌, ◌+◌, List, [], ◌∷◌, ◌++◌, length, take, Bool, true, false, if◌then◌else◌, Ok, Err, ap, sym, refl, ◌∙◌, append-nil, arith, length-append, ◌<◌, ◌≤◌, get_or, get_or-append-add, subst, subst₂, append_assoc}
 use Rattle.std.proofs.Math.Seq.{take-append_seam}
 use Rattle.rx_record.specs.Reading.{Reading, ◌▸◌, read_or}
 
@@ -79,8 +79,3 @@ read_as {bytes = bytes} {of = of} {bs = bs} x y r s read same =
 -- two parts stand one after another
 pub joined : (p q rest more bs : List ℕ) → bs ≡ p ++ more → more ≡ q ++ rest → bs ≡ (p ++ q) ++ rest
 joined p q rest more bs first second = first ∙ ap (λ l. p ++ l) second ∙ sym (append_assoc p q rest)
-
--- both tests held
-pub both : (x y : Bool) → (x && y) ≡ true → (x ≡ true) × (y ≡ true)
-both true y h = (refl, h)
-both false y h = cc

@@ -1,12 +1,12 @@
 -- Texts with their lengths.
-use Rattle.std.proofs.Common.{◌≡◌, ℕ, ◌<◌, ◌≤◌, List, length, take, drop, Ok, Err, IsUtf8, refl, arith, le-leb, inl, inr, w32, Bool, true, false, leb, ◌&&◌, ◌++◌, Option, ap, ap₂, sym, ◌∙◌, subst, append_assoc, length-append, leb-true}
+use Rattle.std.proofs.Common.{◌≡◌, ℕ, ◌≤◌, List, length, take, drop, Ok, Err, IsUtf8, refl, arith, le-leb, w32, Bool, true, false, leb, ◌&&◌, ◌++◌, Option, ap, ap₂, sym, ◌∙◌, subst, append_assoc, length-append, leb-true}
 use Rattle.std.proofs.Math.Seq.{take-append_seam, drop-append_seam}
 use Rattle.std.proofs.lemmas.List.{length-take-le, take-append-drop}
-use Rattle.std.proofs.lemmas.Bool.Decides.{leb_tells}
 use Rattle.std.proofs.lemmas.Str.{is_utf8-from_IsUtf8, IsUtf8-from_is_utf8}
+use Rattle.std.proofs.lemmas.Bool.{and_parts}
 use Rattle.std.specs.Str.{is_utf8}
 use Rattle.rx_record.specs.Parts.{number_bytes, number_of, text_bytes, text_of, is_above, text_above}
-use Rattle.rx_record.proofs.Steps.{parted, tested, both, joined, same_parts, read_as, IsRead, AreBytes}
+use Rattle.rx_record.proofs.Steps.{parted, tested, joined, same_parts, read_as, IsRead, AreBytes}
 use Rattle.rx_record.specs.Writable.{Fits}
 use Rattle.rx_record.proofs.Numbers.{digits_32, number_is_read, number_below_32}
 
@@ -46,7 +46,7 @@ text_is_read bs t rest small h =
     let n = p.part in
     let held = tested (leb n (length p.more) && is_utf8 (take n p.more))
     (Ok (take n p.more, drop n p.more)) (length bs) (t, rest) p.second in
-    let passed = both (leb n (length p.more)) (is_utf8 (take n p.more)) held.0 in
+    let passed = and_parts (leb n (length p.more)) (is_utf8 (take n p.more)) held.0 in
     let size = number_is_read w32 digits_32 bs n p.more small p.first in
     let parts = same_parts (take n p.more) t (drop n p.more) rest held.1 in
     let cut = parts.0 in
@@ -90,7 +90,7 @@ text_fits bs t rest small h =
     let n = p.part in
     let held = tested (leb n (length p.more) && is_utf8 (take n p.more))
     (Ok (take n p.more, drop n p.more)) (length bs) (t, rest) p.second in
-    let passed = both (leb n (length p.more)) (is_utf8 (take n p.more)) held.0 in
+    let passed = and_parts (leb n (length p.more)) (is_utf8 (take n p.more)) held.0 in
     let cut = (same_parts (take n p.more) t (drop n p.more) rest held.1).0 in
     let long : n ≡ length t =
     sym (length-take-le n p.more (leb-true n (length p.more) passed.0)) ∙ ap length cut in

@@ -1,5 +1,5 @@
 -- What is written is read back.
-use Rattle.std.proofs.Common.{◌≡◌, ℕ, zero, suc, ◌+◌, ◌<◌, ◌≤◌, List, [], ◌∷◌, ◌++◌, length, take, map, slice_get, Option, Some, None, true, false, is_lt, Ok, Err, Result, IfOk, IsUtf8, refl, ap, sym, ◌∙◌, subst, arith, length-append, append_assoc, append-nil, w16, w32, w64}
+use Rattle.std.proofs.Common.{◌≡◌, ℕ, zero, suc, ◌+◌, ◌<◌, ◌≤◌, List, [], ◌∷◌, ◌++◌, length, take, map, slice_get, Option, Some, None, true, is_lt, Ok, Err, Result, IfOk, IsUtf8, refl, ap, sym, ◌∙◌, subst, arith, length-append, append_assoc, append-nil, w32, w64}
 use Rattle.std.proofs.lemmas.List.{take_all}
 use Rattle.std.proofs.lemmas.Str.{is_utf8-from_IsUtf8}
 use Rattle.std.specs.List.{AllByRecursion}
@@ -16,11 +16,10 @@ use Rattle.rx_record.specs.Fields.{value_bytes, value_of, pair_bytes, pair_of, a
 use Rattle.rx_record.specs.Rows.{row_bytes, row_of, key_of, rows_bytes, rows_of, state_bytes, state_of, state_key, states_bytes, states_of}
 use Rattle.rx_record.specs.Places.{place_bytes, place_of}
 use Rattle.rx_record.specs.Masters.{master_bytes, master_of}
-use Rattle.rx_record.specs.Content.{Content, collection, rows, replication, exchange, epoch, collection_kind, rows_kind, replication_kind, exchange_kind, epoch_kind, content_bytes, content_of}
+use Rattle.rx_record.specs.Content.{Content, rows, replication, exchange, rows_kind, replication_kind, exchange_kind, content_bytes, content_of}
 use Rattle.rx_record.specs.declared.record.MasterName.{MasterName}
-use Rattle.rx_record.specs.declared.record.MasterName.TheVariants.{Local, Port}
 use Rattle.rx_record.specs.declared.record.RowOut.{RowOut}
-use Rattle.rx_record.specs.Writable.{Fits, HasTime, StatesRise, KeysRise, ReadsBack, ShortReadsBack}
+use Rattle.rx_record.specs.Writable.{Fits, StatesRise, KeysRise, ReadsBack, ShortReadsBack}
 use Rattle.rx_record.proofs.Numbers.{digits_32, digits_64, number_back}
 use Rattle.rx_record.proofs.Texts.{text_back, above_back}
 use Rattle.rx_record.proofs.Values.{pair_back}
@@ -133,13 +132,6 @@ all_more P (w ∷ xs) zero x h all p = let e : x ≡ w = cc in (subst P e p, tt)
 all_more P (w ∷ xs) (suc i) x h all p =
     let n : suc i + 1 ≡ suc (i + 1) = omega arith in
     rw n (all.0, all_more P xs i x h all.1 p)
-
--- what all keep, one does
-pub all_at : {A : Type 0} (P : A → Type 0) (xs : List A) (i : ℕ) (x : A) → slice_get xs i ≡ Some x
-    → AllByRecursion P xs → P x
-all_at P [] i x h all = cc
-all_at P (w ∷ xs) zero x h all = let e : w ≡ x = cc in subst P e all.0
-all_at P (w ∷ xs) (suc i) x h all = all_at P xs i x h all.1
 
 -- fields
 pub fields_read_back : (ps : Pairs) (i : ℕ) → length ps ≤ i → AreRising ps

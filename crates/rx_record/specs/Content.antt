@@ -106,16 +106,16 @@ abbrev pub content_of : List ℕ → Reading Content
 content_of bs = byte_of bs ▸ λ byte more. behind_kind kinds (length bs) byte more
 
 -- nothing stands behind it
-abbrev pub ended : {A : Type 0} → Reading A → Result A ℕ
-ended (Ok (x, [])) = Ok x
-ended (Ok (x, b ∷ bs)) = Err (length (b ∷ bs))
-ended (Err left) = Err left
+abbrev pub nothing_behind : {A : Type 0} → Reading A → Result A ℕ
+nothing_behind (Ok (x, [])) = Ok x
+nothing_behind (Ok (x, b ∷ bs)) = Err (length (b ∷ bs))
+nothing_behind (Err left) = Err left
 
 -- a fault by its place among so many bytes
-abbrev pub placed : {A : Type 0} → ℕ → Result A ℕ → Result A At
-placed all (Ok x) = Ok x
-placed all (Err left) = Err (record { 0 = all - left })
+abbrev pub with_place : {A : Type 0} → ℕ → Result A ℕ → Result A At
+with_place all (Ok x) = Ok x
+with_place all (Err left) = Err (record { 0 = all - left })
 
 -- what a body says, or the place of its first fault
 abbrev pub record_of : List ℕ → Result Content At
-record_of body = placed (length body) (ended (content_of body))
+record_of body = with_place (length body) (nothing_behind (content_of body))

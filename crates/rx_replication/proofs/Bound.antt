@@ -1,12 +1,14 @@
 -- How many exchanges are enough.
 use Rattle.std.proofs.Common.{◌≡◌, ℕ, zero, suc, ◌+◌, ◌*◌, ◌<◌, ◌≤◌, ◌==◌, Bool, true, false, cond, not, List, [], ◌∷◌, map, filter, take, length, Option, Some, None, refl, sym, ap, ◌∙◌, ◌⊎◌, inl, inr, subst, subst₂, arith, true≢false, eqb-true, Ordering, Less, Equal, Greater, is_lt, length-take}
-use Rattle.std.proofs.lemmas.Bool.{cases_lt}
+use Rattle.std.proofs.lemmas.Bool.{cases_lt, not-false}
 use Rattle.std.specs.FinMap.Entries.{put, by_order}
 use Rattle.std.specs.List.{sum_by}
 use Rattle.std.specs.Map.{keys_of, values_of}
 use Rattle.std.specs.Ordering.{ordering_reverse}
 use Rattle.rx_value.specs.Named.{named}
 use Rattle.rx_value.specs.declared.state.State.{State}
+use Rattle.rx_value.proofs.Lists.{map_none}
+use Rattle.rx_value.proofs.Outcomes.{some_same, not_none}
 use Rattle.rx_document.specs.Documents.{Documents}
 use Rattle.rx_document.specs.Place.{place_cmp, place_total}
 use Rattle.rx_document.specs.declared.place.Place.{Place}
@@ -27,8 +29,8 @@ use Rattle.rx_replication.specs.Write.{write, state_at, AreByKey}
 use Rattle.rx_replication.proofs.Commits.{Wrote, write_wrote, key_at}
 use Rattle.rx_replication.proofs.Handled.{states_of, from_writes, pull_agrees, pull_quiet}
 use Rattle.rx_replication.proofs.Keys.{key_among, keys-write, count-write, lacking}
-use Rattle.rx_replication.proofs.Lists.{some_same, not_none, to_filter, from_filter, length-filter, take_none, map-none}
-use Rattle.rx_replication.proofs.Orders.{not_false, is_state-itself, above_lower, not_below_itself}
+use Rattle.rx_replication.proofs.Lists.{to_filter, from_filter, length-filter, take_none}
+use Rattle.rx_replication.proofs.Orders.{is_state-itself, above_lower, not_below_itself}
 use Rattle.rx_replication.proofs.Pages.{Rise, placed, to_placed, rise-placed, from_placed, stands_above, since-page}
 use Rattle.rx_replication.proofs.Sides.{Holds}
 use Rattle.rx_replication.proofs.Sums.{sum-times}
@@ -74,7 +76,7 @@ after_first p (d ∷ ds) x es rise is =
           (ap is_lt (rise.0 e m))) in
           let all : filter (stands_above p) ds ≡ ds =
           filter-all (stands_above p) ds (λ e m.
-          not_false _ (above_lower p (place_of d) (place_of e) (ap not h) (rise.0 e m))) in
+          not-false _ (above_lower p (place_of d) (place_of e) (ap not h) (rise.0 e m))) in
           ap (λ b. cond b (d ∷ filter (stands_above (Some (place_of x))) ds)
           (filter (stands_above (Some (place_of x))) ds)) here
           ∙ above ∙ sym all ∙ rest)
@@ -214,7 +216,7 @@ module _ (resolve : Resolve) (l : Link) (x : Exchange) (next : Link) where
       }) (write l.fork (differences l.fork.documents
       (states_of (since l.master.documents l.down x.batch))) x.taken) e in
       inr (record {
-        none = map-none (push_row l.known) (pushed l.fork.documents l.known x.batch) are;
+        none = map_none (push_row l.known) (pushed l.fork.documents l.known x.batch) are;
         fork = t.0;
         taken = t.1;
         is = t.2;

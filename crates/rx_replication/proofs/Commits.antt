@@ -8,6 +8,8 @@ use Rattle.std.specs.Str.{bytes_eq}
 use Rattle.rx_value.specs.Named.{named, put_in_order, AreRising}
 use Rattle.rx_value.specs.declared.state.State.{State}
 use Rattle.rx_value.proofs.Named.{named-put_in_order, put_in_order-rising}
+use Rattle.rx_value.proofs.Bytes.{bytes_itself, bytes_same}
+use Rattle.rx_value.proofs.Outcomes.{some_same, not_none}
 use Rattle.rx_document.specs.Documents.{Documents}
 use Rattle.rx_document.specs.declared.stored.Stored.{Stored}
 use Rattle.rx_collection.specs.Commit.{by_key, row_of, rows_of, with_row, with_rows}
@@ -20,8 +22,6 @@ use Rattle.rx_collection.proofs.Rows.{by_key-rising}
 use Rattle.rx_replication.specs.Known.{KnownStates, with_learnt}
 use Rattle.rx_replication.specs.Member.{Member}
 use Rattle.rx_replication.specs.Write.{write, AreByKey}
-use Rattle.rx_replication.proofs.Lists.{some_same, not_none}
-use Rattle.rx_replication.proofs.Orders.{same_key, key_itself}
 
 -- ---- documents by key
 
@@ -74,7 +74,7 @@ module _ (first : Held) (lwt : ℕ) where
       (named-put_in_order c.documents e.1.key k row
       ∙ ap (λ (l : List ℕ). cond (bytes_eq k l) (Some row) (named c.documents k)) keyed.0)
       ∙ row_step (bytes_eq k e.0) e.1 (named es k) (named c.documents k)
-      (λ h. ap (named es) (same_key k e.0 h) ∙ first_alone e es rising)
+      (λ h. ap (named es) (bytes_same k e.0 h) ∙ first_alone e es rising)
 
 -- states by key carry their keys
 by_key-keyed : (ss : List State) → AllByRecursion (λ e. e.1.key ≡ e.0) (by_key ss)
@@ -118,13 +118,14 @@ by_key-among (s ∷ ss) k =
         some = λ t e. (
           inl (sym (some_same e)),
           ap (λ (u : State). u.key) (sym (some_same e))
-              ∙ sym (same_key k s.key h),
+              ∙ sym (bytes_same k s.key h),
         );
       })
       | false ↦ (λ h. record {
         none = λ e t. elim [
           | inl is ↦ (λ same. true≢false
-              (sym (key_itself k) ∙ ap (bytes_eq k) (sym same ∙ ap (λ (u : State). u.key) is) ∙ h))
+              (sym (bytes_itself k)
+              ∙ ap (bytes_eq k) (sym same ∙ ap (λ (u : State). u.key) is) ∙ h))
           | inr m ↦ rest.none e t m
         ];
         some = λ t e. (inr (rest.some t e).0, (rest.some t e).1);
@@ -171,7 +172,7 @@ learn_step known s ss k true e (inl o) =
     inr (record {
       state = s;
       member = inl refl;
-      key = sym (same_key k s.key e);
+      key = sym (bytes_same k s.key e);
       held = o.same ∙ named-put_in_order known s.key k s
           ∙ ap (λ b. cond b (Some s) (named known k)) e;
     })
@@ -179,7 +180,7 @@ learn_step known s ss k false e (inl o) =
     inl (record {
       absent = λ t. elim [
         | inl is ↦ (λ same. true≢false
-            (sym (key_itself k) ∙ ap (bytes_eq k) (sym same ∙ ap (λ (u : State). u.key) is) ∙ e))
+            (sym (bytes_itself k) ∙ ap (bytes_eq k) (sym same ∙ ap (λ (u : State). u.key) is) ∙ e))
         | inr m ↦ o.absent t m
       ];
       same = o.same ∙ named-put_in_order known s.key k s

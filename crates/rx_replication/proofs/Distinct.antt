@@ -5,6 +5,8 @@ use Rattle.std.specs.Str.{bytes_eq}
 use Rattle.rx_value.specs.Equal.{state_eq}
 use Rattle.rx_value.specs.Named.{named}
 use Rattle.rx_value.specs.declared.state.State.{State}
+use Rattle.rx_value.proofs.Bytes.{bytes_itself, bytes_apart}
+use Rattle.rx_value.proofs.Outcomes.{some_same}
 use Rattle.rx_document.specs.Documents.{Documents}
 use Rattle.rx_document.specs.Place.{place_cmp}
 use Rattle.rx_document.specs.declared.place.Place.{Place}
@@ -18,8 +20,8 @@ use Rattle.rx_replication.specs.Request.{push_row}
 use Rattle.rx_replication.specs.Taking.{Resolve, KeepsKey, real_state, resolutions, differences}
 use Rattle.rx_replication.specs.Write.{state_at, AreByKey}
 use Rattle.rx_replication.proofs.Handled.{Agree, states_of, conflict_key}
-use Rattle.rx_replication.proofs.Lists.{some_same, from_filter, from_filter_map}
-use Rattle.rx_replication.proofs.Orders.{key_itself, other_key, not_below_itself}
+use Rattle.rx_replication.proofs.Lists.{from_filter, from_filter_map}
+use Rattle.rx_replication.proofs.Orders.{not_below_itself}
 use Rattle.rx_replication.proofs.Pages.{Rise, page, page_held, page_rises, stands_above, since-page}
 use Rattle.rx_replication.proofs.Taken.{pushed, rows_of, real_state-key}
 
@@ -41,7 +43,7 @@ module _ {A : Type 0} (key : A → List ℕ) where
       → AllByRecursion (λ y. bytes_eq k y ≡ false) (map key xs)
   all_keys k [] each = tt
   all_keys k (x ∷ xs) each = (
-    other_key k (key x) (each x (inl refl)),
+    bytes_apart k (key x) (each x (inl refl)),
     all_keys k xs (λ y m. each y (inr m)),
   )
 
@@ -49,7 +51,7 @@ module _ {A : Type 0} (key : A → List ℕ) where
       → (x : A) → Member x xs → k ≢ key x
   not_key k [] all x m same = m
   not_key k (y ∷ ys) all x (inl is) same =
-      true≢false (sym (key_itself k) ∙ ap (bytes_eq k) (same ∙ ap key is) ∙ all.0)
+      true≢false (sym (bytes_itself k) ∙ ap (bytes_eq k) (same ∙ ap key is) ∙ all.0)
   not_key k (y ∷ ys) all x (inr m) same = not_key k ys all.1 x m same
 
   -- things of one key are one thing
@@ -112,7 +114,7 @@ module _ {A : Type 0} (key : A → List ℕ) where
                 → AllByRecursion (λ k. bytes_eq (key' y) k ≡ false) (map key' ys)
             each [] apart = tt
             each (z ∷ zs) apart = (
-              other_key (key' y) (key' z) (apart z (inl refl)),
+              bytes_apart (key' y) (key' z) (apart z (inl refl)),
               each zs (λ u m. apart u (inr m)),
             )
 

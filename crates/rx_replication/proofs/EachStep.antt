@@ -1,8 +1,10 @@
 -- Each step keeps what is kept.
-use Rattle.std.proofs.Common.{◌≡◌, ◌≢◌, ℕ, ◌+◌, ◌≤◌, Bool, true, false, cond, ◌&&◌, List, [], ◌∷◌, map, Option, Some, None, refl, sym, ap, ◌∙◌, inl, inr, subst, arith, true≢false, eqb-true, slice_get}
+use Rattle.std.proofs.Common.{◌≡◌, ◌≢◌, ℕ, ◌+◌, ◌≤◌, true, false, cond, List, [], ◌∷◌, map, Option, Some, None, refl, sym, ap, ◌∙◌, inl, inr, subst, arith, eqb-true, slice_get}
 use Rattle.std.proofs.Math.ListN.{length-map}
+use Rattle.std.proofs.lemmas.Bool.{and_parts}
 use Rattle.rx_value.specs.Named.{named}
 use Rattle.rx_value.specs.declared.state.State.{State}
+use Rattle.rx_value.proofs.Outcomes.{some_same, not_none}
 use Rattle.rx_document.specs.Documents.{Documents}
 use Rattle.rx_document.specs.declared.place.Place.{Place}
 use Rattle.rx_document.specs.declared.stored.Stored.{Stored}
@@ -24,14 +26,14 @@ use Rattle.rx_replication.specs.Master.{writes, body_of, master_then, reply_with
 use Rattle.rx_replication.specs.Member.{Member}
 use Rattle.rx_replication.specs.Request.{push_or_pull, IsCurrent}
 use Rattle.rx_replication.specs.Sound.{IsSoundSide, Reach}
-use Rattle.rx_replication.specs.Steps.{System, OpenRequest, MadeReply, Step, after, with_fork, with_master, request_of, with_request, with_reply, handled_in, with_taking, taken_in, arrived_in, is_due, IsLawfulStep}
+use Rattle.rx_replication.specs.Steps.{System, OpenRequest, MadeReply, Step, after, with_fork, with_master, request_of, with_request, with_reply, handled_in, with_taking, taken_in, arrived_in, is_awaited, IsLawfulStep}
 use Rattle.rx_replication.specs.Steps.Step.{CommitFork, CommitMaster, Ask, Handle, Arrive, Restart}
 use Rattle.rx_replication.specs.Taking.{Resolve, KeepsKey, taking, real_state, resolutions, pushed_place, differences}
 use Rattle.rx_replication.specs.Write.{write}
 use Rattle.rx_replication.proofs.Commits.{Wrote, write_wrote}
 use Rattle.rx_replication.proofs.Handled.{RowsApart, Agree, push_answered, push_told, push_fits, pull_answered, pull_agrees, pull_quiet, pull_fits}
 use Rattle.rx_replication.proofs.Kept.{IsFrom, IsAsked, Tells, IsGood, IsPast, IsKept}
-use Rattle.rx_replication.proofs.Lists.{some_same, not_none, from_slice_get}
+use Rattle.rx_replication.proofs.Lists.{from_slice_get}
 use Rattle.rx_replication.proofs.Sides.{side_after, answered_after}
 use Rattle.rx_replication.proofs.Taken.{pushed, rows_of, rows_apart, push_fork_side, push_master_side, pull_fork_side, pull_master_side, current_push, current_pull, none_pending-known}
 
@@ -281,16 +283,12 @@ kept_handled w (Some q) now k h = kept_answered w k q (h q refl) q.ask now refl
 
 -- ---- a reply that arrives
 
-both : (a b : Bool) → a && b ≡ true → (a ≡ true) × (b ≡ true)
-both true b e = (refl, e)
-both false b e = absurd (true≢false (sym e))
-
 -- a reply that is due is to the open request, and the fork wasn't written since
-pub due_is : (w : System) (o : OpenRequest) (r : Reply) → is_due w o r ≡ true
+pub due_is : (w : System) (o : OpenRequest) (r : Reply) → is_awaited w o r ≡ true
     → (reply_number r ≡ number_of o.request) × (o.lwt ≡ last_lwt w.fork.documents)
 due_is w o r e =
-    let p = both _ _ e in
-    let q = both _ _ p.0 in
+    let p = and_parts _ _ e in
+    let q = and_parts _ _ p.0 in
     let x : r.epoch ≡ o.request.epoch = eqb-true _ _ q.0 in
     let y : r.n ≡ o.request.n = eqb-true _ _ q.1 in
     (λ i. (x i, y i), sym (eqb-true _ _ p.1))
@@ -393,7 +391,7 @@ module _ (resolve : Resolve) (law : KeepsKey resolve) (w : System) (k : IsKept w
 
   -- a reply that is due is taken while its request is current, and is good
   pub due : (o : OpenRequest) (r : MadeReply) → w.waiting ≡ Some o → Member r w.replies
-      → is_due w o r.reply ≡ true
+      → is_awaited w o r.reply ≡ true
       → IsCurrent w.fork.documents w.known w.down o.request.ask
       × IsGood w.master.documents w.known w.down o.request.ask r
   due o r e m h =
@@ -405,7 +403,7 @@ module _ (resolve : Resolve) (law : KeepsKey resolve) (w : System) (k : IsKept w
   kept_arrived None r now e m = k
   kept_arrived (Some o) None now e m = k
   kept_arrived (Some o) (Some r) now e m =
-      elim (is_due w o r.reply) as (λ b. is_due w o r.reply ≡ b
+      elim (is_awaited w o r.reply) as (λ b. is_awaited w o r.reply ≡ b
       → IsKept (cond b
       (taken_in w (taking resolve w.fork.documents w.up w.down o.request.ask r.reply.body) now)
       w)) [

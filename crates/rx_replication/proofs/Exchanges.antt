@@ -1,5 +1,6 @@
 -- An exchange is three steps.
 use Rattle.std.proofs.Common.{◌≡◌, ℕ, ◌+◌, Bool, true, cond, ◌&&◌, ◌==◌, Option, Some, None, refl, ap, ◌∙◌, eq-eqb}
+use Rattle.rx_value.proofs.Outcomes.{some_same, not_none}
 use Rattle.rx_collection.specs.Held.{Held}
 use Rattle.rx_collection.specs.Time.{last_lwt}
 use Rattle.rx_replication.specs.Exchange.{Link, Exchange, asked, link_with, taken_by, answered_by}
@@ -9,7 +10,6 @@ use Rattle.rx_replication.specs.Steps.{System, request_of, with_request, with_re
 use Rattle.rx_replication.specs.Steps.Step.{Arrive}
 use Rattle.rx_replication.specs.Taking.{Resolve, Taking, taking}
 use Rattle.rx_replication.specs.Write.{write}
-use Rattle.rx_replication.proofs.Lists.{some_same, not_none}
 
 module _ (resolve : Resolve) (w : System) (x : Exchange) (next : Link) where
   abbrev requested : System

@@ -1,9 +1,12 @@
 -- A request that is handled.
 use Rattle.std.proofs.Common.{◌≡◌, ◌≢◌, ℕ, ◌<◌, ◌≤◌, true, false, not, cond, List, [], ◌∷◌, map, filter, length, length-take, Option, Some, None, is_none, option_map, refl, sym, ap, ◌∙◌, ◌⊎◌, inl, inr, subst, arith, true≢false}
 use Rattle.std.proofs.Math.ListN.{length-map}
+use Rattle.std.proofs.lemmas.Bool.{not-false}
 use Rattle.std.specs.Str.{bytes_eq}
 use Rattle.rx_value.specs.Named.{named}
 use Rattle.rx_value.specs.declared.state.State.{State}
+use Rattle.rx_value.proofs.Bytes.{bytes_itself, bytes_same}
+use Rattle.rx_value.proofs.Outcomes.{some_same, not_none, none_is}
 use Rattle.rx_document.specs.Documents.{Documents}
 use Rattle.rx_document.specs.declared.place.Place.{Place}
 use Rattle.rx_document.specs.declared.stored.Stored.{Stored}
@@ -20,8 +23,8 @@ use Rattle.rx_replication.specs.Sound.{IsSoundSide, Reach}
 use Rattle.rx_replication.specs.Taking.{conflict_at, real_or, real_state}
 use Rattle.rx_replication.specs.Write.{is_up_to, state_at, AreByKey}
 use Rattle.rx_replication.proofs.Commits.{IsAmong, IsOld, IsNew, IsNewState, Wrote, learn_at, key_at}
-use Rattle.rx_replication.proofs.Lists.{some_same, not_none, to_map, from_map, to_filter, from_filter, to_filter_map, from_filter_map}
-use Rattle.rx_replication.proofs.Orders.{same_key, key_itself, not_false, up_to_itself, up_to_other}
+use Rattle.rx_replication.proofs.Lists.{to_map, from_map, to_filter, from_filter, to_filter_map, from_filter_map}
+use Rattle.rx_replication.proofs.Orders.{up_to_itself, up_to_other}
 use Rattle.rx_replication.proofs.Pages.{page, placed, page_held, page_whole, page_few, last_place_is, stands_above, since-page}
 use Rattle.rx_replication.proofs.Sides.{Holds, above_reached}
 
@@ -47,22 +50,18 @@ conflict-among k (c ∷ cs) =
         some = λ s e. (
           inl (sym (some_same e)),
           ap (λ (z : State). z.key) (sym (some_same e))
-              ∙ same_key c.key k h,
+              ∙ bytes_same c.key k h,
         );
       })
       | false ↦ (λ h. record {
         none = λ e s. elim [
-          | inl is ↦ (λ f. true≢false (sym (key_itself k)
+          | inl is ↦ (λ f. true≢false (sym (bytes_itself k)
               ∙ ap (λ (z : List ℕ). bytes_eq z k) (sym f ∙ ap (λ (z : State). z.key) is) ∙ h))
           | inr m ↦ rest.none e s m
         ];
         some = λ s e. (inr (rest.some s e).0, (rest.some s e).1);
       })
     ] refl
-
-is_none-none : (o : Option State) → is_none o ≡ true → o ≡ None
-is_none-none None e = refl
-is_none-none (Some s) e = absurd (true≢false (sym e))
 
 module _ (m : Documents) (rows : List PushRow) where
   pub from_conflicts : (s : State) → Member s (conflicts m rows)
@@ -79,7 +78,7 @@ module _ (m : Documents) (rows : List PushRow) where
       let x = from_map (λ (row : PushRow). row.new)
       (filter (λ row. is_none (conflict_of m row)) rows) s h in
       let y = from_filter (λ row. is_none (conflict_of m row)) rows x.0 x.1 in
-      (x.0, y.0, x.2, is_none-none (conflict_of m x.0) y.1)
+      (x.0, y.0, x.2, none_is (conflict_of m x.0) y.1)
 
   pub to_writes : (row : PushRow) → Member row rows → conflict_of m row ≡ None
       → Member row.new (writes m rows)
@@ -263,7 +262,7 @@ module _ (m : Documents) (p : Option Place) (n : ℕ) (by_key : AreByKey m) wher
   module _ (some : 1 ≤ n) (reach : Reach m p) where
     change_whole : (k : List ℕ) (d : Stored) → named m k ≡ Some d → is_up_to (place_of d) p ≡ false
         → is_up_to (place_of d) (last_place p changed) ≡ true → Member d changed
-    change_whole k d at h l = page_whole m by_key (stands_above p) n p k d some at (not_false _ h) l
+    change_whole k d at h l = page_whole m by_key (stands_above p) n p k d some at (not-false _ h) l
 
     abbrev IsLastOf : Option Place → Type 0
     IsLastOf q = (q ≡ p) ⊎ ((d : Stored) × Member d changed × (q ≡ Some (place_of d)))
@@ -314,7 +313,7 @@ module _ (m : Documents) (p : Option Place) (n : ℕ) (by_key : AreByKey m) wher
             | true ↦ (λ h. sound.settled k d e h)
             | false ↦ (λ h. absurd (absent d.state
                 (to_map (λ (d : Stored). d.state) changed d
-                (page_few m by_key (stands_above p) n k d few e (not_false _ h)))
+                (page_few m by_key (stands_above p) n k d few e (not-false _ h)))
                 (key_at m k d by_key e)))
           ] refl
 

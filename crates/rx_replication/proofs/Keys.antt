@@ -1,6 +1,7 @@
 -- Which keys a write leaves, and how many.
 use Rattle.std.proofs.Common.{◌≡◌, ℕ, suc, ◌+◌, ◌≤◌, Bool, true, false, cond, List, [], ◌∷◌, filter, length, Option, Some, None, is_none, option_map, refl, sym, ap, ◌∙◌, inl, inr, subst, arith, true≢false, Less, Equal, Greater}
 use Rattle.std.proofs.lemmas.Map.Text.{is_eq-slice_cmp}
+use Rattle.std.proofs.lemmas.Map.Entries.{length-keys_of}
 use Rattle.std.specs.List.{AllByRecursion}
 use Rattle.std.specs.List.Sorted.{IsStrictlySortedBy}
 use Rattle.std.specs.Map.{keys_of, values_of}
@@ -11,6 +12,8 @@ use Rattle.rx_value.specs.Order.{text_cmp}
 use Rattle.rx_value.specs.declared.state.State.{State}
 use Rattle.rx_value.proofs.Named.{named-put_in_order, put_in_order-rising}
 use Rattle.rx_value.proofs.Ordered.{text_total}
+use Rattle.rx_value.proofs.Bytes.{bytes_itself, bytes_same}
+use Rattle.rx_value.proofs.Outcomes.{some_same, not_none}
 use Rattle.rx_document.specs.Documents.{Documents}
 use Rattle.rx_document.specs.declared.stored.Stored.{Stored}
 use Rattle.rx_collection.specs.Commit.{by_key, row_of, rows_of, with_row, with_rows}
@@ -19,8 +22,7 @@ use Rattle.rx_collection.specs.Time.{stamp}
 use Rattle.rx_collection.proofs.Named.{all_named, all_put}
 use Rattle.rx_replication.specs.Member.{Member}
 use Rattle.rx_replication.specs.Write.{write}
-use Rattle.rx_replication.proofs.Lists.{some_same, not_none, all_at, from_map, from_values_of}
-use Rattle.rx_replication.proofs.Orders.{same_key, key_itself}
+use Rattle.rx_replication.proofs.Lists.{all_at, from_map, from_values_of}
 use Rattle.rx_replication.proofs.Sides.{Holds}
 
 module _ {X : Type 0} where
@@ -38,7 +40,7 @@ module _ {X : Type 0} where
       elim (bytes_eq k e.0)
       as (λ b. bytes_eq k e.0 ≡ b → cond b (Some e.1) (named es k) ≡ Some x
       → Member k (keys_of (e ∷ es))) [
-        | true ↦ (λ h is. inl (same_key k e.0 h))
+        | true ↦ (λ h is. inl (bytes_same k e.0 h))
         | false ↦ (λ h is. inr (key_among es k x is))
       ] refl at
 
@@ -80,10 +82,6 @@ module _ {X : Type 0} where
       length (match_ordering o ((k, v) ∷ e ∷ es) ((e.0, v) ∷ es) (e ∷ put_in_order es k v))
       ≤ suc (suc (length es)))
       [ Less ↦ omega arith | Equal ↦ omega arith | Greater ↦ omega arith ]
-
-  pub length-keys : (es : List (List ℕ × X)) → length (keys_of es) ≡ length es
-  length-keys [] = refl
-  length-keys (e ∷ es) = ap suc (length-keys es)
 
 -- ---- the keys of a commit
 
@@ -219,15 +217,15 @@ count-put documents row ks rising m =
     → length put + length (lacking put ks) ≤ length documents + length (lacking documents ks)) [
       | Some d ↦ (λ at.
           let same : length put ≡ length documents =
-          sym (length-keys put) ∙ ap length (keys-put documents k row d rising at)
-          ∙ length-keys documents in
+          sym (length-keys_of put) ∙ ap length (keys-put documents k row d rising at)
+          ∙ length-keys_of documents in
           let less = fewer (λ q. is_none (named documents q)) (λ q. is_none (named put q)) ks sub in
           omega arith)
       | None ↦ (λ at.
           let more = length-put documents k row in
           let fails : is_none (named put k) ≡ false =
           ap is_none (named-put_in_order documents k k row
-          ∙ ap (λ b. cond b (Some row) (named documents k)) (key_itself k)) in
+          ∙ ap (λ b. cond b (Some row) (named documents k)) (bytes_itself k)) in
           let less = one_fewer (λ q. is_none (named documents q)) (λ q. is_none (named put q)) ks k
           sub m (ap is_none at) fails in
           omega arith)

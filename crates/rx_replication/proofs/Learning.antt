@@ -10,6 +10,7 @@ use Rattle.rx_value.specs.Named.{named, AreRising}
 use Rattle.rx_value.specs.Order.{text_cmp}
 use Rattle.rx_value.specs.declared.state.State.{State}
 use Rattle.rx_value.proofs.Ordered.{text_total, text_ties}
+use Rattle.rx_value.proofs.Outcomes.{some_same, not_none}
 use Rattle.rx_collection.specs.Commit.{by_key}
 use Rattle.rx_collection.proofs.Named.{all_put}
 use Rattle.rx_replication.specs.Known.{KnownStates, with_learnt}
@@ -17,7 +18,7 @@ use Rattle.rx_replication.specs.Member.{Member}
 use Rattle.rx_replication.proofs.Commits.{IsAmong, IsOld, IsNewState, by_key-among, learn_at, learn-rising}
 use Rattle.rx_replication.proofs.Distinct.{KeysDiffer, differ-agree}
 use Rattle.rx_replication.proofs.Handled.{Agree}
-use Rattle.rx_replication.proofs.Lists.{some_same, not_none, all_at, from_values_of}
+use Rattle.rx_replication.proofs.Lists.{all_at, from_values_of}
 
 -- ---- rising names that name the same are the same
 

@@ -2,15 +2,8 @@
 use Rattle.std.proofs.Common.{◌≡◌, ℕ, zero, suc, ◌<◌, ◌≤◌, Bool, true, false, cond, List, [], ◌∷◌, map, take, length, filter, Option, Some, None, refl, sym, ap, ◌∙◌, inl, inr, subst, arith, slice_get}
 use Rattle.std.specs.List.{AllByRecursion, filter_map, cons_option}
 use Rattle.std.specs.Map.{values_of}
+use Rattle.rx_value.proofs.Outcomes.{some_same, not_none}
 use Rattle.rx_replication.specs.Member.{Member}
-
--- ---- options and tests
-
-pub some_same : {A : Type 0} {x y : A} → Some x ≡ Some y → x ≡ y
-some_same e = cc
-
-pub not_none : {A B : Type 0} {x : A} → None ≡ Some x → B
-not_none e = absurd (cc)
 
 -- ---- lists
 
@@ -92,10 +85,6 @@ module _ {A : Type 0} where
     from_map f [] y h = absurd h
     from_map f (x ∷ xs) y (inl is) = (x, inl refl, is)
     from_map f (x ∷ xs) y (inr h) = let rest = from_map f xs y h in (rest.0, inr rest.1, rest.2)
-
-    pub map-none : (f : A → B) (xs : List A) → map f xs ≡ [] → xs ≡ []
-    map-none f [] h = refl
-    map-none f (x ∷ xs) h = absurd (cc)
 
     pub to_filter_map : (f : A → Option B) (xs : List A) (x : A) (y : B) → Member x xs
         → f x ≡ Some y → Member y (filter_map f xs)

@@ -1,9 +1,7 @@
 -- The order of places against checkpoints, and what the test of states tells.
-use Rattle.std.proofs.Common.{◌≡◌, ◌≢◌, ℕ, ◌<◌, ◌≤◌, Bool, true, false, not, List, Option, Some, None, refl, sym, ap, ◌∙◌, arith, true≢false, Ordering, Less, Equal, Greater, nat_cmp, is_lt}
+use Rattle.std.proofs.Common.{◌≡◌, ℕ, ◌<◌, ◌≤◌, Bool, true, false, not, Option, Some, None, refl, sym, ap, ◌∙◌, arith, true≢false, Ordering, Less, Equal, Greater, nat_cmp, is_lt}
 use Rattle.std.proofs.lemmas.Cmp.{ranked, tied_itself}
-use Rattle.std.proofs.lemmas.Slice.Eq.{bytes_eq-Decides}
 use Rattle.std.specs.Ordering.{ordering_then, ordering_reverse}
-use Rattle.std.specs.Str.{bytes_eq}
 use Rattle.rx_value.specs.Equal.{state_eq}
 use Rattle.rx_value.specs.Equality.{state_eq-Decides}
 use Rattle.rx_value.specs.Order.{text_cmp}
@@ -12,31 +10,6 @@ use Rattle.rx_document.specs.Place.{place_cmp, place_total}
 use Rattle.rx_document.specs.declared.place.Place.{Place}
 use Rattle.rx_replication.specs.Known.{is_state}
 use Rattle.rx_replication.specs.Write.{is_up_to}
-
--- ---- tests
-
-pub not_true : (b : Bool) → not b ≡ true → b ≡ false
-not_true true e = sym e
-not_true false e = refl
-
-pub not_false : (b : Bool) → not b ≡ false → b ≡ true
-not_false true e = refl
-not_false false e = absurd (true≢false e)
-
--- ---- keys
-
-pub same_key : (k l : List ℕ) → bytes_eq k l ≡ true → k ≡ l
-same_key k l = (bytes_eq-Decides k l).0
-
-pub key_itself : (k : List ℕ) → bytes_eq k k ≡ true
-key_itself k = (bytes_eq-Decides k k).1 refl
-
-pub other_key : (k l : List ℕ) → k ≢ l → bytes_eq k l ≡ false
-other_key k l apart =
-    elim (bytes_eq k l) as (λ b. bytes_eq k l ≡ b → b ≡ false) [
-      | true ↦ (λ h. absurd (apart (same_key k l h)))
-      | false ↦ (λ h. refl)
-    ] refl
 
 -- ---- states
 

@@ -6,6 +6,8 @@ use Rattle.std.specs.Map.{values_of}
 use Rattle.std.specs.Ordering.{eq_by_cmp}
 use Rattle.std.specs.Str.{bytes_eq}
 use Rattle.rx_value.specs.Named.{named}
+use Rattle.rx_value.proofs.Bytes.{bytes_itself}
+use Rattle.rx_value.proofs.Outcomes.{some_same, not_none}
 use Rattle.rx_document.specs.Documents.{Documents}
 use Rattle.rx_document.specs.Place.{place_cmp, place_total}
 use Rattle.rx_document.specs.declared.place.Place.{Place}
@@ -18,8 +20,8 @@ use Rattle.rx_replication.specs.Master.{last_place}
 use Rattle.rx_replication.specs.Member.{Member}
 use Rattle.rx_replication.specs.Write.{is_up_to, AreByKey}
 use Rattle.rx_replication.proofs.Commits.{key_at}
-use Rattle.rx_replication.proofs.Lists.{some_same, not_none, all_at, to_filter, from_filter, from_take, take_few, from_values_of}
-use Rattle.rx_replication.proofs.Orders.{key_itself, above-up_to}
+use Rattle.rx_replication.proofs.Lists.{all_at, to_filter, from_filter, from_take, take_few, from_values_of}
+use Rattle.rx_replication.proofs.Orders.{above-up_to}
 
 -- the documents in the order of their places
 abbrev pub placed : Documents → List Stored
@@ -78,7 +80,7 @@ found_placed (e ∷ es) k d keyed key at =
           ∙ ap Some same)
       | false ↦ (λ h is.
           let apart = other_place d e.1 (λ same. true≢false
-          (sym (key_itself k) ∙ ap (bytes_eq k) (sym key ∙ same ∙ keyed.0) ∙ h)) in
+          (sym (bytes_itself k) ∙ ap (bytes_eq k) (sym key ∙ same ∙ keyed.0) ∙ h)) in
           ap (λ b. cond b (Some e.1) (find place_cmp (place_of d) (by_place es))) apart
           ∙ found_placed es k d keyed.1 key is)
     ] refl at

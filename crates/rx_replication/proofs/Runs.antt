@@ -1,6 +1,7 @@
 -- Every list of steps.
 use Rattle.std.proofs.Common.{◌≡◌, ℕ, ◌<◌, true, false, cond, List, [], ◌∷◌, length, Option, Some, None, refl, sym, ap, ◌∙◌, subst, arith, true≢false, slice_get}
 use Rattle.rx_value.specs.declared.state.State.{State}
+use Rattle.rx_value.proofs.Outcomes.{some_same, not_none}
 use Rattle.rx_document.specs.Documents.{Documents}
 use Rattle.rx_document.specs.declared.place.Place.{Place}
 use Rattle.rx_collection.specs.Held.{Held}
@@ -11,13 +12,13 @@ use Rattle.rx_wire.specs.declared.message.Body.TheVariants.{Conflicts, Docs}
 use Rattle.rx_replication.specs.Interleaving.{Always, IsQuietThen}
 use Rattle.rx_replication.specs.Member.{Member}
 use Rattle.rx_replication.specs.Request.{IsCurrent}
-use Rattle.rx_replication.specs.Steps.{System, OpenRequest, MadeReply, Step, after, with_taking, taken_in, arrived_in, is_due, run, start, AreLawfulSteps}
+use Rattle.rx_replication.specs.Steps.{System, OpenRequest, MadeReply, Step, after, with_taking, taken_in, arrived_in, is_awaited, run, start, AreLawfulSteps}
 use Rattle.rx_replication.specs.Taking.{Resolve, KeepsKey, taking, differences}
 use Rattle.rx_replication.specs.Write.{write, state_at, AreByKey}
 use Rattle.rx_replication.proofs.Commits.{write_wrote}
 use Rattle.rx_replication.proofs.EachStep.{kept_after, all_known, due}
 use Rattle.rx_replication.proofs.Kept.{Tells, IsKept}
-use Rattle.rx_replication.proofs.Lists.{some_same, not_none, from_slice_get}
+use Rattle.rx_replication.proofs.Lists.{from_slice_get}
 use Rattle.rx_replication.proofs.Taken.{pull_same}
 
 -- ---- a short pull
@@ -81,7 +82,7 @@ module _ (resolve : Resolve) (law : KeepsKey resolve) (w : System) (k : IsKept w
   quiet_arrived (Some o) (Some r) x now p b ss to asker e is comes m pull page few taken key =
       let same : r ≡ x = some_same comes in
       let asker_is : o ≡ asker = some_same is in
-      (elim (is_due w o r.reply) as (λ t. is_due w o r.reply ≡ t
+      (elim (is_awaited w o r.reply) as (λ t. is_awaited w o r.reply ≡ t
       → (cond t (then_of o.request.ask r.reply.body now) w).waiting ≡ None
       → state_at (cond t (then_of o.request.ask r.reply.body now) w).fork.documents key
       ≡ state_at x.master.documents key) [

@@ -2,6 +2,7 @@
 use Rattle.std.proofs.Common.{◌≡◌, ℕ, ◌<◌, ◌≤◌, true, false, not, List, Option, Some, None, refl, sym, ap, ◌∙◌, ◌⊎◌, inl, inr, subst, arith, true≢false}
 use Rattle.rx_value.specs.Named.{named}
 use Rattle.rx_value.specs.declared.state.State.{State}
+use Rattle.rx_value.proofs.Outcomes.{some_same}
 use Rattle.rx_document.specs.Documents.{Documents}
 use Rattle.rx_document.specs.declared.place.Place.{Place}
 use Rattle.rx_document.specs.declared.stored.Stored.{Stored}
@@ -17,7 +18,6 @@ use Rattle.rx_replication.specs.Known.{KnownStates, NonePendingBelow}
 use Rattle.rx_replication.specs.Sound.{IsSoundSide, AreKnownUpTo, Reach}
 use Rattle.rx_replication.specs.Write.{is_up_to, AreByKey}
 use Rattle.rx_replication.proofs.Commits.{IsOld, IsNew, Wrote, key_at}
-use Rattle.rx_replication.proofs.Lists.{some_same}
 use Rattle.rx_replication.proofs.Orders.{up_to_later, up_to_earlier, up_to-lwt, is_state-itself}
 
 -- the key is held

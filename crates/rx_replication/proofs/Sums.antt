@@ -7,6 +7,7 @@ use Rattle.std.specs.List.Sorted.{IsStrictlySortedBy}
 use Rattle.std.specs.Map.{keys_of, values_of}
 use Rattle.std.specs.Ordering.{eq_by_cmp, is_eq}
 use Rattle.rx_value.specs.Named.{named}
+use Rattle.rx_value.proofs.Outcomes.{not_none}
 use Rattle.rx_document.specs.Documents.{Documents}
 use Rattle.rx_document.specs.Place.{place_cmp}
 use Rattle.rx_document.specs.declared.place.Place.{Place}
@@ -15,7 +16,7 @@ use Rattle.rx_collection.specs.Since.{place_of, by_place}
 use Rattle.rx_collection.proofs.Named.{first_alone}
 use Rattle.rx_replication.specs.Member.{Member}
 use Rattle.rx_replication.specs.Write.{AreByKey}
-use Rattle.rx_replication.proofs.Lists.{not_none, all_at}
+use Rattle.rx_replication.proofs.Lists.{all_at}
 use Rattle.rx_replication.proofs.Pages.{placed, other_place, are_placed}
 
 module _ {A : Type 0} where

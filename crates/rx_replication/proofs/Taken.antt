@@ -1,8 +1,11 @@
 -- A reply that is taken.
 use Rattle.std.proofs.Common.{◌≡◌, ◌≢◌, ℕ, ◌≤◌, Bool, true, false, not, List, [], ◌∷◌, map, filter, take, Option, Some, None, option_map, refl, sym, ap, ◌∙◌, ◌⊎◌, inl, inr, subst, true≢false}
+use Rattle.std.proofs.lemmas.Bool.{not-true, not-false}
 use Rattle.rx_value.specs.Equal.{state_eq}
 use Rattle.rx_value.specs.Named.{named}
 use Rattle.rx_value.specs.declared.state.State.{State}
+use Rattle.rx_value.proofs.Lists.{map_none}
+use Rattle.rx_value.proofs.Outcomes.{some_same, not_none}
 use Rattle.rx_document.specs.Documents.{Documents}
 use Rattle.rx_document.specs.declared.place.Place.{Place}
 use Rattle.rx_document.specs.declared.stored.Stored.{Stored}
@@ -19,8 +22,8 @@ use Rattle.rx_replication.specs.Taking.{Resolve, KeepsKey, conflict_at, real_or,
 use Rattle.rx_replication.specs.Write.{is_up_to, state_at, AreByKey}
 use Rattle.rx_replication.proofs.Commits.{IsAmong, IsOld, IsNew, IsNewState, Wrote, learn_at, key_at}
 use Rattle.rx_replication.proofs.Handled.{conflict-among, RowsApart, Agree}
-use Rattle.rx_replication.proofs.Lists.{some_same, not_none, to_map, from_map, map-none, to_filter, from_filter, take_none}
-use Rattle.rx_replication.proofs.Orders.{not_true, not_false, same_state, is_state-some, is_state-itself, up_to_itself, up_to_other}
+use Rattle.rx_replication.proofs.Lists.{to_map, from_map, to_filter, from_filter, take_none}
+use Rattle.rx_replication.proofs.Orders.{same_state, is_state-some, is_state-itself, up_to_itself, up_to_other}
 use Rattle.rx_replication.proofs.Pages.{page_held, page_whole, last_place_is, placed, to_placed}
 use Rattle.rx_replication.proofs.Sides.{Holds, above_reached, holds_after, reach_after}
 
@@ -28,7 +31,7 @@ use Rattle.rx_replication.proofs.Sides.{Holds, above_reached, holds_after, reach
 
 -- a document that isn't pending is known
 pub known_is : (o : Option State) (s : State) → not (is_state o s) ≡ false → o ≡ Some s
-known_is o s e = is_state-some o s (not_false _ e)
+known_is o s e = is_state-some o s (not-false _ e)
 
 real_key : (cs : List State) (row : PushRow) (o : Option State) → IsAmong row.new.key cs o
     → (real_or o row.new).key ≡ row.new.key
@@ -60,7 +63,7 @@ module _ (resolve : Resolve) (cs : List State) (rows : List PushRow) where
   from_resolutions s h =
       let x = from_map resolution (filter is_other rows) s h in
       let y = from_filter is_other rows x.0 x.1 in
-      (x.0, y.0, x.2, not_true _ y.1)
+      (x.0, y.0, x.2, not-true _ y.1)
 
   pub resolution-key : KeepsKey resolve → (row : PushRow)
       → (resolve (real_state cs row) row.new).key ≡ row.new.key
@@ -470,7 +473,7 @@ module _ (fork : Documents) (known : KnownStates) (down : Option Place) where
   current_pull p b by_key c k d at =
       let empty : pending fork known ≡ [] =
       take_none c.0 (pending fork known) c.1
-      (map-none (push_row known) (pushed fork known c.0)
+      (map_none (push_row known) (pushed fork known c.0)
       (no_rows (rows_of known (pushed fork known c.0)) p down b c.0 c.2)) in
       elim (is_pending known d) as (λ b. is_pending known d ≡ b → b ≡ false) [
         | true ↦ (λ p. absurd (subst (Member d) empty

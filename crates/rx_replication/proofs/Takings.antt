@@ -1,7 +1,8 @@
 -- What a call that takes a reply owes: its sides stay sound, no checkpoint falls, and what becomes
 -- known is held.
-use Rattle.std.proofs.Common.{◌≡◌, ℕ, true, List, [], ◌∷◌, map, Option, Some, refl, sym, ap, ◌∙◌, ◌⊎◌, inl, inr, subst}
+use Rattle.std.proofs.Common.{◌≡◌, true, List, map, Option, Some, refl, sym, ◌⊎◌, inl, inr, subst}
 use Rattle.rx_value.specs.declared.state.State.{State}
+use Rattle.rx_value.proofs.Outcomes.{some_same, not_none}
 use Rattle.rx_document.specs.Documents.{Documents}
 use Rattle.rx_document.specs.declared.place.Place.{Place}
 use Rattle.rx_wire.specs.declared.message.AskKind.{AskKind}
@@ -10,19 +11,17 @@ use Rattle.rx_wire.specs.declared.message.Body.{Body}
 use Rattle.rx_wire.specs.declared.message.Body.TheVariants.{Conflicts, Docs}
 use Rattle.rx_wire.specs.declared.message.PushRow.{PushRow}
 use Rattle.rx_replication.specs.Answered.{IsAnswered}
-use Rattle.rx_replication.specs.Fitting.{IsFitting, PlaceFits}
 use Rattle.rx_replication.specs.Known.{KnownStates, with_learnt}
 use Rattle.rx_replication.specs.Member.{Member}
-use Rattle.rx_replication.specs.Request.{IsCurrent, push_or_pull}
+use Rattle.rx_replication.specs.Request.{IsCurrent}
 use Rattle.rx_replication.specs.Sound.{IsForkSound, IsMasterSound}
 use Rattle.rx_replication.specs.Taking.{Resolve, KeepsKey, Taking, taking, real_state, resolutions, pushed_place}
 use Rattle.rx_replication.specs.Write.{is_up_to, AreByKey}
 use Rattle.rx_replication.proofs.Commits.{IsOld, IsNewState, Wrote, learn_at}
 use Rattle.rx_replication.proofs.Distinct.{KeysDiffer, RowKeysDiffer, differ-agree, rows_differ, resolutions_differ, differences_differ, real_states_differ}
-use Rattle.rx_replication.proofs.Lists.{some_same, not_none}
-use Rattle.rx_replication.proofs.Orders.{up_to_itself, up_to_other}
+use Rattle.rx_replication.proofs.Orders.{up_to_itself}
 use Rattle.rx_replication.proofs.Sides.{Holds}
-use Rattle.rx_replication.proofs.Taken.{pushed, rows_of, push_fork_side, push_master_side, pull_fork_side, pull_master_side, up_risen, current_push, current_pull, none_pending-known}
+use Rattle.rx_replication.proofs.Taken.{push_fork_side, push_master_side, pull_fork_side, pull_master_side, up_risen, current_push, current_pull, none_pending-known}
 
 -- no two states of an answer have one key
 abbrev pub AnswerDiffers : Body → Type 0

@@ -2,6 +2,7 @@
 use Rattle.std.proofs.Common.{◌≡◌, ℕ, Bool, true, false, cond, List, [], ◌∷◌, Option, Some, None, refl, sym, ap, ◌∙◌, ◌⊎◌, inl, inr, subst, slice_get}
 use Rattle.rx_value.specs.Named.{named}
 use Rattle.rx_value.specs.declared.state.State.{State}
+use Rattle.rx_value.proofs.Outcomes.{some_same, not_none}
 use Rattle.rx_document.specs.Documents.{Documents}
 use Rattle.rx_document.specs.declared.place.Place.{Place}
 use Rattle.rx_document.specs.declared.stored.Stored.{Stored}
@@ -17,7 +18,7 @@ use Rattle.rx_replication.specs.Known.{KnownStates, with_learnt}
 use Rattle.rx_replication.specs.Master.{writes, body_of, master_then}
 use Rattle.rx_replication.specs.Member.{Member}
 use Rattle.rx_replication.specs.Request.{push_row, push_or_pull, ask_of}
-use Rattle.rx_replication.specs.Steps.{System, OpenRequest, MadeReply, Step, after, with_fork, with_master, with_reply, handled_in, with_taking, taken_in, arrived_in, is_due, run, start, AreLawfulSteps}
+use Rattle.rx_replication.specs.Steps.{System, OpenRequest, MadeReply, Step, after, with_fork, with_master, with_reply, handled_in, with_taking, taken_in, arrived_in, is_awaited, run, start, AreLawfulSteps}
 use Rattle.rx_replication.specs.Steps.Step.{CommitFork, CommitMaster, Ask, Handle, Arrive, Restart}
 use Rattle.rx_replication.specs.Taking.{Resolve, KeepsKey, Taking, taking, conflict_at, real_or, real_state}
 use Rattle.rx_replication.specs.Throughout.{AllPass, DocumentsPass, KnownPass, RowPasses, AskPasses, BodyPasses, SystemPasses, StepPasses, StepsPass, KeepsPassing, HoldsThroughout}
@@ -26,7 +27,7 @@ use Rattle.rx_replication.proofs.Commits.{IsAmong, IsOld, IsNew, IsNewState, Wro
 use Rattle.rx_replication.proofs.EachStep.{kept_after}
 use Rattle.rx_replication.proofs.Handled.{conflict-among, conflict_held, from_conflicts, from_writes, states_of}
 use Rattle.rx_replication.proofs.Kept.{IsKept}
-use Rattle.rx_replication.proofs.Lists.{some_same, not_none, from_map, from_slice_get}
+use Rattle.rx_replication.proofs.Lists.{from_map, from_slice_get}
 use Rattle.rx_replication.proofs.Pages.{page, page_held, stands_above, since-page}
 use Rattle.rx_replication.proofs.Runs.{kept_start}
 use Rattle.rx_replication.proofs.Taken.{pushed, rows_of, pushed_held, real_state-key, from_resolutions, from_differences}
@@ -227,7 +228,7 @@ module _ (test : State → Bool) where
       arrived_by None r now e m = s
       arrived_by (Some o) None now e m = s
       arrived_by (Some o) (Some r) now e m =
-          elim (is_due w o r.reply) as (λ b. SystemPasses test (cond b
+          elim (is_awaited w o r.reply) as (λ b. SystemPasses test (cond b
           (taken_in w (taking resolve w.fork.documents w.up w.down o.request.ask r.reply.body) now)
           w)) [
             | true ↦ taken_by o.request.ask r.reply.body

@@ -3,6 +3,7 @@ use Rattle.std.proofs.Common.{◌≡◌, ℕ, true, false, cond, not, List, map,
 use Rattle.rx_value.specs.Equal.{state_eq}
 use Rattle.rx_value.specs.Named.{named}
 use Rattle.rx_value.specs.declared.state.State.{State}
+use Rattle.rx_value.proofs.Outcomes.{some_same, not_none}
 use Rattle.rx_document.specs.Documents.{Documents}
 use Rattle.rx_document.specs.declared.place.Place.{Place}
 use Rattle.rx_document.specs.declared.stored.Stored.{Stored}
@@ -18,7 +19,7 @@ use Rattle.rx_replication.specs.Known.{KnownStates, with_learnt, is_state, is_pe
 use Rattle.rx_replication.specs.Master.{master_then}
 use Rattle.rx_replication.specs.Member.{Member}
 use Rattle.rx_replication.specs.Request.{push_row, IsCurrent}
-use Rattle.rx_replication.specs.Steps.{System, OpenRequest, MadeReply, Step, after, with_fork, with_master, with_reply, handled_in, with_taking, taken_in, arrived_in, is_due}
+use Rattle.rx_replication.specs.Steps.{System, OpenRequest, MadeReply, Step, after, with_fork, with_master, with_reply, handled_in, with_taking, taken_in, arrived_in, is_awaited}
 use Rattle.rx_replication.specs.Steps.Step.{CommitFork, CommitMaster, Ask, Handle, Arrive, Restart}
 use Rattle.rx_replication.specs.Taking.{Resolve, KeepsKey, Taking, taking, conflict_at, real_or, real_state, resolutions, pushed_place}
 use Rattle.rx_replication.specs.Updates.{IsResolvedBy, KeepsPending}
@@ -27,7 +28,7 @@ use Rattle.rx_replication.proofs.Commits.{IsAmong, IsOld, IsNew, IsNewState, Wro
 use Rattle.rx_replication.proofs.EachStep.{due}
 use Rattle.rx_replication.proofs.Handled.{conflict-among}
 use Rattle.rx_replication.proofs.Kept.{Tells, IsKept}
-use Rattle.rx_replication.proofs.Lists.{some_same, not_none, from_map, from_slice_get}
+use Rattle.rx_replication.proofs.Lists.{from_map, from_slice_get}
 use Rattle.rx_replication.proofs.Orders.{state_itself, is_state-itself}
 use Rattle.rx_replication.proofs.Taken.{pushed, rows_of, row_doc, from_resolutions, resolution-key, real_state-key, known_is, current_push, current_pull}
 
@@ -134,7 +135,7 @@ module _ (resolve : Resolve) (law : KeepsKey resolve) (w : System) (k : IsKept w
       → Member r w.replies → Keeps r.reply.body (arrived_in resolve w o (Some r) now)
   keeps_arrived None r now e m = same_keeps r.reply.body
   keeps_arrived (Some o) r now e m =
-      elim (is_due w o r.reply) as (λ b. is_due w o r.reply ≡ b
+      elim (is_awaited w o r.reply) as (λ b. is_awaited w o r.reply ≡ b
       → Keeps r.reply.body (cond b
       (taken_in w (taking resolve w.fork.documents w.up w.down o.request.ask r.reply.body) now)
       w)) [
@@ -226,7 +227,7 @@ module _ (resolve : Resolve) (law : KeepsKey resolve) (w : System) (k : IsKept w
     had_arrived None r now f m settled = no_less w.known d e same pending settled
     had_arrived (Some o) None now f m settled = no_less w.known d e same pending settled
     had_arrived (Some o) (Some r) now f m settled =
-        elim (is_due w o r.reply) as (λ b. is_due w o r.reply ≡ b
+        elim (is_awaited w o r.reply) as (λ b. is_awaited w o r.reply ≡ b
         → is_pending (cond b
         (taken_in w (taking resolve w.fork.documents w.up w.down o.request.ask r.reply.body) now)
         w).known e ≡ false

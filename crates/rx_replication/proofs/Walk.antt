@@ -1,5 +1,6 @@
 -- Pending documents are found by walking from the checkpoint up.
-use Rattle.std.proofs.Common.{◌≡◌, ℕ, zero, suc, ◌≤◌, Bool, true, false, cond, not, List, [], ◌∷◌, filter, take, length, Option, refl, sym, ap, ◌∙◌, inl, inr, arith, true≢false}
+use Rattle.std.proofs.Common.{◌≡◌, ℕ, zero, suc, ◌≤◌, Bool, true, false, cond, List, [], ◌∷◌, filter, take, length, Option, refl, sym, ap, ◌∙◌, inl, inr, arith}
+use Rattle.std.proofs.lemmas.Bool.{not_from_false}
 use Rattle.std.specs.Map.{values_of}
 use Rattle.rx_document.specs.Documents.{Documents}
 use Rattle.rx_document.specs.declared.place.Place.{Place}
@@ -34,10 +35,6 @@ filter-twice first second (d ∷ ds) below =
           ap (λ b. cond b (d ∷ filter second ds) (filter second ds)) (below d (inl refl) h) ∙ rest)
     ] refl
 
-is_false : (b : Bool) → b ≡ false → not b ≡ true
-is_false true h = absurd (true≢false h)
-is_false false h = refl
-
 -- so the pending documents are those above up that are pending
 pub pending-above : (documents : Documents) (known : KnownStates) (up : Option Place)
     → AreByKey documents → NonePendingBelow documents known up
@@ -45,7 +42,7 @@ pub pending-above : (documents : Documents) (known : KnownStates) (up : Option P
     ≡ filter (is_pending known) (values_of (filter (λ e. is_above up e.0) (by_place documents)))
 pending-above documents known up by_key below =
     filter-twice (stands_above up) (is_pending known) (placed documents) (λ d m h.
-    below d.state.key d (from_placed documents d by_key m) (is_false _ h))
+    below d.state.key d (from_placed documents d by_key m) (not_from_false _ h))
     ∙ ap (filter (is_pending known)) (sym (above-placed documents by_key up))
 
 take_enough : (n : ℕ) (ds : List Stored) → length ds ≤ n → take n ds ≡ ds

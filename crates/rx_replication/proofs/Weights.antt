@@ -1,12 +1,15 @@
 -- How a push lowers the pushes left.
 use Rattle.std.proofs.Common.{◌≡◌, ◌≢◌, ℕ, suc, ◌+◌, ◌≤◌, Bool, true, false, cond, not, List, [], ◌∷◌, map, filter, length, Option, Some, None, refl, sym, ap, ◌∙◌, ◌⊎◌, inl, inr, subst, arith, true≢false, Less}
 use Rattle.std.proofs.lemmas.List.Sums.{sum_by-cons}
+use Rattle.std.proofs.lemmas.Bool.{not-true}
 use Rattle.std.specs.List.{sum_by}
 use Rattle.std.specs.Map.{keys_of}
 use Rattle.std.specs.Str.{bytes_eq}
 use Rattle.rx_value.specs.Equal.{state_eq}
 use Rattle.rx_value.specs.Named.{named}
 use Rattle.rx_value.specs.declared.state.State.{State}
+use Rattle.rx_value.proofs.Bytes.{bytes_itself, bytes_apart, bytes_same}
+use Rattle.rx_value.proofs.Outcomes.{some_same, not_none}
 use Rattle.rx_document.specs.Documents.{Documents}
 use Rattle.rx_document.specs.Place.{place_cmp}
 use Rattle.rx_document.specs.declared.stored.Stored.{Stored}
@@ -22,8 +25,8 @@ use Rattle.rx_replication.specs.Write.{AreByKey}
 use Rattle.rx_replication.proofs.Commits.{IsOld, IsNew, IsNewState, Wrote, learn_at, key_at}
 use Rattle.rx_replication.proofs.Handled.{conflict_held, from_writes, real_is, met_stays}
 use Rattle.rx_replication.proofs.Keys.{entry_named, key_among}
-use Rattle.rx_replication.proofs.Lists.{some_same, not_none, to_map, from_map}
-use Rattle.rx_replication.proofs.Orders.{same_key, key_itself, other_key, not_true, state_itself, not_below_itself}
+use Rattle.rx_replication.proofs.Lists.{to_map, from_map}
+use Rattle.rx_replication.proofs.Orders.{state_itself, not_below_itself}
 use Rattle.rx_replication.proofs.Pages.{Rise, page_rises, placed}
 use Rattle.rx_replication.proofs.Sums.{sum-le, sum-add, sum-same, sum-filter, sum-values, sum-keys, sum-placed}
 use Rattle.rx_replication.proofs.Taken.{pushed, rows_of, row_doc, rows_apart, pushed_held, pushed_pending, from_resolutions, resolution-key, real_state-key}
@@ -148,7 +151,7 @@ hits-none k [] apart = refl
 hits-none k (d ∷ ds) apart =
     omega (
       arith,
-      hits_by k d ds false (other_key d.state.key k (apart d (inl refl))),
+      hits_by k d ds false (bytes_apart d.state.key k (apart d (inl refl))),
       hits-none k ds (λ x m. apart x (inr m)),
     )
 
@@ -161,10 +164,10 @@ has_key k (d ∷ ds) =
     elim (bytes_eq d.state.key k) as (λ b. bytes_eq d.state.key k ≡ b
     → ((e : Stored) → Member e (d ∷ ds) → e.state.key ≢ k)
     ⊎ ((e : Stored) × Member e (d ∷ ds) × (e.state.key ≡ k))) [
-      | true ↦ (λ h. inr (d, inl refl, same_key d.state.key k h))
+      | true ↦ (λ h. inr (d, inl refl, bytes_same d.state.key k h))
       | false ↦ (λ h. elim (has_key k ds) [
         | inl none ↦ inl (λ e. elim [
-          | inl is ↦ (λ same. true≢false (sym (key_itself k)
+          | inl is ↦ (λ same. true≢false (sym (bytes_itself k)
               ∙ ap (λ (l : List ℕ). bytes_eq l k)
               (sym same ∙ ap (λ (z : Stored). z.state.key) is) ∙ h))
           | inr m ↦ none e m
@@ -180,7 +183,7 @@ hits-le fork k [] rise held = omega arith
 hits-le fork k (d ∷ ds) rise held =
     elim (bytes_eq d.state.key k) as (λ b. bytes_eq d.state.key k ≡ b → hits k (d ∷ ds) ≤ 1) [
       | true ↦ (λ h.
-          let key = same_key d.state.key k h in
+          let key = bytes_same d.state.key k h in
           let alone = hits-none k ds (λ e m same.
           let is : e ≡ d = some_same (sym (held e (inr m)) ∙ ap (named fork) (same ∙ sym key)
           ∙ held d (inl refl)) in
@@ -199,7 +202,7 @@ sum-hit : (d : Stored) (ks : List (List ℕ)) → Member d.state.key ks
     → 1 ≤ sum_by (λ k. hits k (d ∷ [])) ks
 sum-hit d [] m = absurd m
 sum-hit d (k ∷ ks) (inl is) =
-    let one = hits_by k d [] true (ap (bytes_eq d.state.key) (sym is) ∙ key_itself d.state.key) in
+    let one = hits_by k d [] true (ap (bytes_eq d.state.key) (sym is) ∙ bytes_itself d.state.key) in
     omega (arith, sum_by-cons (λ k. hits k (d ∷ [])) k ks)
 sum-hit d (k ∷ ks) (inr m) =
     omega (arith, sum-hit d ks m, sum_by-cons (λ k. hits k (d ∷ [])) k ks)
@@ -250,7 +253,7 @@ module _ (fork m : Documents) (known : KnownStates) (by_key : AreByKey fork) (by
         | inr some ↦
             let d = some.0 in
             let held = pushed_held fork known by_key n d some.1 in
-            let waits = not_true _ (pushed_pending fork known by_key n d some.1) in
+            let waits = not-true _ (pushed_pending fork known by_key n d some.1) in
             let one = pushed_hits k in
             let heavy : 1 ≤ weight_at fork known m d.state.key =
             subst (λ (o : Option Stored).
@@ -318,7 +321,7 @@ module _ (fork m : Documents) (known : KnownStates) (by_key : AreByKey fork) (by
         let row : PushRow = push_row known d in
         let among = to_map (push_row known) (pushed fork known n) d h in
         let held = pushed_held fork known by_key n d h in
-        let waits = not_true _ (pushed_pending fork known by_key n d h) in
+        let waits = not-true _ (pushed_pending fork known by_key n d h) in
         let apart = rows_apart fork known by_key n in
         let real : real_state cs row ≡ d.state =
         real_is m by_key_m rows m' wm apart row None among e in
@@ -338,7 +341,7 @@ module _ (fork m : Documents) (known : KnownStates) (by_key : AreByKey fork) (by
         let row : PushRow = push_row known d in
         let among = to_map (push_row known) (pushed fork known n) d h in
         let held = pushed_held fork known by_key n d h in
-        let waits = not_true _ (pushed_pending fork known by_key n d h) in
+        let waits = not-true _ (pushed_pending fork known by_key n d h) in
         let apart = rows_apart fork known by_key n in
         let y = conflict_held (named m d.state.key) row s e in
         let real : real_state cs row ≡ s =

@@ -1,17 +1,15 @@
 -- What a commit or an exchange keeps of all replications of a world.
-use Rattle.std.proofs.Common.{◌≡◌, ◌≢◌, ℕ, true, false, List, Option, Some, None, refl, sym, ap, ◌∙◌, ◌⊎◌, inl, inr, subst, true≢false}
-use Rattle.std.proofs.lemmas.Slice.Eq.{bytes_eq-Decides}
-use Rattle.std.specs.Str.{bytes_eq}
+use Rattle.std.proofs.Common.{◌≡◌, ◌≢◌, ℕ, List, Option, Some, None, sym, ap, ◌∙◌, ◌⊎◌, inl, inr, subst}
 use Rattle.rx_value.specs.Named.{named}
 use Rattle.rx_value.specs.declared.state.State.{State}
+use Rattle.rx_value.proofs.Bytes.{bytes_cases}
+use Rattle.rx_value.proofs.Outcomes.{some_same}
 use Rattle.rx_document.specs.declared.place.Place.{Place}
 use Rattle.rx_collection.specs.Held.{Held}
 use Rattle.rx_replication.specs.Known.{KnownStates}
 use Rattle.rx_replication.specs.Sound.{IsForkSound, IsMasterSound}
 use Rattle.rx_replication.specs.Worlds.{Collections, Linked, HasSoundFork, HasSoundMaster, IsSoundIn}
 use Rattle.rx_replication.proofs.Commits.{Wrote}
-use Rattle.rx_replication.proofs.Lists.{some_same}
-use Rattle.rx_replication.proofs.Orders.{same_key}
 use Rattle.rx_replication.proofs.Sides.{side_after}
 
 -- a collection of a name was written, and all others stay
@@ -23,14 +21,6 @@ pub record IsWrittenAt (before after : Collections) (name : List ℕ) (ss : List
   pub is : named after name ≡ Some new
   pub wrote : Wrote old.documents ss new.documents
   pub others : (k : List ℕ) → k ≢ name → named after k ≡ named before k
-
-is_or_not : (k name : List ℕ) → (k ≡ name) ⊎ (k ≢ name)
-is_or_not k name =
-    elim (bytes_eq k name) as (λ b. bytes_eq k name ≡ b → (k ≡ name) ⊎ (k ≢ name)) [
-      | true ↦ (λ h. inl (same_key k name h))
-      | false ↦ (λ h. inr (λ same. true≢false
-          (sym ((bytes_eq-Decides k name).1 same) ∙ h)))
-    ] refl
 
 module _ (before after : Collections) (name : List ℕ) (ss : List State)
     (w : IsWrittenAt before after name ss) where
@@ -49,7 +39,7 @@ module _ (before after : Collections) (name : List ℕ) (ss : List State)
       → HasSoundMaster before master known down → HasSoundMaster after master known down
   master_after None known down s = tt
   master_after (Some k) known down s =
-      elim (is_or_not k name) [
+      elim (bytes_cases k name) [
         | inl is ↦
             let same : s.0 ≡ w.old = some_same (sym s.1 ∙ ap (named before) is ∙ w.was) in (
               w.new,
@@ -64,6 +54,6 @@ module _ (before after : Collections) (name : List ℕ) (ss : List State)
   -- master or of neither
   pub commit_keeps : (r : Linked) → IsSoundIn before r → IsSoundIn after r
   commit_keeps r s = record {
-    fork_side = fork_after r s.fork_side (is_or_not r.fork name);
+    fork_side = fork_after r s.fork_side (bytes_cases r.fork name);
     master_side = master_after r.master r.known r.down s.master_side;
   }

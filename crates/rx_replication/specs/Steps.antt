@@ -103,15 +103,15 @@ abbrev pub taken_in : System → Option Taking → ℕ → System
 taken_in w None now = w
 taken_in w (Some t) now = with_taking w t (write w.fork t.rows now)
 
-abbrev pub is_due : System → OpenRequest → Reply → Bool
-is_due w o r =
+abbrev pub is_awaited : System → OpenRequest → Reply → Bool
+is_awaited w o r =
     r.epoch == o.request.epoch && r.n == o.request.n && last_lwt w.fork.documents == o.lwt
 
 abbrev pub arrived_in : Resolve → System → Option OpenRequest → Option MadeReply → ℕ → System
 arrived_in resolve w None r now = w
 arrived_in resolve w (Some o) None now = w
 arrived_in resolve w (Some o) (Some r) now =
-    if is_due w o r.reply
+    if is_awaited w o r.reply
     then taken_in w (taking resolve w.fork.documents w.up w.down o.request.ask r.reply.body) now
     else w
 

@@ -3,9 +3,10 @@
 use Rattle.std.proofs.Common.{◌≡◌, ℕ, ℤ, pos, Bool, true, false, cond, not, ◌||◌, ◌&&◌, List, [], ◌∷◌, map, filter, codes, Option, Some, None, is_some, is_none, option_map, Ok, refl, sym, ap, ◌∙◌, true≢false, subst}
 use Rattle.std.proofs.lemmas.Map.Text.{is_eq-slice_cmp}
 use Rattle.std.proofs.lemmas.Slice.Eq.{bytes_eq-Decides}
+use Rattle.std.proofs.lemmas.Bool.{or_parts, or_right}
+use Rattle.std.proofs.lemmas.Option.{same_Some}
 use Rattle.std.specs.List.{AllByRecursion}
 use Rattle.std.specs.Map.{keys_of}
-use Rattle.std.specs.Option.{option_or}
 use Rattle.std.specs.Ordering.{is_eq, match_ordering}
 use Rattle.std.specs.Str.{bytes_eq}
 use Rattle.std.specs.declared.cmp.Ordering.{Ordering}
@@ -32,8 +33,9 @@ use Rattle.rx_schema.specs.declared.rule.Rule.TheVariants.{Flag, Int, Text}
 use Rattle.rx_schema.specs.declared.shape.Shape.{Shape}
 use Rattle.rx_schema.proofs.Properties.{Rules}
 use Rattle.rx_schema.proofs.Schemas.{WasRead, properties_at, found, text_kind, only_where, same_ok, key_rule}
-use Rattle.rx_schema.proofs.PropertyAgain.{same_some, lowest, made_of}
-use Rattle.rx_value.proofs.Outcomes.{ok_then, some_of, some_then}
+use Rattle.rx_schema.proofs.PropertyAgain.{lowest, made_of}
+use Rattle.rx_value.proofs.Outcomes.{ok_then, some_of, some_then, none_or}
+use Rattle.rx_value.proofs.Lists.{all_passed}
 
 -- ---- finding properties again
 
@@ -46,7 +48,7 @@ get_step : (o : Ordering) (k : List ℕ) (p : List ℕ × Rule) (ps : Rules) (r 
     (get_member k (properties_members ps)) ≡ Some (object (rule_members r))
 get_step Less k p ps r is more h = more h
 get_step Greater k p ps r is more h = more h
-get_step Equal k p ps r is more h = ap (λ q. Some (object (rule_members q))) (same_some p.1 r h)
+get_step Equal k p ps r is more h = ap (λ q. Some (object (rule_members q))) (same_Some p.1 r h)
 
 -- the member of a property
 get_rule : (ps : Rules) (k : List ℕ) (r : Rule) → named ps k ≡ Some r
@@ -69,11 +71,6 @@ texts_again : (names : List (List ℕ)) → texts_of (items_of (map string names
 texts_again [] = refl
 texts_again (n ∷ ns) = rw (texts_again ns) refl
 
--- a test or one that held
-either : (a b : Bool) → b ≡ true → (a || b) ≡ true
-either true b h = refl
-either false b h = h
-
 -- a name stands in its own list
 here : (n : List ℕ) (ns : List (List ℕ)) → is_among (n ∷ ns) n ≡ true
 here n ns = rw ((bytes_eq-Decides n n).1 refl) refl
@@ -83,7 +80,7 @@ of_each : (Q : List ℕ → Type 0) (ns : List (List ℕ)) → ((n : List ℕ) �
     → AllByRecursion Q ns
 of_each Q [] f = tt
 of_each Q (n ∷ ns) f =
-    (f n (here n ns), of_each Q ns (λ m h. f m (either (bytes_eq n m) (is_among ns m) h)))
+    (f n (here n ns), of_each Q ns (λ m h. f m (or_right (bytes_eq n m) (is_among ns m) h)))
 
 -- one property, and then the others
 named_step : (p : List ℕ × Rule) (ps : Rules) (k : List ℕ) (same back : Bool)
@@ -110,7 +107,7 @@ among_step : (P : List ℕ → Bool) (m n : List ℕ) (ns : List (List ℕ)) (pa
     → (is_among ns n ≡ true → is_among (filter P ns) n ≡ true)
     → is_among (cond pass (m ∷ filter P ns) (filter P ns)) n ≡ true
 among_step P m n ns true true is at h g rest = rw at refl
-among_step P m n ns true false is at h g rest = either (bytes_eq m n) (is_among (filter P ns) n)
+among_step P m n ns true false is at h g rest = or_right (bytes_eq m n) (is_among (filter P ns) n)
     (rest g)
 among_step P m n ns false false is at h g rest = rest g
 among_step P m n ns false true is at h g rest =
@@ -147,16 +144,11 @@ passes P (m ∷ ns) n h = passes_case P m n ns (P m) refl h (passes P ns n)
 
 -- ---- required names again
 
--- neither of two tests held
-neither : (a b : Bool) → (a || b) ≡ false → (a ≡ false) × (b ≡ false)
-neither true b h = cc
-neither false b h = (refl, h)
-
 -- a name is needed by the names that were kept just where it was
 needed_step : (P : List ℕ → Bool) (a : Bool) (ns : List (List ℕ)) (n : List ℕ) (pass kept : Bool)
     → P n ≡ pass → is_among (filter P ns) n ≡ kept → is_among ns n ≡ true
     → (pass ≡ false → a ≡ false) → (a || kept) ≡ pass
-needed_step P a ns n true true is at h f = either a true refl
+needed_step P a ns n true true is at h f = or_right a true refl
 needed_step P a ns n true false is at h f =
     absurd (true≢false (sym (among_kept P ns n is h) ∙ at))
 needed_step P a ns n false true is at h f = absurd (true≢false (sym (passes P ns n at) ∙ is))
@@ -178,20 +170,7 @@ required_same primary listed ps =
     (of_each (λ n. (bytes_eq n primary || is_among (filter P (keys_of ps)) n) ≡ P n) (keys_of ps)
     (λ n h. needed_step P (bytes_eq n primary) (keys_of ps) n (P n) (is_among (filter P
     (keys_of ps)) n)
-    refl refl h (λ g. (neither (bytes_eq n primary) (is_among listed n) g).0)))
-
--- one name, and then the others
-filter_step : (Q : List ℕ → Type 0) (P : List ℕ → Bool) (n : List ℕ) (ns : List (List ℕ)) (b : Bool)
-    → Q n → AllByRecursion Q (filter P ns) → AllByRecursion Q (cond b (n ∷ filter P ns)
-    (filter P ns))
-filter_step Q P n ns true h g = (h, g)
-filter_step Q P n ns false h g = g
-
--- what holds of all names holds of those that are kept
-filter_all : (Q : List ℕ → Type 0) (P : List ℕ → Bool) (ns : List (List ℕ)) → AllByRecursion Q ns
-    → AllByRecursion Q (filter P ns)
-filter_all Q P [] h = tt
-filter_all Q P (n ∷ ns) h = filter_step Q P n ns (P n) h.0 (filter_all Q P ns h.1)
+    refl refl h (λ g. (or_parts (bytes_eq n primary) (is_among listed n) g).0)))
 
 -- names that are properties hold no stranger
 no_stranger : (d : Data) (ns : List (List ℕ)) → AllByRecursion (λ n. is_none (property_at n d)
@@ -217,7 +196,7 @@ required_again d s r =
     no_stranger (schema_data s) s.required
     (subst (λ ns. AllByRecursion (λ n. is_none (property_at n (schema_data s))
     ≡ false) ns) (sym r.required)
-    (filter_all (λ n. is_none (property_at n (schema_data s)) ≡ false)
+    (all_passed (λ n. is_none (property_at n (schema_data s)) ≡ false)
     (λ n. bytes_eq n s.primary || is_among r.listed n) (keys_of s.properties) known)) in
     rw (texts_again s.required, none) refl
 
@@ -227,20 +206,15 @@ required_again d s r =
 forms : (ds : Items) (is : List (List (List ℕ))) → each_index ds ≡ Some is
     → AllByRecursion (λ i. is_index i ≡ true) is
 forms no_items is h = subst (λ js. AllByRecursion (λ i. is_index i
-    ≡ true) js) (same_some [] is h) tt
+    ≡ true) js) (same_Some [] is h) tt
 forms (item d ds) is h =
     let a = some_then (index_of d) _ is h in
     let b = some_then (each_index ds) _ is a.2 in
     let n = some_then (given_names d) _ a.0 a.1 in
     let o = only_where (is_index n.0) (Some n.0) a.0 n.2 in
-    let form : is_index a.0 ≡ true = subst (λ i. is_index i ≡ true) (same_some n.0 a.0 o.1) o.0 in
-    subst (λ js. AllByRecursion (λ i. is_index i ≡ true) js) (same_some (a.0 ∷ b.0) is b.2)
+    let form : is_index a.0 ≡ true = subst (λ i. is_index i ≡ true) (same_Some n.0 a.0 o.1) o.0 in
+    subst (λ js. AllByRecursion (λ i. is_index i ≡ true) js) (same_Some (a.0 ∷ b.0) is b.2)
     (form, forms ds b.0 b.1)
-
--- the first of two was none, and so the second
-none_or : {A : Type 0} (a b : Option A) → option_or a b ≡ None → (a ≡ None) × (b ≡ None)
-none_or None b h = (refl, h)
-none_or (Some x) b h = cc
 
 -- an index reads again
 index_again : (i : List (List ℕ)) → is_index i ≡ true → index_of (names_data i) ≡ Some i
@@ -257,7 +231,7 @@ given_step : (o : Option ℤ) (n : Option ℤ) (b : Bool) → not b ≡ true
     → cond b (Some None) (option_map Some n) ≡ Some o → is_some o ≡ true
 given_step o n true h g = cc
 given_step o None false h g = cc
-given_step o (Some z) false h g = subst (λ m. is_some m ≡ true) (same_some (Some z) o g) refl
+given_step o (Some z) false h g = subst (λ m. is_some m ≡ true) (same_Some (Some z) o g) refl
 
 -- what is some isn't none
 not_none : {A : Type 0} (o : Option A) → is_some o ≡ true → not (is_none o) ≡ true
@@ -303,7 +277,7 @@ int_given d b h g =
     let s = some_then (bound_at (codes "multipleOf") (pos 1) d) _ b m.2 in
     let whole : Bounds = record { minimum = l.0; maximum = m.0; multiple_of = s.0 } in
     let r = only_where (is_range l.0 m.0) (Some whole) b s.2 in
-    subst (λ c. is_bounded (object (rule_members (Int c))) ≡ true) (same_some whole b r.1)
+    subst (λ c. is_bounded (object (rule_members (Int c))) ≡ true) (same_Some whole b r.1)
     (all_bounds l.0 m.0 s.0
     (given (codes "minimum") lowest d l.0 t.0 l.1)
     (given (codes "maximum") lowest d m.0 t.1 m.1)
@@ -327,17 +301,17 @@ int_bounded : (d : Data) (b : Bounds) (flag text : Bool) → kind_of d ≡ Some 
     → is_bounded (object (rule_members (Int b))) ≡ true
 int_bounded d b true text k is at h g =
     let other = flag_kind d (text_at (codes "type") d) refl is in
-    let same : kind.Flag ≡ kind.Int = same_some kind.Flag kind.Int (sym other ∙ k) in cc
+    let same : kind.Flag ≡ kind.Int = same_Some kind.Flag kind.Int (sym other ∙ k) in cc
 int_bounded d b false true k is at h g =
     let other = text_kind d (text_at (codes "type") d) refl at in
-    let same : kind.Text ≡ kind.Int = same_some kind.Text kind.Int (sym other ∙ k) in cc
+    let same : kind.Text ≡ kind.Int = same_Some kind.Text kind.Int (sym other ∙ k) in cc
 int_bounded d b false false k is at h g = int_given d b h g
 
 -- what has its bounds has them again
 bounded_kind : (d : Data) (r : Rule) (of : Kind) → kind_of d ≡ Some of → rule_of of d ≡ Some r
     → is_bounded d ≡ true → is_bounded (object (rule_members r)) ≡ true
 bounded_kind d r kind.Flag k h g =
-    subst (λ q. is_bounded (object (rule_members q)) ≡ true) (same_some Flag r h) refl
+    subst (λ q. is_bounded (object (rule_members q)) ≡ true) (same_Some Flag r h) refl
 bounded_kind d r kind.Text k h g =
     let a = made_of Text (length_of d) r h in
     subst (λ q. is_bounded (object (rule_members q)) ≡ true) a.2 refl

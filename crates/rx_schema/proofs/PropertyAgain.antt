@@ -1,7 +1,9 @@
 -- What is written of a property reads as the property.
 use Rattle.std.proofs.Common.{◌≡◌, ℕ, ◌^◌, ℤ, pos, negsuc, Bool, true, false, cond, ◌&&◌, List, [], ◌∷◌, codes, Option, Some, None, is_none, option_map, Ok, refl, subst, arith}
 use Rattle.std.proofs.lemmas.Bool.{leb-true, lt-ltb}
+use Rattle.std.proofs.lemmas.Option.{same_Some}
 use Rattle.std.specs.Prelude.{nat_le, nat_lt, int_le}
+use Rattle.std.specs.Cmp.{second_so}
 use Rattle.serde_json.specs.Data.{Data, object, Members, no_members, member}
 use Rattle.serde_json.specs.Find.{get, as_number, as_u64, as_i64, of_integer}
 use Rattle.rx_value.specs.Due.{◌>>=◌, or_fault, demand}
@@ -20,13 +22,9 @@ use Rattle.rx_schema.specs.declared.rule.Rule.TheVariants.{Flag, Int, Text}
 use Rattle.rx_schema.specs.declared.shape.Shape.{Shape}
 use Rattle.rx_schema.proofs.Properties.{Rules}
 use Rattle.rx_schema.proofs.Schemas.{only_where, same_ok}
-use Rattle.rx_value.proofs.Outcomes.{ok_then, some_of, some_then, held}
+use Rattle.rx_value.proofs.Outcomes.{ok_then, some_of, some_then, demanded}
 
 -- ---- numbers
-
--- what is there is one thing
-pub same_some : {A : Type 0} (x y : A) → Some x ≡ Some y → x ≡ y
-same_some x y h = cc
 
 -- a number that was found lies within the bounds
 whole_in : (name : List ℕ) (least most : ℕ) (d : Data) (n : ℕ)
@@ -35,7 +33,7 @@ whole_in : (name : List ℕ) (least most : ℕ) (d : Data) (n : ℕ)
 whole_in name least most d n h =
     let a = some_then (get name d >>= as_number >>= as_u64) _ n h in
     let b = only_where (nat_le least a.0 && nat_le a.0 most) (Some a.0) n a.2 in
-    let same : a.0 ≡ n = same_some a.0 n b.1 in
+    let same : a.0 ≡ n = same_Some a.0 n b.1 in
     subst (λ m. (nat_le least m && nat_le m most) ≡ true) same b.0
 
 -- the same of numbers that may be below 0
@@ -44,7 +42,7 @@ integer_in : (name : List ℕ) (least most : ℤ) (d : Data) (n : ℤ)
 integer_in name least most d n h =
     let a = some_then (get name d >>= as_number >>= as_i64) _ n h in
     let b = only_where (int_le least a.0 && int_le a.0 most) (Some a.0) n a.2 in
-    let same : a.0 ≡ n = same_some a.0 n b.1 in
+    let same : a.0 ≡ n = same_Some a.0 n b.1 in
     subst (λ m. (int_le least m && int_le m most) ≡ true) same b.0
 
 -- the version reads again
@@ -58,17 +56,12 @@ version_again d s h =
 small : (n : ℕ) → nat_le n largest ≡ true → nat_lt n (2 ^ 63) ≡ true
 small n h = let below = leb-true n largest h in lt-ltb n (2 ^ 63) (omega (arith, below))
 
--- the second of two tests held
-second : (a b : Bool) → (a && b) ≡ true → b ≡ true
-second true b h = h
-second false b h = cc
-
 -- a number of a field reads as itself
 integer_again : (least z : ℤ) → (int_le least z && int_le z (pos largest)) ≡ true
     → as_i64 (of_integer z) ≡ Some z
 integer_again least (negsuc n) h = refl
 integer_again least (pos n) h =
-    rw (small n (second (int_le least (pos n)) (int_le (pos n) (pos largest)) h)) refl
+    rw (small n (second_so (int_le least (pos n)) (int_le (pos n) (pos largest)) h)) refl
 
 -- ---- lengths
 
@@ -77,7 +70,7 @@ length_step : (d : Data) (n : ℕ) (b : Bool)
     → cond b (Some 8192) (whole_within (codes "maxLength") 1 most_code_points d) ≡ Some n
     → (nat_le 1 n && nat_le n most_code_points) ≡ true
 length_step d n true h = subst (λ m. (nat_le 1 m && nat_le m most_code_points)
-    ≡ true) (same_some 8192 n h) refl
+    ≡ true) (same_Some 8192 n h) refl
 length_step d n false h = whole_in (codes "maxLength") 1 most_code_points d n h
 
 -- a length is from 1 to the most
@@ -109,10 +102,10 @@ fits least (Some z) = int_le least z && int_le z (pos largest)
 bound_step : (name : List ℕ) (low : ℤ) (d : Data) (o : Option ℤ) (b : Bool) (n : Option ℤ)
     → integer_within name low (pos largest) d ≡ n
     → cond b (Some None) (option_map Some n) ≡ Some o → fits low o ≡ true
-bound_step name low d o true n is h = subst (λ m. fits low m ≡ true) (same_some None o h) refl
+bound_step name low d o true n is h = subst (λ m. fits low m ≡ true) (same_Some None o h) refl
 bound_step name low d o false None is h = cc
 bound_step name low d o false (Some z) is h =
-    subst (λ m. fits low m ≡ true) (same_some (Some z) o h)
+    subst (λ m. fits low m ≡ true) (same_Some (Some z) o h)
     (integer_in name low (pos largest) d z is)
 
 -- a bound that was read fits
@@ -140,7 +133,7 @@ bounded d b h =
     let s = some_then (bound_at (codes "multipleOf") (pos 1) d) _ b m.2 in
     let whole : Bounds = record { minimum = l.0; maximum = m.0; multiple_of = s.0 } in
     let r = only_where (is_range l.0 m.0) (Some whole) b s.2 in
-    subst (λ c. Bounded c) (same_some whole b r.1) (record {
+    subst (λ c. Bounded c) (same_Some whole b r.1) (record {
       low = bound_in (codes "minimum") lowest d l.0 l.1;
       high = bound_in (codes "maximum") lowest d m.0 m.1;
       step = bound_in (codes "multipleOf") (pos 1) d s.0 s.1;
@@ -186,14 +179,14 @@ int_again k (Some x) (Some y) (Some z) n a b c r =
 pub made_of : {A B : Type 0} (f : A → B) (o : Option A) (y : B) → option_map f o ≡ Some y
     → (x : A) × (o ≡ Some x) × (f x ≡ y)
 made_of f None y h = cc
-made_of f (Some x) y h = (x, refl, same_some (f x) y h)
+made_of f (Some x) y h = (x, refl, same_Some (f x) y h)
 
 -- the rule of a property reads again
 kind_again : (k : List ℕ) (d : Data) (r : Rule) (of : Kind) → is_field_name k ≡ true
     → rule_of of d ≡ Some r → property_of k (object (rule_members r)) ≡ Ok r
 kind_again k d r kind.Flag name h =
     subst (λ q. property_of k (object (rule_members q))
-    ≡ Ok q) (same_some Flag r h) (flag_again k name)
+    ≡ Ok q) (same_Some Flag r h) (flag_again k name)
 kind_again k d r kind.Int name h =
     let a = made_of Int (bounds_of d) r h in
     let b = bounded d a.0 a.1 in
@@ -211,7 +204,7 @@ property_again k d r h =
     let a = ok_then (demand (is_field_name k) (fault.FieldName k)) _ r h in
     let b = ok_then (or_fault (fault.Kind k) (kind_of d)) _ r a.2 in
     let c = ok_then (known_property b.0 d) _ r b.2 in
-    kind_again k d r b.0 (held (is_field_name k) (fault.FieldName k) a.0 a.1)
+    kind_again k d r b.0 (demanded (is_field_name k) (fault.FieldName k) a.0 a.1)
     (some_of (fault.Bounds k) (rule_of b.0 d) r c.2)
 
 -- and so do all

@@ -1,17 +1,18 @@
 -- What follows of a schema that was read.
-use Rattle.std.proofs.Common.{◌≡◌, ℕ, Bool, true, false, cond, ◌||◌, ◌&&◌, List, [], ◌∷◌, filter, codes, Option, Some, None, option_map, Result, Ok, Err, refl, sym, ap, ◌∙◌, true≢false, subst}
-use Rattle.std.specs.Prelude.{⊤}
+use Rattle.std.proofs.Common.{◌≡◌, ℕ, Bool, true, false, cond, ◌||◌, List, [], ◌∷◌, filter, codes, Option, Some, None, option_map, Result, Ok, refl, sym, ap, ◌∙◌, true≢false, subst}
 use Rattle.std.proofs.lemmas.Map.Text.{is_eq-slice_cmp}
 use Rattle.std.proofs.lemmas.Slice.Eq.{bytes_eq-Decides}
+use Rattle.std.proofs.Math.Bool.{or-true}
 use Rattle.std.specs.List.{AllByRecursion}
 use Rattle.std.specs.Map.{keys_of}
 use Rattle.std.specs.Ordering.{is_eq, match_ordering}
 use Rattle.std.specs.Str.{bytes_eq}
 use Rattle.std.specs.declared.cmp.Ordering.{Ordering}
 use Rattle.std.specs.declared.cmp.Ordering.TheVariants.{Less, Equal, Greater}
+use Rattle.std.specs.Cmp.{first_so}
 use Rattle.serde_json.specs.Data.{Data, object, Members, no_members, member}
 use Rattle.serde_json.specs.Find.{get, get_member, as_object}
-use Rattle.rx_value.specs.Due.{◌>>◌, ◌>>=◌, or_fault, only_if, demand}
+use Rattle.rx_value.specs.Due.{◌>>=◌, or_fault, only_if, demand}
 use Rattle.rx_value.specs.Form.{is_among, text_at, unexpected}
 use Rattle.rx_value.specs.Name.{is_field_name}
 use Rattle.rx_value.specs.Named.{named}
@@ -26,7 +27,7 @@ use Rattle.rx_schema.specs.declared.rule.Rule.{Rule}
 use Rattle.rx_schema.specs.declared.rule.Rule.TheVariants.{Text}
 use Rattle.rx_schema.specs.declared.shape.Shape.{Shape}
 use Rattle.rx_schema.proofs.Properties.{Rules}
-use Rattle.rx_value.proofs.Outcomes.{ok_then, some_of, held, some_then}
+use Rattle.rx_value.proofs.Outcomes.{ok_then, some_of, some_then, demanded}
 
 -- ---- readings that went well
 
@@ -43,16 +44,6 @@ pub only_where : {A : Type 0} (b : Bool) (o : Option A) (x : A) → only_if b o 
     → (b ≡ true) × (o ≡ Some x)
 only_where true o x h = (refl, h)
 only_where false o x h = cc
-
--- the first of two tests held
-first_held : (a b : Bool) → (a && b) ≡ true → a ≡ true
-first_held true b h = refl
-first_held false b h = cc
-
--- a test or one that held
-or_true : (b : Bool) → (b || true) ≡ true
-or_true true = refl
-or_true false = refl
 
 -- ---- the parts of a schema
 
@@ -108,7 +99,7 @@ was_read d s h =
 names_step : (k : List ℕ) (d : Data) (r : Rule) → property_of k d ≡ Ok r → is_field_name k ≡ true
 names_step k d r h =
     let a = ok_then (demand (is_field_name k) (fault.FieldName k)) _ r h in
-    held (is_field_name k) (fault.FieldName k) a.0 a.1
+    demanded (is_field_name k) (fault.FieldName k) a.0 a.1
 
 -- so have all
 pub field_names : (ms : Members) (ps : Rules) → properties_of ms ≡ Ok ps
@@ -210,7 +201,7 @@ properties_at d ms h =
 key_text : (o : Option Data) → is_key o ≡ true
     → (p : Data) × (o ≡ Some p) × (says (codes "type") (codes "string") p ≡ true)
 key_text None h = cc
-key_text (Some p) h = (p, refl, first_held (says (codes "type") (codes "string") p) _ h)
+key_text (Some p) h = (p, refl, first_so (says (codes "type") (codes "string") p) _ h)
 
 -- the primary key is a text
 pub key_rule : (d : Data) (s : Shape) → WasRead d s
@@ -241,7 +232,7 @@ kept_step P k p ps r true true is passes h g rest =
 kept_step P k p ps r true false is passes h g rest =
     let name = (bytes_eq-Decides k p.0).0 is in
     absurd (true≢false (sym h ∙ ap P name ∙ passes))
-kept_step P k p ps r false true is passes h g rest = rw (rest g) (or_true (bytes_eq p.0 k))
+kept_step P k p ps r false true is passes h g rest = rw (rest g) (or-true (bytes_eq p.0 k))
 kept_step P k p ps r false false is passes h g rest = rest g
 
 -- a name that is there and passes is kept

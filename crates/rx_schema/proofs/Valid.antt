@@ -2,7 +2,6 @@
 use Rattle.std.proofs.Common.{◌≡◌, ℕ, zero, suc, ◌<◌, Bool, true, false, cond, not, ◌&&◌, ◌||◌, List, [], ◌∷◌, length, Option, Some, None, is_none, option_map, refl, sym, ap, ◌∙◌, true≢false, arith, nat_eq, nat_lt}
 use Rattle.std.proofs.lemmas.Slice.Eq.{bytes_eq-Decides}
 use Rattle.std.specs.List.{AllByRecursion}
-use Rattle.std.specs.Option.{option_or}
 use Rattle.std.specs.Prelude.{⊤, Result, Ok, Err, IfOk}
 use Rattle.std.specs.Str.{bytes_eq, chars}
 use Rattle.rx_value.specs.Fields.{Pair, Pairs}
@@ -19,7 +18,7 @@ use Rattle.rx_schema.specs.declared.rule.Rule.TheVariants.{Text}
 use Rattle.rx_schema.specs.declared.shape.Shape.{Shape}
 use Rattle.rx_schema.specs.declared.validity.Invalid.{Invalid}
 use Rattle.rx_schema.proofs.Properties.{Rules}
-use Rattle.rx_value.proofs.Outcomes.{none_or, none_of}
+use Rattle.rx_value.proofs.Outcomes.{none_or, none_mapped}
 
 -- ---- no mark
 
@@ -65,7 +64,7 @@ pub no_mark : (s : Shape) (ps : Pairs) → IsSchema s → first_fault s ps ≡ N
 no_mark s ps schema h =
     let a = none_or (option_map missing (first_missing s.required ps)) _ h in
     let b = none_or (option_map unknown (first_unknown s.properties ps)) _ a.1 in
-    unmarked s.properties ps schema.names (none_of unknown (first_unknown s.properties ps) b.0)
+    unmarked s.properties ps schema.names (none_mapped unknown (first_unknown s.properties ps) b.0)
 
 -- ---- the key
 
@@ -138,7 +137,7 @@ pub has_key : (s : Shape) (ps : Pairs) → IsSchema s → first_fault s ps ≡ N
 has_key s ps schema h =
     let a = none_or (option_map missing (first_missing s.required ps)) _ h in
     let b = none_or (option_map unknown (first_unknown s.properties ps)) _ a.1 in
-    let missing_none = none_of missing (first_missing s.required ps) a.0 in
+    let missing_none = none_mapped missing (first_missing s.required ps) a.0 in
     let v = there s.required ps s.primary missing_none schema.required in
     let fit = fits s ps s.primary v.0 b.1 v.1 in
     let t = text_of schema.primary.0 s.primary v.0

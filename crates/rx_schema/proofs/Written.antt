@@ -1,19 +1,18 @@
 -- What is written of a schema is in order, holds no float and is shallow.
-use Rattle.std.proofs.Common.{Some, None, ◌≡◌, ℕ, ◌+◌, ◌<◌, ◌≤◌, suc, ℤ, pos, negsuc, false, List, [], ◌∷◌, ◌++◌, length, map, take, drop, get_or, Option, refl, sym, ap, ◌∙◌, subst, arith, drop-cons}
+use Rattle.std.proofs.Common.{Some, None, ◌≡◌, ℕ, ◌+◌, ◌<◌, ◌≤◌, suc, ℤ, false, List, [], ◌∷◌, ◌++◌, length, map, take, drop, get_or, Option, refl, sym, ap, ◌∙◌, subst, arith, drop-cons}
 use Rattle.std.proofs.lemmas.List.{take-append-drop, take_more}
-use Rattle.std.specs.List.{AllByRecursion}
 use Rattle.std.specs.List.Sorted.{IsStrictlySortedBy}
 use Rattle.std.specs.Map.{keys_of}
 use Rattle.std.specs.Ordering.{ordering_reverse}
-use Rattle.std.specs.declared.cmp.Ordering.TheVariants.{Less, Greater}
+use Rattle.std.specs.declared.cmp.Ordering.TheVariants.{Greater}
 use Rattle.serde_json.specs.Data.{string, object, Members, member, put, depth, members_depth, items_depth}
-use Rattle.serde_json.specs.Find.{of_integer, is_float}
 use Rattle.serde_json.specs.Read.{max_depth}
 use Rattle.serde_json.specs.View.{items_of}
 use Rattle.serde_json.specs.Written.{has_float, members_have_float, items_have_float}
 use Rattle.rx_value.specs.Named.{AreRising}
 use Rattle.rx_value.specs.Order.{text_cmp}
 use Rattle.rx_value.proofs.Ordered.{text_total}
+use Rattle.rx_value.proofs.Written.{integer_no_float, below_last}
 use Rattle.rx_schema.specs.Writing.{names_data, bound_member, rule_members, properties_members, schema_data, kinds_of}
 use Rattle.rx_schema.specs.declared.rule.Rule.{Rule}
 use Rattle.rx_schema.specs.declared.rule.Rule.TheVariants.{Flag, Int, Text}
@@ -21,12 +20,6 @@ use Rattle.rx_schema.specs.declared.shape.Shape.{Shape}
 use Rattle.rx_schema.proofs.Properties.{Rules}
 
 -- ---- order
-
--- a name below all is below a later one
-below_last : (k : List ℕ) (done : Rules) (p : List ℕ × Rule) (more : Rules)
-    → AllByRecursion (λ y. text_cmp k y ≡ Less) (keys_of (done ++ p ∷ more)) → text_cmp k p.0 ≡ Less
-below_last k [] p more h = h.0
-below_last k (x ∷ done) p more h = below_last k done p more h.1
 
 -- a name above those before it goes last
 put_last : (done : Rules) (p : List ℕ × Rule) (more : Rules) → AreRising (done ++ p ∷ more)
@@ -61,11 +54,6 @@ pub kinds_rising : (ps : Rules) → AreRising ps → AreRising (kinds_of ps)
 kinds_rising ps h = rw (kinds_names ps) h
 
 -- ---- no floats
-
--- a whole number is no float
-integer_no_float : (z : ℤ) → is_float (of_integer z) ≡ false
-integer_no_float (pos n) = refl
-integer_no_float (negsuc n) = refl
 
 -- nor is a bound
 bound_no_float : (name : List ℕ) (o : Option ℤ) (ms : Members) → members_have_float ms ≡ false

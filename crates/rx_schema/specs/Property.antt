@@ -1,5 +1,5 @@
 -- A property: what its JSON says of the values that it takes.
-use Rattle.std.specs.Prelude.{⊤, ℕ, ℤ, pos, negsuc, ◌-◌, int_le, List, [], ◌∷◌, Bool, true, false, ◌||◌, codes, Option, Some, None, is_some, is_none, option_map, Result, Ok, Err, if◌then◌else◌}
+use Rattle.std.specs.Prelude.{⊤, ℕ, ℤ, pos, negsuc, ◌-◌, int_le, List, [], ◌∷◌, Bool, true, false, ◌||◌, codes, Option, Some, None, is_some, is_none, option_map, Result, Ok, if◌then◌else◌}
 use Rattle.std.specs.Str.{bytes_eq}
 use Rattle.rx_value.specs.Due.{◌>>◌, ◌>>=◌, demand, or_fault, only_if, unless}
 use Rattle.rx_value.specs.Form.{text_at, whole_within, integer_within, unexpected}

@@ -44,7 +44,7 @@ fn first_missing<'a>(names: &'a [RxText], fields: &Fields) -> Option<&'a str>
     None
 }
 
-#[tactic(auto, using(crate::proofs::Lists::from_here))]
+#[tactic(auto, using(rx_value::proofs::Lists::drop_suc))]
 fn first_unknown<'a>(rules: &[(RxText, Rule)], fields: &'a Fields) -> Option<&'a str>
     requires { AreRising rules.now }
     ensures { option_map (λ n. n.now) result ≡ first_unknown rules.now fields.now }
@@ -58,7 +58,7 @@ fn first_unknown<'a>(rules: &[(RxText, Rule)], fields: &'a Fields) -> Option<&'a
     None
 }
 
-#[tactic(auto, using(crate::proofs::Lists::from_here))]
+#[tactic(auto, using(rx_value::proofs::Lists::drop_suc))]
 fn first_bad<'a>(shape: &Shape, fields: &'a Fields) -> Result<(), Invalid<'a>>
     requires { AreRising shape.now.properties }
     ensures { outcome result ≡ first_bad shape.now fields.now }

@@ -1,5 +1,6 @@
 -- Reading one thing after another.
 use Rattle.std.proofs.Common.{◌≡◌, List, [], ◌∷◌, ◌++◌, map, Result, Ok, Err, refl, sym, ap, ◌∙◌, append_assoc}
+use Rattle.std.proofs.lemmas.List.{map_push}
 use Rattle.rx_value.specs.Due.{◌>>◌}
 
 -- what was read so far, before what is read next
@@ -17,16 +18,10 @@ pub more : {X E : Type 0} (front : List X) (x : X) (r : Result X E) (rest : Resu
     → r ≡ Ok x → before front (r >> λ y. rest >> λ xs. Ok (y ∷ xs)) ≡ before (front ++ x ∷ []) rest
 more front x r rest h = rw h (before-first front x rest)
 
--- a list that grows at its end, as it is seen
-map_more : {X Y : Type 0} (f : X → Y) (xs : List X) (x : X)
-    → map f xs ++ f x ∷ [] ≡ map f (xs ++ x ∷ [])
-map_more f [] x = refl
-map_more f (y ∷ ys) x = ap (λ zs. f y ∷ zs) (map_more f ys x)
-
 -- one more thing that was read, as it is seen
 pub more_seen : {X Y E : Type 0} (view : X → Y) (done : List X) (x : X) (r : Result Y E)
     (rest : Result (List Y) E) → r ≡ Ok (view x)
     → before (map view done) (r >> λ y. rest >> λ ys. Ok (y ∷ ys))
     ≡ before (map view (done ++ x ∷ [])) rest
 more_seen view done x r rest h =
-    more (map view done) (view x) r rest h ∙ ap (λ xs. before xs rest) (map_more view done x)
+    more (map view done) (view x) r rest h ∙ ap (λ xs. before xs rest) (sym (map_push view done x))

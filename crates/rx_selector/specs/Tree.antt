@@ -79,5 +79,5 @@ abbrev pub clauses_view : List CodeClause → Clauses
 clauses_view cs = clauses_of (map clause_view cs)
 
 -- what a selector says
-abbrev pub said : Selector → Clauses
-said s = clauses_view s.clauses.items
+abbrev pub selector_clauses : Selector → Clauses
+selector_clauses s = clauses_view s.clauses.items

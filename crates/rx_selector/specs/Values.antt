@@ -3,7 +3,8 @@ use Rattle.std.specs.Prelude.{ℕ, ℤ, pos, List, [], ◌∷◌, not, Option, S
 use Rattle.std.specs.Ordering.{int_eq}
 use Rattle.serde_json.specs.Data.{Data, boolean, string, Items, no_items, item}
 use Rattle.serde_json.specs.Find.{as_array, as_bool, as_integer, as_number}
-use Rattle.rx_value.specs.Due.{◌>>◌, ◌>>=◌, only_if, or_fault}
+use Rattle.rx_value.specs.Due.{◌>>◌, ◌>>=◌, lifted, only_if, or_fault}
+use Rattle.rx_value.specs.Reading as reading
 use Rattle.rx_value.specs.Value.{is_number}
 use Rattle.rx_value.specs.declared.value.Value.{Value}
 use Rattle.rx_value.specs.declared.value.Value.TheVariants.{Flag, Int, Text}
@@ -17,9 +18,7 @@ whole d = as_number d >>= as_integer >>= λ z. only_if (is_number z) (Some z)
 
 -- a boolean, a text or a whole number in range
 abbrev pub value_of : List ℕ → Data → Result Value SelectorFault
-value_of name (boolean b) = Ok (Flag b)
-value_of name (string s) = Ok (Text s)
-value_of name d = or_fault (Operand name) (whole d) >> λ z. Ok (Int z)
+value_of name d = lifted (λ _. Operand name) (reading.value_of name d)
 
 -- each a value
 abbrev pub items_values : List ℕ → Items → Result (List Value) SelectorFault

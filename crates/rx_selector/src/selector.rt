@@ -4,7 +4,7 @@ ghost use Rattle.rx_value.specs.Due.{DueBy};
 ghost use Rattle.rx_selector.specs.Holding.{all_hold};
 ghost use Rattle.rx_selector.specs.Operand.{operand_in};
 ghost use Rattle.rx_selector.specs.Reading.{selector_of};
-ghost use Rattle.rx_selector.specs.Tree.{said, clauses_view, no_clauses};
+ghost use Rattle.rx_selector.specs.Tree.{selector_clauses, clauses_view, no_clauses};
 ghost use Rattle.rx_selector.specs.declared.fault.SelectorFault.TheVariants.{Memory};
 
 use crate::fault::SelectorFault;
@@ -26,7 +26,7 @@ impl Selector {
     /// The selector that a JSON value says. The first member at fault, depth first by rising name,
     /// decides.
     pub fn read(alloc: Global, json: &Json, kinds: &Kinds) -> Result<Selector, SelectorFault>
-        ensures { DueBy Memory said result (selector_of kinds.now (view json.now)) }
+        ensures { DueBy Memory selector_clauses result (selector_of kinds.now (view json.now)) }
     {
         Ok(Selector {
             clauses: read_selector(alloc, json, kinds, 1)?,
@@ -35,7 +35,7 @@ impl Selector {
 
     /// `{}`, which all fields match.
     pub fn any(alloc: Global) -> Selector
-        ensures { said result ≡ no_clauses }
+        ensures { selector_clauses result ≡ no_clauses }
     {
         Selector {
             clauses: Vec::new(alloc),
@@ -44,13 +44,13 @@ impl Selector {
 
     /// Its outermost members, which all have to hold.
     pub fn clauses(&self) -> &[Clause]
-        ensures { clauses_view result.now ≡ said self.now }
+        ensures { clauses_view result.now ≡ selector_clauses self.now }
     {
         self.clauses.as_slice()
     }
 
     pub fn matches(&self, fields: &Fields) -> bool
-        ensures { result ≡ all_hold (said self.now) fields.now }
+        ensures { result ≡ all_hold (selector_clauses self.now) fields.now }
     {
         all_hold(&self.clauses, fields)
     }
@@ -58,7 +58,7 @@ impl Selector {
     /// The operand of that operator in the member of the field's name, where it stands directly in
     /// this selector. A plain value is the operand of `$eq`.
     pub fn operand(&self, field: &str, which: Compare) -> Option<&Value>
-        ensures { option_map (λ v. v.now) result ≡ operand_in field.now which (said self.now) }
+        ensures { option_map (λ v. v.now) result ≡ operand_in field.now which (selector_clauses self.now) }
     {
         operand_among(which, tests_on(field, self.clauses.as_slice())?)
     }

@@ -1,28 +1,14 @@
 -- Lists walked by their places: what one step tells of what is left.
-use Rattle.std.proofs.Common.{◌≡◌, ℕ, zero, suc, ◌+◌, Bool, true, false, Some, List, [], ◌∷◌, drop, refl, sym, ap, ◌∙◌, arith, slice_get}
+use Rattle.std.proofs.Common.{◌≡◌, ℕ, ◌+◌, Bool, true, false, Some, List, drop, refl, sym, ap, ◌∙◌, slice_get}
 use Rattle.std.proofs.lemmas.Bool.{false≢true}
-use Rattle.std.proofs.lemmas.Option.{slice_get_within, same_Some}
 use Rattle.std.specs.List.{list_any}
 use Rattle.std.specs.Ordering.{ordering_then, ordering_reverse, is_eq, is_ne}
 use Rattle.std.specs.declared.cmp.Ordering.{Ordering}
 use Rattle.std.specs.declared.cmp.Ordering.TheVariants.{Less, Equal, Greater}
 use Rattle.rx_value.specs.Fields.{Pairs}
+use Rattle.rx_value.proofs.Lists.{drop_at}
 use Rattle.rx_query.specs.Asked.{Sorts}
 use Rattle.rx_query.specs.Order.{field_cmp, sort_cmp, sorts_cmp}
-
--- the one at a place is the first of what is left there
-drop_suc : {X : Type 0} (xs : List X) (i : ℕ) (x : X) → slice_get xs i ≡ Some x
-    → drop i xs ≡ x ∷ drop (suc i) xs
-drop_suc [] i x at = let in_it = slice_get_within [] i x at in absurd (omega arith)
-drop_suc (y ∷ ys) zero x at = ap (λ z. z ∷ ys) (same_Some y x at)
-drop_suc (y ∷ ys) (suc i) x at = drop_suc ys i x at
-
--- the same with the next place as code has it
-drop_at : {X : Type 0} (xs : List X) (i : ℕ) (x : X) → slice_get xs i ≡ Some x
-    → drop i xs ≡ x ∷ drop (i + 1) xs
-drop_at xs i x at =
-    let next : suc i ≡ i + 1 = omega arith in
-    drop_suc xs i x at ∙ ap (λ k. x ∷ drop k xs) next
 
 module _ {X : Type 0} (p : X → Bool) (xs : List X) (i : ℕ) (x : X) (at : slice_get xs i ≡ Some x)
   where

@@ -1,6 +1,7 @@
 -- Each line of a script begins with a brace, and how many lines there are.
 use Rattle.std.proofs.Common.{◌≡◌, refl, ℕ, zero, suc, ◌+◌, List, [], ◌∷◌, ◌++◌, map, length, All, Some, slice_get, arith, length-append}
 use Rattle.std.proofs.lemmas.List.{length-map}
+use Rattle.std.proofs.lemmas.List.Elements.{All-cons}
 use Rattle.rx_trial.specs.Drawing.{line}
 use Rattle.rx_trial.specs.Lines.{drawn, opening, script}
 use Rattle.rx_trial.specs.Printing.{text}
@@ -24,13 +25,9 @@ braced (LinkedTurn batch first second third) = refl
 braced Turn = refl
 braced LastTurn = refl
 
-all_more : {X : Type 0} (P : X → Type 0) (x : X) (xs : List X) → P x → All P xs → All P (x ∷ xs)
-all_more P x xs here rest zero d low = here
-all_more P x xs here rest (suc k) d low = rest k d (omega (arith, low))
-
 all_braced : (ls : List Line) → All IsBraced (map text ls)
 all_braced [] = λ k d low. absurd (omega (arith, low))
-all_braced (l ∷ ls) = all_more IsBraced (text l) (map text ls) (braced l) (all_braced ls)
+all_braced (l ∷ ls) = All-cons IsBraced (text l) (map text ls) (braced l) (all_braced ls)
 
 pub script_braced : (seed n : ℕ) → All IsBraced (script seed n)
 script_braced seed n = all_braced (opening ++ (drawn n seed ++ LastTurn ∷ []))

@@ -8,3 +8,5 @@ pub mod Written
 pub mod Tokens
 pub mod Lists
 pub mod Outcomes
+pub mod Bytes
+pub mod Orderings

@@ -52,7 +52,7 @@ pub value_total : IsTotalOrder value_cmp
 value_total = record { antisymm = value_antisymm; trans = value_trans; congr = value_congr }
 
 -- flags that tie are equal
-flag_ties : (a b : Bool) → bool_cmp a b ≡ Equal → a ≡ b
+pub flag_ties : (a b : Bool) → bool_cmp a b ≡ Equal → a ≡ b
 flag_ties true true h = refl
 flag_ties false false h = refl
 flag_ties _ _ h = cc

@@ -3,7 +3,6 @@ use Rattle.std.proofs.Common.{◌≡◌, ℕ, zero, suc, ◌<◌, ◌≤◌, tru
 use Rattle.std.proofs.lemmas.Bool.{cases_lt}
 use Rattle.std.proofs.lemmas.Cmp.{tied_back, alike_right}
 use Rattle.std.proofs.lemmas.Map.Text.{is_eq-slice_cmp}
-use Rattle.std.proofs.lemmas.Slice.Eq.{bytes_eq-Decides}
 use Rattle.std.specs.List.{AllByRecursion}
 use Rattle.std.specs.List.Sorted.{IsStrictlySortedBy, IsBinarySearchResult, IsSearchInRange, IsNonDecreasingBy}
 use Rattle.std.specs.Map.{keys_of}
@@ -14,7 +13,7 @@ use Rattle.std.specs.declared.cmp.Ordering.TheVariants.{Less, Equal, Greater}
 use Rattle.rx_value.specs.Named.{named, AreRising}
 use Rattle.rx_value.specs.Order.{text_cmp}
 use Rattle.rx_value.specs.Place.{StandsAt, BelongsAt}
-use Rattle.rx_value.proofs.Ordered.{text_total}
+use Rattle.rx_value.proofs.Ordered.{text_total, text_ties}
 
 -- the order, the other way round
 turned : (a b : List ℕ) (o : Ordering) → text_cmp a b ≡ o → text_cmp b a ≡ ordering_reverse o
@@ -23,10 +22,6 @@ turned a b o is = text_total.antisymm b a ∙ ap ordering_reverse is
 -- a name that comes before or after another isn't it
 other : (a b : List ℕ) (o : Ordering) → text_cmp a b ≡ o → is_eq o ≡ false → bytes_eq a b ≡ false
 other a b o is differs = sym (is_eq-slice_cmp a b) ∙ ap is_eq is ∙ differs
-
--- names that tie are the same
-same_name : (a b : List ℕ) → text_cmp a b ≡ Equal → a ≡ b
-same_name a b is = (bytes_eq-Decides a b).0 (sym (is_eq-slice_cmp a b) ∙ ap is_eq is)
 
 -- there are three answers
 at_most_two : (o : Ordering) → ordering_index o ≤ 2
@@ -84,7 +79,7 @@ module _ {X : Type 0} where
       let same : bytes_eq name e.0 ≡ true = sym (is_eq-slice_cmp name e.0) ∙ ap is_eq is in
       record {
         within = omega arith;
-        is_there = λ d. same_name e.0 name (tie d);
+        is_there = λ d. text_ties e.0 name (tie d);
         is_named = λ d. rw same refl;
         puts = λ d x. rw is refl;
       }

@@ -1,13 +1,13 @@
 -- What is written holds no float and is flat, and it reads as what it was.
-use Rattle.std.proofs.Common.{Some, None, ◌≡◌, ℕ, ◌+◌, ◌<◌, ◌≤◌, suc, ℤ, pos, negsuc, Bool, true, false, cond, ◌||◌, List, [], ◌∷◌, ◌++◌, length, take, drop, get_or, Ok, refl, sym, ap, ◌∙◌, subst, arith, drop-cons}
+use Rattle.std.proofs.Common.{Some, None, ◌≡◌, ℕ, ◌+◌, ◌<◌, ◌≤◌, suc, ℤ, pos, negsuc, Bool, true, false, cond, List, [], ◌∷◌, ◌++◌, length, take, drop, get_or, Ok, refl, sym, ap, ◌∙◌, subst, arith, drop-cons}
 use Rattle.std.proofs.lemmas.List.{take-append-drop, take_more}
 use Rattle.std.proofs.lemmas.Map.Text.{is_eq-slice_cmp}
 use Rattle.std.proofs.lemmas.Slice.Eq.{bytes_eq-Decides}
+use Rattle.std.proofs.lemmas.Bool.{or_parts}
 use Rattle.std.specs.List.{AllByRecursion}
 use Rattle.std.specs.List.Sorted.{IsStrictlySortedBy}
 use Rattle.std.specs.Map.{keys_of}
 use Rattle.std.specs.Ordering.{is_eq, match_ordering, ordering_reverse}
-use Rattle.std.specs.Bool.{one_answer}
 use Rattle.std.specs.Str.{bytes_eq}
 use Rattle.std.specs.declared.cmp.Ordering.{Ordering}
 use Rattle.std.specs.declared.cmp.Ordering.TheVariants.{Less, Equal, Greater}
@@ -26,19 +26,20 @@ use Rattle.rx_value.specs.Writing.{value_data, pairs_members, fields_data}
 use Rattle.rx_value.specs.declared.state.State.{State}
 use Rattle.rx_value.specs.declared.value.Value.{Value}
 use Rattle.rx_value.specs.declared.value.Value.TheVariants.{Flag, Int, Text}
-use Rattle.rx_value.specs.Equality.{decides_as}
 use Rattle.rx_value.proofs.Ordered.{text_total}
+use Rattle.rx_value.proofs.Bytes.{bytes_turned}
 
 -- ---- members put one by one
 
 -- a name below all is below a later one
-below_last : (k : List ℕ) (done : Pairs) (p : Pair) (more : Pairs)
+pub below_last : {X : Type 0} (k : List ℕ) (done : List (List ℕ × X)) (p : List ℕ × X)
+    (more : List (List ℕ × X))
     → AllByRecursion (λ y. text_cmp k y ≡ Less) (keys_of (done ++ p ∷ more)) → text_cmp k p.0 ≡ Less
 below_last k [] p more h = h.0
 below_last k (x ∷ done) p more h = below_last k done p more h.1
 
 -- a name above those before it goes last
-put_last : (done : Pairs) (p : Pair) (more : Pairs) → AreRising (done ++ p ∷ more)
+pub put_last : (done : Pairs) (p : Pair) (more : Pairs) → AreRising (done ++ p ∷ more)
     → put p.0 (value_data p.1) (pairs_members done) ≡ pairs_members (done ++ p ∷ [])
 unfolding IsStrictlySortedBy
 put_last [] p more h = refl
@@ -70,21 +71,16 @@ put_in Less k d l e ms h g f r = rw (h, g) f
 put_in Equal k d l e ms h g f r = rw h f
 put_in Greater k d l e ms h g f r = rw g r
 
--- neither of two tests held
-neither : (a b : Bool) → (a || b) ≡ false → (a ≡ false) × (b ≡ false)
-neither true b h = cc
-neither false b h = (refl, h)
-
 -- a member without a float brings none
 pub put_no_float : (k : List ℕ) (d : Data) (ms : Members) → has_float d ≡ false
     → members_have_float ms ≡ false → members_have_float (put k d ms) ≡ false
 put_no_float k d no_members h g = rw h refl
 put_no_float k d (member l e ms) h g =
-    let p = neither (has_float e) (members_have_float ms) g in
+    let p = or_parts (has_float e) (members_have_float ms) g in
     put_in (text_cmp k l) k d l e ms h p.0 p.1 (put_no_float k d ms h p.1)
 
 -- a whole number is no float
-integer_no_float : (z : ℤ) → is_float (of_integer z) ≡ false
+pub integer_no_float : (z : ℤ) → is_float (of_integer z) ≡ false
 integer_no_float (pos n) = refl
 integer_no_float (negsuc n) = refl
 
@@ -194,11 +190,6 @@ without-put k d no_members = rw ((bytes_eq-Decides k k).1 refl) refl
 without-put k d (member l e ms) =
     without_step (text_cmp k l) k d l e ms refl (without-put k d ms)
 
--- a test of two names, the other way round
-turned : (k l : List ℕ) → bytes_eq k l ≡ bytes_eq l k
-turned k l = one_answer (bytes_eq k l) (bytes_eq l k) (bytes_eq-Decides k l)
-    (decides_as (bytes_eq l k) (bytes_eq-Decides l k) sym sym)
-
 -- one pair, and then the others
 none_step : (k : List ℕ) (p : Pair) (ps : Pairs) (b : Bool)
     → (named ps k ≡ None → without k (pairs_members ps) ≡ pairs_members ps)
@@ -214,7 +205,7 @@ pub without_none : (k : List ℕ) (ps : Pairs) → named ps k ≡ None
     → without k (pairs_members ps) ≡ pairs_members ps
 without_none k [] h = refl
 without_none k (p ∷ ps) h =
-    rw (turned p.0 k) (none_step k p ps (bytes_eq k p.0) (without_none k ps) h)
+    rw (bytes_turned p.0 k) (none_step k p ps (bytes_eq k p.0) (without_none k ps) h)
 
 -- a text that reads as the object of a state reads as the state
 pub state_again : (s : State) (t : List ℕ) → AreFields s.fields → named s.fields mark ≡ None

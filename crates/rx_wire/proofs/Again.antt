@@ -19,6 +19,8 @@ use Rattle.rx_value.specs.Value.{largest}
 use Rattle.rx_value.specs.Writing.{pairs_members}
 use Rattle.rx_value.specs.declared.state.State.{State}
 use Rattle.rx_value.proofs.Written.{without-put, without_none, pairs_again}
+use Rattle.rx_value.proofs.Lists.{all_both}
+use Rattle.rx_value.proofs.Bytes.{bytes_itself}
 use Rattle.rx_document.specs.declared.place.Place.{Place}
 use Rattle.rx_schema.specs.Reading.{schema_of}
 use Rattle.rx_schema.specs.Writing.{hash_text}
@@ -40,10 +42,6 @@ use Rattle.rx_wire.specs.declared.message.Request.{Request}
 use Rattle.rx_wire.proofs.Unmarked.{unmarked}
 
 -- ---- states and rows
-
--- a name is itself
-same_name : (name : List ℕ) → bytes_eq name name ≡ true
-same_name name = (bytes_eq-Decides name name).1 refl
 
 -- the fields of a state's object
 fields_again : (state : State) → AreFields state.fields → named state.fields mark ≡ None
@@ -113,12 +111,6 @@ items_again P read key data_of again before (x ∷ xs) all distinct =
     (items_again P read key data_of again (before ++ x ∷ []) xs all.1
     (subst (λ ys. IsDistinct bytes_eq (map key ys)) (sym next) distinct)
     ∙ ap Ok next)
-
--- two facts of all are one of all
-all_both : {X : Type 0} (P Q : X → Type 0) (xs : List X) → AllByRecursion P xs → AllByRecursion Q xs
-    → AllByRecursion (λ x. P x × Q x) xs
-all_both P Q [] p q = tt
-all_both P Q (x ∷ xs) p q = ((p.0, q.0), all_both P Q xs p.1 q.1)
 
 -- items that each pass a test
 items_pass : {X : Type 0} (test : Data → Bool) (data_of : X → Data)
@@ -206,7 +198,7 @@ module _ (d : Data) (s : Shape) (said : schema_of d ≡ Ok s) where
         number_again batch most_states lawful.some lawful.few,
         count_again epoch e,
         count_again n m,
-        same_name (hash_text s),
+        bytes_itself (hash_text s),
       ) refl
   ask_again epoch n (Pull (Some p) batch) e m lawful fields =
       rw (
@@ -214,14 +206,14 @@ module _ (d : Data) (s : Shape) (said : schema_of d ≡ Ok s) where
         count_again epoch e,
         count_again n m,
         place_again p lawful.above,
-        same_name (hash_text s),
+        bytes_itself (hash_text s),
       ) refl
   ask_again epoch n (Push rows) e m lawful fields =
       rw (
         count_again epoch e,
         count_again n m,
         list_again is_row row_data row_form 1 rows lawful.some lawful.few,
-        same_name (hash_text s),
+        bytes_itself (hash_text s),
         rows_again rows lawful fields,
       ) refl
 

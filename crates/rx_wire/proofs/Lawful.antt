@@ -22,6 +22,7 @@ use Rattle.rx_value.specs.declared.state.State.{State}
 use Rattle.rx_value.specs.declared.value.Value.{Value}
 use Rattle.rx_value.specs.declared.value.Value.TheVariants.{Text}
 use Rattle.rx_value.proofs.Outcomes.{ok_then, some_then, some_of, none_is}
+use Rattle.rx_value.proofs.Lists.{all_push}
 use Rattle.rx_document.specs.declared.place.Place.{Place}
 use Rattle.rx_schema.specs.Validity.{first_fault}
 use Rattle.rx_schema.specs.declared.shape.Shape.{Shape}
@@ -146,12 +147,6 @@ is_row_read s d row h =
       one_key = has_one_key new.0.key assumed.0 tested.0;
     })
 
--- what holds of all holds of one more
-all_more : {X : Type 0} (P : X → Type 0) (xs : List X) (x : X) → AllByRecursion P xs → P x
-    → AllByRecursion P (xs ++ x ∷ [])
-all_more P [] x all one = (one, tt)
-all_more P (y ∷ xs) x all one = (all.0, all_more P xs x all.1 one)
-
 -- one whose key stood nowhere before
 first_of_key : {X : Type 0} (key : X → List ℕ) (before : List X) (y x : X) (b : Bool)
     → list_any (bytes_eq (key y)) (map key before) ≡ b → cond b None (Some y) ≡ Some x
@@ -182,7 +177,7 @@ read_keyed P read key holds before (item d items) xs kept h =
     let fresh : list_any (bytes_eq (key x)) (map key before) ≡ false =
     ap (λ y. list_any (bytes_eq (key y)) (map key before)) (sym first.0) ∙ first.1 in
     let more : Keyed key P (before ++ x ∷ []) = (
-      all_more P before x kept.0 (holds d x (found.1 ∙ ap Some first.0)),
+      all_push P before x kept.0 (holds d x (found.1 ∙ ap Some first.0)),
       subst (IsDistinct bytes_eq) (sym (map-append key before (x ∷ [])))
           (IsDistinct-push nat_list_eq_equiv (map key before) (key x) kept.1 fresh),
     ) in

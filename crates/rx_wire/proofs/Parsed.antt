@@ -2,9 +2,7 @@
 use Rattle.std.proofs.Common.{◌≡◌, ℕ, ◌≤◌, ◌-◌, suc, ℤ, pos, negsuc, true, List, [], ◌∷◌, ◌++◌, Some, option_map, refl, sym, ap, ◌∙◌, subst, arith, append_assoc, append-nil}
 use Rattle.std.proofs.lemmas.Bool.{and_parts, leb-true}
 use Rattle.std.specs.List.{AllByRecursion}
-use Rattle.std.specs.List.Sorted.{IsStrictlySortedBy}
-use Rattle.std.specs.Map.{keys_of}
-use Rattle.std.specs.Ordering.{match_ordering, ordering_reverse}
+use Rattle.std.specs.Ordering.{match_ordering}
 use Rattle.std.specs.Prelude.{int_le, option_and_then}
 use Rattle.std.specs.declared.cmp.Ordering.{Ordering}
 use Rattle.std.specs.declared.cmp.Ordering.TheVariants.{Less, Equal, Greater}
@@ -17,7 +15,7 @@ use Rattle.serde_json.proofs.Numbers.{number_of-decimal, number_of-negative}
 use Rattle.serde_json.specs.Data.{Data, object, member, put}
 use Rattle.serde_json.specs.Read.{read, max_depth, of_json, of_members}
 use Rattle.serde_json.specs.Written.{outline, members_outline}
-use Rattle.rx_value.specs.Fields.{Pair, Pairs, AreFields}
+use Rattle.rx_value.specs.Fields.{Pairs, AreFields}
 use Rattle.rx_value.specs.Named.{AreRising, put_in_order}
 use Rattle.rx_value.specs.Order.{text_cmp}
 use Rattle.rx_value.specs.State.{mark, state_data}
@@ -26,8 +24,8 @@ use Rattle.rx_value.specs.Writing.{value_data, pairs_members}
 use Rattle.rx_value.specs.declared.state.State.{State}
 use Rattle.rx_value.specs.declared.value.Value.{Value}
 use Rattle.rx_value.specs.declared.value.Value.TheVariants.{Flag, Int, Text}
-use Rattle.rx_value.proofs.Ordered.{text_total}
 use Rattle.rx_value.proofs.Setting.{put_fields}
+use Rattle.rx_value.proofs.Written.{put_last}
 
 -- ---- values
 
@@ -53,22 +51,6 @@ value_parsed (Int z) h = integer_parsed z h
 value_parsed (Text s) h = refl
 
 -- ---- members one after another
-
--- a name below all is below a later one
-below_last : (k : List ℕ) (done : Pairs) (p : Pair) (more : Pairs)
-    → AllByRecursion (λ y. text_cmp k y ≡ Less) (keys_of (done ++ p ∷ more)) → text_cmp k p.0 ≡ Less
-below_last k [] p more h = h.0
-below_last k (x ∷ done) p more h = below_last k done p more h.1
-
--- a name above those before it goes last
-put_last : (done : Pairs) (p : Pair) (more : Pairs) → AreRising (done ++ p ∷ more)
-    → put p.0 (value_data p.1) (pairs_members done) ≡ pairs_members (done ++ p ∷ [])
-unfolding IsStrictlySortedBy
-put_last [] p more h = refl
-put_last (x ∷ done) p more h =
-    let above : text_cmp p.0 x.0 ≡ Greater =
-    text_total.antisymm p.0 x.0 ∙ ap ordering_reverse (below_last x.0 done p more h.0) in
-    rw above (ap (member x.0 (value_data x.1)) (put_last done p more h.1))
 
 -- pairs behind those that were parsed
 pairs_after : (done ps : Pairs) → AreRising (done ++ ps)

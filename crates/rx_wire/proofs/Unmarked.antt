@@ -8,7 +8,7 @@ use Rattle.rx_value.specs.Fields.{Pair, Pairs}
 use Rattle.rx_value.specs.Name.{is_field_name}
 use Rattle.rx_value.specs.Named.{named}
 use Rattle.rx_value.specs.State.{mark}
-use Rattle.rx_value.proofs.Outcomes.{none_or, none_of}
+use Rattle.rx_value.proofs.Outcomes.{none_or, none_mapped}
 use Rattle.rx_schema.specs.Reading.{schema_of}
 use Rattle.rx_schema.specs.Validity.{missing, unknown, first_missing, first_unknown, first_fault}
 use Rattle.rx_schema.specs.declared.rule.Rule.{Rule}
@@ -63,4 +63,4 @@ unmarked d s ps said h =
     let b = none_or (option_map unknown (first_unknown s.properties ps)) _ a.1 in
     not_there s.properties mark ps
     (no_rule s.properties (field_names read.members s.properties read.properties))
-    (none_of unknown (first_unknown s.properties ps) b.0)
+    (none_mapped unknown (first_unknown s.properties ps) b.0)

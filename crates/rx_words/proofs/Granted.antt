@@ -1,12 +1,13 @@
 -- The limit of a command is one that a journal may have.
-use Rattle.std.proofs.Common.{◌≡◌, refl, sym, ◌∙◌, subst, ℕ, ◌<◌, ◌≤◌, ◌^◌, Bool, true, false, true≢false, ◌&&◌, cond, leb, List, [], ◌∷◌, length, Option, None, Some, IfSome, arith, inl, inr}
-use Rattle.std.proofs.lemmas.Bool.Decides.{leb_tells}
+use Rattle.std.proofs.Common.{◌≡◌, refl, subst, ℕ, ◌<◌, ◌≤◌, ◌^◌, Bool, true, false, ◌&&◌, cond, leb, List, [], ◌∷◌, Option, None, Some, IfSome, arith}
+use Rattle.std.proofs.lemmas.Bool.{leb-true}
 use Rattle.std.specs.Prelude.{codes, option_and_then}
 use Rattle.std.specs.Str.{bytes_eq}
 use Rattle.std.specs.Str.Parse.{digits_value}
+use Rattle.std.specs.Cmp.{first_so, second_so}
 use Rattle.rx_value.specs.Name.{is_name}
 use Rattle.rx_words.specs.Given.{Given, given}
-use Rattle.rx_words.specs.Number.{are_digits, is_numeral, is_within, number_within}
+use Rattle.rx_words.specs.Number.{is_numeral, is_within, number_within}
 use Rattle.rx_words.specs.Words.{check_of, command_by, command_of, limit_of, run_of, serve_of, serve_with, trial_of, trial_with}
 use Rattle.rx_words.specs.declared.command.Command.{Command}
 use Rattle.rx_words.specs.declared.command.Command.TheVariants.{Run, Serve, Check, Trial}
@@ -25,25 +26,14 @@ choice : {A : Type 0} (P : A → Type 0) (b : Bool) (x y : Option A) → (b ≡ 
 choice P true x y h k = h refl
 choice P false x y h k = k
 
-second : (a b : Bool) → (a && b) ≡ true → b ≡ true
-second true b e = e
-second false b e = absurd (true≢false (sym e))
-
-first : (a b : Bool) → (a && b) ≡ true → a ≡ true
-first true b e = refl
-first false b e = absurd (true≢false (sym e))
-
-tells : (a b : ℕ) → leb a b ≡ true → a ≤ b
-tells a b e = elim (leb_tells a b) [ inl w ↦ w.1 | inr w ↦ absurd (true≢false (sym e ∙ w.0)) ]
-
 limit_good : (word : Option (List ℕ)) → IfSome (limit_of word) IsGranted
 limit_good None = (omega arith, omega arith)
 limit_good (Some word) =
     let v = digits_value 10 word in
     choice IsGranted (is_numeral word && is_within 9 4294967295 v) (Some v) None
-    (λ h. let w = second (is_numeral word) (is_within 9 4294967295 v) h in (
-      tells 9 v (first (leb 9 v) (leb v 4294967295) w),
-      omega (arith, tells v 4294967295 (second (leb 9 v) (leb v 4294967295) w)),
+    (λ h. let w = second_so (is_numeral word) (is_within 9 4294967295 v) h in (
+      leb-true 9 v (first_so (leb 9 v) (leb v 4294967295) w),
+      omega (arith, leb-true v 4294967295 (second_so (leb 9 v) (leb v 4294967295) w)),
     )) tt
 
 run_good : (values : List (List ℕ)) (limit : Option ℕ) → IfSome limit IsGranted

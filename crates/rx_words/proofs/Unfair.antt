@@ -1,18 +1,15 @@
 -- Words that aren't all fair give nothing.
-use Rattle.std.proofs.Common.{◌≡◌, ◌∙◌, refl, sym, ap, List, [], ◌∷◌, ◌++◌, ◌&&◌, ◌||◌, Bool, true, false, true≢false, Option, None}
+use Rattle.std.proofs.Common.{◌≡◌, ◌∙◌, refl, sym, ap, List, [], ◌∷◌, ◌++◌, ◌&&◌, Bool, true, false, true≢false, Option, None}
 use Rattle.std.specs.Prelude.{take, drop, if◌then◌else◌}
 use Rattle.std.specs.List.{list_all}
 use Rattle.std.specs.Str.{bytes_eq}
 use Rattle.std.proofs.lemmas.List.{take-append-drop}
 use Rattle.std.proofs.lemmas.Slice.Eq.{bytes_eq-Decides}
+use Rattle.std.proofs.lemmas.Bool.{or_parts}
 use Rattle.clap.specs.Walk.{Text}
 use Rattle.rx_words.specs.Given.{Given, given, is_joined, is_value, option, with_next, with_word}
 use Rattle.rx_words.specs.Parsed.{is_fair, is_long}
 use Rattle.rx_words.proofs.Parts.{given_other, given_word}
-
-neither : (a b : Bool) → (a || b) ≡ false → (a ≡ false) × (b ≡ false)
-neither true b e = absurd (true≢false e)
-neither false b e = (refl, e)
 
 falls : (a b : Bool) → (a && b) ≡ false → a ≡ true → b ≡ false
 falls true b e is = e
@@ -55,7 +52,7 @@ no_next w o e = rw e refl
 
 unfair_word : (w : Text) (rest : List Text) → is_fair w ≡ false → given (w ∷ rest) ≡ None
 unfair_word w rest e =
-    let short = neither (is_value w) (is_long w) e in
+    let short = or_parts (is_value w) (is_long w) e in
     given_other w rest (no_option w short.1) short.0 (no_joined w short.1)
 
 -- after the option alone
@@ -65,7 +62,7 @@ unfair_next : (w next : Text) (rest : List Text) → bytes_eq w option ≡ true
 unfair_next w next rest is e later = rw is (go (is_fair next) refl)
   where
     go : (t : Bool) → is_fair next ≡ t → with_next next (given rest) ≡ None
-    go false k = no_next next (given rest) (neither (is_value next) (is_long next) k).0
+    go false k = no_next next (given rest) (or_parts (is_value next) (is_long next) k).0
     go true k = ap (with_next next) (later (falls (is_fair next) _ e k)) ∙ next_none next
 
 -- more of them, where what follows gives nothing

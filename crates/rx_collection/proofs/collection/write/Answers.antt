@@ -1,4 +1,4 @@
-use Rattle.std.proofs.Common.{◌≡◌, ◌∙◌, ap, sym, Some}
+use Rattle.std.proofs.Common.{◌∙◌, ap, sym, Some}
 use Rattle.rx_value.specs.Named.{by_bytes, named, put_in_order}
 use Rattle.rx_value.proofs.Named.{tree_lookup-by_bytes}
 use Rattle.rx_collection.proofs.Named.{by_bytes-tree_set}

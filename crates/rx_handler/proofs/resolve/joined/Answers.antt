@@ -1,8 +1,6 @@
-use Rattle.std.proofs.Common.{◌≡◌, ◌∙◌, ap, sym, ◌+◌, drop, Option}
+use Rattle.std.proofs.Common.{◌∙◌, ap, sym, ◌+◌, drop}
 use Rattle.std.specs.Map.{keys_of}
 use Rattle.rx_value.specs.Fields.{Pair}
-use Rattle.rx_value.specs.Named.{named}
-use Rattle.rx_value.specs.declared.value.Value.{Value}
 use Rattle.rx_handler.specs.Resolve.{joined_at, raised_to}
 use Rattle.rx_handler.proofs.Joined.{keys_from, at_index}
 use Rattle.rx_handler.proofs.resolve.joined.Goals as goal

@@ -1,9 +1,10 @@
 use Rattle.std.proofs.Common.{◌≡◌, ◌∙◌, [], ◌∷◌, ◌++◌, ap, sym, subst, refl, map, drop, ◌+◌, Some, None}
 use Rattle.std.specs.List.{IsDistinct}
 use Rattle.std.specs.Str.{bytes_eq}
+use Rattle.rx_value.proofs.Lists.{from_item, moved, ended}
 use Rattle.rx_replication.specs.Master.{conflict_of, conflicts, writes}
 use Rattle.rx_replication.proofs.Distinct.{writes_differ}
-use Rattle.rx_master.proofs.Rows.{from_item, writes-taken, writes-refused, conflicts-taken, conflicts-refused, moved, ended}
+use Rattle.rx_master.proofs.Rows.{writes-taken, writes-refused, conflicts-taken, conflicts-refused}
 use Rattle.rx_master.proofs.plan.take.Goals as goal
 use Rattle.rx_master.proofs.plan.take.Goals.{in-Some+in_ok-copy-in-Some+in_ok-push-in-Some, in-None+in_ok-copy-in-None+in_ok-push-in-None}
 

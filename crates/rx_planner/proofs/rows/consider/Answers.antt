@@ -1,6 +1,6 @@
 use Rattle.std.proofs.Common.{[], ◌∷◌, ◌++◌, ◌-◌, Bor, map, sym, ap, ◌∙◌, subst, arith}
 use Rattle.std.proofs.Math.ListN.{get_or-map}
-use Rattle.std.proofs.lemmas.List.{map-append}
+use Rattle.std.proofs.lemmas.List.{map-append, get_or_default}
 use Rattle.std.specs.Ordering.{eq_by_cmp}
 use Rattle.rx_document.specs.declared.stored.Stored.{Stored}
 use Rattle.rx_query.specs.Asked.{asked}
@@ -8,7 +8,7 @@ use Rattle.rx_query.specs.Result.{stored_before, stored_cmp}
 use Rattle.rx_planner.specs.Rows.{StandsFor}
 use Rattle.rx_planner.proofs.Members.{distinct_front}
 use Rattle.rx_planner.proofs.Rising.{differ}
-use Rattle.rx_planner.proofs.Standing.{stand_without, comes_after, stand_with, stand_settled, get_or_within}
+use Rattle.rx_planner.proofs.Standing.{stand_without, comes_after, stand_with, stand_settled}
 use Rattle.rx_planner.proofs.rows.consider.Goals as goal
 
 pub returns-then-wanted-eq0 : goal.returns-then-wanted-eq0
@@ -29,7 +29,7 @@ returns-then-not-precedes c = λ all rest s.
     stand_without q n all (map now rows) rest d s
     (comes_after q n all (map now rows) rest d s
     (λ e. ap (stored_before q d)
-    (get_or_within (map now rows) (n - 1) e last.now (omega (arith, many))
+    (get_or_default (map now rows) (n - 1) e last.now (omega (arith, many))
     ∙ get_or-map now rows (n - 1) last ∙ ap now (sym c.index-last.ensures))
     ∙ sym c.precedes.ensures ∙ c.if-not-precedes.true))
 

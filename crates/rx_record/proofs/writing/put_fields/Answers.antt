@@ -1,15 +1,16 @@
 use Rattle.std.proofs.Common.{◌≡◌, true, List, ℕ, ◌++◌, take, ap, sym, ◌∙◌, subst, append_assoc, arith}
 use Rattle.rx_value.specs.Value.{is_value}
+use Rattle.rx_value.proofs.Lists.{all_get}
 use Rattle.rx_record.specs.Parts.{text_bytes, text_of}
 use Rattle.rx_record.specs.Fields.{value_bytes, pair_bytes, pair_of, all_bytes}
 use Rattle.rx_record.specs.Writable.{ShortReadsBack}
-use Rattle.rx_record.proofs.Written.{one_more, all_more, all_at, PairReadsBack, pair_reads_back, fields_read_back}
+use Rattle.rx_record.proofs.Written.{one_more, all_more, PairReadsBack, pair_reads_back, fields_read_back}
 use Rattle.rx_record.proofs.writing.put_fields.Goals as goal
 
 pub put_value-requires : goal.put_value-requires
 put_value-requires c =
-    all_at (λ p. is_value p.1 ≡ true) c.args.fields.now c.loop-i.i (c.at.result.0.now, c.at.result.1.now) c.at.ensures
-    c.len-i-end.ensures.lawful.in_range
+    all_get (λ p. is_value p.1 ≡ true) c.args.fields.now c.loop-i.i
+    (c.at.result.0.now, c.at.result.1.now) c.len-i-end.ensures.lawful.in_range c.at.ensures
 
 pub loop-i-preserved : goal.loop-i-preserved
 loop-i-preserved c =

@@ -1,4 +1,3 @@
-use Rattle.std.proofs.Common.{◌∙◌}
 use Rattle.rx_value.specs.State.{mark}
 use Rattle.rx_value.specs.declared.value.Value.TheVariants.{Flag}
 use Rattle.rx_value.proofs.Tokens.{written_over}

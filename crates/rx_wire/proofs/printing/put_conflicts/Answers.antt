@@ -1,11 +1,11 @@
 use Rattle.std.proofs.Common.{refl, append_assoc, ◌∙◌}
-use Rattle.rx_wire.proofs.Tokens.{on_ok}
+use Rattle.std.proofs.lemmas.Result.{on_ok_weaker}
 use Rattle.rx_wire.proofs.printing.put_conflicts.Goals as goal
 
 -- the tokens of one member after another
 pub returns-clause-tokens : goal.returns-clause-tokens
 returns-clause-tokens c =
-    on_ok c.end_object.result _ _ (λ is. is ∙ rw (
+    on_ok_weaker c.end_object.result (λ is. is ∙ rw (
       c.in_ok-put_whole-2.ensures.tokens,
       c.in_ok-put_whole.ensures.tokens,
       c.in_ok-put_states.ensures.tokens,

@@ -1,11 +1,12 @@
 use Rattle.std.proofs.Common.{refl, append_assoc, ◌∙◌}
-use Rattle.rx_wire.proofs.Tokens.{on_ok, place_before}
+use Rattle.std.proofs.lemmas.Result.{on_ok_weaker}
+use Rattle.rx_wire.proofs.Tokens.{place_before}
 use Rattle.rx_wire.proofs.printing.put_pull.Goals as goal
 
 -- the tokens of one member after another
 pub returns-clause-tokens : goal.returns-clause-tokens
 returns-clause-tokens c =
-    on_ok c.end_object.result _ _ (λ is. is ∙ rw (
+    on_ok_weaker c.end_object.result (λ is. is ∙ rw (
       c.in_ok-put_text-2.ensures.tokens,
       c.in_ok-put_place.ensures.tokens,
       c.in_ok-put_whole-3.ensures.tokens,

@@ -5,7 +5,7 @@ use Rattle.std.specs.List.Sorted.{IsPermutation}
 use Rattle.std.specs.Ordering.{is_lt}
 use Rattle.rx_document.specs.declared.stored.Stored.{Stored}
 use Rattle.rx_query.specs.Asked.{asked}
-use Rattle.rx_query.specs.Result.{cut}
+use Rattle.rx_query.specs.Result.{at_most}
 use Rattle.rx_query.proofs.Orders.{query_total}
 use Rattle.rx_query.proofs.Rows.{lent_cmp, sort_gives}
 use Rattle.rx_query.proofs.query.Query.scratch.Goals as goal
@@ -21,4 +21,4 @@ returns c =
     (c.sort_unstable_by.ensures.sorted (λ a b. is_lt (lent_cmp q a b))
     (ranks_by (query_total q) (λ (a : Bor Stored). a.now.state.fields))
     (always_returns_same _ _ _ (λ a r f k. search rules)))
-    (c.limit_rows.ensures ∙ ap (cut q.limit) c.skip_rows.ensures)
+    (c.limit_rows.ensures ∙ ap (at_most q.limit) c.skip_rows.ensures)

@@ -1,5 +1,5 @@
 use Rattle.std.proofs.Common.{◌≡◌, ℕ, List, [], ◌++◌, length, ap, sym, ◌∙◌, append-nil, subst}
-use Rattle.rx_record.specs.Content.{content_bytes, content_of, ended, placed}
+use Rattle.rx_record.specs.Content.{content_bytes, content_of, nothing_behind, with_place}
 use Rattle.rx_record.specs.Shown.{content}
 use Rattle.rx_record.specs.Writable.{Fits}
 use Rattle.rx_record.proofs.record.Record.write.Goals as goal
@@ -10,6 +10,6 @@ returns-clause-back c ordered short =
     let body = c.put_record.new.out.items in
     let is : body ≡ content_bytes said =
     c.in_ok-put_record.ensures.bytes ∙ ap (λ (l : List ℕ). l ++ content_bytes said) c.in_ok-body.ensures.items in
-    ap (λ m. placed (length body) (ended m))
+    ap (λ m. with_place (length body) (nothing_behind m))
     (ap content_of (is ∙ sym (append-nil (content_bytes said)))
     ∙ c.in_ok-put_record.ensures.back ordered (subst Fits is short) [])

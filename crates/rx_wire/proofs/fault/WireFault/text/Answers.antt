@@ -1,6 +1,5 @@
-use Rattle.std.proofs.Common.{[], codes, ap, ◌∙◌}
+use Rattle.std.proofs.Common.{codes, ap, ◌∙◌}
 use Rattle.serde_json.specs.Data.{object, member, string, no_members}
-use Rattle.rx_wire.specs.Fault.{fault_name}
 use Rattle.rx_wire.specs.OneLine.{is_one_line}
 use Rattle.rx_wire.proofs.OneLine.{one_line}
 use Rattle.rx_wire.proofs.fault.WireFault.text.Goals as goal
