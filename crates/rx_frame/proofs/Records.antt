@@ -1,10 +1,11 @@
 -- The records of a list of bodies, and that no bytes are the records of two lists.
 use Rattle.std.proofs.Common.{◌≡◌, ◌≢◌, inl, inr, ℕ, ◌+◌, ◌<◌, ◌≤◌, ◌^◌, List, [], ◌∷◌, ◌++◌, length, take, drop, refl, sym, ◌∙◌, ap, arith, append_assoc, length-append}
-use Rattle.std.proofs.lemmas.List.{append_cancel_left, take_at, drop_at}
+use Rattle.std.proofs.lemmas.List.{take_at, drop_at}
 use Rattle.std.specs.Int.{from_be_bytes, w32}
-use Rattle.rx_frame.specs.File.{header, size_bytes, records, AllFit, front, end_of, IsWhole}
+use Rattle.rx_frame.specs.File.{size_bytes, records, AllFit, front, end_of, IsWhole, HasHeader}
 use Rattle.rx_frame.specs.Gate.{NextIs}
 use Rattle.rx_frame.specs.Laws.{StandsForOne}
+use Rattle.rx_frame.proofs.Headers.{front_size, has_header, behind_is}
 use Rattle.rx_frame.proofs.Sizes.{length-size_bytes, from-size_bytes}
 
 -- one more body adds its record behind the others
@@ -47,7 +48,12 @@ all_fit-push (b ∷ bodies) body fit fits = (fit.0, all_fit-push bodies body fit
 pub end_within : (bytes : List ℕ) (bodies : List (List ℕ)) → IsWhole bytes bodies
     → end_of bodies ≤ length bytes
 end_within bytes bodies whole =
-    omega (arith, ap length whole.split, length-append (front bodies) (whole.gate ∷ whole.rest))
+    omega (
+      arith,
+      ap length whole.split,
+      length-append (front whole.start bodies) (whole.gate ∷ whole.rest),
+      front_size whole.start bodies whole.is_header,
+    )
 
 -- records begin alike only where their first bodies are the same
 pub same_first : (a b r s : List ℕ) → length a < 2 ^ 32 → length b < 2 ^ 32
@@ -94,15 +100,28 @@ same_records (x ∷ xs) (y ∷ ys) left rest gate fx fy shut none is =
     let more = same_records xs ys left rest gate fx.1 fy.1 shut none first.1 in
     (λ i. first.0 i ∷ more.0 i, more.1)
 
+pub whole_header : (file : List ℕ) (bodies : List (List ℕ)) → IsWhole file bodies → HasHeader file
+whole_header file bodies whole =
+    let tail = whole.gate ∷ whole.rest in
+    has_header file whole.start (records bodies ++ tail) whole.is_header
+    (whole.split ∙ append_assoc whole.start (records bodies) tail)
+
+-- what is behind the header of a whole file
+pub whole_behind : (file : List ℕ) (bodies : List (List ℕ)) (whole : IsWhole file bodies)
+    → drop 8 file ≡ records bodies ++ whole.gate ∷ whole.rest
+whole_behind file bodies whole =
+    let tail = whole.gate ∷ whole.rest in
+    behind_is file whole.start (records bodies ++ tail) whole.is_header
+    (whole.split ∙ append_assoc whole.start (records bodies) tail)
+
 -- two readings of a whole file are the same
 same_whole : (file : List ℕ) (xs ys : List (List ℕ)) → IsWhole file xs → IsWhole file ys → xs ≡ ys
 same_whole file xs ys wx wy =
-    let bytes : header ++ (records xs ++ wx.gate ∷ wx.rest)
-    ≡ header ++ (records ys ++ wy.gate ∷ wy.rest) = sym wx.split ∙ wy.split in
+    let bytes : records xs ++ wx.gate ∷ wx.rest ≡ records ys ++ wy.gate ∷ wy.rest =
+    sym (whole_behind file xs wx) ∙ whole_behind file ys wy in
     let none = λ (body tail : List ℕ) (next : NextIs (wx.gate ∷ wx.rest) body tail).
     wx.closed (let e = next.split in cc) in
-    (same_records xs ys (wx.gate ∷ wx.rest) wy.rest wy.gate wx.fit wy.fit wy.closed none
-    (append_cancel_left header _ _ bytes)).0
+    (same_records xs ys (wx.gate ∷ wx.rest) wy.rest wy.gate wx.fit wy.fit wy.closed none bytes).0
 
 -- a file of at most 9 bytes has no records
 pub short_none : (file : List ℕ) (bodies : List (List ℕ)) → length file ≤ 9

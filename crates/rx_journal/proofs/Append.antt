@@ -6,6 +6,7 @@ use Rattle.rx_disk.specs.Disk.{Torn, Only}
 use Rattle.rx_disk.specs.Moments.{LeavesOnly}
 use Rattle.rx_disk.proofs.Moments.{weaker, joined}
 use Rattle.rx_frame.specs.File.{front, end_of}
+use Rattle.rx_frame.proofs.Headers.{front_size}
 use Rattle.rx_frame.proofs.Records.{end_of-push}
 use Rattle.rx_journal.specs.declared.journal.Journal.{Journal}
 use Rattle.rx_journal.specs.Growing.{StandsForFront, Grows}
@@ -26,7 +27,10 @@ module _
     P = StandsForFront bodies (body ∷ [])
 
     abbrev head : List ℕ
-    head = front bodies
+    head = front ready.whole.start bodies
+
+    ends : journal.end ≡ length head + 1
+    ends = omega (arith, ready.ends, front_size ready.whole.start bodies ready.whole.is_header)
 
     short : end_of bodies < 2 ^ 32
     short = omega (arith, ready.ends, journal.short)
@@ -41,8 +45,10 @@ module _
         behind c torn =
             let w = ready.whole in
             let here : Torn (length head + 1) (length bytes) (d.content d0) c =
-            subst (λ (k : ℕ). Torn k (length bytes) (d.content d0) c) ready.ends torn in
+            subst (λ (k : ℕ). Torn k (length bytes) (d.content d0) c) ends torn in
             none_yet bodies (body ∷ []) c (inr (record {
+              start = w.start;
+              is_header = w.is_header;
               gate = w.gate;
               rest = drop (length head + 1) c;
               closed = w.closed;
@@ -77,11 +83,11 @@ module _
                 let after = d.content d1 in
                 let here : after ≡ overwritten before (length head + 1) (record_bytes body) =
                 written ∙ ap (λ (l : List ℕ). overwritten before journal.end l) is
-                ∙ ap (λ (k : ℕ). overwritten before k (record_bytes body)) ready.ends in
+                ∙ ap (λ (k : ℕ). overwritten before k (record_bytes body)) ends in
                 written_behind head w.gate w.rest before w.split (record_bytes body) after here
 
             place : journal.end - 1 ≡ length head
-            place = omega (arith, ready.ends)
+            place = omega (arith, ends)
 
             -- an image within the second write has one gate or another before the record
             opened : (c : List ℕ) → Torn (journal.end - 1) 1 (d.content d1) c → P c
@@ -89,7 +95,8 @@ module _
                 let w = ready.whole in
                 let here : Torn (length head) 1 (d.content d1) c =
                 subst (λ (k : ℕ). Torn k 1 (d.content d1) c) place torn in
-                either_gate c bodies body tail (get_or c (length head) 0) w.fit fits short grown_short
+                either_gate c w.start bodies body tail (get_or c (length head) 0) w.is_header w.fit fits
+                short grown_short
                 (torn_gate head w.gate (record_bytes body ++ tail) (d.content d1) staged c here)
 
             pub within_second : Grows d d0 d2 bodies (body ∷ [])
@@ -98,14 +105,15 @@ module _
             pub added : (next : Journal) → next.end ≡ grown_end journal body
                 → d.content d2 ≡ overwritten (d.content d1) (journal.end - 1) (1 ∷ [])
                 → Only (d.content d2) (d.image d2) → IsReady d d2 next (bodies ++ body ∷ [])
-            added next ends gate durable =
+            added next moved gate durable =
                 let here : d.content d2 ≡ overwritten (d.content d1) (length head) (1 ∷ []) =
                 gate ∙ ap (λ (k : ℕ). overwritten (d.content d1) k (1 ∷ [])) place in
                 let w = ready.whole in
                 let is_open = written_gate head w.gate (record_bytes body ++ tail) (d.content d1)
                 staged (d.content d2) here in
                 record {
-                  whole = grown_whole (d.content d2) bodies body tail w.fit fits is_open;
-                  ends = omega (arith, ends, ready.ends, end_of-push bodies body);
+                  whole = grown_whole (d.content d2) w.start bodies body tail w.is_header w.fit fits
+                      is_open;
+                  ends = omega (arith, moved, ready.ends, end_of-push bodies body);
                   durable = durable;
                 }

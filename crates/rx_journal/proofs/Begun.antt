@@ -1,10 +1,11 @@
 -- What windows are to lend when an opening begins.
-use Rattle.std.proofs.Common.{◌≡◌, inl, inr, ℕ, ◌+◌, ◌<◌, ◌≤◌, ◌^◌, List, [], ◌∷◌, ◌++◌, length, get_or, take, drop, sym, ◌∙◌, ap, subst, arith, append_assoc, zero-add, length-drop, take-append-drop}
-use Rattle.std.proofs.lemmas.List.{append_cancel_left, drop_all, drop_more, take-append-le}
+use Rattle.std.proofs.Common.{◌≡◌, inl, inr, ℕ, ◌+◌, ◌<◌, ◌≤◌, ◌^◌, List, [], ◌∷◌, ◌++◌, length, take, drop, sym, ◌∙◌, ap, subst, arith, zero-add}
+use Rattle.std.proofs.lemmas.List.{drop_all, take-append-le}
 use Rattle.rx_disk.specs.declared.disk.Disk.{Ghosts}
 use Rattle.rx_disk.specs.Disk.{Only}
-use Rattle.rx_frame.specs.File.{header, end_of, records, IsWhole, StandsFor, no_records}
+use Rattle.rx_frame.specs.File.{header, end_of, IsWhole, StandsFor, no_records}
 use Rattle.rx_frame.specs.Gate.{IsClosed}
+use Rattle.rx_frame.proofs.Headers.{header_is}
 use Rattle.rx_frame.proofs.Records.{short_none}
 use Rattle.rx_journal.specs.Hold.{Hold}
 use Rattle.rx_journal.specs.Windows.{place_of, left, LendAll, Begin}
@@ -57,6 +58,8 @@ module _ {D : Type 0} (d : Ghosts D) (old new : D) (w : Windows) (at : place_of 
   begins_made = record {
     all = made_all (d.content old) (d.content new) w at gate short none;
     none_yet = record {
+      start = header;
+      is_header = header_is;
       fit = tt;
       split = is ∙ ap (λ (l : List ℕ). header ++ l) (sym gate);
       at = at;
@@ -69,9 +72,6 @@ module _ {D : Type 0} (d : Ghosts D) (old new : D) (w : Windows) (at : place_of 
   }
 
 -- ---- the first bytes of a file
-
-pub whole_begins : (bytes : List ℕ) (bodies : List (List ℕ)) → IsWhole bytes bodies → take 8 bytes ≡ header
-whole_begins bytes bodies whole = ap (λ (l : List ℕ). take 8 l) whole.split
 
 -- the front of a file of which more than a header was read
 pub front_of : (content held behind : List ℕ) → held ++ behind ≡ content → 8 ≤ length held

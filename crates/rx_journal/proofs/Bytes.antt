@@ -4,7 +4,7 @@ use Rattle.std.proofs.lemmas.List.{take_at, drop_at, drop_more}
 use Rattle.std.proofs.lemmas.Bool.{cases_eq}
 use Rattle.rx_disk.specs.Bytes.{overwritten}
 use Rattle.rx_disk.specs.Disk.{Torn}
-use Rattle.rx_frame.specs.File.{header, size_bytes, records, AllFit, front, end_of, IsWhole}
+use Rattle.rx_frame.specs.File.{IsHeader, size_bytes, records, AllFit, front, end_of, IsWhole}
 use Rattle.rx_frame.proofs.Records.{records-push, all_fit-push}
 use Rattle.rx_journal.specs.Growing.{StandsForFront}
 use Rattle.rx_journal.proofs.Growing.{none_yet, all_of}
@@ -76,39 +76,47 @@ abbrev pub record_bytes : List ℕ → List ℕ
 record_bytes body = size_bytes (length body) ++ body ++ 0 ∷ []
 
 -- an open gate before it makes it one of the records
-grown : (bodies : List (List ℕ)) (body tail : List ℕ)
-    → front bodies ++ 1 ∷ (record_bytes body ++ tail) ≡ front (bodies ++ body ∷ []) ++ 0 ∷ tail
-grown bodies body tail =
+grown : (start : List ℕ) (bodies : List (List ℕ)) (body tail : List ℕ)
+    → front start bodies ++ 1 ∷ (record_bytes body ++ tail)
+    ≡ front start (bodies ++ body ∷ []) ++ 0 ∷ tail
+grown start bodies body tail =
     let size = size_bytes (length body) in
-    ap (λ (l : List ℕ). header ++ l)
+    append_assoc start (records bodies) (1 ∷ (record_bytes body ++ tail))
+    ∙ ap (λ (l : List ℕ). start ++ l)
     (ap (λ (l : List ℕ). records bodies ++ 1 ∷ l)
     (append_assoc (size ++ body) (0 ∷ []) tail ∙ append_assoc size body (0 ∷ tail))
     ∙ sym (records-push bodies body (0 ∷ tail)))
+    ∙ sym (append_assoc start (records (bodies ++ body ∷ [])) (0 ∷ tail))
 
-pub grown_whole : (file : List ℕ) (bodies : List (List ℕ)) (body tail : List ℕ) → AllFit bodies
-    → length body < 2 ^ 32 → file ≡ front bodies ++ 1 ∷ (record_bytes body ++ tail)
+pub grown_whole : (file start : List ℕ) (bodies : List (List ℕ)) (body tail : List ℕ)
+    → IsHeader start → AllFit bodies → length body < 2 ^ 32
+    → file ≡ front start bodies ++ 1 ∷ (record_bytes body ++ tail)
     → IsWhole file (bodies ++ body ∷ [])
-grown_whole file bodies body tail fit fits is = record {
+grown_whole file start bodies body tail is_header fit fits is = record {
+  start = start;
+  is_header = is_header;
   gate = 0;
   rest = tail;
   closed = λ e. absurd (omega arith);
   fit = all_fit-push bodies body fit fits;
-  split = is ∙ grown bodies body tail;
+  split = is ∙ grown start bodies body tail;
 }
 
 -- whichever gate stands before it
-pub either_gate : (file : List ℕ) (bodies : List (List ℕ)) (body tail : List ℕ) (gate : ℕ)
-    → AllFit bodies → length body < 2 ^ 32 → end_of bodies < 2 ^ 32
+pub either_gate : (file start : List ℕ) (bodies : List (List ℕ)) (body tail : List ℕ) (gate : ℕ)
+    → IsHeader start → AllFit bodies → length body < 2 ^ 32 → end_of bodies < 2 ^ 32
     → end_of (bodies ++ body ∷ []) < 2 ^ 32
-    → file ≡ front bodies ++ gate ∷ (record_bytes body ++ tail)
+    → file ≡ front start bodies ++ gate ∷ (record_bytes body ++ tail)
     → StandsForFront bodies (body ∷ []) file
-either_gate file bodies body tail gate fit fits short grown_short is = elim (cases_eq gate 1) [
+either_gate file start bodies body tail gate is_header fit fits short grown_short is = elim (cases_eq gate 1) [
   | inl open_gate ↦ (
-      let opened = is ∙ ap (λ (g : ℕ). front bodies ++ g ∷ (record_bytes body ++ tail)) open_gate in
-      all_of bodies (body ∷ []) file (inr (grown_whole file bodies body tail fit fits opened))
-      grown_short
+      let opened = is ∙ ap (λ (g : ℕ). front start bodies ++ g ∷ (record_bytes body ++ tail)) open_gate in
+      all_of bodies (body ∷ []) file
+      (inr (grown_whole file start bodies body tail is_header fit fits opened)) grown_short
       )
   | inr shut_gate ↦ none_yet bodies (body ∷ []) file (inr (record {
+    start = start;
+    is_header = is_header;
     gate = gate;
     rest = record_bytes body ++ tail;
     closed = shut_gate;

@@ -1,14 +1,11 @@
 -- How a journal's images grow over a run, and that runs join.
-use Rattle.std.proofs.Common.{◌≡◌, inl, inr, ℕ, ◌<◌, ◌^◌, List, [], ◌++◌, refl, sym, ap, subst, append_assoc, append-nil, ◌∙◌, arith}
+use Rattle.std.proofs.Common.{◌≡◌, inr, ℕ, ◌<◌, ◌^◌, List, [], ◌++◌, refl, sym, ap, subst, append_assoc, append-nil, ◌∙◌, arith}
 use Rattle.rx_disk.specs.declared.disk.Disk.{Ghosts}
 use Rattle.rx_disk.proofs.Moments.{started, weaker, joined}
-use Rattle.rx_disk.specs.Moments.{LeavesOnly}
 use Rattle.rx_frame.specs.File.{StandsFor, IsWhole, end_of}
-use Rattle.rx_frame.proofs.Records.{stands_for_one}
 use Rattle.rx_journal.specs.declared.journal.Journal.{Journal}
 use Rattle.rx_journal.specs.Growing.{StandsForFront, Grows}
 use Rattle.rx_journal.specs.Laws.{GrowsOn}
-use Rattle.rx_journal.specs.Opening.{IsNoWorse}
 use Rattle.rx_journal.specs.Ready.{IsReady}
 
 -- a front of some bodies is a front of more

@@ -5,6 +5,7 @@ pub mod Growing
 mod Held
 pub mod Holding
 mod Holds
+mod Keeping
 pub mod Moving
 mod Opened
 mod ReadFile

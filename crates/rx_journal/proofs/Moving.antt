@@ -2,7 +2,7 @@
 use Rattle.std.proofs.Common.{◌≡◌, ℕ, ◌+◌, ◌≤◌, max, List, [], ◌∷◌, ◌++◌, length, drop, Option, Some, None, Result, Ok, Err, sym, ◌∙◌, ap, subst, arith, append_assoc}
 use Rattle.rx_disk.specs.declared.disk.Disk.{Ghosts}
 use Rattle.rx_disk.specs.Disk.{Only}
-use Rattle.rx_frame.specs.File.{header, size_bytes, records, front}
+use Rattle.rx_frame.specs.File.{size_bytes, records, front}
 use Rattle.rx_frame.specs.Gate.{NextIs, IsClosed}
 use Rattle.rx_frame.proofs.Records.{records-push, all_fit-push, length-records-push}
 use Rattle.rx_journal.specs.Hold.{Hold}
@@ -42,11 +42,13 @@ module _ {D : Type 0} (d : Ghosts D) (before after : D) (old new : Windows)
         let u = untouched told in
         record {
           whole = record {
+            start = lent.start;
+            is_header = lent.is_header;
             gate = shut.0;
             rest = shut.1;
             closed = shut.2;
             fit = lent.fit;
-            split = u.same ∙ lent.split ∙ ap (λ (l : List ℕ). front bodies ++ l) shut.3;
+            split = u.same ∙ lent.split ∙ ap (λ (l : List ℕ). front lent.start bodies ++ l) shut.3;
           };
           ends = omega (arith, ends, (stay told).place, lent.at);
           durable = durable told lent.durable;
@@ -73,13 +75,17 @@ module _ {D : Type 0} (d : Ghosts D) (before after : D) (old new : Windows)
         let rest = left new (d.content before) in
         let inner : left old (d.content before) ≡ 1 ∷ (size_bytes (length body) ++ (body ++ rest)) =
         n.split ∙ ap (λ (l : List ℕ). 1 ∷ l) (append_assoc (size_bytes (length body)) body rest) in
-        let split : d.content before ≡ front (bodies ++ body ∷ []) ++ rest =
-        lent.split ∙ ap (λ (l : List ℕ). header ++ l)
-        (ap (λ (l : List ℕ). records bodies ++ l) inner ∙ sym (records-push bodies body rest)) in
+        let head = front lent.start (bodies ++ body ∷ []) in
+        let split : d.content before ≡ head ++ rest =
+        lent.split ∙ append_assoc lent.start (records bodies) (left old (d.content before))
+        ∙ ap (λ (l : List ℕ). lent.start ++ l)
+        (ap (λ (l : List ℕ). records bodies ++ l) inner ∙ sym (records-push bodies body rest))
+        ∙ sym (append_assoc lent.start (records (bodies ++ body ∷ [])) rest) in
         record {
+          start = lent.start;
+          is_header = lent.is_header;
           fit = all_fit-push bodies body lent.fit n.fits;
-          split = u.same ∙ split
-              ∙ ap (λ (l : List ℕ). front (bodies ++ body ∷ []) ++ left new l) (sym u.same);
+          split = u.same ∙ split ∙ ap (λ (l : List ℕ). head ++ left new l) (sym u.same);
           at = omega (arith, moved, lent.at, length-records-push bodies body);
           durable = durable told lent.durable;
         }

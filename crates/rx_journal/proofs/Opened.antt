@@ -1,10 +1,11 @@
 -- What an opening finds and makes.
-use Rattle.std.proofs.Common.{◌≡◌, inl, inr, ℕ, ◌<◌, ◌≤◌, ◌^◌, List, [], ◌∷◌, ◌++◌, length, refl, sym, ◌∙◌, ap, subst, arith, append-nil, length-append, length-take}
+use Rattle.std.proofs.Common.{◌≡◌, inl, inr, ℕ, ◌<◌, ◌≤◌, ◌^◌, List, [], ◌∷◌, ◌++◌, length, refl, sym, ◌∙◌, ap, subst, arith, append_assoc, append-nil, length-append, length-take}
 use Rattle.std.proofs.lemmas.List.{drop_all}
 use Rattle.rx_disk.specs.declared.disk.Disk.{Ghosts}
 use Rattle.rx_disk.specs.Bytes.{overwritten}
 use Rattle.rx_disk.specs.Disk.{Only}
-use Rattle.rx_frame.specs.File.{header, front, end_of, IsWhole, no_records}
+use Rattle.rx_frame.specs.File.{header, records, end_of, IsWhole, no_records}
+use Rattle.rx_frame.proofs.Headers.{header_size, header_is}
 use Rattle.rx_frame.proofs.Records.{short_none}
 use Rattle.rx_journal.specs.Image.{image_bytes}
 use Rattle.rx_journal.specs.Opening.{IsBare, IsJournal, Shows, Opens}
@@ -16,24 +17,38 @@ use Rattle.rx_journal.proofs.ReadFile.{wider, none_within}
 -- a header and a closed gate have no records
 no_records_whole : (file : List ℕ) → file ≡ no_records → IsWhole file []
 no_records_whole file is =
-    record { gate = 0; rest = []; closed = λ e. absurd (omega arith); fit = tt; split = is }
+    record {
+      start = header;
+      is_header = header_is;
+      gate = 0;
+      rest = [];
+      closed = λ e. absurd (omega arith);
+      fit = tt;
+      split = is;
+    }
 
 -- a header and a closed gate are no more than that
 no_records_bare : (bytes : List ℕ) → bytes ≡ no_records → IsBare bytes
-no_records_bare bytes is = (0, λ e. absurd (omega arith), is)
+no_records_bare bytes is = (header, 0, header_is, λ e. absurd (omega arith), is)
 
 -- a whole file of at most 9 bytes is no more than that
 short_bare : (bytes : List ℕ) (bodies : List (List ℕ)) → length bytes ≤ 9 → IsWhole bytes bodies
     → IsBare bytes
 short_bare bytes bodies short whole =
     let none : bodies ≡ [] = short_none bytes bodies short whole in
-    let split : bytes ≡ header ++ whole.gate ∷ whole.rest =
-    whole.split ∙ ap (λ (bs : List (List ℕ)). front bs ++ whole.gate ∷ whole.rest) none in
+    let start = whole.start in
+    let tail = whole.gate ∷ whole.rest in
+    let split : bytes ≡ start ++ tail =
+    whole.split ∙ append_assoc start (records bodies) tail
+    ∙ ap (λ (bs : List (List ℕ)). start ++ (records bs ++ tail)) none in
+    let eight = header_size start whole.is_header in
     let size : length whole.rest ≡ 0 =
-    omega (arith, short, ap length split, length-append header (whole.gate ∷ whole.rest)) in (
+    omega (arith, short, ap length split, eight, length-append start tail) in (
+      start,
       whole.gate,
+      whole.is_header,
       whole.closed,
-      split ∙ ap (λ (l : List ℕ). header ++ whole.gate ∷ l) (length-zero whole.rest size),
+      split ∙ ap (λ (l : List ℕ). start ++ whole.gate ∷ l) (length-zero whole.rest size),
     )
   where
     length-zero : (l : List ℕ) → length l ≡ 0 → l ≡ []

@@ -1,8 +1,8 @@
--- What the images of a journal's disk stand for from one moment to a later one.
+-- What the images of a journal's disk are from one moment to a later one.
 use Rattle.std.specs.Prelude.{◌≡◌, ◌<◌, ◌^◌, ℕ, List, ◌++◌}
 use Rattle.rx_disk.specs.declared.disk.Disk.{Ghosts}
 use Rattle.rx_disk.specs.Moments.{LeavesOnly}
-use Rattle.rx_frame.specs.File.{StandsFor, end_of}
+use Rattle.rx_frame.specs.File.{IsHeader, BeginsWith, StandsFor, end_of}
 
 -- bytes stand for the bodies and a front of some more, and end where a journal may end
 pub record StandsForFront (bodies more : List (List ℕ)) (c : List ℕ) : Type 0 where
@@ -16,3 +16,10 @@ pub record StandsForFront (bodies more : List (List ℕ)) (c : List ℕ) : Type 
 -- some more
 abbrev pub Grows : {D : Type 0} → Ghosts D → D → D → List (List ℕ) → List (List ℕ) → Type 0
 Grows d old new bodies more = LeavesOnly d old new (StandsForFront bodies more)
+
+-- at each moment from the old disk to the new one, each image begins with the header with which
+-- the file began
+abbrev pub KeepsHeader : {D : Type 0} → Ghosts D → D → D → Type 0
+KeepsHeader d old new =
+    (start : List ℕ) → IsHeader start → BeginsWith start (d.content old)
+    → LeavesOnly d old new (BeginsWith start)

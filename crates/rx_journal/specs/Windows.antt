@@ -4,7 +4,7 @@ use Rattle.std.specs.Borrow.{Bor, MutBor, Fml}
 use Rattle.std.specs.Io.BufRead.{Rests}
 use Rattle.rx_disk.specs.declared.disk.Disk.{Ghosts}
 use Rattle.rx_disk.specs.Disk.{Only}
-use Rattle.rx_frame.specs.File.{AllFit, front, end_of, IsWhole, StandsFor, no_records, shortest}
+use Rattle.rx_frame.specs.File.{IsHeader, AllFit, records, front, end_of, IsWhole, StandsFor, no_records, shortest}
 use Rattle.rx_frame.specs.Gate.{IsClosed, NextIs}
 use Rattle.rx_journal.specs.Hold.{Hold}
 use Rattle.rx_journal.specs.Ready.{IsReady}
@@ -48,9 +48,11 @@ WillLend content w bodies = Hold (place_of w) (left w content) bodies
 
 -- they lent these bodies, and a crash now would leave the file as it reads
 pub record HaveLent {D : Type 0} (d : Ghosts D) (disk : D) (w : Windows) (bodies : List (List ℕ)) : Type 0 where
+  pub start : List ℕ
+  pub is_header : IsHeader start
   pub fit : AllFit bodies
-  pub split : d.content disk ≡ front bodies ++ left w (d.content disk)
-  pub at : place_of w ≡ length (front bodies)
+  pub split : d.content disk ≡ front start bodies ++ left w (d.content disk)
+  pub at : place_of w ≡ 8 + length (records bodies)
   pub durable : Only (d.content disk) (d.image disk)
 
 -- a journal that ends behind the next gate may be appended to

@@ -6,8 +6,9 @@ ghost use Rattle.rx_journal.specs.declared.journal.AppendFault.TheVariants.{Full
 ghost use Rattle.rx_outside.specs.Failed.{Rises};
 
 use crate::durable::write_durably;
-use rx_disk::{Disk, Failed};
+use rx_disk::Disk;
 use rx_frame::{OPEN_GATE, frame};
+use rx_outside::Failed;
 use std::alloc::{AllocError, Global};
 use thiserror::Error;
 
@@ -61,7 +62,7 @@ pub struct Journal {
 }
 
 impl Journal {
-    ghost use Rattle.rx_journal.specs.Growing.{Grows};
+    ghost use Rattle.rx_journal.specs.Growing.{Grows, KeepsHeader};
     ghost use Rattle.rx_journal.specs.Ready.{IsReady, grown_end};
 
     /// Adds a record. The faults are tried in the order `Full`, `Memory`, `Disk`. The journal is
@@ -78,6 +79,10 @@ impl Journal {
         // without it.
         ensures moments { D.tells → (bodies : List (List ℕ)) → IsReady D.Disk disk.old self bodies
             → Grows D.Disk disk.old disk.new bodies (body.now ∷ []) }
+
+        // At each moment each image begins with the header with which the file began.
+        ensures header { D.tells → (bodies : List (List ℕ)) → IsReady D.Disk disk.old self bodies
+            → KeepsHeader D.Disk disk.old disk.new }
 
         // At `Ok` the file and each image stand for exactly the old bodies and the new one.
         ensures added { D.tells → (bodies : List (List ℕ)) → IsReady D.Disk disk.old self bodies

@@ -8,7 +8,8 @@ ghost use Rattle.rx_outside.specs.Failed.{Rises};
 use crate::durable::write_durably;
 use crate::reading::{end_in, read_all};
 use crate::{Image, Journal, LONGEST, SHORTEST};
-use rx_disk::{Disk, Failed};
+use rx_disk::Disk;
+use rx_outside::Failed;
 use std::alloc::{AllocError, Global};
 use thiserror::Error;
 

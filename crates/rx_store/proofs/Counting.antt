@@ -1,4 +1,4 @@
--- The records of a journal, counted as they are played.
+-- The records of a journal, counted as they are after_body.
 use Rattle.std.proofs.Common.{◌≡◌, ℕ, ◌+◌, ◌<◌, ◌^◌, List, [], ◌∷◌, ◌++◌, length, Some, refl, sym, ◌∙◌, ap, subst, arith, append-nil, append_assoc, length-append}
 use Rattle.rx_frame.specs.File.{records}
 use Rattle.rx_frame.specs.Gate.{IsClosed, NextIs}
@@ -8,12 +8,12 @@ use Rattle.rx_journal.specs.Windows.{WillLend, left, place_of}
 use Rattle.rx_journal.specs.declared.windows.Windows.{Windows}
 use Rattle.rx_journal.proofs.Holding.{one_before}
 use Rattle.rx_record.specs.Content.{record_of}
-use Rattle.rx_world.specs.Replay.{played, replay, replay_from}
+use Rattle.rx_world.specs.Replay.{after_body, replay, replay_from}
 use Rattle.rx_world.specs.World.{World, empty}
 use Rattle.rx_world.proofs.Replays.{replay-append, replay_from-first, replay_from-nothing}
 use Rattle.rx_store.specs.Counted.{AreCounted}
 
--- bodies that stood before those which windows still are to lend were played and counted
+-- bodies that stood before those which windows still are to lend were after_body and counted
 pub record HasRead (content : List ℕ) (first now : Windows) (w : World) (count size : ℕ)
     : Type 0 where
   pub done : List (List ℕ)
@@ -36,7 +36,7 @@ read_none content first w is = record {
 -- one more was lent
 pub read_one : (content : List ℕ) (first f f' : Windows) (body : List ℕ) (w w' : World)
     (count size : ℕ) → NextIs (left f content) body (left f' content)
-    → place_of f' ≡ place_of f + 5 + length body → played (record_of body) w ≡ Some w'
+    → place_of f' ≡ place_of f + 5 + length body → after_body (record_of body) w ≡ Some w'
     → HasRead content first f w count size
     → HasRead content first f' w' (count + 1) (size + (5 + length body))
 read_one content first f f' body w w' count size next moved is h = record {

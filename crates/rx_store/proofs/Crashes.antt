@@ -1,5 +1,6 @@
 -- Crash-safe calls, one after another, and their stops.
-use Rattle.std.proofs.Common.{◌≡◌, ◌⊎◌, inl, inr, ℕ, ◌≤◌, List, [], ◌∷◌, ◌++◌, Result, Ok, Err, IfOk, IsErrOf, refl, sym, ◌∙◌, ap, subst, append_assoc, append-nil}
+use Rattle.std.proofs.Common.{◌≡◌, ◌⊎◌, inl, inr, ℕ, ◌≤◌, List, [], ◌∷◌, ◌++◌, Result, Ok, Err, IsErrOf, refl, sym, ◌∙◌, ap, subst, append_assoc, append-nil}
+use Rattle.rx_value.proofs.Outcomes.{if_ok}
 use Rattle.rx_disk.specs.declared.disk.Disk.{Ghosts}
 use Rattle.rx_frame.specs.File.{StandsFor, end_of}
 use Rattle.rx_outside.specs.declared.stop.Stop.{Stop}
@@ -9,12 +10,6 @@ use Rattle.rx_store.specs.Safe.{IsCrashSafe, IsFull}
 use Rattle.rx_store.proofs.Growing.{grows_on, grows_longer}
 
 -- ---- what was answered
-
--- what is known of what was answered
-pub if_ok : {A E : Type 0} (r : Result A E) (P Q : A → Type 0) → IfOk r P → ((x : A) → P x → Q x)
-    → IfOk r Q
-if_ok (Ok x) P Q is f = f x is
-if_ok (Err e) P Q is f = tt
 
 -- what might have been answered otherwise says nothing of a stop
 pub other_stop : {A B : Type 0} (stop cause : Stop) → IsErrOf {T = A} (Err stop) cause

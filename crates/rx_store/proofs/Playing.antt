@@ -19,7 +19,7 @@ use Rattle.rx_record.specs.Content.{Content, collection, rows, replication, exch
 use Rattle.rx_record.specs.Writable.{HasTime, IsWritablePlace, IsWritable, IsOrdered}
 use Rattle.rx_record.specs.declared.at.At.{At}
 use Rattle.rx_world.specs.Holders.{Holders, holders_in, world_in}
-use Rattle.rx_world.specs.Replay.{played, replay_from, replay}
+use Rattle.rx_world.specs.Replay.{after_body, replay_from, replay}
 use Rattle.rx_world.specs.Step.{epoch_after, step, legal}
 use Rattle.rx_world.specs.World.{World, empty}
 use Rattle.rx_world.proofs.Replays.{replay-append, replay_from-first, replay_from-none, replay_from-nothing, stepped-legal}
@@ -27,7 +27,7 @@ use Rattle.rx_store.specs.Made.{AreMade}
 use Rattle.rx_store.specs.Stops.{of_open}
 
 -- of the bodies that windows were to lend at first, those that they still are to lend are still to be
--- played on the world
+-- after_body on the world
 abbrev pub IsPlaying : List ℕ → Windows → Windows → World → Type 0
 IsPlaying content first now w = (bodies : List (List ℕ)) → WillLend content first bodies
     → (rest : List (List ℕ)) × WillLend content now rest × (replay bodies ≡ replay_from (Some w) rest)
@@ -41,17 +41,17 @@ abbrev pub Lends : List ℕ → Windows → List ℕ → Windows → Type 0
 Lends content w body w' = (bodies : List (List ℕ)) → WillLend content w bodies
     → (more : List (List ℕ)) × (bodies ≡ body ∷ more) × WillLend content w' more
 
--- what is left to be played from the next body on
+-- what is left to be after_body from the next body on
 turned : (content : List ℕ) (f f' : Windows) (body : List ℕ) (w : World) (rest : List (List ℕ))
     → Lends content f body f' → WillLend content f rest
     → (more : List (List ℕ)) × WillLend content f' more
-    × (replay_from (Some w) rest ≡ replay_from (played (record_of body) w) more)
+    × (replay_from (Some w) rest ≡ replay_from (after_body (record_of body) w) more)
 turned content f f' body w rest lends will =
     let next = lends rest will in
     (next.0, next.2, ap (λ (bs : List (List ℕ)). replay_from (Some w) bs) next.1 ∙ replay_from-first w body next.0)
 
 pub goes_on : (content : List ℕ) (first f f' : Windows) (body : List ℕ) (w w' : World)
-    → IsPlaying content first f w → Lends content f body f' → played (record_of body) w ≡ Some w'
+    → IsPlaying content first f w → Lends content f body f' → after_body (record_of body) w ≡ Some w'
     → IsPlaying content first f' w'
 goes_on content first f f' body w w' playing lends is bodies will =
     let left = playing bodies will in
@@ -59,14 +59,14 @@ goes_on content first f f' body w w' playing lends is bodies will =
     (next.0, next.1, left.2 ∙ next.2 ∙ ap (λ o. replay_from o next.0) is)
 
 pub refused : (content : List ℕ) (first f f' : Windows) (body : List ℕ) (w : World)
-    → IsPlaying content first f w → Lends content f body f' → played (record_of body) w ≡ None
+    → IsPlaying content first f w → Lends content f body f' → after_body (record_of body) w ≡ None
     → (bodies : List (List ℕ)) → WillLend content first bodies → replay bodies ≡ None
 refused content first f f' body w playing lends is bodies will =
     let left = playing bodies will in
     let next = turned content f f' body w left.0 lends left.1 in
     left.2 ∙ next.2 ∙ ap (λ o. replay_from o next.0) is ∙ replay_from-none next.0
 
--- bodies that no windows may lend aren't played
+-- bodies that no windows may lend aren't after_body
 pub not_read : (content : List ℕ) (first f : Windows) (w : World) → IsPlaying content first f w
     → ((bodies : List (List ℕ)) → WillLend content f bodies → ⊥)
     → (bodies : List (List ℕ)) → WillLend content first bodies → replay bodies ≡ None
@@ -85,7 +85,7 @@ played_none d disk f w is lent = ([], lent, replay_from-nothing (Some empty) ∙
 
 pub played_one : {D : Type 0} (d : Ghosts D) (disk disk' : D) (f f' : Windows) (body : List ℕ) (w w' : World)
     → ((bodies : List (List ℕ)) → HaveLent d disk f bodies → HaveLent d disk' f' (bodies ++ body ∷ []))
-    → played (record_of body) w ≡ Some w' → HasPlayed d disk f w → HasPlayed d disk' f' w'
+    → after_body (record_of body) w ≡ Some w' → HasPlayed d disk f w → HasPlayed d disk' f' w'
 played_one d disk disk' f f' body w w' lent is (bodies, so_far, plays) = (
   bodies ++ body ∷ [],
   lent bodies so_far,

@@ -1,6 +1,6 @@
 -- What is seen of a file that was read to its end.
-use Rattle.std.proofs.Common.{◌≡◌, ℕ, ◌+◌, List, length, sym, ◌∙◌, ap, subst, arith, length-append}
-use Rattle.rx_frame.specs.File.{end_of, header, records}
+use Rattle.std.proofs.Common.{◌≡◌, ℕ, ◌+◌, List, length, sym, ◌∙◌, ap, subst, arith}
+use Rattle.rx_frame.specs.File.{end_of, records}
 use Rattle.rx_frame.proofs.Records.{stands_for_one}
 use Rattle.rx_journal.specs.Windows.{LendAll, WillLend}
 use Rattle.rx_journal.specs.declared.windows.Windows.{Windows}
@@ -39,10 +39,5 @@ module _
       is_shown = (
         same_world,
         counted.counted ∙ ap length same_bodies,
-        omega (
-          arith,
-          counted.sized,
-          ap (λ bs. length (records bs)) same_bodies,
-          length-append header (records bs),
-        ),
+        omega (arith, counted.sized, ap (λ bs. length (records bs)) same_bodies),
       )

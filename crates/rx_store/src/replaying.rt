@@ -7,7 +7,7 @@ ghost use Rattle.rx_outside.specs.declared.stop.Stop.TheVariants as Stop;
 ghost use Rattle.rx_record.specs.Content.{record_of};
 ghost use Rattle.rx_world.specs.Holders.{holders_in, world_in};
 ghost use Rattle.rx_world.specs.Replay as replays;
-ghost use Rattle.rx_world.specs.Replay.{played};
+ghost use Rattle.rx_world.specs.Replay.{after_body};
 ghost use Rattle.rx_store.specs.Counted.{AreCounted};
 ghost use Rattle.rx_store.specs.Made.{AreMade};
 
@@ -99,13 +99,13 @@ fn replay_one<H: Holder + Drop, F: Fn(Collection) -> Result<H, AllocError>>(
     requires makes { (c : _) (r : _) → F.post make.now c r
         → IfOk r (λ h. (H.held h ≡ c) × (H.is_broken h ≡ false)) }
     requires made { AreMade (λ c h. F.post make.now c (Ok h)) H.written (holders_in world) }
-    ensures ok { IfOk result (λ w. played (record_of body.now) (world_in H.held world)
+    ensures ok { IfOk result (λ w. after_body (record_of body.now) (world_in H.held world)
         ≡ Some (world_in H.held w)) }
     ensures made { IfOk result (λ w.
         AreMade (λ c h. F.post make.now c (Ok h)) H.written (holders_in w)) }
     ensures epoch { IfOk result (λ w. w.epoch ≤ world.epoch + 1) }
     ensures not_journal { IsErrOf result Stop.NotJournal
-        → played (record_of body.now) (world_in H.held world) ≡ None }
+        → after_body (record_of body.now) (world_in H.held world) ≡ None }
     ensures no_disk { IsErrOf result Stop.Disk → ⊥ }
     ensures no_full { (would limit : ℕ) → IsErrOf result (Stop.Full would limit) → ⊥ }
 {

@@ -1,7 +1,8 @@
 use Rattle.std.proofs.Common.{◌≡◌, inl, inr, ℕ, ◌≤◌, List, [], ◌++◌, length, take, drop, true≢false, sym, ◌∙◌, ap, subst, arith, length-append}
-use Rattle.rx_frame.specs.File.{header, IsWhole}
+use Rattle.rx_frame.specs.File.{IsHeader, IsWhole}
+use Rattle.rx_frame.proofs.Records.{whole_header}
 use Rattle.rx_journal.specs.Window.{held}
-use Rattle.rx_journal.proofs.Begun.{whole_begins, front_of, from_start, whole_ahead}
+use Rattle.rx_journal.proofs.Begun.{front_of, from_start, whole_ahead}
 use Rattle.rx_journal.proofs.Holds.{if_true, if_false}
 use Rattle.rx_journal.proofs.ReadFile.{untouched_so_far}
 use Rattle.rx_journal.proofs.first.first_window.Goals.{then-branch+else-not-has_header, else-branch+else-not-has_closed}
@@ -18,9 +19,11 @@ returns-then-not-has_header-clause-not_journal g c = λ told is journal.
     elim journal.1 [
       | inl brief ↦ omega (arith, long, size, brief.0)
       | inr whole ↦ (
-          let starts : take 8 h ≡ header =
-          front_of content h (drop (length h) content) all (omega (arith, long)) ∙ whole_begins content journal.0 whole in
-          true≢false (sym (c.has_header.ensures.1 (ap (λ (l : List ℕ). take 8 l) c.held.ensures ∙ starts)) ∙ c.if-not-has_header.true)
+          let same : take 8 c.held.result.now ≡ take 8 content =
+          ap (λ (l : List ℕ). take 8 l) c.held.ensures
+          ∙ front_of content h (drop (length h) content) all (omega (arith, long)) in
+          let starts = subst IsHeader (sym same) (whole_header content journal.0 whole) in
+          true≢false (sym (c.has_header.ensures.1 starts) ∙ c.if-not-has_header.true)
           )
     ]
 

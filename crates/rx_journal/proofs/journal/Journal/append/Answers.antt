@@ -2,6 +2,7 @@ use Rattle.std.proofs.Common.{◌≤◌, ◌∙◌, refl, arith}
 use Rattle.rx_journal.specs.Ready.{grown_end}
 use Rattle.rx_journal.proofs.Append.{within_first, within_second, added}
 use Rattle.rx_journal.proofs.Growing.{stays}
+use Rattle.rx_journal.proofs.Keeping.{keeps_so_far, keeps_within_first, keeps_within_second}
 use Rattle.rx_journal.proofs.journal.Journal.append.Goals as goal
 
 pub returns-then-self-would-clause-moments : goal.returns-then-self-would-clause-moments
@@ -47,3 +48,33 @@ returns-clause-added g c = λ told bodies ready.
     (c.in_ok-write_durably.ensures.written told)
     c.write_durably-2.new.disk (c.write_durably-2.ensures.moments told) _ refl
     (c.in_ok-write_durably-2.ensures.written told) (c.in_ok-write_durably-2.ensures.durable told)
+
+pub returns-then-self-would-clause-header : goal.returns-then-self-would-clause-header
+returns-then-self-would-clause-header g c = λ told bodies ready.
+    keeps_so_far g.D.Disk c.args.disk.now c.args.self bodies ready
+    (λ f. g.met.D.Disk.only_now c.args.disk.now f told)
+
+pub returns-in_err-bytes-clause-header : goal.returns-in_err-bytes-clause-header
+returns-in_err-bytes-clause-header g c = λ told bodies ready.
+    keeps_so_far g.D.Disk c.args.disk.now c.args.self bodies ready
+    (λ f. g.met.D.Disk.only_now c.args.disk.now f told)
+
+pub returns-in_err-write_durably-clause-header : goal.returns-in_err-write_durably-clause-header
+returns-in_err-write_durably-clause-header g c = λ told bodies ready.
+    keeps_within_first g.D.Disk c.args.disk.now c.args.self bodies ready _
+    c.write_durably.new.disk (c.write_durably.ensures.moments told)
+
+pub returns-in_err-write_durably-2-clause-header :
+    goal.returns-in_err-write_durably-2-clause-header
+returns-in_err-write_durably-2-clause-header g c = λ told bodies ready.
+    keeps_within_second g.D.Disk c.args.disk.now c.args.self bodies ready _
+    c.write_durably.new.disk (c.write_durably.ensures.moments told)
+    (c.in_ok-write_durably.ensures.written told)
+    c.write_durably-2.new.disk (c.write_durably-2.ensures.moments told)
+
+pub returns-clause-header : goal.returns-clause-header
+returns-clause-header g c = λ told bodies ready.
+    keeps_within_second g.D.Disk c.args.disk.now c.args.self bodies ready _
+    c.write_durably.new.disk (c.write_durably.ensures.moments told)
+    (c.in_ok-write_durably.ensures.written told)
+    c.write_durably-2.new.disk (c.write_durably-2.ensures.moments told)
