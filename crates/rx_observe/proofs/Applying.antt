@@ -1,6 +1,6 @@
 -- What the table's action makes of rows from scratch.
 use Rattle.std.proofs.Common.{◌≡◌, ◌≢◌, ℕ, Bool, true, false, cond, ◌||◌, List, [], Option, Some, None, option_map, refl, sym, ap, ◌∙◌, subst}
-use Rattle.std.proofs.lemmas.Bool.{false≢true}
+use Rattle.std.proofs.lemmas.Bool.{false≢true, or_parts}
 use Rattle.std.proofs.lemmas.Option.{same_Some}
 use Rattle.std.specs.Prelude.{IfSome}
 use Rattle.rx_document.specs.Change.{change_of, DifferAt}
@@ -178,12 +178,6 @@ still_rows DoNothing q c None is = refl
 still_rows DoNothing q c (Some rows) is = refl
 still_rows _ q c rows is = absurd (false≢true (sym is))
 
--- neither touched before nor now
-never_touched : (t n : Bool) → (t || n) ≡ false → (t ≡ false) × (n ≡ false)
-never_touched false false is = (refl, refl)
-never_touched false true is = absurd (false≢true (sym is))
-never_touched true n is = absurd (false≢true (sym is))
-
 -- rows that weren't touched are those emitted last
 pub untouched : (t n : Bool) (a : Action) (q : Asked) (c : Change)
     (old rows emitted : Option (List Row)) → n ≡ changes_rows a
@@ -191,7 +185,7 @@ pub untouched : (t n : Bool) (a : Action) (q : Asked) (c : Change)
     → (t ≡ false → (r : List Row) → old ≡ Some r → emitted ≡ Some r) → (t || n) ≡ false
     → (r : List Row) → rows ≡ Some r → emitted ≡ Some r
 untouched t n a q c old rows emitted is rows_is before none r at =
-    let never = never_touched t n none in
+    let never = or_parts t n none in
     before never.0 r (sym (still_rows a q c old (sym is ∙ never.1)) ∙ sym rows_is ∙ at)
 
 -- the rows that the action needs are there

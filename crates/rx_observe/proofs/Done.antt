@@ -2,6 +2,7 @@
 use Rattle.std.proofs.Common.{◌≡◌, ℕ, zero, suc, ◌+◌, ◌<◌, List, [], ◌∷◌, length, drop, map, get_or, refl, sym, ap, ◌∙◌, arith, add-one}
 use Rattle.std.proofs.Math.ListN.{set}
 use Rattle.std.specs.List.{AllByRecursion}
+use Rattle.rx_value.proofs.Lists.{cons_parts}
 
 -- with the first i changed
 abbrev pub done : {X : Type 0} → (X → X) → ℕ → List X → List X
@@ -69,19 +70,13 @@ pub record IsNext {A B : Type 0} (g : B → A) (i : ℕ) (xs : List B) (a : A) (
   pub rest : more ≡ map g (drop (i + 1) xs)
   pub here : (d : B) → a ≡ g (get_or xs i d)
 
-first_same : {C : Type 0} (a b : C) (as' bs : List C) → a ∷ as' ≡ b ∷ bs → a ≡ b
-first_same a b as' bs e = cc
-
-rest_same : {C : Type 0} (a b : C) (as' bs : List C) → a ∷ as' ≡ b ∷ bs → as' ≡ bs
-rest_same a b as' bs e = cc
-
 pub next_is : {A B : Type 0} (g : B → A) (i : ℕ) (xs : List B) (a : A) (more : List A)
     → a ∷ more ≡ map g (drop i xs) → IsNext g i xs a more
 next_is g zero [] a more e = cc
 next_is g zero (x ∷ xs) a more e = record {
   within = omega arith;
-  rest = rest_same a (g x) more (map g xs) e;
-  here = λ d. first_same a (g x) more (map g xs) e;
+  rest = (cons_parts a (g x) more (map g xs) e).1;
+  here = λ d. (cons_parts a (g x) more (map g xs) e).0;
 }
 next_is g (suc i) [] a more e = cc
 next_is g (suc i) (x ∷ xs) a more e =
@@ -102,8 +97,3 @@ done-past g f zero [] e = refl
 done-past g f zero (x ∷ xs) e = cc
 done-past g f (suc i) [] e = refl
 done-past g f (suc i) (x ∷ xs) e = ap (λ ys. f x ∷ ys) (done-past g f i xs e)
-
--- a list without length
-pub empty_is : {X : Type 0} (xs : List X) → length xs ≡ 0 → xs ≡ []
-empty_is [] h = refl
-empty_is (x ∷ xs) h = absurd (omega arith)

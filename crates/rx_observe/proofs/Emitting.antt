@@ -1,9 +1,9 @@
 -- Queries after an emission, made cold, and without one of them.
 use Rattle.std.proofs.Common.{◌≡◌, ℕ, true, false, not, cond, option_map, IfSome, Option, Some, None, List, [], ◌∷◌, bytes_eq, map, refl, sym, ap, ◌∙◌, subst}
 use Rattle.std.proofs.lemmas.Option.{same_Some}
-use Rattle.std.proofs.lemmas.Slice.Eq.{bytes_eq-Decides}
 use Rattle.std.specs.List.{AllByRecursion, IsDistinct}
 use Rattle.rx_value.specs.Named.{named}
+use Rattle.rx_value.proofs.Bytes.{bytes_apart_turned}
 use Rattle.rx_query.specs.declared.results.Row.{Row}
 use Rattle.rx_collection.specs.Held.{Held}
 use Rattle.rx_query.specs.Result.{fresh_rows}
@@ -161,15 +161,6 @@ distinct_each f qs now is h =
     subst (IsDistinct bytes_eq) (sym (ap (map (λ (q : List ℕ × Watched). q.0)) is
     ∙ names_each f qs)) h
 
--- a test of two texts is the same either way round
-other_way : (k l : List ℕ) → bytes_eq k l ≡ false → bytes_eq l k ≡ false
-other_way k l h =
-    (elim (bytes_eq l k) as (λ b. bytes_eq l k ≡ b → b ≡ false) [
-      | true ↦ (λ e. let same = sym ((bytes_eq-Decides l k).0 e) in
-          let yes = (bytes_eq-Decides k l).1 same in cc)
-      | false ↦ (λ e. refl)
-    ]) refl
-
 -- one that isn't named is none of them
 named_apart : (q : List ℕ × Watched) (qs : Queries) (name : List ℕ) → named (q ∷ qs) name ≡ None
     → (bytes_eq name q.0 ≡ false) × (named qs name ≡ None)
@@ -194,7 +185,7 @@ unfolding IsDistinct
 distinct_more [] name w h none = (tt, tt)
 distinct_more (q ∷ qs) name w h none =
     let apart = named_apart q qs name none in (
-      all_more (λ n. bytes_eq q.0 n ≡ false) qs name w h.0 (other_way name q.0 apart.0),
+      all_more (λ n. bytes_eq q.0 n ≡ false) qs name w h.0 (bytes_apart_turned name q.0 apart.0),
       distinct_more qs name w h.1 apart.1,
     )
 

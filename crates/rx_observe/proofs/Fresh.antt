@@ -1,9 +1,9 @@
 -- The rows from scratch are those of the one result.
 use Rattle.std.proofs.Common.{◌≡◌, ℕ, Bor, List, [], ◌∷◌, map, Some, refl, sym, ap, subst}
-use Rattle.std.specs.List.{AllByRecursion}
 use Rattle.std.specs.Map.{values_of}
 use Rattle.rx_value.specs.Named.{named}
 use Rattle.rx_value.specs.declared.value.Value.TheVariants.{Text}
+use Rattle.rx_value.proofs.Lists.{all_weaker}
 use Rattle.rx_document.specs.Documents.{Documents}
 use Rattle.rx_document.specs.declared.stored.Stored.{Stored}
 use Rattle.rx_query.proofs.Rows.{one_result, are_keyed}
@@ -12,12 +12,6 @@ use Rattle.rx_query.specs.Result.{result_of, row_of, fresh_rows, AreKeyed, IsCol
 use Rattle.rx_collection.specs.Held.{Held}
 use Rattle.rx_collection.specs.Lawful.{IsHeldAt, IsLawful}
 use Rattle.rx_observe.specs.Laws.{RowsAreFromScratch}
-
--- what holds of all of them holds of all
-all_weaker : {X : Type 0} (P Q : X → Type 0) → ((x : X) → P x → Q x) → (xs : List X)
-    → AllByRecursion P xs → AllByRecursion Q xs
-all_weaker P Q f [] h = tt
-all_weaker P Q f (x ∷ xs) h = (f x h.0, all_weaker P Q f xs h.1)
 
 -- the documents of a lawful collection are such, for each query that goes by its primary key
 pub is_collection_for : (primary : List ℕ) (c : Held) → primary ≡ c.schema.primary → IsLawful c

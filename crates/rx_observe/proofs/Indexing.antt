@@ -5,6 +5,7 @@ use Rattle.std.proofs.lemmas.List.{map-append, length-map}
 use Rattle.std.specs.List.{AllByRecursion}
 use Rattle.std.specs.Prelude.{Bool, slice_get, IfSome}
 use Rattle.rx_value.specs.Named.{named}
+use Rattle.rx_value.proofs.Lists.{all_push}
 use Rattle.rx_document.specs.declared.stored.Stored.{Stored}
 use Rattle.rx_collection.proofs.Lawful.{lawful_put}
 use Rattle.rx_collection.proofs.Named.{at_name}
@@ -53,12 +54,6 @@ pub as_many : (indexes now : List Indexed)
     → map (λ i. i.fields) now ≡ map (λ i. i.fields) indexes → length now ≡ length indexes
 as_many indexes now same =
     sym (length-map now (λ i. i.fields)) ∙ ap length same ∙ length-map indexes (λ i. i.fields)
-
--- what holds of all and of one more
-pub all_push : {X : Type 0} (P : X → Type 0) (xs : List X) (x : X) → AllByRecursion P xs → P x
-    → AllByRecursion P (xs ++ x ∷ [])
-all_push P [] x all here = (here, tt)
-all_push P (y ∷ ys) x all here = (all.0, all_push P ys x all.1 here)
 
 -- ---- each holds the documents
 

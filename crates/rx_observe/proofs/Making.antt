@@ -8,6 +8,7 @@ use Rattle.std.specs.declared.cmp.Ordering.TheVariants.{Less}
 use Rattle.rx_value.proofs.Named.{named-put_named, named-put_in_order}
 use Rattle.rx_value.specs.Named.{named, put_named, put_in_order, AreRising}
 use Rattle.rx_value.specs.Order.{text_cmp}
+use Rattle.rx_value.proofs.Lists.{all_at}
 use Rattle.rx_document.specs.Documents.{Documents}
 use Rattle.rx_document.specs.declared.stored.Stored.{Stored}
 use Rattle.rx_query.specs.Result.{IsCollection}
@@ -51,12 +52,6 @@ key_within : (P : List ℕ → Type 0) (ds : Documents) (e : List ℕ × Stored)
     → AllByRecursion P (keys_of (ds ++ e ∷ more)) → P e.0
 key_within P [] e more all = all.0
 key_within P (d ∷ ds) e more all = key_within P ds e more all.1
-
--- and what holds of all documents
-one_within : (P : List ℕ × Stored → Type 0) (ds : Documents) (e : List ℕ × Stored)
-    (more : Documents) → AllByRecursion P (ds ++ e ∷ more) → P e
-one_within P [] e more all = all.0
-one_within P (d ∷ ds) e more all = one_within P ds e more all.1
 
 -- among rising names none is named before
 none_before : (ds : Documents) (e : List ℕ × Stored) (more : Documents)
@@ -118,7 +113,7 @@ module _ (c : Held) (lawful : IsLawful c) (d : Stored) (left : List Stored) (i :
 
   same_key : d.state.key ≡ first.key
   same_key =
-      one_within (λ e. e.1.state.key ≡ e.0) t.taken (first.key, d) first.more
+      all_at (λ e. e.1.state.key ≡ e.0) t.taken (first.key, d) first.more
       (subst (AllByRecursion (λ e. e.1.state.key ≡ e.0)) (sym parts) collection.keyed)
 
   is_new : named t.taken d.state.key ≡ None

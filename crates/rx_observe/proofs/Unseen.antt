@@ -1,11 +1,11 @@
 -- Rows are the same exactly where the test says so.
-use Rattle.std.proofs.Common.{◌≡◌, ℕ, zero, suc, ◌+◌, add-one, arith, drop, slice_get, [], ◌∷◌, bytes_eq, true, false, cond, Option, Some, None, List, refl, sym, ap, ◌∙◌}
+use Rattle.std.proofs.Common.{◌≡◌, ℕ, ◌+◌, drop, slice_get, bytes_eq, true, false, cond, Option, Some, None, List, refl, sym, ap, ◌∙◌}
 use Rattle.std.proofs.lemmas.Bool.Decides.{Decides-and}
-use Rattle.std.proofs.lemmas.Option.{slice_get_within, same_Some}
 use Rattle.std.proofs.lemmas.Slice.Eq.{bytes_eq-Decides, slice_eq-Decides}
 use Rattle.std.specs.Bool.{Decides}
 use Rattle.rx_value.specs.Equal.{fields_eq}
 use Rattle.rx_value.specs.Equality.{decides_as, fields_eq-Decides}
+use Rattle.rx_value.proofs.Lists.{drop_at}
 use Rattle.rx_query.specs.declared.results.Row.{Row}
 use Rattle.rx_observe.specs.Rows.{same_row, same_rows, unseen}
 use Rattle.rx_observe.specs.Watched.{kept}
@@ -20,18 +20,6 @@ same_row-Decides x y =
 
 pub same_rows-Decides : (xs ys : List Row) → Decides (same_rows xs ys) (xs ≡ ys)
 same_rows-Decides xs ys = slice_eq-Decides same_row-Decides xs ys (same_rows xs ys) refl
-
--- the one at a place is the first of what is left there
-drop_suc : {X : Type 0} (xs : List X) (i : ℕ) (x : X) → slice_get xs i ≡ Some x
-    → drop i xs ≡ x ∷ drop (suc i) xs
-drop_suc [] i x at = let in_it = slice_get_within [] i x at in absurd (omega arith)
-drop_suc (y ∷ ys) zero x at = ap (λ z. z ∷ ys) (same_Some y x at)
-drop_suc (y ∷ ys) (suc i) x at = drop_suc ys i x at
-
--- the same with the next place as code has it
-drop_at : {X : Type 0} (xs : List X) (i : ℕ) (x : X) → slice_get xs i ≡ Some x
-    → drop i xs ≡ x ∷ drop (i + 1) xs
-drop_at xs i x at = drop_suc xs i x at ∙ ap (λ k. x ∷ drop k xs) (sym (add-one i))
 
 module _ (xs ys : List Row) (i : ℕ) (x y : Row) (at : slice_get xs i ≡ Some x)
     (at' : slice_get ys i ≡ Some y) where

@@ -1,4 +1,4 @@
--- How the fields of an observed query are seen.
+-- How the fields of an observed query are watched_in.
 use Rattle.std.specs.Prelude.{◌≡◌, false, List, Some}
 use Rattle.rx_query.specs.Asked.{asked}
 use Rattle.rx_query.specs.declared.results.Row.{Row}
@@ -6,8 +6,8 @@ use Rattle.rx_observe.specs.Watched.{Watched}
 use Rattle.rx_observe.specs.declared.observed.Observed.TheInside.{Inside}
 
 -- as its parts
-abbrev pub seen : Inside → Watched
-seen o =
+abbrev pub watched_in : Inside → Watched
+watched_in o =
     record { query = asked o.query; rows = o.rows; emitted = o.emitted; counts = o.counts }
 
 -- rows that weren't touched since the last emission are those emitted last

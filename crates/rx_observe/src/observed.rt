@@ -52,9 +52,9 @@ impl Model for Observed {
 
     ghost coded = { watched_code };
 
-    ghost use Rattle.rx_observe.specs.Inside.{seen, IsTouched};
+    ghost use Rattle.rx_observe.specs.Inside.{watched_in, IsTouched};
 
-    ghost view = { seen };
+    ghost view = { watched_in };
 
     ghost invariant = { IsTouched };
 }

@@ -3,6 +3,7 @@ ghost use Rattle.rx_value.specs.Named.{named};
 ghost use Rattle.rx_document.specs.Change.{before_of};
 ghost use Rattle.rx_document.specs.Documents.{live};
 ghost use Rattle.rx_collection.specs.Commit.{IsNext, with_row};
+ghost use Rattle.rx_collection.specs.Lawful.{IsLawful};
 ghost use Rattle.rx_query.specs.Asked.{asked};
 ghost use Rattle.rx_observe.specs.Applied.{answer_for};
 ghost use Rattle.rx_observe.specs.Following.{Follows, AllFollow};
@@ -37,7 +38,7 @@ pub(crate) fn put_row(
     ensures queries { OnOk result
         (queries.new.items ≡ queries_after collection.old row queries.old.items) }
 {
-    let old = collection.get(row.state.key.as_str());
+    let old = held_before(collection, &row);
     put_in_each(collection, indexes, old, &row)?;
     if queries.is_empty() {
         return collection.put(row);
@@ -52,6 +53,18 @@ pub(crate) fn put_row(
         indexes.as_slice(),
         &change,
     )
+}
+
+// The document of the row's key. A first row has none, so it needn't be looked up.
+fn held_before<'a>(collection: &'a Collection, row: &Stored) -> Option<&'a Stored>
+    requires next { IsNext collection.now row.now }
+    requires lawful { IsLawful collection.now }
+    ensures { option_map (λ d. d.now) result ≡ named collection.now.documents row.now.state.key }
+{
+    if row.rev.height == 1 {
+        return None;
+    }
+    collection.get(row.state.key.as_str())
 }
 
 // The change that a row is about to make, in the place of its key's document.

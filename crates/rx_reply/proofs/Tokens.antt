@@ -1,5 +1,5 @@
 -- The tokens of objects and lists, one member or item after another.
-use Rattle.std.proofs.Common.{◌≡◌, ℕ, List, ◌++◌, map, Option, Some, None, Result, Ok, Err, OnOk, refl, ap, ◌∙◌, append_assoc}
+use Rattle.std.proofs.Common.{◌≡◌, ℕ, List, ◌++◌, map, Option, Some, None, refl, ap, ◌∙◌, append_assoc}
 use Rattle.json.specs.Token.{Token}
 use Rattle.json.specs.Tree.{items_tokens, members_tokens}
 use Rattle.serde_json.specs.Data.{Data, Members}
@@ -20,11 +20,6 @@ pub one_more : (name : List ℕ) (o : Option Data) (ms : Members)
     → of_members (optional_member name o ms) ≡ member_tokens name o ++ of_members ms
 one_more name None ms = refl
 one_more name (Some d) ms = refl
-
--- what follows on `Ok` from what holds then
-pub on_ok : {X E P Q : Type 0} (r : Result X E) → (P → Q) → OnOk r P → OnOk r Q
-on_ok (Ok x) f h = f h
-on_ok (Err e) f h = h
 
 -- lists that are added in turn
 pub in_turn : (t₀ t₁ t₂ a r : List Token) → t₁ ≡ t₀ ++ a → t₂ ≡ t₁ ++ r → t₂ ≡ t₀ ++ (a ++ r)

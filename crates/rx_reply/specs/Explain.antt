@@ -45,8 +45,8 @@ named_actions =
     ∷ []
 
 -- names and actions, where the names are lent
-abbrev pub named : List (Bor (List ℕ) × Action) → List (List ℕ × Action)
-named = map (λ a. (a.0.now, a.1))
+abbrev pub actions_by_name : List (Bor (List ℕ) × Action) → List (List ℕ × Action)
+actions_by_name = map (λ a. (a.0.now, a.1))
 
 -- how many changes were answered by that action
 abbrev pub count_of : Counts → Action → ℕ

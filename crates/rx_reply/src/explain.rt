@@ -3,7 +3,7 @@ ghost use Rattle.std.specs.Prelude.{◌≡◌, ◌++◌, OnOk};
 ghost use Rattle.json.specs.Tree.{json_tokens};
 ghost use Rattle.serde_json.specs.Data.{object};
 ghost use Rattle.serde_json.specs.Written.{outline};
-ghost use Rattle.rx_reply.specs.Explain.{named, count_of, count_data, counted_members, actions_data, explain_data};
+ghost use Rattle.rx_reply.specs.Explain.{actions_by_name, count_of, count_data, counted_members, actions_data, explain_data};
 ghost use Rattle.rx_reply.specs.Writing.{member_tokens};
 
 use crate::writing::{put_number, put_text};
@@ -73,7 +73,7 @@ fn put_table(
     counts: &Counts,
 ) -> Result<(), AllocError>
     ensures tokens { OnOk result (writer.new.tokens ≡ writer.old.tokens
-        ++ json_tokens (outline (object (counted_members counts.now (named table.now))))) }
+        ++ json_tokens (outline (object (counted_members counts.now (actions_by_name table.now))))) }
     ensures before { writer.new.before ≡ writer.old.before }
 {
     writer.begin_object()?;

@@ -18,6 +18,9 @@ use rx_table::Counts;
 use rx_value::{RxList, RxText, put_fields};
 use std::alloc::{AllocError, Global};
 
+// Room for the line of a usual reply, which then isn't grown step by step.
+const ROOM: usize = 128;
+
 /// What a line is answered.
 #[derive(Debug, Drop)]
 pub enum Reply<'a> {
@@ -105,7 +108,7 @@ impl Reply<'_> {
     {
         match self {
             Reply::Turn { exchanges, .. } => exchange_lines(alloc, exchanges.as_slice()),
-            _ => Ok(String::new(alloc)),
+            _ => String::with_capacity(alloc, ROOM),
         }
     }
 

@@ -1,5 +1,5 @@
 -- A query is observed: what becomes of the queries of all places.
-use Rattle.std.proofs.Common.{◌≡◌, ◌≢◌, ℕ, Bool, true, false, cond, List, [], ◌∷◌, ◌++◌, map, filter, Option, Some, None, option_map, option_and_then, is_some, refl, sym, ap, ◌∙◌, subst, true≢false, append-nil}
+use Rattle.std.proofs.Common.{◌≡◌, ℕ, Bool, true, false, cond, List, [], ◌∷◌, ◌++◌, map, filter, Option, Some, None, option_map, option_and_then, is_some, refl, sym, ap, ◌∙◌, subst, true≢false, append-nil}
 use Rattle.std.proofs.lemmas.Bool.{or_parts, or_from}
 use Rattle.std.proofs.lemmas.Cmp.{nat_list_eq_equiv}
 use Rattle.std.proofs.lemmas.List.{map-append}
@@ -12,6 +12,8 @@ use Rattle.std.specs.Map.{keys_of}
 use Rattle.std.specs.Option.{IsSome}
 use Rattle.std.specs.Str.{bytes_eq}
 use Rattle.rx_value.specs.Named.{named, change_named}
+use Rattle.rx_value.proofs.Lists.{all_weaker}
+use Rattle.rx_value.proofs.Bytes.{bytes_itself, bytes_apart_turned, bytes_differ}
 use Rattle.rx_query.specs.Asked.{Asked}
 use Rattle.rx_collection.specs.Held.{Held}
 use Rattle.rx_collection.proofs.Named.{at_name}
@@ -20,24 +22,14 @@ use Rattle.rx_observe.specs.Observing.{Observing, new_watch}
 use Rattle.rx_observe.specs.Rows.{emissions_due}
 use Rattle.rx_observe.specs.Watched.{Watched}
 use Rattle.rx_world.specs.World.{World}
-use Rattle.rx_world.proofs.Looked.{equal_names, other_names, named-change_same, named-change_other, keys-change_named, all_change_named}
+use Rattle.rx_world.proofs.Looked.{named-change_same, named-change_other, keys-change_named, all_change_named}
 use Rattle.rx_session.specs.Doing.{has_key, new_query}
 use Rattle.rx_session.specs.Emissions.{rows_on}
 use Rattle.rx_session.specs.Lives.{IsFree, with_query}
 use Rattle.rx_session.specs.Placed.{Lives, watched_at, with_found, queries_of, names_in, IsListed, IsQuiet, ArePlaced, AreQuietBut}
 use Rattle.rx_session.specs.Session.{Observed}
-use Rattle.rx_session.specs.declared.place.Place.{Place}
-use Rattle.rx_session.proofs.Places.{all_map, colls, colls-change_named, named-map, queries_stay}
-
--- ---- names
-
--- names that differ by the test differ
-pub names_apart : (k l : List ℕ) → bytes_eq k l ≡ false → k ≢ l
-names_apart k l is same = true≢false (sym ((bytes_eq-Decides k l).1 same) ∙ is)
-
--- in either order
-pub names_flip : (k l : List ℕ) → bytes_eq k l ≡ false → bytes_eq l k ≡ false
-names_flip k l is = other_names l k (λ same. names_apart k l is (sym same))
+use Rattle.rx_session.specs.declared.query_place.QueryPlace.{QueryPlace}
+use Rattle.rx_session.proofs.Places.{colls, colls-change_named, named-map, queries_stay}
 
 -- ---- lists
 
@@ -69,7 +61,7 @@ module _ {X : Type 0} where
   -- and one more thing of a free name is the one of its name
   pub named-more_same : (es : List (List ℕ × X)) (k : List ℕ) (x : X) → named es k ≡ None
       → named (es ++ (k, x) ∷ []) k ≡ Some x
-  named-more_same [] k x free = ap (λ b. cond b (Some x) None) (equal_names k)
+  named-more_same [] k x free = ap (λ b. cond b (Some x) None) (bytes_itself k)
   named-more_same (e ∷ es) k x free =
       elim (bytes_eq k e.0) as (λ b. cond b (Some e.1) (named es k) ≡ None
       → cond b (Some e.1) (named (es ++ (k, x) ∷ []) k) ≡ Some x) [
@@ -118,20 +110,20 @@ module _ {X : Type 0} where
 -- ---- collections with their queries
 
 -- what holds of the queries of each collection by its name holds of those of one collection
-pub listed_at : (ls : Lives) (ps : List Place) (coll : List ℕ) (l : Observing)
+pub listed_at : (ls : Lives) (ps : List QueryPlace) (coll : List ℕ) (l : Observing)
     → AllByRecursion (IsListed ps) ls → named ls coll ≡ Some l
     → keys_of l.queries ≡ names_in coll ps
 listed_at ls ps coll l listed at = at_name (λ n x. keys_of x.queries ≡ names_in n ps) ls coll l listed at
 
 -- the names of more places
-pub names_in-append : (n : List ℕ) (ps qs : List Place)
+pub names_in-append : (n : List ℕ) (ps qs : List QueryPlace)
     → names_in n (ps ++ qs) ≡ names_in n ps ++ names_in n qs
 names_in-append n ps qs =
     ap (map (λ p. p.name)) (filter-append (λ p. bytes_eq n p.coll) ps qs)
     ∙ map-append (λ p. p.name) (filter (λ p. bytes_eq n p.coll) ps) (filter (λ p. bytes_eq n p.coll) qs)
 
 -- a name that no place has isn't among the names in a collection
-pub none_in : (name n : List ℕ) (ps : List Place)
+pub none_in : (name n : List ℕ) (ps : List QueryPlace)
     → AllByRecursion (λ p. bytes_eq name p.name ≡ false) ps
     → AllByRecursion (λ k. bytes_eq name k ≡ false) (names_in n ps)
 none_in name n [] none = tt
@@ -144,13 +136,13 @@ none_in name n (p ∷ ps) none =
 -- ---- the queries of places
 
 -- more queries come after the one of a place
-found_more : (p : Place) (o : Option Watched) (xs ys : List Observed)
+found_more : (p : QueryPlace) (o : Option Watched) (xs ys : List Observed)
     → with_found p o (xs ++ ys) ≡ with_found p o xs ++ ys
 found_more p None xs ys = refl
 found_more p (Some w) xs ys = refl
 
 -- those of more places
-pub queries_of-append : (ls : Lives) (ps qs : List Place)
+pub queries_of-append : (ls : Lives) (ps qs : List QueryPlace)
     → queries_of ls (ps ++ qs) ≡ queries_of ls ps ++ queries_of ls qs
 queries_of-append ls [] qs = refl
 queries_of-append ls (p ∷ ps) qs =
@@ -166,7 +158,7 @@ looked_in f name same None = refl
 looked_in f name same (Some l) = same l
 
 -- a place has the query that it had, where a collection is changed but for the query of that name
-pub watched_at-change : (ls : Lives) (coll : List ℕ) (f : Observing → Observing) (p : Place)
+pub watched_at-change : (ls : Lives) (coll : List ℕ) (f : Observing → Observing) (p : QueryPlace)
     → ((l : Observing) → named (f l).queries p.name ≡ named l.queries p.name)
     → watched_at (change_named ls coll f) p ≡ watched_at ls p
 watched_at-change ls coll f p same =
@@ -179,7 +171,7 @@ watched_at-change ls coll f p same =
           ((bytes_eq-Decides p.coll coll).0 is) (named-change_same f ls p.coll) in
           ap look here ∙ looked_in f p.name same (named ls p.coll))
       | false ↦ (λ is.
-          ap look (named-change_other f ls coll p.coll (names_apart p.coll coll is)))
+          ap look (named-change_other f ls coll p.coll (bytes_differ p.coll coll is)))
     ] refl
 
 -- ---- one query more
@@ -195,11 +187,11 @@ module _ (ls : Lives) (coll name : List ℕ) (q : Asked) where
   added_quiet quiet =
       all_change_named (λ n l. bytes_eq coll n ≡ false → emissions_due l.collection l.queries ≡ [])
       ls coll (with_query name q)
-      (λ l at is other. absurd (true≢false (sym (equal_names coll) ∙ other)))
-      (all_map IsQuiet (λ l. bytes_eq coll l.0 ≡ false → IsQuiet l) (λ l is other. is) ls quiet)
+      (λ l at is other. absurd (true≢false (sym (bytes_itself coll) ∙ other)))
+      (all_weaker IsQuiet (λ l. bytes_eq coll l.0 ≡ false → IsQuiet l) (λ l is other. is) ls quiet)
 
 -- no name of places passes where none of the places does
-none_of : (name : List ℕ) (ps : List Place) → list_any (λ p. bytes_eq name p.name) ps ≡ false
+none_of : (name : List ℕ) (ps : List QueryPlace) → list_any (λ p. bytes_eq name p.name) ps ≡ false
     → list_any (bytes_eq name) (map (λ p. p.name) ps) ≡ false
 none_of name [] free = refl
 none_of name (p ∷ ps) free =
@@ -208,7 +200,7 @@ none_of name (p ∷ ps) free =
     (none_of name ps parts.1)
 
 -- a place of its own
-abbrev pub place_in : List ℕ → List ℕ → Place
+abbrev pub place_in : List ℕ → List ℕ → QueryPlace
 place_in coll name = record { name = name; coll = coll }
 
 -- what is in a collection that has a key is there
@@ -235,27 +227,27 @@ observed_on name coll q o = record {
 }
 
 -- one place more is no place of another collection
-names_elsewhere : (name coll n : List ℕ) (ps : List Place) → bytes_eq coll n ≡ false
+names_elsewhere : (name coll n : List ℕ) (ps : List QueryPlace) → bytes_eq coll n ≡ false
     → names_in n (ps ++ place_in coll name ∷ []) ≡ names_in n ps
 names_elsewhere name coll n ps other =
     names_in-append n ps (place_in coll name ∷ [])
     ∙ ap (λ b. names_in n ps ++ map (λ p. p.name) (cond b (place_in coll name ∷ []) []))
-    (names_flip coll n other)
+    (bytes_apart_turned coll n other)
     ∙ append-nil (names_in n ps)
 
 -- and is one of its own
-names_here : (name coll : List ℕ) (ps : List Place)
+names_here : (name coll : List ℕ) (ps : List QueryPlace)
     → names_in coll (ps ++ place_in coll name ∷ []) ≡ names_in coll ps ++ name ∷ []
 names_here name coll ps =
     names_in-append coll ps (place_in coll name ∷ [])
     ∙ ap (λ b. names_in coll ps ++ map (λ p. p.name) (cond b (place_in coll name ∷ []) []))
-    (equal_names coll)
+    (bytes_itself coll)
 
-module _ (ls : Lives) (ps : List Place) (name coll : List ℕ) (placed : ArePlaced ls ps)
+module _ (ls : Lives) (ps : List QueryPlace) (name coll : List ℕ) (placed : ArePlaced ls ps)
     (free : list_any (λ p. bytes_eq name p.name) ps ≡ false) where
   -- no place has the name
   no_place : AllByRecursion (λ p. bytes_eq name p.name ≡ false) ps
-  no_place = none_passes (λ (p : Place). bytes_eq name p.name) ps free
+  no_place = none_passes (λ (p : QueryPlace). bytes_eq name p.name) ps free
 
   -- nor has a query of the collection, if it is there
   free_in : (o : Option Observing) → named ls coll ≡ o → IsFree name o
@@ -272,7 +264,7 @@ module _ (ls : Lives) (ps : List Place) (name coll : List ℕ) (placed : ArePlac
   -- nor do two places have it, once there is one
   distinct_names : IsDistinct bytes_eq (map (λ p. p.name) (ps ++ place_in coll name ∷ []))
   distinct_names =
-      subst (IsDistinct bytes_eq) (sym (map-append (λ (p : Place). p.name) ps (place_in coll name ∷ [])))
+      subst (IsDistinct bytes_eq) (sym (map-append (λ (p : QueryPlace). p.name) ps (place_in coll name ∷ [])))
       (IsDistinct-push nat_list_eq_equiv (map (λ p. p.name) ps) name placed.distinct (none_of name ps free))
 
   -- once there is one, all others are as before, and the one of the place is there
@@ -280,11 +272,11 @@ module _ (ls : Lives) (ps : List Place) (name coll : List ℕ) (placed : ArePlac
     others_stay : AllByRecursion
         (λ p. watched_at (change_named ls coll (with_query name q)) p ≡ watched_at ls p) ps
     others_stay =
-        all_map (λ (p : Place). bytes_eq name p.name ≡ false)
+        all_weaker (λ (p : QueryPlace). bytes_eq name p.name ≡ false)
         (λ p. watched_at (change_named ls coll (with_query name q)) p ≡ watched_at ls p)
         (λ p apart. watched_at-change ls coll (with_query name q) p
         (λ l. named-more_other l.queries name p.name (new_watch q l.collection.documents)
-        (names_flip name p.name apart))) ps no_place
+        (bytes_apart_turned name p.name apart))) ps no_place
 
     -- the one that was put is
     added_at : (l : Observing) → named ls coll ≡ Some l
@@ -303,7 +295,7 @@ module _ (ls : Lives) (ps : List Place) (name coll : List ℕ) (placed : ArePlac
           ≡ queries_of ls ps ++ new_query w name coll q ∷ []
       added_queries =
           let new = change_named ls coll (with_query name q) in
-          let place : Place = place_in coll name in
+          let place : QueryPlace = place_in coll name in
           let live = live_of w ls coll q.primary held keyed in
           let there : named w.collections coll ≡ Some live.0.collection =
           ap (λ cs. named cs coll) held ∙ named-map (λ (l : Observing). l.collection) ls coll
@@ -321,7 +313,7 @@ module _ (ls : Lives) (ps : List Place) (name coll : List ℕ) (placed : ArePlac
           → ArePlaced (change_named ls coll (with_query name q)) (ps ++ place_in coll name ∷ [])
       added_placed apart =
           let new = change_named ls coll (with_query name q) in
-          let place : Place = place_in coll name in
+          let place : QueryPlace = place_in coll name in
           let live = live_of w ls coll q.primary held keyed in
           let found : (n : List ℕ) → IsSome (named ls n) → IsSome (named new n) =
           λ n. (IsSome-lookup_same_keys (bytes_eq n) ls new
@@ -329,7 +321,8 @@ module _ (ls : Lives) (ps : List Place) (name coll : List ℕ) (placed : ArePlac
           record {
             distinct = distinct_names;
             held = all_append (λ p. IsSome (named new p.coll)) ps (place ∷ [])
-                (all_map (λ (p : Place). IsSome (named ls p.coll)) (λ p. IsSome (named new p.coll))
+                (all_weaker (λ (p : QueryPlace). IsSome (named ls p.coll))
+                (λ p. IsSome (named new p.coll))
                 (λ p. found p.coll) ps placed.held)
                 (found coll (ap is_some live.1), tt);
             listed = all_changed (λ n l. keys_of l.queries ≡ names_in n ps)

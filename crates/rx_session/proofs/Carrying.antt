@@ -4,6 +4,7 @@ use Rattle.std.specs.List.{AllByRecursion, IsDistinct, flat_map}
 use Rattle.std.specs.Map.{keys_of}
 use Rattle.std.specs.Str.{bytes_eq}
 use Rattle.rx_value.specs.Named.{named, change_named}
+use Rattle.rx_value.proofs.Lists.{all_at, cons_parts}
 use Rattle.rx_collection.specs.Held.{Held}
 use Rattle.rx_observe.specs.Observing.{Observing, cooled, each, with_queries}
 use Rattle.rx_observe.specs.Rows.{emissions_due}
@@ -15,7 +16,7 @@ use Rattle.rx_session.specs.Emissions.{emission_due, emissions, settled_session,
 use Rattle.rx_session.specs.Lives.{bare, with_cooled, each_live}
 use Rattle.rx_session.specs.Placed.{ArePlaced, AreUnwatched, IsQuiet, Lives, queries_of, world_of}
 use Rattle.rx_session.specs.Session.{Session, with_watched}
-use Rattle.rx_session.specs.declared.place.Place.{Place}
+use Rattle.rx_session.specs.declared.query_place.QueryPlace.{QueryPlace}
 use Rattle.rx_session.proofs.Moving.{AreUnbroken, bare_are, next_is_bare, next_is_moved, moved_colls, moved_placed, moved_queries, moved_quiet}
 use Rattle.rx_session.proofs.Places.{colls, distinct_in, world_colls}
 use Rattle.rx_session.proofs.Showing.{quiet_due, quiet_queries}
@@ -66,17 +67,13 @@ carrying_none old new left same none whole is = record {
 
 -- ---- one after another
 
--- lists are the same part by part
-heads : {X : Type 0} (x y : X) (xs ys : List X) → x ∷ xs ≡ y ∷ ys → (x ≡ y) × (xs ≡ ys)
-heads x y xs ys same = (cc, cc)
-
 -- the first of those that are left is next
 next_by : (old ls done rest : Lives) (l : Observing) (left : List Observing) → old ≡ done ++ rest
     → ls ≡ each_live with_cooled done ++ each_live bare rest → l ∷ left ≡ map (λ e. e.1) rest
     → IsNext old ls l left
 next_by old ls done [] l left all lives is = absurd (cc)
 next_by old ls done (e ∷ rest) l left all lives is =
-    let parts = heads l e.1 left (map (λ (x : List ℕ × Observing). x.1) rest) is in
+    let parts = cons_parts l e.1 left (map (λ (x : List ℕ × Observing). x.1) rest) is in
     let same : e.1 ≡ l = sym parts.0 in
     record {
       done = done;
@@ -92,12 +89,6 @@ pub next_of : (old ls : Lives) (l : Observing) (left all : List Observing)
     → IsCarrying old ls all → all ≡ l ∷ left → IsNext old ls l left
 next_of old ls l left all c is =
     next_by old ls c.done c.rest l left c.all c.lives (sym is ∙ c.are_left)
-
--- what holds of all holds of the one after others
-all_at : {X : Type 0} (P : X → Type 0) (xs : List X) (x : X) (ys : List X)
-    → AllByRecursion P (xs ++ x ∷ ys) → P x
-all_at P [] x ys all = all.0
-all_at P (y ∷ xs) x ys all = all_at P xs x ys all.1
 
 module _ (old : Holders Observing) (ls : Lives) (l : Observing) (left : List Observing)
     (n : IsNext (holders_in old) ls l left) where
@@ -159,7 +150,7 @@ module _ (old new : Holders Observing)
       distinct
 
   -- the queries stay at their places
-  pub carried_placed : (ps : List Place) → ArePlaced (holders_in old) ps → ArePlaced (holders_in new) ps
+  pub carried_placed : (ps : List QueryPlace) → ArePlaced (holders_in old) ps → ArePlaced (holders_in new) ps
   carried_placed ps placed =
       subst (λ (ls : Lives). ArePlaced ls ps) (sym lives) (moved_placed (holders_in old) ps placed)
 
@@ -167,7 +158,7 @@ module _ (old new : Holders Observing)
   pub carried_quiet : AllByRecursion IsQuiet (holders_in old) → AllByRecursion IsQuiet (holders_in new)
   carried_quiet quiet = subst (AllByRecursion IsQuiet) (sym lives) (moved_quiet (holders_in old) quiet)
 
-module _ (old : Holders Observing) (moment number : ℕ) (ps : List Place)
+module _ (old : Holders Observing) (moment number : ℕ) (ps : List QueryPlace)
     (quiet : AllByRecursion IsQuiet (holders_in old)) where
   -- the session before
   abbrev before : Session

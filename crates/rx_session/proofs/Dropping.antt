@@ -9,6 +9,8 @@ use Rattle.std.specs.Map.{keys_of}
 use Rattle.std.specs.Option.{IsSome}
 use Rattle.std.specs.Str.{bytes_eq}
 use Rattle.rx_value.specs.Named.{named, change_named}
+use Rattle.rx_value.proofs.Lists.{all_get, all_weaker, all_passed, map-filter}
+use Rattle.rx_value.proofs.Bytes.{bytes_apart_turned, bytes_differ}
 use Rattle.rx_query.specs.declared.results.Row.{Row}
 use Rattle.rx_collection.specs.Held.{Held}
 use Rattle.rx_query.specs.Result.{fresh_rows}
@@ -20,21 +22,13 @@ use Rattle.rx_world.proofs.Looked.{keys-change_named, all_change_named}
 use Rattle.rx_session.specs.Lives.{without_query}
 use Rattle.rx_session.specs.Placed.{Lives, watched_at, with_found, queries_of, names_in, IsQuiet, ArePlaced}
 use Rattle.rx_session.specs.Session.{Observed}
-use Rattle.rx_session.specs.declared.place.Place.{Place}
-use Rattle.rx_session.proofs.Adding.{names_apart, names_flip, none_passes, all_changed, watched_at-change}
-use Rattle.rx_session.proofs.Places.{all_map, colls, colls-change_named}
+use Rattle.rx_session.specs.declared.query_place.QueryPlace.{QueryPlace}
+use Rattle.rx_session.proofs.Adding.{none_passes, all_changed, watched_at-change}
+use Rattle.rx_session.proofs.Places.{colls, colls-change_named}
 
 -- ---- lists
 
 module _ {X : Type 0} (p : X → Bool) where
-  -- what holds of all holds of those that pass
-  pub all_passed : (P : X → Type 0) (xs : List X) → AllByRecursion P xs
-      → AllByRecursion P (filter p xs)
-  all_passed P [] all = tt
-  all_passed P (x ∷ xs) all =
-      elim (p x) as (λ b. AllByRecursion P (cond b (x ∷ filter p xs) (filter p xs)))
-      [ true ↦ (all.0, all_passed P xs all.1) | false ↦ all_passed P xs all.1 ]
-
   -- where all pass, all stay
   pub all_stay : (xs : List X) → AllByRecursion (λ x. p x ≡ true) xs → filter p xs ≡ xs
   all_stay [] all = refl
@@ -61,17 +55,6 @@ module _ {X : Type 0} (p : X → Bool) where
             ])
       ] refl
 
-module _ {A B : Type 0} (f : A → B) where
-  -- a filter by what each is mapped to
-  pub map-passed : (p : B → Bool) (xs : List A) → map f (filter (λ a. p (f a)) xs) ≡ filter p (map f xs)
-  map-passed p [] = refl
-  map-passed p (x ∷ xs) =
-      let rest = map-passed p xs in
-      let passed = filter (λ a. p (f a)) xs in
-      elim (p (f x)) as (λ b. map f (cond b (x ∷ passed) passed)
-      ≡ cond b (f x ∷ filter p (map f xs)) (filter p (map f xs)))
-      [ true ↦ ap (λ zs. f x ∷ zs) rest | false ↦ rest ]
-
 -- distinct keys stay so when some are dropped
 pub distinct_passed : (p : List ℕ → Bool) (ks : List (List ℕ)) → IsDistinct bytes_eq ks
     → IsDistinct bytes_eq (filter p ks)
@@ -79,7 +62,7 @@ unfolding IsDistinct
 distinct_passed p [] apart = tt
 distinct_passed p (k ∷ ks) apart =
     elim (p k) as (λ b. IsDistinct bytes_eq (cond b (k ∷ filter p ks) (filter p ks))) [
-      | true ↦ (all_passed p (λ y. bytes_eq k y ≡ false) ks apart.0, distinct_passed p ks apart.1)
+      | true ↦ (all_passed (λ y. bytes_eq k y ≡ false) p ks apart.0, distinct_passed p ks apart.1)
       | false ↦ distinct_passed p ks apart.1
     ]
 
@@ -90,7 +73,7 @@ abbrev pub is_other : List ℕ → List ℕ → Bool
 is_other name k = not (bytes_eq name k)
 
 -- the places of other names
-abbrev pub rest_of : List ℕ → List Place → List Place
+abbrev pub rest_of : List ℕ → List QueryPlace → List QueryPlace
 rest_of name ps = filter (λ p. not (bytes_eq name p.name)) ps
 
 -- another name is let through
@@ -98,18 +81,19 @@ others_pass : (name : List ℕ) (ks : List (List ℕ))
     → AllByRecursion (λ k. bytes_eq name k ≡ false) ks
     → AllByRecursion (λ k. is_other name k ≡ true) ks
 others_pass name ks apart =
-    all_map (λ k. bytes_eq name k ≡ false) (λ k. is_other name k ≡ true) (λ k is. ap not is) ks apart
+    all_weaker (λ k. bytes_eq name k ≡ false) (λ k. is_other name k ≡ true)
+    (λ k is. ap not is) ks apart
 
 -- the names of the places that are left in a collection
-names_left : (name n : List ℕ) (ps : List Place)
+names_left : (name n : List ℕ) (ps : List QueryPlace)
     → names_in n (rest_of name ps) ≡ filter (is_other name) (names_in n ps)
 names_left name n ps =
     ap (map (λ p. p.name))
-    (filters_swap (λ (p : Place). not (bytes_eq name p.name)) (λ p. bytes_eq n p.coll) ps)
-    ∙ map-passed (λ (p : Place). p.name) (is_other name) (filter (λ p. bytes_eq n p.coll) ps)
+    (filters_swap (λ (p : QueryPlace). not (bytes_eq name p.name)) (λ p. bytes_eq n p.coll) ps)
+    ∙ map-filter (λ (p : QueryPlace). p.name) (is_other name) (filter (λ p. bytes_eq n p.coll) ps)
 
 -- those of a collection whose places have other names all are
-names_kept : (name n : List ℕ) (ps : List Place)
+names_kept : (name n : List ℕ) (ps : List QueryPlace)
     → AllByRecursion (λ k. bytes_eq name k ≡ false) (names_in n ps)
     → names_in n (rest_of name ps) ≡ names_in n ps
 names_kept name n ps apart =
@@ -127,7 +111,8 @@ module _ {X : Type 0} where
       → named (cond (not b) (e ∷ left) left) k ≡ named (e ∷ es) k) [
         | true ↦ (λ is.
             let not_here : bytes_eq k e.0 ≡ false =
-            subst (λ n. bytes_eq k n ≡ false) ((bytes_eq-Decides name e.0).0 is) (names_flip name k apart) in
+            subst (λ n. bytes_eq k n ≡ false) ((bytes_eq-Decides name e.0).0 is)
+            (bytes_apart_turned name k apart) in
             rest ∙ sym (ap (λ b. cond b (Some e.1) (named es k)) not_here))
         | false ↦ (λ is. ap (cond (bytes_eq k e.0) (Some e.1)) rest)
       ] refl
@@ -136,7 +121,7 @@ module _ {X : Type 0} where
 
 module _ (name : List ℕ) where
   -- a place of that name gives no query of another name
-  found_dropped : (p : Place) (o : Option Watched) (os : List Observed) → bytes_eq name p.name ≡ true
+  found_dropped : (p : QueryPlace) (o : Option Watched) (os : List Observed) → bytes_eq name p.name ≡ true
       → filter (λ o. not (bytes_eq name o.name)) os
       ≡ filter (λ o. not (bytes_eq name o.name)) (with_found p o os)
   found_dropped p None os is = refl
@@ -145,7 +130,7 @@ module _ (name : List ℕ) where
       ∷ filter (λ o. not (bytes_eq name o.name)) os) (filter (λ o. not (bytes_eq name o.name)) os)) is)
 
   -- and one of another name gives what it did
-  found_kept : (p : Place) (o : Option Watched) (os : List Observed) → bytes_eq name p.name ≡ false
+  found_kept : (p : QueryPlace) (o : Option Watched) (os : List Observed) → bytes_eq name p.name ≡ false
       → with_found p o (filter (λ o. not (bytes_eq name o.name)) os)
       ≡ filter (λ o. not (bytes_eq name o.name)) (with_found p o os)
   found_kept p None os is = refl
@@ -155,8 +140,8 @@ module _ (name : List ℕ) where
 
   -- where places of other names have the queries that they had
   queries_left : (old new : Lives)
-      → ((p : Place) → bytes_eq name p.name ≡ false → watched_at new p ≡ watched_at old p)
-      → (ps : List Place)
+      → ((p : QueryPlace) → bytes_eq name p.name ≡ false → watched_at new p ≡ watched_at old p)
+      → (ps : List QueryPlace)
       → queries_of new (rest_of name ps) ≡ filter (λ o. not (bytes_eq name o.name)) (queries_of old ps)
   queries_left old new same [] = refl
   queries_left old new same (p ∷ ps) =
@@ -173,7 +158,7 @@ module _ (name : List ℕ) where
       ] refl
 
   -- the query of the name goes, whichever collection it was in
-  pub dropped_queries : (ls : Lives) (ps : List Place) (coll : List ℕ)
+  pub dropped_queries : (ls : Lives) (ps : List QueryPlace) (coll : List ℕ)
       → queries_of (change_named ls coll (without_query name)) (rest_of name ps)
       ≡ filter (λ o. not (bytes_eq name o.name)) (queries_of ls ps)
   dropped_queries ls ps coll =
@@ -182,22 +167,15 @@ module _ (name : List ℕ) where
       (λ l. named-dropped l.queries name p.name apart)) ps
 
   -- and where there is none, nothing else does
-  pub undropped_queries : (ls : Lives) (ps : List Place)
+  pub undropped_queries : (ls : Lives) (ps : List QueryPlace)
       → queries_of ls (rest_of name ps) ≡ filter (λ o. not (bytes_eq name o.name)) (queries_of ls ps)
   undropped_queries ls ps = queries_left ls ls (λ p apart. refl) ps
 
 -- ---- where the places of a name are
 
 -- each place of the name is in that collection
-abbrev pub AreAllIn : List ℕ → List ℕ → List Place → Type 0
+abbrev pub AreAllIn : List ℕ → List ℕ → List QueryPlace → Type 0
 AreAllIn name coll ps = AllByRecursion (λ p. bytes_eq name p.name ≡ true → p.coll ≡ coll) ps
-
--- what holds of all holds of the one at an index
-at_index : {X : Type 0} (P : X → Type 0) (xs : List X) (i : ℕ) (x : X) → AllByRecursion P xs
-    → slice_get xs i ≡ Some x → P x
-at_index P [] i x all at = absurd (cc)
-at_index P (y ∷ ys) zero x all at = subst P (same_Some y x at) all.0
-at_index P (y ∷ ys) (suc i) x all at = at_index P ys i x all.1 at
 
 -- what holds of all that was mapped holds of all by what each is mapped to
 all_mapped : {X Y : Type 0} (f : X → Y) (P : Y → Type 0) (xs : List X) → AllByRecursion P (map f xs)
@@ -207,17 +185,17 @@ all_mapped f P (x ∷ xs) all = (all.0, all_mapped f P xs all.1)
 
 module _ (name : List ℕ) where
   -- after a place of the name there is none, as names are distinct
-  none_after : (p : Place) (ps : List Place) (coll : List ℕ) → bytes_eq name p.name ≡ true
+  none_after : (p : QueryPlace) (ps : List QueryPlace) (coll : List ℕ) → bytes_eq name p.name ≡ true
       → AllByRecursion (λ k. bytes_eq p.name k ≡ false) (map (λ p. p.name) ps) → AreAllIn name coll ps
   none_after p ps coll is apart =
-      all_map (λ (x : Place). bytes_eq p.name x.name ≡ false)
-      (λ (x : Place). bytes_eq name x.name ≡ true → x.coll ≡ coll)
-      (λ (x : Place) differ same. absurd (both_ways (bytes_eq name x.name)
+      all_weaker (λ (x : QueryPlace). bytes_eq p.name x.name ≡ false)
+      (λ (x : QueryPlace). bytes_eq name x.name ≡ true → x.coll ≡ coll)
+      (λ (x : QueryPlace) differ same. absurd (both_ways (bytes_eq name x.name)
       (ap (λ n. bytes_eq n x.name) ((bytes_eq-Decides name p.name).0 is) ∙ differ) same)) ps
-      (all_mapped (λ (x : Place). x.name) (λ k. bytes_eq p.name k ≡ false) ps apart)
+      (all_mapped (λ (x : QueryPlace). x.name) (λ k. bytes_eq p.name k ≡ false) ps apart)
 
   -- the first place of a name tells where all are
-  pub all_in_first : (ps : List Place) (place : Place) → IsDistinct bytes_eq (map (λ p. p.name) ps)
+  pub all_in_first : (ps : List QueryPlace) (place : QueryPlace) → IsDistinct bytes_eq (map (λ p. p.name) ps)
       → find (λ p. bytes_eq name p.name) ps ≡ Some place → AreAllIn name place.coll ps
   unfolding IsDistinct
   all_in_first [] place apart at = tt
@@ -226,7 +204,7 @@ module _ (name : List ℕ) where
       → cond b (Some p) (find (λ p. bytes_eq name p.name) ps) ≡ Some place
       → AreAllIn name place.coll (p ∷ ps)) [
         | true ↦ (λ is h. (
-          λ same. ap (λ (p : Place). p.coll) (same_Some p place h),
+          λ same. ap (λ (p : QueryPlace). p.coll) (same_Some p place h),
           none_after p ps place.coll is apart.0,
         ))
         | false ↦ (λ is h.
@@ -234,46 +212,47 @@ module _ (name : List ℕ) where
       ] refl at
 
   -- and so does any
-  pub all_in_at : (ps : List Place) (i : ℕ) (place : Place)
+  pub all_in_at : (ps : List QueryPlace) (i : ℕ) (place : QueryPlace)
       → IsDistinct bytes_eq (map (λ p. p.name) ps) → slice_get ps i ≡ Some place
       → bytes_eq name place.name ≡ true → AreAllIn name place.coll ps
   unfolding IsDistinct
   all_in_at [] i place apart at is = tt
   all_in_at (p ∷ ps) zero place apart at is =
       let same = same_Some p place at in (
-        λ named. ap (λ (p : Place). p.coll) same,
+        λ named. ap (λ (p : QueryPlace). p.coll) same,
         none_after p ps place.coll
-            (subst (λ (p : Place). bytes_eq name p.name ≡ true) (sym same) is) apart.0,
+            (subst (λ (p : QueryPlace). bytes_eq name p.name ≡ true) (sym same) is) apart.0,
       )
   all_in_at (p ∷ ps) (suc i) place apart at is =
-      let differ = at_index (λ (x : Place). bytes_eq p.name x.name ≡ false) ps i place
-      (all_mapped (λ (x : Place). x.name) (λ k. bytes_eq p.name k ≡ false) ps apart.0) at in (
+      let differ = all_get (λ (x : QueryPlace). bytes_eq p.name x.name ≡ false) ps i place
+      (all_mapped (λ (x : QueryPlace). x.name) (λ k. bytes_eq p.name k ≡ false) ps apart.0) at in (
         λ same. absurd (both_ways (bytes_eq name place.name)
             (ap (λ n. bytes_eq n place.name) ((bytes_eq-Decides name p.name).0 same) ∙ differ) is),
         all_in_at ps i place apart.1 at is,
       )
 
   -- where no place has the name, all are left
-  pub none_left_out : (ps : List Place) → list_any (λ p. bytes_eq name p.name) ps ≡ false
+  pub none_left_out : (ps : List QueryPlace) → list_any (λ p. bytes_eq name p.name) ps ≡ false
       → rest_of name ps ≡ ps
   none_left_out ps none =
-      all_stay (λ (p : Place). not (bytes_eq name p.name)) ps
-      (all_map (λ (p : Place). bytes_eq name p.name ≡ false)
-      (λ (p : Place). not (bytes_eq name p.name) ≡ true) (λ p is. ap not is) ps
-      (none_passes (λ (p : Place). bytes_eq name p.name) ps none))
+      all_stay (λ (p : QueryPlace). not (bytes_eq name p.name)) ps
+      (all_weaker (λ (p : QueryPlace). bytes_eq name p.name ≡ false)
+      (λ (p : QueryPlace). not (bytes_eq name p.name) ≡ true) (λ p is. ap not is) ps
+      (none_passes (λ (p : QueryPlace). bytes_eq name p.name) ps none))
 
   -- in another collection no place has the name
-  none_elsewhere : (coll n : List ℕ) (ps : List Place) → bytes_eq coll n ≡ false
+  none_elsewhere : (coll n : List ℕ) (ps : List QueryPlace) → bytes_eq coll n ≡ false
       → AreAllIn name coll ps → AllByRecursion (λ k. bytes_eq name k ≡ false) (names_in n ps)
   none_elsewhere coll n [] other all = tt
   none_elsewhere coll n (p ∷ ps) other all =
-      let passed = filter (λ (p : Place). bytes_eq n p.coll) ps in
+      let passed = filter (λ (p : QueryPlace). bytes_eq n p.coll) ps in
       let rest = none_elsewhere coll n ps other all.1 in
       elim (bytes_eq n p.coll) as (λ b. bytes_eq n p.coll ≡ b
       → AllByRecursion (λ k. bytes_eq name k ≡ false) (map (λ p. p.name) (cond b (p ∷ passed) passed))) [
         | true ↦ (λ is. (
           false_from_ne_true (bytes_eq name p.name) (λ same.
-              names_apart coll n other (sym (all.0 same) ∙ sym ((bytes_eq-Decides n p.coll).0 is))),
+              bytes_differ coll n other
+              (sym (all.0 same) ∙ sym ((bytes_eq-Decides n p.coll).0 is))),
           rest,
         ))
         | false ↦ (λ is. rest)
@@ -301,7 +280,7 @@ still_quiet c name (q ∷ qs) quiet =
       | false ↦ ap (λ o. with_emission q.0 o (emissions_due c left)) none.0 ∙ rest
     ]
 
-module _ (ls : Lives) (ps : List Place) (name : List ℕ) where
+module _ (ls : Lives) (ps : List QueryPlace) (name : List ℕ) where
   -- all stay placed, where no two collections have one name
   pub dropped_placed : (coll : List ℕ) → ArePlaced ls ps → IsDistinct bytes_eq (keys_of ls)
       → AreAllIn name coll ps
@@ -313,16 +292,17 @@ module _ (ls : Lives) (ps : List Place) (name : List ℕ) where
       (sym (keys-change_named (without_query name) ls coll))).0 in
       record {
         distinct = subst (IsDistinct bytes_eq)
-            (sym (map-passed (λ (p : Place). p.name) (is_other name) ps))
+            (sym (map-filter (λ (p : QueryPlace). p.name) (is_other name) ps))
             (distinct_passed (is_other name) (map (λ p. p.name) ps) placed.distinct);
-        held = all_map (λ (p : Place). IsSome (named ls p.coll)) (λ p. IsSome (named new p.coll))
+        held = all_weaker (λ (p : QueryPlace). IsSome (named ls p.coll)) (λ p. IsSome (named new p.coll))
             (λ p. found p.coll) (rest_of name ps)
-            (all_passed (λ (p : Place). not (bytes_eq name p.name)) (λ p. IsSome (named ls p.coll)) ps
+            (all_passed (λ (p : QueryPlace). IsSome (named ls p.coll))
+            (λ p. not (bytes_eq name p.name)) ps
             placed.held);
         listed = all_changed (λ n l. keys_of l.queries ≡ names_in n ps)
             (λ n l. keys_of l.queries ≡ names_in n (rest_of name ps)) ls coll (without_query name)
             (λ n l other is. is ∙ sym (names_kept name n ps (none_elsewhere name coll n ps other all_in)))
-            (λ l is. map-passed (λ q. q.0) (is_other name) l.queries
+            (λ l is. map-filter (λ q. q.0) (is_other name) l.queries
             ∙ ap (filter (is_other name)) is ∙ sym (names_left name coll ps)) apart placed.listed;
       }
 

@@ -65,11 +65,6 @@ module _ {H F R : Type 0} (g : Once F (MutBor H × Unit {0}) (R × (MutBor H × 
   edited_if r (Ok s) done makes = edited r done makes
   edited_if r (Err e) done makes = tt
 
--- what holds holds where there is a result
-pub if_ok : {S E : Type 0} (o : Result S E) (P : Type 0) → P → OnOk o P
-if_ok (Ok s) P p = p
-if_ok (Err e) P p = tt
-
 -- ---- what a query needs of its collection
 
 -- its name is free among the queries of the collection

@@ -6,18 +6,18 @@ use Rattle.std.specs.Map.{keys_of}
 use Rattle.std.specs.Option.{IsSome}
 use Rattle.std.specs.Str.{bytes_eq}
 use Rattle.rx_value.specs.Named.{named, change_named}
+use Rattle.rx_value.proofs.Lists.{all_weaker, cons_parts}
+use Rattle.rx_value.proofs.Bytes.{bytes_itself, bytes_apart_turned}
 use Rattle.rx_collection.specs.Held.{Held}
 use Rattle.rx_query.specs.Result.{fresh_rows}
 use Rattle.rx_observe.specs.Observing.{Observing, Queries, each, cooled, with_queries}
 use Rattle.rx_observe.specs.Rows.{unseen, with_emission, emissions_due}
 use Rattle.rx_observe.specs.Watched.{Watched}
-use Rattle.rx_world.proofs.Looked.{equal_names}
 use Rattle.rx_session.specs.Lives.{with_cooled, bare, each_live}
 use Rattle.rx_session.specs.Placed.{Lives, watched_at, with_found, queries_of, IsListed, IsQuiet, ArePlaced, AreUnwatched}
 use Rattle.rx_session.specs.Session.{Observed, with_watched}
-use Rattle.rx_session.specs.declared.place.Place.{Place}
-use Rattle.rx_session.proofs.Adding.{names_flip}
-use Rattle.rx_session.proofs.Places.{all_map, colls, named-map}
+use Rattle.rx_session.specs.declared.query_place.QueryPlace.{QueryPlace}
+use Rattle.rx_session.proofs.Places.{colls, named-map}
 
 -- ---- queries made cold
 
@@ -33,20 +33,20 @@ looked_cold name None = refl
 looked_cold name (Some l) = named-map cooled l.queries name
 
 -- each place has the query that it had, made cold
-pub watched_at-cooled : (ls : Lives) (p : Place)
+pub watched_at-cooled : (ls : Lives) (p : QueryPlace)
     → watched_at (each_live with_cooled ls) p ≡ option_map cooled (watched_at ls p)
 watched_at-cooled ls p =
     ap (option_and_then (λ l. named l.queries p.name)) (named-map with_cooled ls p.coll)
     ∙ looked_cold p.name (named ls p.coll)
 
 -- the query of a place and those after it, made cold
-found_cold : (p : Place) (o : Option Watched) (os : List Observed)
+found_cold : (p : QueryPlace) (o : Option Watched) (os : List Observed)
     → with_found p (option_map cooled o) (map cooled_query os) ≡ map cooled_query (with_found p o os)
 found_cold p None os = refl
 found_cold p (Some w) os = refl
 
 -- and so have all
-pub moved_queries : (old : Lives) (ps : List Place)
+pub moved_queries : (old : Lives) (ps : List QueryPlace)
     → queries_of (each_live with_cooled old) ps
     ≡ map (λ o. with_watched (cooled o.watched) o) (queries_of old ps)
 moved_queries old [] = refl
@@ -63,7 +63,7 @@ all_each f P Q so [] all = tt
 all_each f P Q so (l ∷ ls) all = (so l all.0, all_each f P Q so ls all.1)
 
 -- all stay placed
-pub moved_placed : (old : Lives) (ps : List Place) → ArePlaced old ps
+pub moved_placed : (old : Lives) (ps : List QueryPlace) → ArePlaced old ps
     → ArePlaced (each_live with_cooled old) ps
 moved_placed old ps placed =
     let new = each_live with_cooled old in
@@ -71,7 +71,7 @@ moved_placed old ps placed =
     λ n. (IsSome-lookup_same_keys (bytes_eq n) old new (sym (keys_of-map_values with_cooled old))).0 in
     record {
       distinct = placed.distinct;
-      held = all_map (λ (p : Place). IsSome (named old p.coll)) (λ p. IsSome (named new p.coll))
+      held = all_weaker (λ (p : QueryPlace). IsSome (named old p.coll)) (λ p. IsSome (named new p.coll))
           (λ p. found p.coll) ps placed.held;
       listed = all_each with_cooled (IsListed ps) (IsListed ps)
           (λ l is. keys_of-map_values cooled l.1.queries ∙ is) old placed.listed;
@@ -100,10 +100,6 @@ moved_colls (l ∷ ls) = ap (λ cs. (l.0, l.1.collection) ∷ cs) (moved_colls l
 abbrev pub AreUnbroken : Lives → Type 0
 AreUnbroken ls = AllByRecursion (λ l. l.1.broken ≡ false) ls
 
--- lists are the same part by part
-heads : {X : Type 0} (x y : X) (xs ys : List X) → x ∷ xs ≡ y ∷ ys → (x ≡ y) × (xs ≡ ys)
-heads x y xs ys same = (cc, cc)
-
 -- collections that were read, with no query, are those that were, without their queries
 pub bare_are : (old fresh : Lives) → colls fresh ≡ colls old → AreUnwatched fresh
     → AreUnbroken old → fresh ≡ each_live bare old
@@ -111,7 +107,8 @@ bare_are [] [] same none whole = refl
 bare_are [] (f ∷ fs) same none whole = absurd (cc)
 bare_are (l ∷ ls) [] same none whole = absurd (cc)
 bare_are (l ∷ ls) (f ∷ fs) same none whole =
-    let parts = heads {X = List ℕ × Held} (f.0, f.1.collection) (l.0, l.1.collection) (colls fs) (colls ls)
+    let parts = cons_parts {X = List ℕ × Held} (f.0, f.1.collection) (l.0, l.1.collection)
+    (colls fs) (colls ls)
     same in
     let name : f.0 ≡ l.0 = ap (λ (e : List ℕ × Held). e.0) parts.0 in
     let collection : f.1.collection ≡ l.1.collection = ap (λ (e : List ℕ × Held). e.1) parts.0 in
@@ -123,7 +120,7 @@ bare_are (l ∷ ls) (f ∷ fs) same none whole =
 -- one that is done has another name than the one whose turn it is
 not_done : (k : List ℕ) (ds : Lives) (n : List ℕ) (l : Observing) (rest : Lives)
     → AllByRecursion (λ y. bytes_eq k y ≡ false) (keys_of (ds ++ (n, l) ∷ rest)) → bytes_eq n k ≡ false
-not_done k [] n l rest apart = names_flip k n apart.0
+not_done k [] n l rest apart = bytes_apart_turned k n apart.0
 not_done k (d ∷ ds) n l rest apart = not_done k ds n l rest apart.1
 
 -- the collection whose turn it is has no query yet
@@ -132,7 +129,7 @@ pub next_bare : (done : Lives) (n : List ℕ) (l : Observing) (rest : Lives)
     → named (each_live with_cooled done ++ each_live bare ((n, l) ∷ rest)) n ≡ Some (bare l)
 unfolding IsDistinct
 next_bare [] n l rest apart =
-    ap (λ b. cond b (Some (bare l)) (named (each_live bare rest) n)) (equal_names n)
+    ap (λ b. cond b (Some (bare l)) (named (each_live bare rest) n)) (bytes_itself n)
 next_bare (d ∷ ds) n l rest apart =
     let later = named (each_live with_cooled ds ++ each_live bare ((n, l) ∷ rest)) n in
     ap (λ b. cond b (Some (with_cooled d.1)) later) (not_done d.0 ds n l rest apart.0)
@@ -148,7 +145,7 @@ unfolding IsDistinct
 next_moved [] n l rest apart =
     let give : Observing → Observing = λ x. with_queries x (each cooled l.queries) in
     ap (λ b. cond b ((n, with_cooled l) ∷ each_live bare rest)
-    ((n, bare l) ∷ change_named (each_live bare rest) n give)) (equal_names n)
+    ((n, bare l) ∷ change_named (each_live bare rest) n give)) (bytes_itself n)
 next_moved (d ∷ ds) n l rest apart =
     let give : Observing → Observing = λ x. with_queries x (each cooled l.queries) in
     let later = each_live with_cooled ds ++ each_live bare ((n, l) ∷ rest) in

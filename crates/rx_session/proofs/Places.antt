@@ -6,36 +6,24 @@ use Rattle.std.proofs.lemmas.Option.{none-some, same_Some}
 use Rattle.std.proofs.lemmas.Slice.Eq.{bytes_eq-Decides}
 use Rattle.std.specs.declared.alloc.Global.{Global}
 use Rattle.std.specs.Prelude.{filter, option_and_then, IsSome, String, string_bytes}
-use Rattle.std.specs.Bool.{one_answer}
 use Rattle.std.specs.List.{AllByRecursion, IsDistinct, find, list_any}
 use Rattle.std.specs.Map.{keys_of}
 use Rattle.std.specs.Str.{bytes_eq}
-use Rattle.rx_value.specs.Equality.{decides_as}
 use Rattle.rx_value.specs.Named.{named, change_named, by_bytes, by_name}
+use Rattle.rx_value.proofs.Lists.{all_weaker, all_both}
+use Rattle.rx_value.proofs.Bytes.{bytes_itself}
 use Rattle.rx_collection.specs.Held.{Held}
 use Rattle.rx_observe.specs.Observing.{Observing}
 use Rattle.rx_observe.specs.Rows.{emissions_due}
 use Rattle.rx_observe.specs.Watched.{Watched}
 use Rattle.rx_world.specs.Holders.{Holders, holders_in}
 use Rattle.rx_world.specs.Valid.{AreDistinct}
-use Rattle.rx_world.proofs.Looked.{all_change_named, equal_names, keys-change_named}
+use Rattle.rx_world.proofs.Looked.{all_change_named, keys-change_named}
 use Rattle.rx_session.specs.Placed.{AreUnwatched, IsQuiet, place_named, Lives, ArePlaced, IsListed, names_in, queries_of, watched_at, with_found, world_of}
 use Rattle.rx_session.specs.Session.{Observed, by_query}
-use Rattle.rx_session.specs.declared.place.Place.{Place}
+use Rattle.rx_session.specs.declared.query_place.QueryPlace.{QueryPlace}
 
 -- ---- lists
-
-module _ {X : Type 0} (P Q : X → Type 0) where
-  -- what holds of each one, where what it follows from does
-  pub all_map : ((x : X) → P x → Q x) → (xs : List X) → AllByRecursion P xs → AllByRecursion Q xs
-  all_map f [] all = tt
-  all_map f (x ∷ xs) all = (f x all.0, all_map f xs all.1)
-
-  -- two things of each one
-  pub all_both : (xs : List X) → AllByRecursion P xs → AllByRecursion Q xs
-      → AllByRecursion (λ x. P x × Q x) xs
-  all_both [] p q = tt
-  all_both (x ∷ xs) p q = ((p.0, q.0), all_both xs p.1 q.1)
 
 -- what holds of any holds of each
 pub all_of : {X : Type 0} (P : X → Type 0) → ((x : X) → P x) → (xs : List X) → AllByRecursion P xs
@@ -166,35 +154,35 @@ distinct_in h distinct =
 -- ---- each place's query is found
 
 -- the query of each place is there
-abbrev pub AreFound : Lives → List Place → Type 0
+abbrev pub AreFound : Lives → List QueryPlace → Type 0
 AreFound ls ps = AllByRecursion (λ p. IsSome (watched_at ls p)) ps
 
 -- one place more leaves a name among those of a collection
-more_names : (coll name : List ℕ) (p : Place) (ps : List Place)
+more_names : (coll name : List ℕ) (p : QueryPlace) (ps : List QueryPlace)
     → list_any (bytes_eq name) (names_in coll ps) ≡ true
     → list_any (bytes_eq name) (names_in coll (p ∷ ps)) ≡ true
 more_names coll name p ps is =
     elim (bytes_eq coll p.coll)
-    as (λ b. list_any (bytes_eq name) (map (λ (q : Place). q.name)
+    as (λ b. list_any (bytes_eq name) (map (λ (q : QueryPlace). q.name)
     (cond b (p ∷ filter (λ q. bytes_eq coll q.coll) ps) (filter (λ q. bytes_eq coll q.coll) ps)))
     ≡ true)
     [ true ↦ or_right (bytes_eq name p.name) _ is | false ↦ is ]
 
 -- the first place's name is among those of its collection
-first_name : (p : Place) (ps : List Place)
+first_name : (p : QueryPlace) (ps : List QueryPlace)
     → list_any (bytes_eq p.name) (names_in p.coll (p ∷ ps)) ≡ true
 first_name p ps =
-    rw (equal_names p.coll) (or_left (bytes_eq p.name p.name) _ (equal_names p.name))
+    rw (bytes_itself p.coll) (or_left (bytes_eq p.name p.name) _ (bytes_itself p.name))
 
 -- each place's name is among those of its collection
-all_listed : (ps : List Place)
+all_listed : (ps : List QueryPlace)
     → AllByRecursion (λ p. list_any (bytes_eq p.name) (names_in p.coll ps) ≡ true) ps
 all_listed [] = tt
 all_listed (p ∷ ps) =
-    (first_name p ps, all_map _ _ (λ q. more_names q.coll q.name p ps) ps (all_listed ps))
+    (first_name p ps, all_weaker _ _ (λ q. more_names q.coll q.name p ps) ps (all_listed ps))
 
 -- a name among those of its collection is one of a query there
-found_in : (ls : Lives) (ps : List Place) (p : Place) → AllByRecursion (IsListed ps) ls
+found_in : (ls : Lives) (ps : List QueryPlace) (p : QueryPlace) → AllByRecursion (IsListed ps) ls
     → IsSome (named ls p.coll) → list_any (bytes_eq p.name) (names_in p.coll ps) ≡ true
     → IsSome (watched_at ls p)
 found_in ls ps p listed held is =
@@ -206,9 +194,9 @@ found_in ls ps p listed held is =
     ∙ is_some-lookup (bytes_eq p.name) l.queries ∙ ap (list_any (bytes_eq p.name)) keys ∙ is
 
 -- the query of each place is found
-pub placed_found : (ls : Lives) (ps : List Place) → ArePlaced ls ps → AreFound ls ps
+pub placed_found : (ls : Lives) (ps : List QueryPlace) → ArePlaced ls ps → AreFound ls ps
 placed_found ls ps placed =
-    all_map (λ p. IsSome (named ls p.coll)
+    all_weaker (λ p. IsSome (named ls p.coll)
     × (list_any (bytes_eq p.name) (names_in p.coll ps) ≡ true)) (λ p. IsSome (watched_at ls p))
     (λ p h. found_in ls ps p placed.listed h.0 h.1) ps
     (all_both _ _ ps placed.held (all_listed ps))
@@ -216,13 +204,13 @@ placed_found ls ps placed =
 -- ---- as many queries as places
 
 -- one query that is found, and the others
-length_found : (p : Place) (o : Option Watched) (os : List Observed) → IsSome o
+length_found : (p : QueryPlace) (o : Option Watched) (os : List Observed) → IsSome o
     → length (with_found p o os) ≡ suc (length os)
 length_found p None os is = cc
 length_found p (Some w) os is = refl
 
 -- the queries that are found are as many as their places
-length_all : (ls : Lives) (ps : List Place) → AreFound ls ps
+length_all : (ls : Lives) (ps : List QueryPlace) → AreFound ls ps
     → length (queries_of ls ps) ≡ length ps
 length_all ls [] found = refl
 length_all ls (p ∷ ps) found =
@@ -230,21 +218,21 @@ length_all ls (p ∷ ps) found =
     ∙ ap (λ n. suc n) (length_all ls ps found.1)
 
 -- the queries are as many as their places
-pub length-queries_of : (ls : Lives) (ps : List Place) → ArePlaced ls ps
+pub length-queries_of : (ls : Lives) (ps : List QueryPlace) → ArePlaced ls ps
     → length (queries_of ls ps) ≡ length ps
 length-queries_of ls ps placed = length_all ls ps (placed_found ls ps placed)
 
 -- ---- the names are those of the places
 
 -- one query that is found, and the others
-any_found : (name : List ℕ) (p : Place) (o : Option Watched) (os : List Observed) → IsSome o
+any_found : (name : List ℕ) (p : QueryPlace) (o : Option Watched) (os : List Observed) → IsSome o
     → list_any (λ x. bytes_eq name x.name) (with_found p o os)
     ≡ (bytes_eq name p.name || list_any (λ x. bytes_eq name x.name) os)
 any_found name p None os is = cc
 any_found name p (Some w) os is = refl
 
 -- the same of queries that are found
-any_all : (name : List ℕ) (ls : Lives) (ps : List Place) → AreFound ls ps
+any_all : (name : List ℕ) (ls : Lives) (ps : List QueryPlace) → AreFound ls ps
     → list_any (λ o. bytes_eq name o.name) (queries_of ls ps)
     ≡ list_any (λ p. bytes_eq name p.name) ps
 any_all name ls [] found = refl
@@ -253,7 +241,7 @@ any_all name ls (p ∷ ps) found =
     ∙ ap (λ b. bytes_eq name p.name || b) (any_all name ls ps found.1)
 
 -- a query has a name where a place has it
-pub any-queries_of : (name : List ℕ) (ls : Lives) (ps : List Place) → ArePlaced ls ps
+pub any-queries_of : (name : List ℕ) (ls : Lives) (ps : List QueryPlace) → ArePlaced ls ps
     → list_any (λ o. bytes_eq name o.name) (queries_of ls ps)
     ≡ list_any (λ p. bytes_eq name p.name) ps
 any-queries_of name ls ps placed = any_all name ls ps (placed_found ls ps placed)
@@ -261,29 +249,23 @@ any-queries_of name ls ps placed = any_all name ls ps (placed_found ls ps placed
 -- ---- the query of a name
 
 -- the query of a place
-abbrev pub observed_at : Place → Watched → Observed
+abbrev pub observed_at : QueryPlace → Watched → Observed
 observed_at p w = record { name = p.name; coll = p.coll; watched = w }
 
--- a test of two names, the other way round
-pub either_way : (k l : List ℕ) → bytes_eq k l ≡ bytes_eq l k
-either_way k l =
-    one_answer (bytes_eq k l) (bytes_eq l k) (bytes_eq-Decides k l)
-    (decides_as (bytes_eq l k) (bytes_eq-Decides l k) sym sym)
-
 -- the query of a place, where it is there
-abbrev pub query_at : Lives → Place → Option Observed
+abbrev pub query_at : Lives → QueryPlace → Option Observed
 query_at ls p = option_map (observed_at p) (watched_at ls p)
 
 -- a choice by a test, and then the other
-chosen : (ls : Lives) (b : Bool) (p : Place) (w : Watched) (x : Option Observed) (rest : Option Place)
+chosen : (ls : Lives) (b : Bool) (p : QueryPlace) (w : Watched) (x : Option Observed) (rest : Option QueryPlace)
     → watched_at ls p ≡ Some w → x ≡ option_and_then (query_at ls) rest
     → cond b (Some (observed_at p w)) x ≡ option_and_then (query_at ls) (cond b (Some p) rest)
 chosen ls true p w x rest at is = sym (ap (option_map (observed_at p)) at)
 chosen ls false p w x rest at is = is
 
 -- one query that is found, and the others
-named_found : (ls : Lives) (name : List ℕ) (p : Place) (o : Option Watched) (os : List Observed)
-    (rest : Option Place) → IsSome o → watched_at ls p ≡ o
+named_found : (ls : Lives) (name : List ℕ) (p : QueryPlace) (o : Option Watched) (os : List Observed)
+    (rest : Option QueryPlace) → IsSome o → watched_at ls p ≡ o
     → named (by_query os) name ≡ option_and_then (query_at ls) rest
     → named (by_query (with_found p o os)) name
     ≡ option_and_then (query_at ls) (cond (bytes_eq name p.name) (Some p) rest)
@@ -292,7 +274,7 @@ named_found ls name p (Some w) os rest there at is =
     chosen ls (bytes_eq name p.name) p w (named (by_query os) name) rest at is
 
 -- the same of queries that are found
-named_all : (ls : Lives) (ps : List Place) (name : List ℕ) → AreFound ls ps
+named_all : (ls : Lives) (ps : List QueryPlace) (name : List ℕ) → AreFound ls ps
     → named (by_query (queries_of ls ps)) name
     ≡ option_and_then (query_at ls) (place_named name ps)
 named_all ls [] name found = refl
@@ -301,25 +283,25 @@ named_all ls (p ∷ ps) name found =
     (named_all ls ps name found.1)
 
 -- the query of a name is that of the first place that has it
-pub named-queries_of : (ls : Lives) (ps : List Place) (name : List ℕ) → ArePlaced ls ps
+pub named-queries_of : (ls : Lives) (ps : List QueryPlace) (name : List ℕ) → ArePlaced ls ps
     → named (by_query (queries_of ls ps)) name
     ≡ option_and_then (query_at ls) (place_named name ps)
 named-queries_of ls ps name placed = named_all ls ps name (placed_found ls ps placed)
 
 -- no query has a name that no place has
-pub no_query : (ls : Lives) (ps : List Place) (name : List ℕ) → ArePlaced ls ps
+pub no_query : (ls : Lives) (ps : List QueryPlace) (name : List ℕ) → ArePlaced ls ps
     → place_named name ps ≡ None → named (by_query (queries_of ls ps)) name ≡ None
 no_query ls ps name placed none =
     named-queries_of ls ps name placed ∙ ap (option_and_then (query_at ls)) none
 
 -- the collection of the first place that passes is held
-pub coll_held : (test : Place → Bool) (ls : Lives) (ps : List Place) (p : Place) → ArePlaced ls ps
+pub coll_held : (test : QueryPlace → Bool) (ls : Lives) (ps : List QueryPlace) (p : QueryPlace) → ArePlaced ls ps
     → find test ps ≡ Some p → IsSome (named ls p.coll)
 coll_held test ls ps p placed at =
     all_find test (λ q. IsSome (named ls q.coll)) ps p at placed.held
 
 -- the first place that has a name, its collection, and its query there
-pub record IsAt (ls : Lives) (ps : List Place) (name : List ℕ) (p : Place) (l : Observing) (w : Watched)
+pub record IsAt (ls : Lives) (ps : List QueryPlace) (name : List ℕ) (p : QueryPlace) (l : Observing) (w : Watched)
     : Type 0 where
   pub called : name ≡ p.name
   pub held : named ls p.coll ≡ Some l
@@ -327,10 +309,10 @@ pub record IsAt (ls : Lives) (ps : List Place) (name : List ℕ) (p : Place) (l 
   pub query : named (by_query (queries_of ls ps)) name ≡ Some (observed_at p w)
 
 -- the first place that has a name leads to its query
-pub at_place : (ls : Lives) (ps : List Place) (name : List ℕ) (p : Place) → ArePlaced ls ps
+pub at_place : (ls : Lives) (ps : List QueryPlace) (name : List ℕ) (p : QueryPlace) → ArePlaced ls ps
     → place_named name ps ≡ Some p → (l : Observing) × (w : Watched) × IsAt ls ps name p l w
 at_place ls ps name p placed at =
-    let test = λ (q : Place). bytes_eq name q.name in
+    let test = λ (q : QueryPlace). bytes_eq name q.name in
     let called = (bytes_eq-Decides name p.name).0 (find_passes test ps p at) in
     let l = there (named ls p.coll) (coll_held test ls ps p placed at) in
     let found = all_find test (λ q. IsSome (watched_at ls q)) ps p at (placed_found ls ps placed) in
@@ -349,7 +331,7 @@ at_place ls ps name p placed at =
     )
 
 -- the counts of the query of a name, through the first place that has it
-pub counts_at : (ls : Lives) (ps : List Place) (name : List ℕ) (p : Place) (l : Observing) (w : Watched)
+pub counts_at : (ls : Lives) (ps : List QueryPlace) (name : List ℕ) (p : QueryPlace) (l : Observing) (w : Watched)
     → ArePlaced ls ps → place_named name ps ≡ Some p → named ls p.coll ≡ Some l
     → named l.queries name ≡ Some w
     → option_map (λ (o : Observed). o.watched.counts) (named (by_query (queries_of ls ps)) name)
@@ -363,7 +345,7 @@ counts_at ls ps name p l w placed at held observed =
     ∙ ap (λ (x : Watched). Some x.counts) same_w
 
 -- no counts where no place has the name
-pub no_counts_at : (ls : Lives) (ps : List Place) (name : List ℕ) → ArePlaced ls ps
+pub no_counts_at : (ls : Lives) (ps : List QueryPlace) (name : List ℕ) → ArePlaced ls ps
     → place_named name ps ≡ None
     → option_map (λ (o : Observed). o.watched.counts) (named (by_query (queries_of ls ps)) name) ≡ None
 no_counts_at ls ps name placed none =
@@ -372,7 +354,7 @@ no_counts_at ls ps name placed none =
 -- ---- queries that become others
 
 -- one query, and then the others
-become : (f : Observed → Observed) (p : Place) (o n : Option Watched) (os : List Observed)
+become : (f : Observed → Observed) (p : QueryPlace) (o n : Option Watched) (os : List Observed)
     → option_map (observed_at p) n ≡ option_map f (option_map (observed_at p) o)
     → with_found p n (map f os) ≡ map f (with_found p o os)
 become f p None None os is = refl
@@ -382,7 +364,7 @@ become f p (Some w) (Some v) os is =
     ap (λ q. q ∷ map f os) (same_Some (observed_at p v) (f (observed_at p w)) is)
 
 -- where the query of each place becomes another, so do the queries
-pub queries_become : (f : Observed → Observed) (old new : Lives) (ps : List Place)
+pub queries_become : (f : Observed → Observed) (old new : Lives) (ps : List QueryPlace)
     → AllByRecursion (λ p. query_at new p ≡ option_map f (query_at old p)) ps
     → queries_of new ps ≡ map f (queries_of old ps)
 queries_become f old new [] all = refl
@@ -391,7 +373,7 @@ queries_become f old new (p ∷ ps) all =
     ∙ become f p (watched_at old p) (watched_at new p) (queries_of old ps) all.0
 
 -- where the query of each place stays, so do the queries
-pub queries_stay : (old new : Lives) (ps : List Place)
+pub queries_stay : (old new : Lives) (ps : List QueryPlace)
     → AllByRecursion (λ p. watched_at new p ≡ watched_at old p) ps
     → queries_of new ps ≡ queries_of old ps
 queries_stay old new [] all = refl
@@ -402,10 +384,11 @@ queries_stay old new (p ∷ ps) all =
 -- a change of a collection that leaves the names of its queries leaves all in their places
 pub placed_changed : (f : Observing → Observing)
     → ((l : Observing) → keys_of (f l).queries ≡ keys_of l.queries) → (ls : Lives) (coll : List ℕ)
-    (ps : List Place) → ArePlaced ls ps → ArePlaced (change_named ls coll f) ps
+    (ps : List QueryPlace) → ArePlaced ls ps → ArePlaced (change_named ls coll f) ps
 placed_changed f same ls coll ps placed = record {
   distinct = placed.distinct;
-  held = all_map (λ p. IsSome (named ls p.coll)) (λ p. IsSome (named (change_named ls coll f) p.coll))
+  held = all_weaker (λ p. IsSome (named ls p.coll))
+      (λ p. IsSome (named (change_named ls coll f) p.coll))
       (λ p is. is_some-change_named f ls coll p.coll ∙ is) ps placed.held;
   listed = all_change_named (λ n (l : Observing). keys_of l.queries ≡ names_in n ps) ls coll f
       (λ l at keys. same l ∙ keys) placed.listed;
@@ -426,7 +409,7 @@ bare_quiet [] all = tt
 bare_quiet (l ∷ ls) all = (ap (emissions_due l.1.collection) all.0.none, bare_quiet ls all.1)
 
 -- some place has a name where the first one is there
-pub any_place : (name : List ℕ) (ps : List Place)
+pub any_place : (name : List ℕ) (ps : List QueryPlace)
     → is_some (place_named name ps) ≡ list_any (λ p. bytes_eq name p.name) ps
 any_place name [] = refl
 any_place name (p ∷ ps) =

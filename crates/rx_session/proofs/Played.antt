@@ -5,22 +5,25 @@ use Rattle.std.proofs.lemmas.List.Folds.{list_any-append}
 use Rattle.std.specs.List.{AllByRecursion, IsDistinct, flat_map, list_any}
 use Rattle.std.specs.Map.{keys_of}
 use Rattle.std.specs.Str.{bytes_eq}
+use Rattle.rx_value.proofs.Lists.{all_weaker}
+use Rattle.rx_value.proofs.Bytes.{bytes_itself}
 use Rattle.rx_record.specs.Content.{Content}
-use Rattle.rx_observe.specs.Observing.{Observing}
+use Rattle.rx_collection.specs.Held.{Held}
+use Rattle.rx_observe.specs.Observing.{Observing, Queries}
 use Rattle.rx_observe.specs.Rows.{emissions_due}
 use Rattle.rx_world.specs.Holders.{Holders, holders_in}
 use Rattle.rx_world.specs.Step.{step, legal}
 use Rattle.rx_world.specs.Touch.{Touch, no_collection, new_collection, new_rows, touch}
 use Rattle.rx_world.specs.Valid.{AreDistinct}
-use Rattle.rx_world.proofs.Looked.{all_change_named, all_put_named, equal_names}
+use Rattle.rx_world.proofs.Looked.{all_change_named, all_put_named}
 use Rattle.rx_world.proofs.Valid.{distinct_step}
 use Rattle.rx_session.specs.Applied.{IsAfter, coll_written, with_written}
 use Rattle.rx_session.specs.Doing.{after, query_after, write}
 use Rattle.rx_session.specs.Emissions.{emission_due, emissions, settled_query, settled_session}
-use Rattle.rx_session.specs.Placed.{Lives, ArePlaced, IsQuiet, queries_of, world_of}
-use Rattle.rx_session.specs.Playing.{AreQuietUnless, due_in_all, noted, settled_each}
-use Rattle.rx_session.specs.declared.place.Place.{Place}
-use Rattle.rx_session.proofs.Places.{all_map, colls, distinct_in, world_colls}
+use Rattle.rx_session.specs.Placed.{Lives, ArePlaced, IsListed, IsQuiet, queries_of, world_of}
+use Rattle.rx_session.specs.Playing.{AreQuietUnless, coll_to_note, due_in_all, add_written, settled_each}
+use Rattle.rx_session.specs.declared.query_place.QueryPlace.{QueryPlace}
+use Rattle.rx_session.proofs.Places.{colls, distinct_in, world_colls}
 use Rattle.rx_session.proofs.Settling.{same_world, session_of}
 use Rattle.rx_session.proofs.Several.{colls_each, placed_each, queries_each, quiet_each, taken_is_due}
 use Rattle.rx_session.proofs.Writing.{queries_after, legal_unheld, placed_after}
@@ -29,7 +32,7 @@ use Rattle.rx_session.proofs.Writing.{queries_after, legal_unheld, placed_after}
 
 -- all that were written before are still noted
 still_noted : (o : Option (List ℕ)) (written : List (List ℕ)) (name : List ℕ)
-    → list_any (bytes_eq name) (noted o written) ≡ false → list_any (bytes_eq name) written ≡ false
+    → list_any (bytes_eq name) (add_written o written) ≡ false → list_any (bytes_eq name) written ≡ false
 still_noted None written name none = none
 still_noted (Some coll) written name none =
     elim (list_any (bytes_eq coll) written)
@@ -42,7 +45,7 @@ still_noted (Some coll) written name none =
 
 -- and so is the one that is written now
 now_noted : (coll : List ℕ) (written : List (List ℕ))
-    → list_any (bytes_eq coll) (noted (Some coll) written) ≡ false → true ≡ false
+    → list_any (bytes_eq coll) (add_written (Some coll) written) ≡ false → true ≡ false
 now_noted coll written none =
     elim (list_any (bytes_eq coll) written) as (λ b. list_any (bytes_eq coll) written ≡ b
     → list_any (bytes_eq coll) (cond b written (written ++ coll ∷ [])) ≡ false → true ≡ false) [
@@ -50,12 +53,12 @@ now_noted coll written none =
       | false ↦ (λ is n.
           let last = (or_parts (list_any (bytes_eq coll) written) (list_any (bytes_eq coll) (coll ∷ []))
           (sym (list_any-append (bytes_eq coll) written (coll ∷ [])) ∙ n)).1 in
-          sym (equal_names coll) ∙ (or_parts (bytes_eq coll coll) false last).0)
+          sym (bytes_itself coll) ∙ (or_parts (bytes_eq coll coll) false last).0)
     ] refl none
 
 -- a record leaves all quiet but the collections that were written, with its own
 quiet_noted : (t : Touch) (written : List (List ℕ)) (ls new : Lives) → IsAfter t ls new
-    → AreQuietUnless written ls → AreQuietUnless (noted (coll_written t) written) new
+    → AreQuietUnless written ls → AreQuietUnless (add_written (coll_written t) written) new
 quiet_noted no_collection written ls new after quiet = subst (AreQuietUnless written) (sym after) quiet
 quiet_noted (new_collection name schema) written ls new after quiet =
     subst (AreQuietUnless written) (sym after.2)
@@ -63,19 +66,38 @@ quiet_noted (new_collection name schema) written ls new after quiet =
     list_any (bytes_eq n) written ≡ false → emissions_due l.collection l.queries ≡ []) ls name after.0
     (λ none. ap (λ (l : Observing). emissions_due l.collection l.queries) after.1) quiet)
 quiet_noted (new_rows name lwt rows) written ls new after quiet =
-    let now : List (List ℕ) = noted (Some name) written in
+    let now : List (List ℕ) = add_written (Some name) written in
     let P = λ (n : List ℕ) (l : Observing).
     (list_any (bytes_eq n) now ≡ false → emissions_due l.collection l.queries ≡ []) in
     let each : AllByRecursion (λ e. P e.0 e.1) ls =
-    all_map (λ (e : List ℕ × Observing). list_any (bytes_eq e.0) written ≡ false → IsQuiet e)
+    all_weaker (λ (e : List ℕ × Observing). list_any (bytes_eq e.0) written ≡ false → IsQuiet e)
     (λ e. P e.0 e.1) (λ e is none. is (still_noted (Some name) written e.0 none)) ls quiet in
     subst (AreQuietUnless now) (sym after)
     (all_change_named P ls name (with_written lwt rows)
     (λ l at was none. absurd (true≢false (now_noted name written none))) each)
 
+-- nothing is to be emitted of a collection without queries
+none_due_of : (c : Held) (qs : Queries) → keys_of qs ≡ [] → emissions_due c qs ≡ []
+none_due_of c [] none = refl
+none_due_of c (q ∷ qs) none = cc
+
+-- so it is of all where no query is observed
+quiet_unobserved : (written : List (List ℕ)) (ls : Lives) → AllByRecursion (IsListed []) ls
+    → AreQuietUnless written ls
+quiet_unobserved written [] listed = tt
+quiet_unobserved written (l ∷ ls) listed =
+    (λ none. none_due_of l.1.collection l.1.queries listed.0, quiet_unobserved written ls listed.1)
+
+-- so none need be noted there
+quiet_to_note : (ps : List QueryPlace) (t : Touch) (written : List (List ℕ)) (ls : Lives) → ArePlaced ls ps
+    → AreQuietUnless (add_written (coll_written t) written) ls
+    → AreQuietUnless (add_written (coll_to_note ps t) written) ls
+quiet_to_note [] t written ls placed quiet = quiet_unobserved written ls placed.listed
+quiet_to_note (p ∷ ps) t written ls placed quiet = quiet
+
 -- ---- one record
 
-pub record IsPlayed (content : Content) (old new : Holders Observing) (ps : List Place)
+pub record IsPlayed (content : Content) (old new : Holders Observing) (ps : List QueryPlace)
     (written : List (List ℕ)) : Type 0 where
   pub placed : ArePlaced (holders_in old) ps
   pub distinct : AreDistinct (world_of old)
@@ -84,7 +106,7 @@ pub record IsPlayed (content : Content) (old new : Holders Observing) (ps : List
   pub stepped : world_of new ≡ step content (world_of old)
   pub applied : IsAfter (touch content (world_of old)) (holders_in old) (holders_in new)
 
-module _ (content : Content) (old new : Holders Observing) (moment : ℕ) (ps : List Place)
+module _ (content : Content) (old new : Holders Observing) (moment : ℕ) (ps : List QueryPlace)
     (written : List (List ℕ)) (so : IsPlayed content old new ps written) where
   -- all are in their places
   pub played_placed : ArePlaced (holders_in new) ps
@@ -103,9 +125,11 @@ module _ (content : Content) (old new : Holders Observing) (moment : ℕ) (ps : 
   played_distinct = subst AreDistinct (sym so.stepped) (distinct_step content (world_of old) so.distinct)
 
   pub played_quiet
-      : AreQuietUnless (noted (coll_written (touch content (world_of old))) written) (holders_in new)
+      : AreQuietUnless (add_written (coll_to_note ps (touch content (world_of old))) written) (holders_in new)
   played_quiet =
-      quiet_noted (touch content (world_of old)) written (holders_in old) (holders_in new) so.applied so.quiet
+      let t = touch content (world_of old) in
+      quiet_to_note ps t written (holders_in new) played_placed
+      (quiet_noted t written (holders_in old) (holders_in new) so.applied so.quiet)
 
   pub played_session : session_of new moment ps ≡ after (write content) (session_of old moment ps)
   played_session =
@@ -113,7 +137,7 @@ module _ (content : Content) (old new : Holders Observing) (moment : ℕ) (ps : 
 
 -- ---- once all is emitted
 
-pub record IsTaken (old new : Holders Observing) (ps : List Place) (written : List (List ℕ)) : Type 0 where
+pub record IsTaken (old new : Holders Observing) (ps : List QueryPlace) (written : List (List ℕ)) : Type 0 where
   pub placed : ArePlaced (holders_in old) ps
   pub distinct : AreDistinct (world_of old)
   pub quiet : AreQuietUnless written (holders_in old)
@@ -121,7 +145,7 @@ pub record IsTaken (old new : Holders Observing) (ps : List Place) (written : Li
   pub replications : new.replications ≡ old.replications
   pub epochs : new.epoch ≡ old.epoch
 
-module _ (old new : Holders Observing) (moment : ℕ) (ps : List Place) (written : List (List ℕ))
+module _ (old new : Holders Observing) (moment : ℕ) (ps : List QueryPlace) (written : List (List ℕ))
     (so : IsTaken old new ps written) where
   taken_world : world_of new ≡ world_of old
   taken_world =

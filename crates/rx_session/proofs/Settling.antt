@@ -14,13 +14,13 @@ use Rattle.rx_world.specs.Valid.{AreDistinct}
 use Rattle.rx_world.proofs.Holding.{after_all}
 use Rattle.rx_world.proofs.Looked.{keys-change_named}
 use Rattle.rx_world.proofs.Valid.{distinct_step}
-use Rattle.rx_session.specs.Applied.{IsAfter, IsMadeFor, coll_written, settled_in, due_in, unobserved, watched_in}
+use Rattle.rx_session.specs.Applied.{IsAfter, IsMadeFor, coll_written, settled_in, due_in, without_observed, watched_in}
 use Rattle.rx_session.specs.Doing.{after, query_after, new_query, has_key, set_clock, write, watch, unwatch}
 use Rattle.rx_session.specs.Emissions.{emissions, emission_due, settled_session, settled_query, IsSettled}
 use Rattle.rx_session.specs.Lives.{with_query}
 use Rattle.rx_session.specs.Placed.{ArePlaced, AreQuietBut, AreUnwatched, IsUnwatched, IsQuiet, Lives, place_named, queries_of, world_of}
 use Rattle.rx_session.specs.Session.{Session, is_observed}
-use Rattle.rx_session.specs.declared.place.Place.{Place}
+use Rattle.rx_session.specs.declared.query_place.QueryPlace.{QueryPlace}
 use Rattle.rx_session.proofs.Places.{any-queries_of, colls, distinct_in, world_colls}
 use Rattle.rx_session.proofs.Showing.{due_of_one, quiet_due, quiet_queries, settled_all_quiet, settled_colls, settled_placed, settled_queries}
 use Rattle.rx_session.proofs.Adding.{added_colls, added_placed, added_queries, added_quiet, place_in}
@@ -53,7 +53,7 @@ unwatched_in lives t ls (Err e) after none = tt
 -- ---- sessions
 
 -- a session by its parts
-abbrev pub session_of : Holders Observing → ℕ → List Place → Session
+abbrev pub session_of : Holders Observing → ℕ → List QueryPlace → Session
 session_of h moment ps =
     record { world = world_of h; moment = moment; queries = queries_of (holders_in h) ps }
 
@@ -64,7 +64,7 @@ same_world h g same replications epochs =
     let collections = world_colls h ∙ same ∙ sym (world_colls g) in
     λ i. record { collections = collections i; replications = replications i; epoch = epochs i }
 
-module _ (h : Holders Observing) (ps : List Place) (quiet : AllByRecursion IsQuiet (holders_in h))
+module _ (h : Holders Observing) (ps : List QueryPlace) (quiet : AllByRecursion IsQuiet (holders_in h))
   where
     -- where all is quiet, all is settled
     pub all_settled : map (settled_query (world_of h)) (queries_of (holders_in h) ps)
@@ -91,13 +91,13 @@ module _ (h : Holders Observing) (ps : List Place) (quiet : AllByRecursion IsQui
 -- ---- once a query is observed
 
 -- no place has a name that no query has
-pub free_place : (name : List ℕ) (h : Holders Observing) (moment : ℕ) (ps : List Place)
+pub free_place : (name : List ℕ) (h : Holders Observing) (moment : ℕ) (ps : List QueryPlace)
     → ArePlaced (holders_in h) ps → is_observed name (session_of h moment ps) ≡ false
     → list_any (λ p. bytes_eq name p.name) ps ≡ false
 free_place name h moment ps placed free = sym (any-queries_of name (holders_in h) ps placed) ∙ free
 
 -- a query was observed in settled collections, and the emissions that are due were written
-pub record IsWatched (name coll : List ℕ) (q : Asked) (old last : Holders Observing) (ps : List Place)
+pub record IsWatched (name coll : List ℕ) (q : Asked) (old last : Holders Observing) (ps : List QueryPlace)
     : Type 0 where
   pub placed : ArePlaced (holders_in old) ps
   pub distinct : AreDistinct (world_of old)
@@ -108,7 +108,7 @@ pub record IsWatched (name coll : List ℕ) (q : Asked) (old last : Holders Obse
   pub replications : last.replications ≡ old.replications
   pub epochs : last.epoch ≡ old.epoch
 
-module _ (name coll : List ℕ) (q : Asked) (old last : Holders Observing) (moment : ℕ) (ps : List Place)
+module _ (name coll : List ℕ) (q : Asked) (old last : Holders Observing) (moment : ℕ) (ps : List QueryPlace)
     (so : IsWatched name coll q old last ps) where
   -- the collections with the query
   abbrev more : Lives
@@ -185,35 +185,35 @@ module _ (name coll : List ℕ) (q : Asked) (old last : Holders Observing) (mome
 -- ---- once a query is observed no more
 
 -- the query of a name was left out of settled collections
-pub record IsLeft (name : List ℕ) (old new : Holders Observing) (ps : List Place) : Type 0 where
+pub record IsLeft (name : List ℕ) (old new : Holders Observing) (ps : List QueryPlace) : Type 0 where
   pub placed : ArePlaced (holders_in old) ps
   pub distinct : AreDistinct (world_of old)
   pub quiet : AllByRecursion IsQuiet (holders_in old)
-  pub dropped : holders_in new ≡ unobserved name (place_named name ps) (holders_in old)
+  pub dropped : holders_in new ≡ without_observed name (place_named name ps) (holders_in old)
   pub replications : new.replications ≡ old.replications
   pub epochs : new.epoch ≡ old.epoch
 
-module _ (name : List ℕ) (old new : Holders Observing) (moment : ℕ) (ps : List Place)
+module _ (name : List ℕ) (old new : Holders Observing) (moment : ℕ) (ps : List QueryPlace)
     (so : IsLeft name old new ps) where
   -- by its place
-  left_colls : (o : Option Place) → colls (unobserved name o (holders_in old)) ≡ colls (holders_in old)
+  left_colls : (o : Option QueryPlace) → colls (without_observed name o (holders_in old)) ≡ colls (holders_in old)
   left_colls None = refl
   left_colls (Some p) = dropped_colls (holders_in old) p.coll name
 
-  left_queries : (o : Option Place) → queries_of (unobserved name o (holders_in old)) (rest_of name ps)
+  left_queries : (o : Option QueryPlace) → queries_of (without_observed name o (holders_in old)) (rest_of name ps)
       ≡ filter (λ x. not (bytes_eq name x.name)) (queries_of (holders_in old) ps)
   left_queries None = undropped_queries name (holders_in old) ps
   left_queries (Some p) = dropped_queries name (holders_in old) ps p.coll
 
-  left_placed : (o : Option Place) → place_named name ps ≡ o
-      → ArePlaced (unobserved name o (holders_in old)) (rest_of name ps)
+  left_placed : (o : Option QueryPlace) → place_named name ps ≡ o
+      → ArePlaced (without_observed name o (holders_in old)) (rest_of name ps)
   left_placed None is =
       undropped_placed (holders_in old) ps name so.placed (none_found (λ p. bytes_eq name p.name) ps is)
   left_placed (Some p) is =
       dropped_placed (holders_in old) ps name p.coll so.placed (distinct_in old so.distinct)
       (all_in_first name ps p so.placed.distinct is)
 
-  left_quiet : (o : Option Place) → AllByRecursion IsQuiet (unobserved name o (holders_in old))
+  left_quiet : (o : Option QueryPlace) → AllByRecursion IsQuiet (without_observed name o (holders_in old))
   left_quiet None = so.quiet
   left_quiet (Some p) = dropped_quiet (holders_in old) p.coll name so.quiet
 

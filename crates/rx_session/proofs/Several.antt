@@ -8,6 +8,8 @@ use Rattle.std.specs.List.{AllByRecursion, IsDistinct, cons_option, filter_map, 
 use Rattle.std.specs.Map.{keys_of}
 use Rattle.std.specs.Str.{bytes_eq}
 use Rattle.rx_value.specs.Named.{named, change_named}
+use Rattle.rx_value.proofs.Lists.{all_weaker}
+use Rattle.rx_value.proofs.Bytes.{bytes_apart_turned}
 use Rattle.rx_collection.specs.Held.{Held}
 use Rattle.rx_query.specs.Result.{fresh_rows}
 use Rattle.rx_query.specs.declared.results.Row.{Row}
@@ -22,9 +24,9 @@ use Rattle.rx_session.specs.Lives.{due_of, with_settled}
 use Rattle.rx_session.specs.Placed.{Lives, ArePlaced, AreQuietBut, IsQuiet, names_in, queries_of, with_found}
 use Rattle.rx_session.specs.Playing.{AreQuietUnless, due_each, due_in_all, emission_of, in_places, settled_each, without_emission}
 use Rattle.rx_session.specs.Session.{Observed}
-use Rattle.rx_session.specs.declared.place.Place.{Place}
-use Rattle.rx_session.proofs.Places.{all_map, all_named, all_of, colls, keys-map, observed_at, queries_become, query_at}
-use Rattle.rx_session.proofs.Showing.{IsShownAt, due_of_one, held_at, quiet_due, settled_colls, settled_here, settled_placed, settled_quiet, settles, shown_at, some_distinct, turned}
+use Rattle.rx_session.specs.declared.query_place.QueryPlace.{QueryPlace}
+use Rattle.rx_session.proofs.Places.{all_named, all_of, colls, keys-map, observed_at, queries_become, query_at}
+use Rattle.rx_session.proofs.Showing.{IsShownAt, due_of_one, held_at, quiet_due, settled_colls, settled_here, settled_placed, settled_quiet, settles, shown_at, some_distinct}
 
 -- ---- emissions by name
 
@@ -64,19 +66,19 @@ emission_left n m (e ∷ es) apart =
     ] refl
 
 -- in the order of places stands what is found for each
-module _ (due : Place → Option Emission) where
-  still_found : (p : Place) (ps : List Place) (es : List Emission)
-      → AllByRecursion (λ n. bytes_eq p.name n ≡ false) (map (λ (q : Place). q.name) ps)
+module _ (due : QueryPlace → Option Emission) where
+  still_found : (p : QueryPlace) (ps : List QueryPlace) (es : List Emission)
+      → AllByRecursion (λ n. bytes_eq p.name n ≡ false) (map (λ (q : QueryPlace). q.name) ps)
       → AllByRecursion (λ q. emission_of q.name es ≡ due q) ps
       → AllByRecursion (λ q. emission_of q.name (without_emission p.name es) ≡ due q) ps
   still_found p [] es apart all = tt
   still_found p (q ∷ ps) es apart all = (
-    emission_left p.name q.name es (turned p.name q.name apart.0) ∙ all.0,
+    emission_left p.name q.name es (bytes_apart_turned p.name q.name apart.0) ∙ all.0,
     still_found p ps es apart.1 all.1,
   )
 
-  in_places-is : (ps : List Place) (es : List Emission)
-      → IsDistinct bytes_eq (map (λ (p : Place). p.name) ps)
+  in_places-is : (ps : List QueryPlace) (es : List Emission)
+      → IsDistinct bytes_eq (map (λ (p : QueryPlace). p.name) ps)
       → AllByRecursion (λ p. emission_of p.name es ≡ due p) ps
       → in_places ps es ≡ filter_map due ps
   unfolding IsDistinct
@@ -137,11 +139,11 @@ query_found c (q ∷ qs) name distinct =
 
 -- ---- the emission of a place
 
-abbrev due_there : Place → Option Observing → Option Emission
+abbrev due_there : QueryPlace → Option Observing → Option Emission
 due_there p None = None
 due_there p (Some l) = query_due p.name l.collection (named l.queries p.name)
 
-abbrev place_due : Lives → Place → Option Emission
+abbrev place_due : Lives → QueryPlace → Option Emission
 place_due ls p = due_there p (named ls p.coll)
 
 one_first : (name : List ℕ) (o : Option (List Row)) (es : List Emission)
@@ -150,7 +152,7 @@ one_first name None es = refl
 one_first name (Some rows) es = refl
 
 module _ (w : World) (ls : Lives) (same : w.collections ≡ colls ls) where
-  query_placed : (p : Place) (c : Held) (o : Option Watched) → named w.collections p.coll ≡ Some c
+  query_placed : (p : QueryPlace) (c : Held) (o : Option Watched) → named w.collections p.coll ≡ Some c
       → (os : List Observed) → flat_map (emission_due w) (with_found p o os)
       ≡ cons_option (query_due p.name c o) (flat_map (emission_due w) os)
   query_placed p c None at os = refl
@@ -160,7 +162,7 @@ module _ (w : World) (ls : Lives) (same : w.collections ≡ colls ls) where
       ∙ one_first p.name (unseen (Some (fresh_rows v.query c.documents)) v.emitted)
       (flat_map (emission_due w) os)
 
-  one_placed : (p : Place) (o : Option Observing) → named ls p.coll ≡ o → (os : List Observed)
+  one_placed : (p : QueryPlace) (o : Option Observing) → named ls p.coll ≡ o → (os : List Observed)
       → flat_map (emission_due w)
       (with_found p (option_and_then (λ (l : Observing). named l.queries p.name) o) os)
       ≡ cons_option (due_there p o) (flat_map (emission_due w) os)
@@ -169,7 +171,7 @@ module _ (w : World) (ls : Lives) (same : w.collections ≡ colls ls) where
       query_placed p l.collection (named l.queries p.name) (held_at w ls same p.coll l at) os
 
   -- all that is due is due of the places in turn
-  all_placed : (ps : List Place)
+  all_placed : (ps : List QueryPlace)
       → flat_map (emission_due w) (queries_of ls ps) ≡ filter_map (place_due ls) ps
   all_placed [] = refl
   all_placed (p ∷ ps) =
@@ -178,46 +180,48 @@ module _ (w : World) (ls : Lives) (same : w.collections ≡ colls ls) where
 
 -- ---- the name of a place is that of no query in another collection
 
-abbrev IsAlone : List Place → Place → Type 0
+abbrev IsAlone : List QueryPlace → QueryPlace → Type 0
 IsAlone ps p =
     (coll : List ℕ) → bytes_eq coll p.coll ≡ false
     → list_any (bytes_eq p.name) (names_in coll ps) ≡ false
 
-none_in_some : (name : List ℕ) (test : Place → Bool) (ps : List Place)
-    → AllByRecursion (λ n. bytes_eq name n ≡ false) (map (λ (p : Place). p.name) ps)
-    → list_any (bytes_eq name) (map (λ (p : Place). p.name) (filter test ps)) ≡ false
+none_in_some : (name : List ℕ) (test : QueryPlace → Bool) (ps : List QueryPlace)
+    → AllByRecursion (λ n. bytes_eq name n ≡ false) (map (λ (p : QueryPlace). p.name) ps)
+    → list_any (bytes_eq name) (map (λ (p : QueryPlace). p.name) (filter test ps)) ≡ false
 none_in_some name test [] all = refl
 none_in_some name test (p ∷ ps) all =
-    elim (test p) as (λ b. list_any (bytes_eq name) (map (λ (q : Place). q.name)
+    elim (test p) as (λ b. list_any (bytes_eq name) (map (λ (q : QueryPlace). q.name)
     (cond b (p ∷ filter test ps) (filter test ps))) ≡ false) [
       | true ↦ or_from _ _ all.0 (none_in_some name test ps all.1)
       | false ↦ none_in_some name test ps all.1
     ]
 
-later_alone : (p : Place) (ps : List Place) (q : Place) → bytes_eq q.name p.name ≡ false
+later_alone : (p : QueryPlace) (ps : List QueryPlace) (q : QueryPlace) → bytes_eq q.name p.name ≡ false
     → IsAlone ps q → IsAlone (p ∷ ps) q
 later_alone p ps q apart alone coll other =
-    elim (bytes_eq coll p.coll) as (λ b. list_any (bytes_eq q.name) (map (λ (x : Place). x.name)
+    elim (bytes_eq coll p.coll) as (λ b. list_any (bytes_eq q.name) (map (λ (x : QueryPlace). x.name)
     (cond b (p ∷ filter (λ x. bytes_eq coll x.coll) ps) (filter (λ x. bytes_eq coll x.coll) ps)))
     ≡ false) [
       | true ↦ or_from _ _ apart (alone coll other)
       | false ↦ alone coll other
     ]
 
-all_later : (p : Place) (ps rest : List Place)
-    → AllByRecursion (λ n. bytes_eq p.name n ≡ false) (map (λ (q : Place). q.name) rest)
+all_later : (p : QueryPlace) (ps rest : List QueryPlace)
+    → AllByRecursion (λ n. bytes_eq p.name n ≡ false) (map (λ (q : QueryPlace). q.name) rest)
     → AllByRecursion (IsAlone ps) rest → AllByRecursion (IsAlone (p ∷ ps)) rest
 all_later p ps [] apart all = tt
-all_later p ps (q ∷ rest) apart all =
-    (later_alone p ps q (turned p.name q.name apart.0) all.0, all_later p ps rest apart.1 all.1)
+all_later p ps (q ∷ rest) apart all = (
+  later_alone p ps q (bytes_apart_turned p.name q.name apart.0) all.0,
+  all_later p ps rest apart.1 all.1,
+)
 
-all_alone : (ps : List Place) → IsDistinct bytes_eq (map (λ (p : Place). p.name) ps)
+all_alone : (ps : List QueryPlace) → IsDistinct bytes_eq (map (λ (p : QueryPlace). p.name) ps)
     → AllByRecursion (IsAlone ps) ps
 unfolding IsDistinct
 all_alone [] distinct = tt
 all_alone (p ∷ ps) distinct = (
   λ coll other.
-      ap (λ b. list_any (bytes_eq p.name) (map (λ (x : Place). x.name)
+      ap (λ b. list_any (bytes_eq p.name) (map (λ (x : QueryPlace). x.name)
       (cond b (p ∷ filter (λ x. bytes_eq coll x.coll) ps) (filter (λ x. bytes_eq coll x.coll) ps)))) other
       ∙ none_in_some p.name (λ x. bytes_eq coll x.coll) ps distinct.0,
   all_later p ps ps distinct.0 (all_alone ps distinct.1),
@@ -227,7 +231,7 @@ none_is : {X : Type 0} (o : Option X) → is_some o ≡ false → o ≡ None
 none_is None is = refl
 none_is (Some x) is = absurd (true≢false is)
 
-module _ (ls : Lives) (ps : List Place) (placed : ArePlaced ls ps) where
+module _ (ls : Lives) (ps : List QueryPlace) (placed : ArePlaced ls ps) where
   keys_at : (coll : List ℕ) (l : Observing) → named ls coll ≡ Some l
       → keys_of l.queries ≡ names_in coll ps
   keys_at coll l at =
@@ -239,7 +243,7 @@ module _ (ls : Lives) (ps : List Place) (placed : ArePlaced ls ps) where
       subst (IsDistinct bytes_eq) (sym (keys_at coll l at))
       (some_distinct (λ p. bytes_eq coll p.coll) ps placed.distinct)
 
-  alone_query : (p : Place) → IsAlone ps p → (coll : List ℕ) (l : Observing)
+  alone_query : (p : QueryPlace) → IsAlone ps p → (coll : List ℕ) (l : Observing)
       → named ls coll ≡ Some l → bytes_eq coll p.coll ≡ false → named l.queries p.name ≡ None
   alone_query p alone coll l at other =
       none_is (named l.queries p.name)
@@ -247,7 +251,7 @@ module _ (ls : Lives) (ps : List Place) (placed : ArePlaced ls ps) where
       ∙ ap (list_any (bytes_eq p.name)) (keys_at coll l at) ∙ alone coll other)
 
   -- where nothing is due of a place's collection, nothing is of the place
-  quiet_place : (p : Place) (o : Option Observing) → named ls p.coll ≡ o
+  quiet_place : (p : QueryPlace) (o : Option Observing) → named ls p.coll ≡ o
       → ((l : Observing) → o ≡ Some l → emissions_due l.collection l.queries ≡ [])
       → None ≡ due_there p o
   quiet_place p None at quiet = refl
@@ -257,7 +261,7 @@ module _ (ls : Lives) (ps : List Place) (placed : ArePlaced ls ps) where
 
   -- ---- a place of the first collection
 
-  module _ (coll : List ℕ) (more : List Emission) (p : Place) where
+  module _ (coll : List ℕ) (more : List Emission) (p : QueryPlace) where
     abbrev then : Lives
     then = change_named ls coll with_settled
 
@@ -336,7 +340,7 @@ quiet_less (l ∷ ls) coll written distinct quiet =
       ))
       | false ↦ (λ is. (
         λ none. quiet.0 (or_from (bytes_eq l.0 coll) (list_any (bytes_eq l.0) written)
-            (turned coll l.0 is) none),
+            (bytes_apart_turned coll l.0 is) none),
         quiet_less ls coll written distinct.1 quiet.1,
       ))
     ] refl
@@ -347,7 +351,7 @@ quiet_less (l ∷ ls) coll written distinct quiet =
     others_quiet [] same apart quiet = tt
     others_quiet (x ∷ rest) same apart quiet = (
       λ none. quiet.0 (or_from (bytes_eq x.0 coll) (list_any (bytes_eq x.0) written)
-          (turned coll x.0 (ap (λ n. bytes_eq n x.0) same ∙ apart.0)) none),
+          (bytes_apart_turned coll x.0 (ap (λ n. bytes_eq n x.0) same ∙ apart.0)) none),
       others_quiet rest same apart.1 quiet.1,
     )
 
@@ -360,7 +364,7 @@ all_quiet (l ∷ ls) quiet = (quiet.0 refl, all_quiet ls quiet.1)
 quiet_but_one : (coll : List ℕ) (ls : Lives) → AreQuietUnless (coll ∷ []) ls → AreQuietBut coll ls
 quiet_but_one coll [] quiet = tt
 quiet_but_one coll (l ∷ ls) quiet = (
-  λ other. quiet.0 (or_from (bytes_eq l.0 coll) false (turned coll l.0 other) refl),
+  λ other. quiet.0 (or_from (bytes_eq l.0 coll) false (bytes_apart_turned coll l.0 other) refl),
   quiet_but_one coll ls quiet.1,
 )
 
@@ -371,8 +375,8 @@ settled_distinct ls coll distinct =
 
 -- ---- all that is due
 
-found_each : (written : List (List ℕ)) (ls : Lives) (ps : List Place) → ArePlaced ls ps
-    → IsDistinct bytes_eq (keys_of ls) → AreQuietUnless written ls → (p : Place) → IsAlone ps p
+found_each : (written : List (List ℕ)) (ls : Lives) (ps : List QueryPlace) → ArePlaced ls ps
+    → IsDistinct bytes_eq (keys_of ls) → AreQuietUnless written ls → (p : QueryPlace) → IsAlone ps p
     → emission_of p.name (due_each written ls) ≡ place_due ls p
 found_each [] ls ps placed distinct quiet p alone =
     quiet_place ls ps placed p (named ls p.coll) refl (λ l at.
@@ -387,7 +391,7 @@ found_each (coll ∷ written) ls ps placed distinct quiet p alone =
 
 -- what is taken of the collections that were written is all that is due
 pub taken_is_due : (written : List (List ℕ)) (w : World) (ls : Lives) → w.collections ≡ colls ls
-    → (ps : List Place) → ArePlaced ls ps → IsDistinct bytes_eq (keys_of ls)
+    → (ps : List QueryPlace) → ArePlaced ls ps → IsDistinct bytes_eq (keys_of ls)
     → AreQuietUnless written ls
     → due_in_all written ps ls ≡ flat_map (emission_due w) (queries_of ls ps)
 taken_is_due [] w ls same ps placed distinct quiet =
@@ -397,13 +401,13 @@ taken_is_due (coll ∷ []) w ls same ps placed distinct quiet =
 taken_is_due (coll ∷ next ∷ written) w ls same ps placed distinct quiet =
     let all : List (List ℕ) = coll ∷ next ∷ written in
     in_places-is (place_due ls) ps (due_each all ls) placed.distinct
-    (all_map (IsAlone ps) (λ p. emission_of p.name (due_each all ls) ≡ place_due ls p)
+    (all_weaker (IsAlone ps) (λ p. emission_of p.name (due_each all ls) ≡ place_due ls p)
     (λ p alone. found_each all ls ps placed distinct quiet p alone) ps (all_alone ps placed.distinct))
     ∙ sym (all_placed w ls same ps)
 
 -- ---- once it is emitted
 
-pub placed_each : (written : List (List ℕ)) (ls : Lives) (ps : List Place) → ArePlaced ls ps
+pub placed_each : (written : List (List ℕ)) (ls : Lives) (ps : List QueryPlace) → ArePlaced ls ps
     → ArePlaced (settled_each written ls) ps
 placed_each [] ls ps placed = placed
 placed_each (coll ∷ written) ls ps placed =
@@ -436,7 +440,7 @@ settled_nothing (Some x) l is =
     (settled_quiet x.collection x.queries)
 
 -- the query of each place is settled
-settled_place : (written : List (List ℕ)) (w : World) (ls : Lives) → w.collections ≡ colls ls → (p : Place)
+settled_place : (written : List (List ℕ)) (w : World) (ls : Lives) → w.collections ≡ colls ls → (p : QueryPlace)
     → (list_any (bytes_eq p.coll) written ≡ false → IsShownAt w ls p)
     → query_at (settled_each written ls) p ≡ option_map (settled_query w) (query_at ls p)
 settled_place [] w ls same p shown = settles w p _ (shown refl)
@@ -463,7 +467,7 @@ settled_place (coll ∷ written) w ls same p shown =
           named-change_other with_settled ls coll p.coll apart in
           settled_place written w then same_then p (λ none v at.
           shown (or_from (bytes_eq p.coll coll) (list_any (bytes_eq p.coll) written)
-          (turned coll p.coll is) none) v
+          (bytes_apart_turned coll p.coll is) none) v
           (sym (ap (option_and_then (λ (l : Observing). named l.queries p.name)) stays) ∙ at))
           ∙ ap (λ o. option_map (settled_query w) (option_map (observed_at p)
           (option_and_then (λ (l : Observing). named l.queries p.name) o))) stays)
@@ -471,7 +475,7 @@ settled_place (coll ∷ written) w ls same p shown =
 
 -- so all queries are
 pub queries_each : (written : List (List ℕ)) (w : World) (ls : Lives) → w.collections ≡ colls ls
-    → (ps : List Place) → AreQuietUnless written ls
+    → (ps : List QueryPlace) → AreQuietUnless written ls
     → queries_of (settled_each written ls) ps ≡ map (settled_query w) (queries_of ls ps)
 queries_each written w ls same ps quiet =
     queries_become (settled_query w) ls (settled_each written ls) ps

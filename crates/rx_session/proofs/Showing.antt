@@ -8,6 +8,8 @@ use Rattle.std.specs.List.{AllByRecursion, IsDistinct, flat_map}
 use Rattle.std.specs.Map.{keys_of}
 use Rattle.std.specs.Str.{bytes_eq}
 use Rattle.rx_value.specs.Named.{named, change_named}
+use Rattle.rx_value.proofs.Lists.{all_weaker, all_both}
+use Rattle.rx_value.proofs.Bytes.{bytes_itself, bytes_apart, bytes_apart_turned}
 use Rattle.rx_query.specs.declared.results.Row.{Row}
 use Rattle.rx_collection.specs.Held.{Held}
 use Rattle.rx_query.specs.Result.{fresh_rows}
@@ -17,43 +19,38 @@ use Rattle.rx_observe.specs.Watched.{Watched}
 use Rattle.rx_observe.specs.declared.emission.Emission.{Emission}
 use Rattle.rx_observe.proofs.Unseen.{seen_last, settled_none}
 use Rattle.rx_world.specs.World.{World}
-use Rattle.rx_world.proofs.Looked.{equal_names, named-change_other, named-change_same, other_names}
+use Rattle.rx_world.proofs.Looked.{named-change_other, named-change_same}
 use Rattle.rx_observe.specs.Watched.{with_emitted}
 use Rattle.rx_session.specs.Emissions.{emission_due, result, rows_on, settled_query}
 use Rattle.rx_session.specs.Lives.{due_of, with_settled}
 use Rattle.rx_session.specs.Placed.{Lives, ArePlaced, AreQuietBut, IsQuiet, names_in, queries_of, watched_at, with_found}
 use Rattle.rx_session.specs.Session.{Observed}
-use Rattle.rx_session.specs.declared.place.Place.{Place}
-use Rattle.rx_session.proofs.Places.{all_both, all_map, all_named, all_of, colls, colls-change_named, keys-map, named-colls, named-map, observed_at, placed_changed, queries_become, query_at}
+use Rattle.rx_session.specs.declared.query_place.QueryPlace.{QueryPlace}
+use Rattle.rx_session.proofs.Places.{all_named, all_of, colls, colls-change_named, keys-map, named-colls, named-map, observed_at, placed_changed, queries_become, query_at}
 
 -- ---- lists
 
--- where two names differ, they do so either way round
-pub turned : (k l : List ℕ) → bytes_eq k l ≡ false → bytes_eq l k ≡ false
-turned k l other =
-    other_names l k (λ same. true≢false (sym ((bytes_eq-Decides k l).1 (sym same)) ∙ other))
-
 -- what holds of the names of all holds of those of some
-all_names : (P : List ℕ → Type 0) (test : Place → Bool) (ps : List Place)
-    → AllByRecursion P (map (λ (p : Place). p.name) ps)
-    → AllByRecursion P (map (λ (p : Place). p.name) (filter test ps))
+all_names : (P : List ℕ → Type 0) (test : QueryPlace → Bool) (ps : List QueryPlace)
+    → AllByRecursion P (map (λ (p : QueryPlace). p.name) ps)
+    → AllByRecursion P (map (λ (p : QueryPlace). p.name) (filter test ps))
 all_names P test [] all = tt
 all_names P test (p ∷ ps) all =
-    elim (test p) as (λ b. AllByRecursion P (map (λ (q : Place). q.name)
+    elim (test p) as (λ b. AllByRecursion P (map (λ (q : QueryPlace). q.name)
     (cond b (p ∷ filter test ps) (filter test ps)))) [
       | true ↦ (all.0, all_names P test ps all.1)
       | false ↦ all_names P test ps all.1
     ]
 
 -- of names that differ, some differ
-pub some_distinct : (test : Place → Bool) (ps : List Place)
-    → IsDistinct bytes_eq (map (λ (p : Place). p.name) ps)
-    → IsDistinct bytes_eq (map (λ (p : Place). p.name) (filter test ps))
+pub some_distinct : (test : QueryPlace → Bool) (ps : List QueryPlace)
+    → IsDistinct bytes_eq (map (λ (p : QueryPlace). p.name) ps)
+    → IsDistinct bytes_eq (map (λ (p : QueryPlace). p.name) (filter test ps))
 some_distinct test [] distinct = distinct
 some_distinct test (p ∷ ps) distinct =
-    let names = map (λ (q : Place). q.name) ps in
+    let names = map (λ (q : QueryPlace). q.name) ps in
     let rest = some_distinct test ps (IsDistinct-tail bytes_eq p.name names distinct) in
-    elim (test p) as (λ b. IsDistinct bytes_eq (map (λ (q : Place). q.name)
+    elim (test p) as (λ b. IsDistinct bytes_eq (map (λ (q : QueryPlace). q.name)
     (cond b (p ∷ filter test ps) (filter test ps)))) [
       | true ↦ IsDistinct-cons bytes_eq p.name _
           (all_names (λ n. bytes_eq p.name n ≡ false) test ps
@@ -75,10 +72,11 @@ module _ {X : Type 0} where
   own_named (e ∷ es) distinct =
       let apart : AllByRecursion (λ (d : List ℕ × X). bytes_eq e.0 d.0 ≡ false) es =
       all_keys (λ n. bytes_eq e.0 n ≡ false) es (IsDistinct-head bytes_eq e.0 (keys_of es) distinct) in (
-        ap (λ b. cond b (Some e.1) (named es e.0)) (equal_names e.0),
-        all_map (λ (d : List ℕ × X). (bytes_eq e.0 d.0 ≡ false) × (named es d.0 ≡ Some d.1))
+        ap (λ b. cond b (Some e.1) (named es e.0)) (bytes_itself e.0),
+        all_weaker (λ (d : List ℕ × X). (bytes_eq e.0 d.0 ≡ false) × (named es d.0 ≡ Some d.1))
             (λ d. named (e ∷ es) d.0 ≡ Some d.1)
-            (λ d h. ap (λ b. cond b (Some e.1) (named es d.0)) (turned e.0 d.0 h.0) ∙ h.1) es
+            (λ d h. ap (λ b. cond b (Some e.1) (named es d.0)) (bytes_apart_turned e.0 d.0 h.0)
+            ∙ h.1) es
             (all_both _ _ es apart
             (own_named es (IsDistinct-tail bytes_eq e.0 (keys_of es) distinct))),
       )
@@ -119,7 +117,7 @@ abbrev pub IsShown : World → Observed → Type 0
 IsShown w o = unseen (Some (result w o)) o.watched.emitted ≡ None
 
 -- the query of a place is one, where it is there
-abbrev pub IsShownAt : World → Lives → Place → Type 0
+abbrev pub IsShownAt : World → Lives → QueryPlace → Type 0
 IsShownAt w ls p = (v : Watched) → watched_at ls p ≡ Some v → IsShown w (observed_at p v)
 
 -- such a query is settled
@@ -145,13 +143,13 @@ settled_on c o = record {
 }
 
 -- what is done to a query of a place
-settled_then : (c : Held) (p : Place) (o : Option Watched)
+settled_then : (c : Held) (p : QueryPlace) (o : Option Watched)
     → option_map (observed_at p) (option_map (settled c) o)
     ≡ option_map (settled_on (Some c)) (option_map (observed_at p) o)
 settled_then c p None = refl
 settled_then c p (Some v) = refl
 
-module _ (w : World) (p : Place) where
+module _ (w : World) (p : QueryPlace) where
   -- and none is due
   none_is_due : (o : Option Watched) (os : List Observed)
       → ((v : Watched) → o ≡ Some v → IsShown w (observed_at p v))
@@ -178,7 +176,7 @@ module _ (w : World) (ls : Lives) (same : w.collections ≡ colls ls) where
       ∙ ap (option_map (λ (x : Observing). x.collection)) at
 
   -- nothing is due of a place's query where nothing is of its collection
-  pub shown_at : (p : Place)
+  pub shown_at : (p : QueryPlace)
       → ((l : Observing) → named ls p.coll ≡ Some l → emissions_due l.collection l.queries ≡ [])
       → IsShownAt w ls p
   shown_at p quiet v at =
@@ -191,7 +189,7 @@ module _ (w : World) (ls : Lives) (same : w.collections ≡ colls ls) where
       ap (λ c. unseen (Some (rows_on v.query c)) v.emitted) (held_at p.coll l held) ∙ none)
 
   -- where nothing is due of the queries of all places, no emission is due
-  none_are_due : (ps : List Place) → AllByRecursion (IsShownAt w ls) ps
+  none_are_due : (ps : List QueryPlace) → AllByRecursion (IsShownAt w ls) ps
       → flat_map (emission_due w) (queries_of ls ps) ≡ []
   none_are_due [] all = refl
   none_are_due (p ∷ ps) all =
@@ -200,7 +198,7 @@ module _ (w : World) (ls : Lives) (same : w.collections ≡ colls ls) where
   -- ---- a place of the collection that is settled
 
   -- what the collection's queries become, the place's query becomes
-  settle_here : (p : Place) (o : Option Observing) (c : Option Held)
+  settle_here : (p : QueryPlace) (o : Option Observing) (c : Option Held)
       → c ≡ option_map (λ (l : Observing). l.collection) o
       → option_map (observed_at p)
       (option_and_then (λ (l : Observing). named l.queries p.name) (option_map with_settled o))
@@ -215,14 +213,14 @@ module _ (w : World) (ls : Lives) (same : w.collections ≡ colls ls) where
       ∙ settled_then l.collection p (named l.queries p.name))
 
   -- the collection of the place is that of the query
-  settle_on : (p : Place) (o : Option Watched)
+  settle_on : (p : QueryPlace) (o : Option Watched)
       → option_map (settled_on (named w.collections p.coll)) (option_map (observed_at p) o)
       ≡ option_map (settled_query w) (option_map (observed_at p) o)
   settle_on p None = refl
   settle_on p (Some v) = refl
 
   -- the query of the place
-  pub settled_here : (p : Place)
+  pub settled_here : (p : QueryPlace)
       → query_at (change_named ls p.coll with_settled) p
       ≡ option_map (settled_query w) (query_at ls p)
   settled_here p =
@@ -235,7 +233,7 @@ module _ (w : World) (ls : Lives) (same : w.collections ≡ colls ls) where
 
   -- ---- all is quiet
 
-  module _ (ps : List Place) (quiet : AllByRecursion IsQuiet ls) where
+  module _ (ps : List QueryPlace) (quiet : AllByRecursion IsQuiet ls) where
     -- nothing is due of any place's query
     all_shown : AllByRecursion (IsShownAt w ls) ps
     all_shown =
@@ -251,14 +249,15 @@ module _ (w : World) (ls : Lives) (same : w.collections ≡ colls ls) where
     pub quiet_queries : map (settled_query w) (queries_of ls ps) ≡ queries_of ls ps
     quiet_queries =
         sym (queries_become (settled_query w) ls ls ps
-        (all_map (IsShownAt w ls) (λ p. query_at ls p ≡ option_map (settled_query w) (query_at ls p))
+        (all_weaker (IsShownAt w ls)
+        (λ p. query_at ls p ≡ option_map (settled_query w) (query_at ls p))
         (λ p shown. settles w p (watched_at ls p) shown) ps all_shown))
 
   -- ---- all but one collection is quiet
 
   module _ (coll : List ℕ) (quiet : AreQuietBut coll ls) where
     -- a place of another collection
-    other_shown : (p : Place) → bytes_eq coll p.coll ≡ false → IsShownAt w ls p
+    other_shown : (p : QueryPlace) → bytes_eq coll p.coll ≡ false → IsShownAt w ls p
     other_shown p other =
         shown_at p (λ l at.
         all_named (λ n (x : Observing).
@@ -266,16 +265,17 @@ module _ (w : World) (ls : Lives) (same : w.collections ≡ colls ls) where
         ls p.coll l at quiet other)
 
     -- each place, where there's no such collection
-    none_shown : named ls coll ≡ None → (p : Place) → IsShownAt w ls p
+    none_shown : named ls coll ≡ None → (p : QueryPlace) → IsShownAt w ls p
     none_shown none p =
         shown_at p (λ l at.
         all_named (λ n (x : Observing).
         bytes_eq coll n ≡ false → emissions_due x.collection x.queries ≡ [])
-        ls p.coll l at quiet (other_names coll p.coll (λ is. none-some l (sym none ∙ ap (named ls) is ∙ at))))
+        ls p.coll l at quiet
+        (bytes_apart coll p.coll (λ is. none-some l (sym none ∙ ap (named ls) is ∙ at))))
 
     module _ (l : Observing) (at : named ls coll ≡ Some l) where
       -- the emission of a place's query is that of the collection's query
-      is_due_here : (p : Place) (o : Option Watched) (os : List Observed) (q : List ℕ × Watched)
+      is_due_here : (p : QueryPlace) (o : Option Watched) (os : List Observed) (q : List ℕ × Watched)
           (qs : Queries) → named w.collections p.coll ≡ Some l.collection → o ≡ Some q.1
           → q.0 ≡ p.name → flat_map (emission_due w) os ≡ emissions_due l.collection qs
           → flat_map (emission_due w) (with_found p o os)
@@ -292,7 +292,7 @@ module _ (w : World) (ls : Lives) (same : w.collections ≡ colls ls) where
           (emissions_due l.collection qs)
 
       -- a place of the collection, and then the others
-      place_here : (p : Place) (ps : List Place) (qs : Queries) → bytes_eq coll p.coll ≡ true
+      place_here : (p : QueryPlace) (ps : List QueryPlace) (qs : Queries) → bytes_eq coll p.coll ≡ true
           → keys_of qs ≡ p.name ∷ names_in coll ps
           → AllByRecursion (λ q. named l.queries q.0 ≡ Some q.1) qs
           → ((rest : Queries) → keys_of rest ≡ names_in coll ps
@@ -313,14 +313,14 @@ module _ (w : World) (ls : Lives) (same : w.collections ≡ colls ls) where
           (rest qs others own.1)
 
       -- the places of the collection bring the emissions of its queries
-      due_here : (ps : List Place) (qs : Queries) → keys_of qs ≡ names_in coll ps
+      due_here : (ps : List QueryPlace) (qs : Queries) → keys_of qs ≡ names_in coll ps
           → AllByRecursion (λ q. named l.queries q.0 ≡ Some q.1) qs
           → flat_map (emission_due w) (queries_of ls ps) ≡ emissions_due l.collection qs
       due_here [] [] keys own = refl
       due_here [] (q ∷ qs) keys own = cc
       due_here (p ∷ ps) qs keys own =
           elim (bytes_eq coll p.coll) as (λ b. bytes_eq coll p.coll ≡ b
-          → keys_of qs ≡ map (λ (x : Place). x.name)
+          → keys_of qs ≡ map (λ (x : QueryPlace). x.name)
           (cond b (p ∷ filter (λ x. bytes_eq coll x.coll) ps) (filter (λ x. bytes_eq coll x.coll) ps))
           → flat_map (emission_due w) (queries_of ls (p ∷ ps))
           ≡ emissions_due l.collection qs) [
@@ -331,7 +331,7 @@ module _ (w : World) (ls : Lives) (same : w.collections ≡ colls ls) where
           ] refl keys
 
     -- the emissions due, by what the name of the collection names
-    due_by : (ps : List Place) → ArePlaced ls ps → (o : Option Observing) → named ls coll ≡ o
+    due_by : (ps : List QueryPlace) → ArePlaced ls ps → (o : Option Observing) → named ls coll ≡ o
         → flat_map (emission_due w) (queries_of ls ps) ≡ due_of o
     due_by ps placed None none = none_are_due ps (all_of (IsShownAt w ls) (none_shown none) ps)
     due_by ps placed (Some l) at =
@@ -344,14 +344,14 @@ module _ (w : World) (ls : Lives) (same : w.collections ≡ colls ls) where
         due_here l at ps l.queries keys (own_named l.queries distinct)
 
     -- where all but one collection is quiet, the emissions are those of its queries
-    pub due_of_one : (ps : List Place) → ArePlaced ls ps
+    pub due_of_one : (ps : List QueryPlace) → ArePlaced ls ps
         → flat_map (emission_due w) (queries_of ls ps) ≡ due_of (named ls coll)
     due_of_one ps placed = due_by ps placed (named ls coll) refl
 
     -- ---- and then that one is settled
 
     -- the query of each place
-    settled_at : (p : Place)
+    settled_at : (p : QueryPlace)
         → query_at (change_named ls coll with_settled) p
         ≡ option_map (settled_query w) (query_at ls p)
     settled_at p =
@@ -372,7 +372,7 @@ module _ (w : World) (ls : Lives) (same : w.collections ≡ colls ls) where
         ] refl
 
     -- once the queries of that one are settled, so are all
-    pub settled_queries : (ps : List Place)
+    pub settled_queries : (ps : List QueryPlace)
         → queries_of (change_named ls coll with_settled) ps
         ≡ map (settled_query w) (queries_of ls ps)
     settled_queries ps =
@@ -382,7 +382,7 @@ module _ (w : World) (ls : Lives) (same : w.collections ≡ colls ls) where
 -- ---- a collection with its queries settled
 
 -- all stays in its places
-pub settled_placed : (ls : Lives) (coll : List ℕ) (ps : List Place) → ArePlaced ls ps
+pub settled_placed : (ls : Lives) (coll : List ℕ) (ps : List QueryPlace) → ArePlaced ls ps
     → ArePlaced (change_named ls coll with_settled) ps
 settled_placed ls coll ps placed =
     placed_changed with_settled (λ l. keys-map (settled l.collection) l.queries) ls coll ps placed
@@ -406,7 +406,7 @@ settled_all_quiet (l ∷ ls) coll distinct quiet =
           all_keys (λ n. bytes_eq l.0 n ≡ false) ls
           (IsDistinct-head bytes_eq l.0 (keys_of ls) distinct) in (
             settled_quiet l.1.collection l.1.queries,
-            all_map (λ (x : List ℕ × Observing).
+            all_weaker (λ (x : List ℕ × Observing).
                 (bytes_eq l.0 x.0 ≡ false) × (bytes_eq coll x.0 ≡ false → IsQuiet x)) IsQuiet
                 (λ x h. h.1 (ap (λ n. bytes_eq n x.0) same_name ∙ h.0)) ls
                 (all_both _ _ ls apart quiet.1),

@@ -1,5 +1,5 @@
 -- What a record makes of the queries, of their places, and of what is to be emitted.
-use Rattle.std.proofs.Common.{◌≡◌, ◌≢◌, ℕ, true, false, cond, Bool, List, [], ◌∷◌, map, Option, Some, None, is_none, is_some, option_map, refl, sym, ap, ◌∙◌, subst, true≢false}
+use Rattle.std.proofs.Common.{◌≡◌, ◌≢◌, ℕ, true, false, cond, Bool, List, [], ◌∷◌, map, Option, Some, None, is_some, option_map, refl, sym, ap, ◌∙◌, subst, true≢false}
 use Rattle.std.proofs.lemmas.Bool.{and_parts}
 use Rattle.std.proofs.lemmas.Slice.Eq.{bytes_eq-Decides}
 use Rattle.std.specs.Prelude.{filter, option_and_then, IsSome}
@@ -8,6 +8,9 @@ use Rattle.std.specs.Map.{keys_of}
 use Rattle.std.specs.Option.{option_map_or}
 use Rattle.std.specs.Str.{bytes_eq}
 use Rattle.rx_value.specs.Named.{named, change_named, put_named}
+use Rattle.rx_value.proofs.Outcomes.{none_is, none_mapped}
+use Rattle.rx_value.proofs.Lists.{all_weaker}
+use Rattle.rx_value.proofs.Bytes.{bytes_itself, bytes_apart}
 use Rattle.rx_collection.specs.Held.{Held}
 use Rattle.rx_record.specs.Content.{Content, collection, rows, replication, exchange, epoch}
 use Rattle.rx_record.specs.declared.record.RowOut.{RowOut}
@@ -19,25 +22,15 @@ use Rattle.rx_world.specs.Step.{legal, stored_rows}
 use Rattle.rx_world.specs.Touch.{Touch, no_collection, new_collection, new_rows, new_where, fork_rows, touch}
 use Rattle.rx_world.specs.World.{World}
 use Rattle.rx_world.specs.declared.replication.Replication.{Replication}
-use Rattle.rx_world.proofs.Looked.{all_change_named, all_put_named, equal_names, named-change_other, named-change_same, named-put_other, other_names}
+use Rattle.rx_world.proofs.Looked.{all_change_named, all_put_named, named-change_other, named-change_same, named-put_other}
 use Rattle.rx_session.specs.Applied.{IsAfter, coll_written, with_written}
 use Rattle.rx_session.specs.Doing.{query_after, watch_in}
 use Rattle.rx_session.specs.Placed.{Lives, ArePlaced, AreQuietBut, IsQuiet, names_in, queries_of, watched_at}
 use Rattle.rx_session.specs.Session.{Observed, with_watched}
-use Rattle.rx_session.specs.declared.place.Place.{Place}
-use Rattle.rx_session.proofs.Places.{all_map, all_of, colls, keys-map, map_same, named-colls, named-map, observed_at, placed_changed, queries_become, queries_stay, query_at}
+use Rattle.rx_session.specs.declared.query_place.QueryPlace.{QueryPlace}
+use Rattle.rx_session.proofs.Places.{all_of, colls, keys-map, map_same, named-colls, named-map, observed_at, placed_changed, queries_become, queries_stay, query_at}
 
 -- ---- a new collection
-
--- nothing there is none
-none_is : {X : Type 0} (o : Option X) → is_none o ≡ true → o ≡ None
-none_is None is = refl
-none_is (Some x) is = cc
-
--- what makes nothing was made of nothing
-nothing_mapped : {X Y : Type 0} (f : X → Y) (o : Option X) → option_map f o ≡ None → o ≡ None
-nothing_mapped f None is = refl
-nothing_mapped f (Some x) is = cc
 
 -- the name of what a record makes isn't held
 abbrev pub IsUnheld : World → Touch → Type 0
@@ -70,7 +63,7 @@ legal_unheld (epoch number) w allowed = tt
 free_name : (name : List ℕ) (w : World) (ls : Lives) → w.collections ≡ colls ls
     → named w.collections name ≡ None → named ls name ≡ None
 free_name name w ls same none =
-    nothing_mapped (λ (l : Observing). l.collection) (named ls name)
+    none_mapped (λ (l : Observing). l.collection) (named ls name)
     (sym (named-colls ls name) ∙ ap (λ cs. named cs name) (sym same) ∙ none)
 
 -- a name that is held is another than one that isn't
@@ -80,25 +73,25 @@ other_held ls name coll none held same =
     true≢false (sym held ∙ ap (λ n. is_some (named ls n)) same ∙ ap is_some none)
 
 -- no place is in a collection that isn't held
-none_in : (name : List ℕ) (ps : List Place) → AllByRecursion (λ p. p.coll ≢ name) ps
+none_in : (name : List ℕ) (ps : List QueryPlace) → AllByRecursion (λ p. p.coll ≢ name) ps
     → names_in name ps ≡ []
 none_in name [] all = refl
 none_in name (p ∷ ps) all =
-    let other = other_names name p.coll (λ same. all.0 (sym same)) in
-    ap (λ b. map (λ (q : Place). q.name)
+    let other = bytes_apart name p.coll (λ same. all.0 (sym same)) in
+    ap (λ b. map (λ (q : QueryPlace). q.name)
     (cond b (p ∷ filter (λ q. bytes_eq name q.coll) ps) (filter (λ q. bytes_eq name q.coll) ps)))
     other ∙ none_in name ps all.1
 
-module _ (ls : Lives) (ps : List Place) (name : List ℕ) (l : Observing) (none : named ls name ≡ None)
+module _ (ls : Lives) (ps : List QueryPlace) (name : List ℕ) (l : Observing) (none : named ls name ≡ None)
     (placed : ArePlaced ls ps) where
   -- each place is in another collection
   all_other : AllByRecursion (λ p. p.coll ≢ name) ps
   all_other =
-      all_map (λ p. IsSome (named ls p.coll)) (λ p. p.coll ≢ name)
+      all_weaker (λ p. IsSome (named ls p.coll)) (λ p. p.coll ≢ name)
       (λ p held. other_held ls name p.coll none held) ps placed.held
 
   -- the collection of each place stays
-  new_other : (p : Place) → p.coll ≢ name
+  new_other : (p : QueryPlace) → p.coll ≢ name
       → named (put_named ls name l) p.coll ≡ named ls p.coll
   new_other p other = named-put_other ls name p.coll l other
 
@@ -106,7 +99,7 @@ module _ (ls : Lives) (ps : List Place) (name : List ℕ) (l : Observing) (none 
   new_queries : queries_of (put_named ls name l) ps ≡ queries_of ls ps
   new_queries =
       queries_stay ls (put_named ls name l) ps
-      (all_map (λ p. p.coll ≢ name) (λ p. watched_at (put_named ls name l) p ≡ watched_at ls p)
+      (all_weaker (λ p. p.coll ≢ name) (λ p. watched_at (put_named ls name l) p ≡ watched_at ls p)
       (λ p other. ap (option_and_then (λ (x : Observing). named x.queries p.name)) (new_other p other))
       ps all_other)
 
@@ -114,7 +107,7 @@ module _ (ls : Lives) (ps : List Place) (name : List ℕ) (l : Observing) (none 
   new_placed : l.queries ≡ [] → ArePlaced (put_named ls name l) ps
   new_placed empty = record {
     distinct = placed.distinct;
-    held = all_map (λ p. IsSome (named ls p.coll))
+    held = all_weaker (λ p. IsSome (named ls p.coll))
         (λ p. IsSome (named (put_named ls name l) p.coll))
         (λ p held. ap is_some (new_other p (other_held ls name p.coll none held)) ∙ held)
         ps placed.held;
@@ -125,7 +118,7 @@ module _ (ls : Lives) (ps : List Place) (name : List ℕ) (l : Observing) (none 
 -- ---- rows
 
 -- what is done to a query of a place
-observed_then : (f : Watched → Watched) (p : Place) (o : Option Watched)
+observed_then : (f : Watched → Watched) (p : QueryPlace) (o : Option Watched)
     → option_map (observed_at p) (option_map f o)
     ≡ option_map (λ (x : Observed). with_watched (f x.watched) x) (option_map (observed_at p) o)
 observed_then f p None = refl
@@ -134,7 +127,7 @@ observed_then f p (Some v) = refl
 module _ (w : World) (ls : Lives) (same : w.collections ≡ colls ls) (lwt : ℕ) (written : List RowOut)
   where
     -- the query of a place in the collection that takes the rows
-    told : (p : Place) (o : Option Observing) (c : Option Held)
+    told : (p : QueryPlace) (o : Option Observing) (c : Option Held)
         → c ≡ option_map (λ (l : Observing). l.collection) o
         → option_map (observed_at p)
         (option_and_then (λ (l : Observing). named l.queries p.name)
@@ -152,7 +145,7 @@ module _ (w : World) (ls : Lives) (same : w.collections ≡ colls ls) (lwt : ℕ
         ∙ observed_then h p (named l.queries p.name))
 
     -- the choice by the name
-    told_here : (p : Place) (o : Option Watched)
+    told_here : (p : QueryPlace) (o : Option Watched)
         → option_map (λ (x : Observed).
         with_watched (watch_in (named w.collections p.coll) lwt written x.watched) x)
         (option_map (observed_at p) o)
@@ -161,10 +154,10 @@ module _ (w : World) (ls : Lives) (same : w.collections ≡ colls ls) (lwt : ℕ
     told_here p (Some v) =
         ap (λ (c : Bool). Some (cond c
         (with_watched (watch_in (named w.collections p.coll) lwt written v) (observed_at p v))
-        (observed_at p v))) (sym (equal_names p.coll))
+        (observed_at p v))) (sym (bytes_itself p.coll))
 
     -- a place in the collection of the rows
-    after_same : (p : Place)
+    after_same : (p : QueryPlace)
         → query_at (change_named ls p.coll (with_written lwt written)) p
         ≡ option_map (query_after w (new_rows p.coll lwt written)) (query_at ls p)
     after_same p =
@@ -176,7 +169,7 @@ module _ (w : World) (ls : Lives) (same : w.collections ≡ colls ls) (lwt : ℕ
         ∙ told_here p (watched_at ls p)
 
     -- a query of another collection
-    not_told : (name : List ℕ) (p : Place) (o : Option Watched) → bytes_eq name p.coll ≡ false
+    not_told : (name : List ℕ) (p : QueryPlace) (o : Option Watched) → bytes_eq name p.coll ≡ false
         → option_map (observed_at p) o
         ≡ option_map (query_after w (new_rows name lwt written)) (option_map (observed_at p) o)
     not_told name p None other = refl
@@ -186,7 +179,7 @@ module _ (w : World) (ls : Lives) (same : w.collections ≡ colls ls) (lwt : ℕ
         (observed_at p v))) (sym other)
 
     -- a place in another collection
-    after_other : (name : List ℕ) (p : Place) → bytes_eq name p.coll ≡ false
+    after_other : (name : List ℕ) (p : QueryPlace) → bytes_eq name p.coll ≡ false
         → query_at (change_named ls name (with_written lwt written)) p
         ≡ option_map (query_after w (new_rows name lwt written)) (query_at ls p)
     after_other name p other =
@@ -198,7 +191,7 @@ module _ (w : World) (ls : Lives) (same : w.collections ≡ colls ls) (lwt : ℕ
         ∙ not_told name p (watched_at ls p) other
 
     -- each place
-    after_at : (name : List ℕ) (p : Place)
+    after_at : (name : List ℕ) (p : QueryPlace)
         → query_at (change_named ls name (with_written lwt written)) p
         ≡ option_map (query_after w (new_rows name lwt written)) (query_at ls p)
     after_at name p =
@@ -215,7 +208,7 @@ module _ (w : World) (ls : Lives) (same : w.collections ≡ colls ls) (lwt : ℕ
 -- ---- what a record touches
 
 -- each query follows it
-pub queries_after : (t : Touch) (w : World) (ls new : Lives) (ps : List Place)
+pub queries_after : (t : Touch) (w : World) (ls new : Lives) (ps : List QueryPlace)
     → w.collections ≡ colls ls → ArePlaced ls ps → IsUnheld w t → IsAfter t ls new
     → queries_of new ps ≡ map (query_after w t) (queries_of ls ps)
 queries_after no_collection w ls new ps same placed unheld after =
@@ -232,7 +225,7 @@ queries_after (new_rows name lwt written) w ls new ps same placed unheld after =
     (all_of _ (after_at w ls same lwt written name) ps)
 
 -- all stays in its places
-pub placed_after : (t : Touch) (w : World) (ls new : Lives) (ps : List Place)
+pub placed_after : (t : Touch) (w : World) (ls new : Lives) (ps : List QueryPlace)
     → w.collections ≡ colls ls → ArePlaced ls ps → IsUnheld w t → IsAfter t ls new
     → ArePlaced new ps
 placed_after no_collection w ls new ps same placed unheld after =

@@ -11,7 +11,7 @@ use Rattle.rx_world.specs.Step.{stored_rows}
 use Rattle.rx_world.specs.Touch.{Touch, no_collection, new_collection, new_rows}
 use Rattle.rx_session.specs.Lives.{due_of, with_query, with_settled, without_query}
 use Rattle.rx_session.specs.Placed.{Lives}
-use Rattle.rx_session.specs.declared.place.Place.{Place}
+use Rattle.rx_session.specs.declared.query_place.QueryPlace.{QueryPlace}
 
 -- the collection whose documents are written
 abbrev pub coll_written : Touch → Option (List ℕ)
@@ -47,6 +47,6 @@ due_in None ls = []
 due_in (Some coll) ls = due_of (named ls coll)
 
 -- without the query of a name in the collection of its place, if there is one
-abbrev pub unobserved : List ℕ → Option Place → Lives → Lives
-unobserved name None ls = ls
-unobserved name (Some p) ls = change_named ls p.coll (without_query name)
+abbrev pub without_observed : List ℕ → Option QueryPlace → Lives → Lives
+without_observed name None ls = ls
+without_observed name (Some p) ls = change_named ls p.coll (without_query name)

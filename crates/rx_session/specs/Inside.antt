@@ -1,4 +1,4 @@
--- How the fields of a session are seen.
+-- How the fields of a session are session_in.
 use Rattle.std.specs.List.{AllByRecursion}
 use Rattle.rx_world.specs.Holders.{holders_in}
 use Rattle.rx_world.specs.Valid.{AreDistinct}
@@ -7,8 +7,8 @@ use Rattle.rx_session.specs.Session.{Session}
 use Rattle.rx_session.specs.declared.session.Session.TheInside.{Inside}
 
 -- as its parts
-abbrev pub seen : Inside → Session
-seen s = record {
+abbrev pub session_in : Inside → Session
+session_in s = record {
   world = world_of s.world;
   moment = s.moment;
   queries = queries_of (holders_in s.world) s.places.items;

@@ -10,7 +10,7 @@ use Rattle.rx_observe.specs.Watched.{Watched}
 use Rattle.rx_world.specs.Holders.{Holders, world_in}
 use Rattle.rx_world.specs.World.{World}
 use Rattle.rx_session.specs.Session.{Observed}
-use Rattle.rx_session.specs.declared.place.Place.{Place}
+use Rattle.rx_session.specs.declared.query_place.QueryPlace.{QueryPlace}
 
 -- collections with their queries, by name
 abbrev pub Lives : Type 0
@@ -21,29 +21,29 @@ abbrev pub world_of : Holders Observing → World
 world_of h = world_in (λ (l : Observing). l.collection) h
 
 -- the place of the query of a name
-abbrev pub place_named : List ℕ → List Place → Option Place
+abbrev pub place_named : List ℕ → List QueryPlace → Option QueryPlace
 place_named name ps = find (λ p. bytes_eq name p.name) ps
 
 -- the query of a place
-abbrev pub watched_at : Lives → Place → Option Watched
+abbrev pub watched_at : Lives → QueryPlace → Option Watched
 watched_at ls p = option_and_then (λ l. named l.queries p.name) (named ls p.coll)
 
 -- with the query of a place in front, where it is there
-abbrev pub with_found : Place → Option Watched → List Observed → List Observed
+abbrev pub with_found : QueryPlace → Option Watched → List Observed → List Observed
 with_found p None os = os
 with_found p (Some w) os = record { name = p.name; coll = p.coll; watched = w } ∷ os
 
 -- the queries of all places
-abbrev pub queries_of : Lives → List Place → List Observed
+abbrev pub queries_of : Lives → List QueryPlace → List Observed
 queries_of ls [] = []
 queries_of ls (p ∷ ps) = with_found p (watched_at ls p) (queries_of ls ps)
 
 -- the names of the places in a collection
-abbrev pub names_in : List ℕ → List Place → List (List ℕ)
+abbrev pub names_in : List ℕ → List QueryPlace → List (List ℕ)
 names_in coll ps = map (λ p. p.name) (filter (λ p. bytes_eq coll p.coll) ps)
 
 -- the queries of a collection are those of its places, in order
-abbrev pub IsListed : List Place → List ℕ × Observing → Type 0
+abbrev pub IsListed : List QueryPlace → List ℕ × Observing → Type 0
 IsListed ps l = keys_of l.1.queries ≡ names_in l.0 ps
 
 -- no rows of a collection's queries are to be emitted
@@ -52,7 +52,7 @@ IsQuiet l = emissions_due l.1.collection l.1.queries ≡ []
 
 -- no name stands twice, each place's collection is held, and each collection has the queries of its
 -- places
-pub record ArePlaced (ls : Lives) (ps : List Place) : Type 0 where
+pub record ArePlaced (ls : Lives) (ps : List QueryPlace) : Type 0 where
   pub distinct : IsDistinct bytes_eq (map (λ p. p.name) ps)
   pub held : AllByRecursion (λ p. IsSome (named ls p.coll)) ps
   pub listed : AllByRecursion (IsListed ps) ls

@@ -5,19 +5,26 @@ use Rattle.std.specs.Str.{bytes_eq}
 use Rattle.rx_value.specs.Named.{named, change_named}
 use Rattle.rx_observe.specs.declared.emission.Emission.{Emission}
 use Rattle.rx_world.specs.Holders.{holders_in}
+use Rattle.rx_world.specs.Touch.{Touch}
 use Rattle.rx_world.specs.Valid.{AreDistinct}
+use Rattle.rx_session.specs.Applied.{coll_written}
 use Rattle.rx_session.specs.Lives.{due_of, with_settled}
 use Rattle.rx_session.specs.Placed.{Lives, ArePlaced, IsQuiet, queries_of, world_of}
 use Rattle.rx_session.specs.Session.{Session}
-use Rattle.rx_session.specs.declared.place.Place.{Place}
+use Rattle.rx_session.specs.declared.query_place.QueryPlace.{QueryPlace}
 use Rattle.rx_session.specs.declared.playing.Playing.TheInside.{Inside}
 
 -- ---- the collections that were written
 
+-- the collection whose documents are written, where any query is observed
+abbrev pub coll_to_note : List QueryPlace → Touch → Option (List ℕ)
+coll_to_note [] t = None
+coll_to_note (p ∷ ps) t = coll_written t
+
 -- with the name of one more, if there is one
-abbrev pub noted : Option (List ℕ) → List (List ℕ) → List (List ℕ)
-noted None written = written
-noted (Some coll) written =
+abbrev pub add_written : Option (List ℕ) → List (List ℕ) → List (List ℕ)
+add_written None written = written
+add_written (Some coll) written =
     if list_any (bytes_eq coll) written then written else written ++ coll ∷ []
 
 -- nothing is to be emitted of any other
@@ -26,8 +33,8 @@ AreQuietUnless written ls =
     AllByRecursion (λ l. list_any (bytes_eq l.0) written ≡ false → IsQuiet l) ls
 
 -- seen as the session after the records so far
-abbrev pub seen_in_play : Inside → Session
-seen_in_play s = record {
+abbrev pub session_in_play : Inside → Session
+session_in_play s = record {
   world = world_of s.world;
   moment = s.moment;
   queries = queries_of (holders_in s.world) s.places.items;
@@ -64,13 +71,13 @@ without_emission name (e ∷ es) =
     if bytes_eq name e.name then es else e ∷ without_emission name es
 
 -- emissions in the order of the places
-abbrev pub in_places : List Place → List Emission → List Emission
+abbrev pub in_places : List QueryPlace → List Emission → List Emission
 in_places [] es = []
 in_places (p ∷ ps) es =
     cons_option (emission_of p.name es) (in_places ps (without_emission p.name es))
 
 -- those that are due: of one collection in the order of its queries, of several in that of the places
-abbrev pub due_in_all : List (List ℕ) → List Place → Lives → List Emission
+abbrev pub due_in_all : List (List ℕ) → List QueryPlace → Lives → List Emission
 due_in_all [] ps ls = []
 due_in_all (coll ∷ []) ps ls = due_of (named ls coll)
 due_in_all (coll ∷ next ∷ written) ps ls = in_places ps (due_each (coll ∷ next ∷ written) ls)

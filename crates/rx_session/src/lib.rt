@@ -6,8 +6,8 @@ mod applying;
 mod doing;
 mod emitting;
 mod next;
-mod place;
 mod playing;
+mod query_place;
 mod reopening;
 mod session;
 

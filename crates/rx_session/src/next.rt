@@ -5,7 +5,7 @@ ghost use Rattle.rx_value.specs.Named.{named};
 ghost use Rattle.rx_query.specs.Asked.{asked};
 ghost use Rattle.rx_record.specs.Shown.{content};
 ghost use Rattle.rx_world.specs.Holders.{holders_in};
-ghost use Rattle.rx_session.specs.Applied.{due_in, settled_in, unobserved, watched_in};
+ghost use Rattle.rx_session.specs.Applied.{due_in, settled_in, without_observed, watched_in};
 ghost use Rattle.rx_session.specs.Doing as doing;
 ghost use Rattle.rx_session.specs.Doing.{after, has_key, MayDo};
 ghost use Rattle.rx_session.specs.Emissions.{emissions, settled_session, IsSettled};
@@ -15,7 +15,7 @@ ghost use Rattle.rx_session.specs.Shown.{done_by};
 
 use crate::doing::{Doing, Watch};
 use crate::emitting::{observe, take_due, unobserve};
-use crate::place::Place;
+use crate::query_place::QueryPlace;
 use crate::session::{Session, find_place};
 use rx_observe::{Emission, Live};
 use rx_query::Query;
@@ -150,18 +150,18 @@ fn observe_in(
     take_due(alloc, world, coll)
 }
 
-fn add_place(places: &mut Vec<Place>, name: RxText, coll: RxText) -> Result<(), AllocError>
+fn add_place(places: &mut Vec<QueryPlace>, name: RxText, coll: RxText) -> Result<(), AllocError>
     ensures { OnOk result
         (places.new.items ≡ places.old.items ++ record { name = name; coll = coll } ∷ []) }
 {
-    places.push(Place { name, coll })?;
+    places.push(QueryPlace { name, coll })?;
     Ok(())
 }
 
 // Observes the query of a name no more in the collection of its place, if there is one.
-fn unobserve_at(world: &mut World<Live>, place: Option<&Place>, name: &RxText)
+fn unobserve_at(world: &mut World<Live>, place: Option<&QueryPlace>, name: &RxText)
     ensures lives { holders_in world.new
-        ≡ unobserved name.now (option_map (λ p. p.now) place.entry) (holders_in world.old) }
+        ≡ without_observed name.now (option_map (λ p. p.now) place.entry) (holders_in world.old) }
     ensures replications { world.new.replications ≡ world.old.replications }
     ensures epoch { world.new.epoch ≡ world.old.epoch }
 {
@@ -171,7 +171,7 @@ fn unobserve_at(world: &mut World<Live>, place: Option<&Place>, name: &RxText)
     }
 }
 
-fn drop_place(places: &mut Vec<Place>, name: &RxText)
+fn drop_place(places: &mut Vec<QueryPlace>, name: &RxText)
     ensures { places.new.items ≡ filter (λ p. not (bytes_eq name.now p.name)) places.old.items }
 {
     places.retain(|place| *name != place.name);

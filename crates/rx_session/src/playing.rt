@@ -6,15 +6,16 @@ ghost use Rattle.rx_record.specs.Shown.{content};
 ghost use Rattle.rx_record.specs.Writable.{IsOrdered};
 ghost use Rattle.rx_world.specs.Holders.{holders_in};
 ghost use Rattle.rx_world.specs.Step.{legal};
+ghost use Rattle.rx_world.specs.Touch.{touch};
 ghost use Rattle.rx_session.specs.Doing as doing;
 ghost use Rattle.rx_session.specs.Doing.{after};
 ghost use Rattle.rx_session.specs.Emissions.{emissions, settled_session, IsSettled};
 ghost use Rattle.rx_session.specs.Placed.{world_of};
-ghost use Rattle.rx_session.specs.Playing.{due_each, due_in_all, emission_of, in_places, noted, settled_each, without_emission};
+ghost use Rattle.rx_session.specs.Playing.{coll_to_note, due_each, due_in_all, emission_of, in_places, add_written, settled_each, without_emission};
 
 use crate::applying::{apply_legal, coll_written};
 use crate::emitting::take_due;
-use crate::place::Place;
+use crate::query_place::QueryPlace;
 use crate::session::Session;
 use rx_diagram::Diagram;
 use rx_observe::{Emission, Live};
@@ -31,9 +32,9 @@ use std::rc::Rc;
 pub struct Playing {
     world: World<Live>,
     moment: u64,
-    places: Vec<Place>,
+    places: Vec<QueryPlace>,
     diagram: Rc<Diagram>,
-    // The names of the collections whose documents were written.
+    // The names of the collections whose documents were written, where any query is observed.
     written: Vec<RxText>,
 }
 
@@ -45,9 +46,9 @@ impl Model for Playing {
 
     ghost coded = { session_code };
 
-    ghost use Rattle.rx_session.specs.Playing.{seen_in_play, IsInPlay};
+    ghost use Rattle.rx_session.specs.Playing.{session_in_play, IsInPlay};
 
-    ghost view = { seen_in_play };
+    ghost view = { session_in_play };
 
     ghost invariant = { IsInPlay };
 }
@@ -89,7 +90,7 @@ impl Playing {
             diagram,
             mut written,
         } = self;
-        let coll = coll_written(alloc, &world, &entry)?;
+        let coll = coll_to_note(alloc, &world, places.as_slice(), &entry)?;
         let world = apply_legal(world, alloc, entry, &diagram)?;
         note(&mut written, coll)?;
         Ok(Playing {
@@ -124,9 +125,25 @@ impl Playing {
     }
 }
 
+// The collection whose documents a record writes, where any query is observed.
+fn coll_to_note(
+    alloc: Global,
+    world: &World<Live>,
+    places: &[QueryPlace],
+    entry: &Record,
+) -> Result<Option<RxText>, AllocError>
+    ensures { IfOk result (λ coll. coll
+        ≡ coll_to_note places.now (touch (content entry.now) (world_of world.now))) }
+{
+    if places.is_empty() {
+        return Ok(None);
+    }
+    coll_written(alloc, world, entry)
+}
+
 // The names, with one more, if there is one.
 fn note(written: &mut Vec<RxText>, coll: Option<RxText>) -> Result<(), AllocError>
-    ensures { OnOk result (written.new.items ≡ noted coll written.old.items) }
+    ensures { OnOk result (written.new.items ≡ add_written coll written.old.items) }
 {
     let Some(coll) = coll else {
         return Ok(());
@@ -148,7 +165,7 @@ fn is_noted(written: &[RxText], coll: &RxText) -> bool
 fn take_all(
     alloc: Global,
     world: &mut World<Live>,
-    places: &[Place],
+    places: &[QueryPlace],
     written: &[RxText],
 ) -> Result<Vec<Emission>, AllocError>
     ensures lives { OnOk result
@@ -203,7 +220,7 @@ fn add_all(all: &mut Vec<Emission>, more: Vec<Emission>) -> Result<(), AllocErro
 // Emissions in the order of the places.
 fn in_places(
     alloc: Global,
-    places: &[Place],
+    places: &[QueryPlace],
     mut due: Vec<Emission>,
 ) -> Result<Vec<Emission>, AllocError>
     ensures { IfOk result (λ ordered. ordered.items ≡ in_places places.now due.items) }

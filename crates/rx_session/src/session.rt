@@ -14,7 +14,7 @@ ghost use Rattle.rx_world.specs.Valid.{AreDistinct, AreValid};
 ghost use Rattle.rx_session.specs.Placed.{AreUnwatched, place_named, world_of};
 ghost use Rattle.rx_session.specs.Session.{is_observed, counts_of};
 
-use crate::place::Place;
+use crate::query_place::QueryPlace;
 use rx_collection::Collection;
 use rx_diagram::Diagram;
 use rx_observe::Live;
@@ -33,7 +33,7 @@ pub struct Session {
     pub(crate) world: World<Live>,
     pub(crate) moment: u64,
     /// The observed queries in the order of observing.
-    pub(crate) places: Vec<Place>,
+    pub(crate) places: Vec<QueryPlace>,
     /// A share for each collection that is made later.
     pub(crate) diagram: Rc<Diagram>,
 }
@@ -46,9 +46,9 @@ impl Model for Session {
 
     ghost coded = { session_code };
 
-    ghost use Rattle.rx_session.specs.Inside.{seen, IsInOrder};
+    ghost use Rattle.rx_session.specs.Inside.{session_in, IsInOrder};
 
-    ghost view = { seen };
+    ghost view = { session_in };
 
     ghost invariant = { IsInOrder };
 }
@@ -167,7 +167,7 @@ impl Session {
 }
 
 /// The place of the query of that name.
-pub(crate) fn find_place<'a>(places: &'a [Place], name: &RxText) -> Option<&'a Place>
+pub(crate) fn find_place<'a>(places: &'a [QueryPlace], name: &RxText) -> Option<&'a QueryPlace>
     ensures { option_map (λ p. p.now) result ≡ place_named name.now places.now }
 {
     for place in places {

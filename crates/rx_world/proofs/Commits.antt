@@ -21,7 +21,7 @@ use Rattle.rx_record.specs.Rows.{key_of}
 use Rattle.rx_record.specs.Writable.{IsOrdered}
 use Rattle.rx_record.specs.declared.record.RowOut.{RowOut}
 use Rattle.rx_world.specs.Commit.{out_of}
-use Rattle.rx_world.specs.Step.{IsValidState, is_due, takes, legal}
+use Rattle.rx_world.specs.Step.{IsValidState, is_next_row, takes, legal}
 use Rattle.rx_world.specs.World.{World}
 
 -- ---- states by key
@@ -66,7 +66,7 @@ module _ (c : Held) (lwt : ℕ) where
   keys-outs (e ∷ es) all = rw all.0.0 (ap (λ ks. e.0 ∷ ks) (keys-outs es all.1))
 
   due-outs : (es : List (List ℕ × State)) → AllStand c.schema es
-      → list_all (is_due c) (outs es) ≡ true
+      → list_all (is_next_row c) (outs es) ≡ true
   due-outs [] all = refl
   due-outs (e ∷ es) all =
       let next = next_height (named c.documents e.1.key) in

@@ -1,6 +1,6 @@
 -- Tests that decide whether replications are sound.
-use Rattle.std.proofs.Common.{◌≡◌, ◌↔◌, ℕ, ◌||◌, not, Bool, true, false, true≢false, cond, List, [], ◌∷◌, Option, Some, None, is_some, String, Global, refl, sym, ap, ◌∙◌, ◌⊎◌, inl, inr, subst}
-use Rattle.std.proofs.lemmas.Bool.{and_parts, or_cases, or_left, or_right, not-true, not-false}
+use Rattle.std.proofs.Common.{◌≡◌, ◌↔◌, ℕ, ◌||◌, not, Bool, true, false, true≢false, cond, List, [], ◌∷◌, Option, Some, is_some, String, Global, refl, sym, ap, ◌∙◌, ◌⊎◌, inl, inr, subst}
+use Rattle.std.proofs.lemmas.Bool.{and_parts, or_cases, or_left, or_right, not-true}
 use Rattle.std.specs.Bool.{Decides}
 use Rattle.std.specs.Cmp.Derive.{both_true}
 use Rattle.std.specs.List.{AllByRecursion, list_all, list_any}
@@ -9,6 +9,7 @@ use Rattle.std.specs.Ordering.{is_lt}
 use Rattle.std.specs.Str.{bytes_eq}
 use Rattle.rx_value.specs.Named.{named, by_bytes, AreRising}
 use Rattle.rx_value.specs.declared.state.State.{State}
+use Rattle.rx_value.proofs.Outcomes.{some_is, not_none}
 use Rattle.rx_document.specs.Documents.{Documents}
 use Rattle.rx_document.specs.Place.{place_cmp}
 use Rattle.rx_document.specs.declared.place.Place.{Place}
@@ -16,13 +17,12 @@ use Rattle.rx_document.specs.declared.stored.Stored.{Stored}
 use Rattle.rx_collection.specs.Held.{Held}
 use Rattle.rx_collection.specs.Lawful.{IsLawful}
 use Rattle.rx_collection.specs.Since.{place_of}
-use Rattle.rx_collection.proofs.Named.{at_name, all_named, named_later, same_name}
+use Rattle.rx_collection.proofs.Named.{at_name, all_named, named_later}
 use Rattle.rx_meta.specs.Side.{Side, AreKnownByKey}
 use Rattle.rx_replication.specs.Known.{KnownStates, is_state}
 use Rattle.rx_replication.specs.Sound.{AreKnownUpTo, HoldKnown, IsSoundSide, Reach}
 use Rattle.rx_replication.specs.Write.{is_up_to, AreByKey}
 use Rattle.rx_replication.proofs.Commits.{lawful-by_key, key_at}
-use Rattle.rx_replication.proofs.Lists.{not_none}
 use Rattle.rx_replication.proofs.Orders.{is_state-some, is_state-itself}
 
 -- ---- tests of all things, and of one of them
@@ -80,10 +80,6 @@ module _ {X : Type 0} (test : X → Bool) where
 
 -- ---- a side
 
-something : {X : Type 0} (o : Option X) → is_some o ≡ true → (x : X) × (o ≡ Some x)
-something None is = absurd (true≢false (sym is))
-something (Some x) is = (x, refl)
-
 -- each known key is held
 pub decides_held : (c : Held) (known : KnownStates) → AreKnownByKey known → (b : Bool)
     → b ≡ list_all (λ (s : State). is_some (named c.documents s.key)) (values_of known)
@@ -91,7 +87,7 @@ pub decides_held : (c : Held) (known : KnownStates) → AreKnownByKey known → 
 decides_held c known by_key b is = (
   λ yes. λ k s at.
       let own : s.key ≡ k = at_name (λ k s. s.key ≡ k) known k s by_key.keyed at in
-      let there = something (named c.documents s.key)
+      let there = some_is (named c.documents s.key)
       (named_pass (λ (s : State). is_some (named c.documents s.key)) known (sym is ∙ yes) k s at) in
       (there.0, ap (named c.documents) (sym own) ∙ there.1),
   λ holds. is ∙ each_pass (λ (s : State). is_some (named c.documents s.key)) known by_key.rising (λ k s at.

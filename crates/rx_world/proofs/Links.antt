@@ -1,5 +1,5 @@
 -- Replications stay linked.
-use Rattle.std.proofs.Common.{◌≡◌, ◌≢◌, ◌≤◌, ℕ, ◌&&◌, ◌||◌, not, Bool, true, false, true≢false, cond, List, [], ◌∷◌, map, length, Option, Some, None, is_some, is_none, nat_lt, IfSome, option_map, option_and_then, Result, Ok, Err, refl, sym, ap, ◌∙◌, ◌⊎◌, inl, inr, subst, arith}
+use Rattle.std.proofs.Common.{◌≡◌, ◌≢◌, ◌≤◌, ℕ, ◌&&◌, ◌||◌, not, Bool, true, false, true≢false, cond, List, [], ◌∷◌, map, length, Option, Some, None, is_some, is_none, nat_lt, IfSome, option_map, option_and_then, Result, Ok, Err, refl, sym, ap, ◌∙◌, inl, inr, subst, arith}
 use Rattle.std.proofs.lemmas.Bool.{and_parts, or_parts, not-true, ltb-true}
 use Rattle.std.proofs.lemmas.Slice.Eq.{bytes_eq-Decides}
 use Rattle.std.specs.Borrow.{Bor}
@@ -10,6 +10,8 @@ use Rattle.std.specs.Str.{bytes_eq}
 use Rattle.rx_value.specs.Name.{is_name}
 use Rattle.rx_value.specs.Named.{named, put_named, change_named, put_in_order, AreRising}
 use Rattle.rx_value.specs.declared.state.State.{State}
+use Rattle.rx_value.proofs.Outcomes.{none_is, some_same, not_none}
+use Rattle.rx_value.proofs.Bytes.{bytes_cases}
 use Rattle.serde_json.specs.Read.{read}
 use Rattle.rx_schema.specs.Reading.{schema_of}
 use Rattle.rx_schema.specs.Writing.{canonical_text}
@@ -29,7 +31,6 @@ use Rattle.rx_record.specs.declared.record.MasterName.TheVariants.{Local, Port}
 use Rattle.rx_record.specs.declared.record.RowOut.{RowOut}
 use Rattle.rx_replication.specs.Known.{KnownStates, with_learnt}
 use Rattle.rx_replication.proofs.Commits.{learn-rising}
-use Rattle.rx_replication.proofs.Lists.{some_same, not_none}
 use Rattle.rx_world.specs.Chain.{has_fork, is_fork, is_master, may_follow}
 use Rattle.rx_world.specs.Linked.{IsMasterOf, HasMaster, IsLinked, AreLinked, forks_of}
 use Rattle.rx_world.specs.Replicating.{new_replication, with_exchange, has_schema_of, is_fitting}
@@ -40,7 +41,6 @@ use Rattle.rx_world.specs.Valid.{AllSpelled, IsSpelled}
 use Rattle.rx_world.specs.World.{World, Collections, Replications, empty, max_replications}
 use Rattle.rx_world.specs.declared.replication.Replication.{Replication}
 use Rattle.rx_world.proofs.Looked.{named-put_other, named-change_same, named-change_other, all_put_named, all_change_named}
-use Rattle.rx_world.proofs.States.{nothing}
 use Rattle.rx_world.proofs.Steps.{collection_new, exchange_goes}
 
 -- ---- what stays held
@@ -52,14 +52,6 @@ pub record StayHeld (before after : Collections) : Type 0 where
 
 stay_same : (cs : Collections) → StayHeld cs cs
 stay_same cs = record { held = λ k c at. (c, at, refl) }
-
--- a name is another one, or the same
-pub same_or_not : (k name : List ℕ) → (k ≡ name) ⊎ (k ≢ name)
-same_or_not k name =
-    elim (bytes_eq k name) as (λ b. bytes_eq k name ≡ b → (k ≡ name) ⊎ (k ≢ name)) [
-      | true ↦ (λ h. inl ((bytes_eq-Decides k name).0 h))
-      | false ↦ (λ h. inr (λ same. true≢false (sym ((bytes_eq-Decides k name).1 same) ∙ h)))
-    ] refl
 
 -- a held name isn't a free one
 pub held_other : {X : Type 0} (cs : List (List ℕ × X)) (k name : List ℕ) (c : X) → named cs name ≡ None
@@ -85,7 +77,7 @@ written-schema lwt written c = with_rows-schema c (stored_rows c.name lwt writte
 pub stay_written : (cs : Collections) (name : List ℕ) (lwt : ℕ) (written : List RowOut)
     → StayHeld cs (change_named cs name (written_to lwt written))
 stay_written cs name lwt written = record {
-  held = λ k c at. elim (same_or_not k name) [
+  held = λ k c at. elim (bytes_cases k name) [
     | inl is ↦ (
       written_to lwt written c,
       ap (named (change_named cs name (written_to lwt written))) is
@@ -178,7 +170,7 @@ begins name fork master w is =
     let four = (and_parts (a && b && d && e) g is).0 in
     let three = and_parts (a && b && d) e four in
     let two = and_parts (a && b) d three.0 in
-    let free = nothing (named w.replications name) (and_parts a b two.0).1 in
+    let free = none_is (named w.replications name) (and_parts a b two.0).1 in
     elim (named w.collections fork) as (λ o. named w.collections fork ≡ o
     → option_map_or fits o false ≡ true → Begins name fork master w) [
       | None ↦ (λ at no. absurd (true≢false (sym no)))

@@ -6,18 +6,7 @@ use Rattle.std.specs.Map.{keys_of}
 use Rattle.std.specs.Str.{bytes_eq}
 use Rattle.rx_value.specs.Named.{named, put_named, change_named}
 use Rattle.rx_value.proofs.Named.{named-put_named}
-
--- equal names
-pub equal_names : (k : List ℕ) → bytes_eq k k ≡ true
-equal_names k = (bytes_eq-Decides k k).1 refl
-
--- other names
-pub other_names : (k l : List ℕ) → k ≢ l → bytes_eq k l ≡ false
-other_names k l apart =
-    elim (bytes_eq k l) as (λ b. bytes_eq k l ≡ b → b ≡ false) [
-      | true ↦ (λ is. absurd (apart ((bytes_eq-Decides k l).0 is)))
-      | false ↦ (λ is. refl)
-    ] refl
+use Rattle.rx_value.proofs.Bytes.{bytes_apart}
 
 module _ {X : Type 0} where
   -- a thing that was put is named
@@ -25,7 +14,7 @@ module _ {X : Type 0} where
   pub named-put_other : (es : List (List ℕ × X)) (k q : List ℕ) (x : X) → q ≢ k
       → named (put_named es k x) q ≡ named es q
   named-put_other es k q x apart =
-      named-put_named es k q x ∙ ap (λ b. cond b (Some x) (named es q)) (other_names q k apart)
+      named-put_named es k q x ∙ ap (λ b. cond b (Some x) (named es q)) (bytes_apart q k apart)
 
   -- one thing, and then the others
   changed_here : (f : X → X) (b : Bool) (e : List ℕ × X) (es xs : List (List ℕ × X)) (k : List ℕ)
@@ -47,7 +36,7 @@ module _ {X : Type 0} where
       → named (cond b ((e.0, f e.1) ∷ es) (e ∷ xs)) q ≡ named (e ∷ es) q
   changed_there f true e es xs k q is apart rest =
       let not_here : bytes_eq q e.0 ≡ false =
-      subst (λ n. bytes_eq q n ≡ false) ((bytes_eq-Decides k e.0).0 is) (other_names q k apart) in
+      subst (λ n. bytes_eq q n ≡ false) ((bytes_eq-Decides k e.0).0 is) (bytes_apart q k apart) in
       ap (λ b. cond b (Some (f e.1)) (named es q)) not_here
       ∙ sym (ap (λ b. cond b (Some e.1) (named es q)) not_here)
   changed_there f false e es xs k q is apart rest = ap (cond (bytes_eq q e.0) (Some e.1)) rest
@@ -103,7 +92,7 @@ module _ {X : Type 0} where
         | true ↦ (λ is. distinct)
         | false ↦ (λ is.
             let apart : bytes_eq e.0 k ≡ false =
-            other_names e.0 k
+            bytes_apart e.0 k
             (λ same. true≢false (sym ((bytes_eq-Decides k e.0).1 (sym same)) ∙ is)) in
             (apart_put e.0 es k x apart distinct.0, distinct_put_named es k x distinct.1))
       ] refl

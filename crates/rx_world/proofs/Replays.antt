@@ -1,8 +1,8 @@
 -- Replaying more bodies.
 use Rattle.std.proofs.Common.{◌≡◌, ℕ, List, [], ◌∷◌, ◌++◌, true, false, cond, Option, Some, None, Ok, refl, ap, ◌∙◌}
 use Rattle.rx_record.specs.Content.{Content, record_of}
-use Rattle.rx_world.specs.Replay.{played, replay_from, replay}
-use Rattle.rx_world.specs.Step.{step, stepped, legal}
+use Rattle.rx_world.specs.Replay.{after_body, replay_from, replay}
+use Rattle.rx_world.specs.Step.{step, step_where_legal, legal}
 use Rattle.rx_world.specs.World.{World, empty}
 
 -- from no world there is none
@@ -18,7 +18,7 @@ replay_from-nothing (Some w) = refl
 
 -- the first body, and then the others
 pub replay_from-first : (w : World) (body : List ℕ) (bodies : List (List ℕ))
-    → replay_from (Some w) (body ∷ bodies) ≡ replay_from (played (record_of body) w) bodies
+    → replay_from (Some w) (body ∷ bodies) ≡ replay_from (after_body (record_of body) w) bodies
 unfolding replay_from
 replay_from-first w body bodies = refl
 
@@ -28,13 +28,13 @@ pub replay_from-append : (o : Option World) (xs ys : List (List ℕ))
 unfolding replay_from
 replay_from-append None xs ys = refl
 replay_from-append (Some w) [] ys = refl
-replay_from-append (Some w) (x ∷ xs) ys = replay_from-append (played (record_of x) w) xs ys
+replay_from-append (Some w) (x ∷ xs) ys = replay_from-append (after_body (record_of x) w) xs ys
 
 pub replay-append : (xs ys : List (List ℕ)) → replay (xs ++ ys) ≡ replay_from (replay xs) ys
 replay-append xs ys = replay_from-append (Some empty) xs ys
 
 -- a legal record makes its step
-pub stepped-legal : (c : Content) (w : World) → legal c w ≡ true → stepped c w ≡ Some (step c w)
+pub stepped-legal : (c : Content) (w : World) → legal c w ≡ true → step_where_legal c w ≡ Some (step c w)
 stepped-legal c w is = ap (λ b. cond b (Some (step c w)) None) is
 
 -- one body more
@@ -43,6 +43,6 @@ pub replay-more : (bodies : List (List ℕ)) (body : List ℕ) (c : Content) (w 
     → replay (bodies ++ body ∷ []) ≡ Some (step c w)
 replay-more bodies body c w at is fits =
     replay-append bodies (body ∷ []) ∙ ap (λ o. replay_from o (body ∷ [])) at
-    ∙ replay_from-first w body [] ∙ ap (λ r. replay_from (played r w) []) is
+    ∙ replay_from-first w body [] ∙ ap (λ r. replay_from (after_body r w) []) is
     ∙ ap (λ o. replay_from o []) (stepped-legal c w fits)
     ∙ replay_from-nothing (Some (step c w))

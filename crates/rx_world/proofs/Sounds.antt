@@ -9,6 +9,7 @@ use Rattle.std.specs.Ordering.{match_ordering}
 use Rattle.rx_value.specs.Named.{named, put_named, change_named, put_in_order}
 use Rattle.rx_value.specs.Order.{text_cmp}
 use Rattle.rx_value.specs.declared.state.State.{State}
+use Rattle.rx_value.proofs.Outcomes.{some_same, not_none}
 use Rattle.rx_document.specs.Documents.{Documents}
 use Rattle.rx_document.specs.declared.place.Place.{Place}
 use Rattle.rx_document.specs.declared.stored.Stored.{Stored}
@@ -27,14 +28,13 @@ use Rattle.rx_replication.specs.Known.{KnownStates}
 use Rattle.rx_replication.specs.Sound.{IsSoundSide, IsForkSound, IsMasterSound}
 use Rattle.rx_replication.specs.Worlds.{Linked, HasSoundMaster, IsSoundIn as IsSoundLink}
 use Rattle.rx_replication.proofs.Commits.{Wrote, commit_wrote}
-use Rattle.rx_replication.proofs.Lists.{some_same, not_none}
 use Rattle.rx_replication.proofs.Worlds.{IsWrittenAt, commit_keeps}
 use Rattle.rx_world.specs.Linked.{HasMaster, IsLinked, AreLinked}
 use Rattle.rx_world.specs.Made.{IsMadeWorld}
 use Rattle.rx_world.specs.Replicating.{new_replication, with_exchange}
 use Rattle.rx_world.specs.Schema.{schema_in}
 use Rattle.rx_world.specs.Sound.{IsSoundWith, IsSoundIn, IsSoundWorld}
-use Rattle.rx_world.specs.Step.{is_valid_state, is_due, takes, legal, step, collections_after, stored_of, stored_rows, written_to}
+use Rattle.rx_world.specs.Step.{is_valid_state, is_next_row, takes, legal, step, collections_after, stored_of, stored_rows, written_to}
 use Rattle.rx_world.specs.Touch.{no_collection, new_where, fork_rows}
 use Rattle.rx_world.specs.World.{World, Collections, Replications, empty}
 use Rattle.rx_world.specs.declared.replication.Replication.{Replication}
@@ -72,12 +72,12 @@ keys-states_of : (written : List RowOut) → map key_of written ≡ map (λ (t :
 keys-states_of [] = refl
 keys-states_of (row ∷ written) = ap (λ ks. row.state.key ∷ ks) (keys-states_of written)
 
-each_row : (c : Held) (lwt : ℕ) (written : List RowOut) → list_all (is_due c) written ≡ true
+each_row : (c : Held) (lwt : ℕ) (written : List RowOut) → list_all (is_next_row c) written ≡ true
     → map (row_of c lwt) (values_of (map keyed (states_of written))) ≡ stored_rows c.name lwt written
 each_row c lwt [] due = refl
 each_row c lwt (row ∷ written) due =
     let next = next_height (named c.documents row.state.key) in
-    let both = and_parts (is_due c row) (list_all (is_due c) written) due in
+    let both = and_parts (is_next_row c row) (list_all (is_next_row c) written) due in
     let height : row.height ≡ next =
     eqb-true row.height next (and_parts (is_valid_state c.schema row.state) (row.height == next) both.0).1 in
     let rest = each_row c lwt written both.1 in
@@ -86,7 +86,7 @@ each_row c lwt (row ∷ written) due =
     ∙ ap (λ ds. stored_of c.name lwt row ∷ ds) rest
 
 pub taken_committed : (c : Held) (lwt : ℕ) (written : List RowOut) → KeysRise written
-    → list_all (is_due c) written ≡ true → rows_of c (states_of written) lwt ≡ stored_rows c.name lwt written
+    → list_all (is_next_row c) written ≡ true → rows_of c (states_of written) lwt ≡ stored_rows c.name lwt written
 taken_committed c lwt written rise due =
     ap (λ es. map (row_of c lwt) (values_of es))
     (by_key-own (states_of written) (subst (IsStrictlySortedBy text_cmp) (keys-states_of written) rise))

@@ -8,15 +8,11 @@ use Rattle.rx_value.specs.Value.{is_text}
 use Rattle.rx_value.specs.declared.state.State.{State}
 use Rattle.rx_value.specs.declared.value.Value.{Value}
 use Rattle.rx_value.specs.declared.value.Value.TheVariants.{Flag, Int, Text}
+use Rattle.rx_value.proofs.Outcomes.{none_is}
 use Rattle.rx_schema.specs.Validity.{first_fault}
 use Rattle.rx_schema.specs.declared.shape.Shape.{Shape}
 use Rattle.rx_collection.specs.Commit.{Carries}
 use Rattle.rx_world.specs.Step.{IsValidState}
-
--- there is none
-pub nothing : {X : Type 0} (o : Option X) → is_none o ≡ true → o ≡ None
-nothing None is = refl
-nothing (Some x) is = absurd (true≢false (sym is))
 
 -- a text that is there
 text_there : (key : List ℕ) (o : Option Value) → is_text key o ≡ true → o ≡ Some (Text key)
@@ -36,7 +32,7 @@ valid_state s state valid carried =
 pub state_valid : (s : Shape) (state : State) → IsValidState s state
     → first_fault s state.fields ≡ None
 state_valid s state is =
-    nothing (first_fault s state.fields)
+    none_is (first_fault s state.fields)
     (and_parts (is_none (first_fault s state.fields))
     (is_text state.key (named state.fields s.primary)) is).0
 

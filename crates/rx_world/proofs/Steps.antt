@@ -7,6 +7,7 @@ use Rattle.std.specs.Option.{option_map_or, ForSome}
 use Rattle.rx_value.specs.Name.{is_name}
 use Rattle.rx_value.specs.Named.{named}
 use Rattle.rx_value.specs.declared.state.State.{State}
+use Rattle.rx_value.proofs.Outcomes.{none_is, some_is}
 use Rattle.rx_schema.specs.declared.shape.Shape.{Shape}
 use Rattle.rx_collection.specs.Commit.{AreNext}
 use Rattle.rx_collection.specs.Held.{Held}
@@ -21,7 +22,6 @@ use Rattle.rx_world.specs.Replicating.{stays_or_rises}
 use Rattle.rx_world.specs.Step.{step, legal, takes, is_held_with, fork_takes, takes_exchange, written_to, stored_rows}
 use Rattle.rx_world.specs.declared.replication.Replication.{Replication}
 use Rattle.rx_world.specs.World.{World, max_collections}
-use Rattle.rx_world.proofs.States.{nothing}
 use Rattle.rx_world.proofs.Looked.{keys-change_named}
 use Rattle.rx_world.proofs.Turns.{taken_are_next}
 
@@ -73,10 +73,6 @@ pub record IsNew (name schema : List ℕ) (w : World) : Type 0 where
   pub unheld : named w.collections name ≡ None
   pub called : is_name name ≡ true
 
-something : {X : Type 0} (o : Option X) → is_some o ≡ true → (x : X) × (o ≡ Some x)
-something None is = absurd (true≢false (sym is))
-something (Some x) is = (x, refl)
-
 pub collection_new : (name schema : List ℕ) (w : World) → legal (collection name schema) w ≡ true
     → IsNew name schema w
 collection_new name schema w is =
@@ -87,11 +83,11 @@ collection_new name schema w is =
     let last = and_parts (a && b && d) e is in
     let third = and_parts (a && b) d last.0 in
     let two = and_parts a b third.0 in
-    let s = something (schema_in schema) last.1 in
+    let s = some_is (schema_in schema) last.1 in
     record {
       shape = s.0;
       read = s.1;
-      unheld = nothing (named w.collections name) two.1;
+      unheld = none_is (named w.collections name) two.1;
       called = two.0;
     }
 

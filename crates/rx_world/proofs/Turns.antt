@@ -22,7 +22,7 @@ use Rattle.rx_collection.proofs.Named.{above_other, all_put}
 use Rattle.rx_record.specs.Rows.{key_of}
 use Rattle.rx_record.specs.declared.record.RowOut.{RowOut}
 use Rattle.rx_world.specs.Holders.{IsWhole}
-use Rattle.rx_world.specs.Step.{is_valid_state, is_due, takes, stored_of, stored_rows, written_to}
+use Rattle.rx_world.specs.Step.{is_valid_state, is_next_row, takes, stored_of, stored_rows, written_to}
 use Rattle.rx_world.proofs.States.{state_carries}
 
 -- ---- rows
@@ -32,7 +32,7 @@ pub record Takes (lwt : ℕ) (written : List RowOut) (c : Held) : Type 0 where
   pub some : 0 < length written
   pub later : last_lwt c.documents < lwt
   pub in_range : lwt ≤ most_lwt
-  pub due : list_all (is_due c) written ≡ true
+  pub due : list_all (is_next_row c) written ≡ true
 
 pub takes_parts : (lwt : ℕ) (written : List RowOut) (c : Held) → takes lwt written c ≡ true
     → Takes lwt written c
@@ -40,7 +40,7 @@ takes_parts lwt written c is =
     let a = nat_lt 0 (length written) in
     let b = nat_lt (last_lwt c.documents) lwt in
     let d = nat_le lwt most_lwt in
-    let e = list_all (is_due c) written in
+    let e = list_all (is_next_row c) written in
     let last = and_parts (a && b && d) e is in
     let third = and_parts (a && b) d last.0 in
     let two = and_parts a b third.0 in
@@ -111,11 +111,11 @@ turns name now lwt (r ∷ rs) low high up ready = (
 
 -- rows that are due wait
 all_ready : (c : Held) (lwt : ℕ) (rs : List RowOut) → IsLawful c → last_lwt c.documents < lwt
-    → list_all (is_due c) rs ≡ true → AllByRecursion (IsReady c lwt) rs
+    → list_all (is_next_row c) rs ≡ true → AllByRecursion (IsReady c lwt) rs
 all_ready c lwt [] lawful later due = tt
 all_ready c lwt (r ∷ rs) lawful later due =
     let next = next_height (named c.documents r.state.key) in
-    let both = and_parts (is_due c r) (list_all (is_due c) rs) due in
+    let both = and_parts (is_next_row c r) (list_all (is_next_row c) rs) due in
     let here = and_parts (is_valid_state c.schema r.state) (r.height == next) both.0 in (
       record {
         below = all_below c lwt r.state.key lawful later;

@@ -16,7 +16,7 @@ use Rattle.rx_collection.proofs.Named.{at_name, all_put}
 use Rattle.rx_record.specs.Content.{Content, collection, rows, replication, exchange, epoch}
 use Rattle.rx_record.specs.declared.record.RowOut.{RowOut}
 use Rattle.rx_world.specs.Schema.{schema_in}
-use Rattle.rx_world.specs.Step.{is_valid_state, is_due, takes, legal, step, collections_after, stored_of, stored_rows, written_to}
+use Rattle.rx_world.specs.Step.{is_valid_state, is_next_row, takes, legal, step, collections_after, stored_of, stored_rows, written_to}
 use Rattle.rx_world.specs.Touch.{no_collection, new_where, fork_rows}
 use Rattle.rx_world.specs.Valid.{AreValid, AllValid, AreDistinct}
 use Rattle.rx_world.specs.World.{World, empty}
@@ -33,12 +33,12 @@ abbrev RowsAreValid : Shape → List RowOut → Type 0
 RowsAreValid s written = AllByRecursion (λ row. first_fault s row.state.fields ≡ None) written
 
 -- those of rows that are due are so
-due_valid : (c : Held) (written : List RowOut) → list_all (is_due c) written ≡ true
+due_valid : (c : Held) (written : List RowOut) → list_all (is_next_row c) written ≡ true
     → RowsAreValid c.schema written
 due_valid c [] due = tt
 due_valid c (r ∷ rs) due =
     let next = next_height (named c.documents r.state.key) in
-    let both = and_parts (is_due c r) (list_all (is_due c) rs) due in
+    let both = and_parts (is_next_row c r) (list_all (is_next_row c) rs) due in
     let here = and_parts (is_valid_state c.schema r.state) (r.height == next) both.0 in
     (state_valid c.schema r.state here.0, due_valid c rs both.1)
 

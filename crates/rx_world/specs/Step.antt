@@ -77,8 +77,8 @@ abbrev pub IsValidState : Shape → State → Type 0
 IsValidState s state = is_valid_state s state ≡ true
 
 -- the row's state is valid, and its height is the next one
-abbrev pub is_due : Held → RowOut → Bool
-is_due c row =
+abbrev pub is_next_row : Held → RowOut → Bool
+is_next_row c row =
     is_valid_state c.schema row.state
     && row.height == next_height (named c.documents row.state.key)
 
@@ -86,7 +86,7 @@ is_due c row =
 abbrev pub takes : ℕ → List RowOut → Held → Bool
 takes lwt written c =
     nat_lt 0 (length written) && nat_lt (last_lwt c.documents) lwt && nat_le lwt most_lwt
-    && list_all (is_due c) written
+    && list_all (is_next_row c) written
 
 -- the collection takes rows, or there is none and the write time is 0
 abbrev pub takes_rows : ℕ → List RowOut → Held → Bool
@@ -139,5 +139,5 @@ legal (exchange name lwt written known up down) w =
 legal (epoch number) w = number == w.epoch + 1
 
 -- the world after a record, where it is legal
-abbrev pub stepped : Content → World → Option World
-stepped c w = if legal c w then Some (step c w) else None
+abbrev pub step_where_legal : Content → World → Option World
+step_where_legal c w = if legal c w then Some (step c w) else None

@@ -5,7 +5,7 @@ ghost use Rattle.rx_record.specs.Content.{collection};
 ghost use Rattle.rx_record.specs.Shown.{content, content_in};
 ghost use Rattle.rx_record.specs.Views.{row_in, rows_left};
 ghost use Rattle.rx_world.specs.Holders.{AreWhole, holders_of, world_in};
-ghost use Rattle.rx_world.specs.Step.{is_valid_state, is_due, takes, legal};
+ghost use Rattle.rx_world.specs.Step.{is_valid_state, is_next_row, takes, legal};
 
 use crate::names::find;
 use crate::parts::{MAX_COLLECTIONS, Parts};
@@ -160,7 +160,7 @@ pub(crate) fn takes_views(
     if lwt <= collection.last_lwt() || MOST_LWT < lwt {
         return Ok(false);
     }
-    if !is_due_view(alloc, collection, &first)? {
+    if !is_next_view(alloc, collection, &first)? {
         return Ok(false);
     }
     are_due_views(alloc, collection, &rows)
@@ -171,39 +171,39 @@ fn are_due_views(
     collection: &Collection,
     rows: &RowViews<'_>,
 ) -> Result<bool, AllocError>
-    ensures { IfOk result (λ b. b ≡ list_all (is_due collection.now) (rows_left rows.now)) }
+    ensures { IfOk result (λ b. b ≡ list_all (is_next_row collection.now) (rows_left rows.now)) }
 {
     let mut rows = *rows;
     while let Some(row) = rows.next() {
-        if !is_due_view(alloc, collection, &row)? {
+        if !is_next_view(alloc, collection, &row)? {
             return Ok(false);
         }
     }
     Ok(true)
 }
 
-fn is_due_view(
+fn is_next_view(
     alloc: Global,
     collection: &Collection,
     row: &RowView<'_>,
 ) -> Result<bool, AllocError>
-    ensures { IfOk result (λ b. b ≡ is_due collection.now (row_in row.now)) }
+    ensures { IfOk result (λ b. b ≡ is_next_row collection.now (row_in row.now)) }
 {
     let row = RowOut {
         height: row.height,
         state: row.state.own(alloc)?,
     };
-    Ok(is_due(collection, &row))
+    Ok(is_next_row(collection, &row))
 }
 
 fn are_due(collection: &Collection, rows: &[RowOut]) -> bool
-    ensures { result ≡ list_all (is_due collection.now) rows.now }
+    ensures { result ≡ list_all (is_next_row collection.now) rows.now }
 {
-    rows.iter().all(|row| is_due(collection, row))
+    rows.iter().all(|row| is_next_row(collection, row))
 }
 
-fn is_due(collection: &Collection, row: &RowOut) -> bool
-    ensures { result ≡ is_due collection.now row.now }
+fn is_next_row(collection: &Collection, row: &RowOut) -> bool
+    ensures { result ≡ is_next_row collection.now row.now }
 {
     if !is_valid(collection.schema(), &row.state) {
         return false;

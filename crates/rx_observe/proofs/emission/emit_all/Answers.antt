@@ -1,7 +1,8 @@
 use Rattle.std.proofs.Common.{ℕ, List, length, arith, set, sym, ap, ◌∙◌}
+use Rattle.std.proofs.lemmas.List.{nil_from_length}
 use Rattle.rx_observe.specs.Rows.{emitted, unseen_of}
 use Rattle.rx_observe.specs.Watched.{Watched}
-use Rattle.rx_observe.proofs.Done.{next_is, read-done, length-done, step-done, done-past, empty_is}
+use Rattle.rx_observe.proofs.Done.{next_is, read-done, length-done, step-done, done-past}
 use Rattle.rx_observe.proofs.emission.emit_all.Goals as goal
 
 -- what is done to each query
@@ -42,7 +43,7 @@ loop-copy-preserved c =
 pub returns : goal.returns
 returns c =
     let rest = c.loop-copy.copy-iterator.rest in
-    let none = empty_is rest.items (sym rest.ok.0 ∙ c.in-None.ensures.steps.0) in
+    let none = nil_from_length rest.items (sym rest.ok.0 ∙ c.in-None.ensures.steps.0) in
     c.loop-copy.invariant.0
     ∙ done-past unseen_of with_copy c.loop-copy.i c.args.queries.now.items
     (sym none ∙ c.loop-copy.invariant.1)

@@ -1,17 +1,18 @@
 use Rattle.std.proofs.Common.{◌∷◌, codes, append_assoc, ◌∙◌}
+use Rattle.std.proofs.lemmas.Result.{on_ok_weaker}
 use Rattle.json.specs.Token.{begin_object, key}
 use Rattle.json.specs.Tree.{json_tokens}
 use Rattle.serde_json.specs.Written.{outline}
 use Rattle.rx_value.specs.State.{state_data}
 use Rattle.rx_reply.specs.Answer.{states_of}
 use Rattle.rx_reply.specs.Writing.{list_data}
-use Rattle.rx_reply.proofs.Tokens.{on_ok, in_turn, one_more}
+use Rattle.rx_reply.proofs.Tokens.{in_turn, one_more}
 use Rattle.rx_reply.proofs.reply.put_changes.Goals as goal
 
 pub returns-clause-tokens : goal.returns-clause-tokens
 returns-clause-tokens c =
     let states = json_tokens (outline (list_data state_data (states_of c.args.docs.now))) in
-    on_ok c.end_object.result
+    on_ok_weaker c.end_object.result
     (λ last. in_turn c.args.writer.now.tokens c.put_states.new.writer.tokens c.end_object.new.self.tokens
     (begin_object ∷ key (codes "docs") ∷ states) _
     (rw (c.in_ok-put_states.ensures.tokens, c.in_ok-key.ensures.ok, c.in_ok-begin_object.ensures.ok)

@@ -1,9 +1,9 @@
 use Rattle.std.proofs.Common.{◌≡◌, ◌∷◌, false, refl, rules, sym, ap, ◌∙◌, subst}
+use Rattle.std.proofs.lemmas.List.{nil_from_length}
 use Rattle.std.specs.Vec.Iter.{into_iter_items}
 use Rattle.rx_collection.specs.Commit.{AreNext}
 use Rattle.rx_collection.specs.Held.{Held}
 use Rattle.rx_observe.specs.Observing.{Observing, put_all}
-use Rattle.rx_observe.proofs.Done.{empty_is}
 use Rattle.rx_observe.proofs.Putting.{whole, whole_put, put_on, put_none}
 use Rattle.rx_observe.proofs.live.LiveHolder.put_rows.Goals as goal
 
@@ -50,7 +50,7 @@ pub returns-clause-rows : goal.returns-clause-rows
 returns-clause-rows c =
     let i = c.loop-row.self-inside in
     let rest = c.loop-row.row-iterator.rest in
-    let none = empty_is rest.items (sym rest.ok.0 ∙ c.in-None.ensures.steps.0) in
+    let none = nil_from_length rest.items (sym rest.ok.0 ∙ c.in-None.ensures.steps.0) in
     ap (λ rows. (put_all (whole i.collection i.queries.items) rows).collection) (sym none)
     ∙ ap (λ (o : Observing). o.collection) c.loop-row.invariant.1
 
@@ -58,6 +58,6 @@ pub returns-clause-written : goal.returns-clause-written
 returns-clause-written c =
     let i = c.loop-row.self-inside in
     let rest = c.loop-row.row-iterator.rest in
-    let none = empty_is rest.items (sym rest.ok.0 ∙ c.in-None.ensures.steps.0) in
+    let none = nil_from_length rest.items (sym rest.ok.0 ∙ c.in-None.ensures.steps.0) in
     sym (put_none (whole i.collection i.queries.items))
     ∙ ap (put_all (whole i.collection i.queries.items)) (sym none) ∙ c.loop-row.invariant.1

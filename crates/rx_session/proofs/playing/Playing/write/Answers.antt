@@ -2,8 +2,10 @@ use Rattle.std.proofs.Common.{◌≡◌, true, sym, ap, ◌∙◌, subst}
 use Rattle.rx_record.specs.Shown.{content}
 use Rattle.rx_world.specs.Holders.{holders_in}
 use Rattle.rx_world.specs.Step.{legal}
+use Rattle.rx_world.specs.Touch.{touch}
 use Rattle.rx_session.specs.Doing.{after, write}
-use Rattle.rx_session.specs.Playing.{AreQuietUnless, noted}
+use Rattle.rx_session.specs.Placed.{world_of}
+use Rattle.rx_session.specs.Playing.{AreQuietUnless, coll_to_note, add_written}
 use Rattle.rx_session.specs.Session.{Session}
 use Rattle.rx_session.proofs.Played.{IsPlayed, played_distinct, played_placed, played_quiet, played_session}
 use Rattle.rx_session.proofs.Settling.{session_of}
@@ -34,7 +36,9 @@ invariant_of-result c =
       placed = played_placed entry i.world new i.moment ps written (done c);
       distinct = played_distinct entry i.world new i.moment ps written (done c);
       quiet = subst (λ names. AreQuietUnless names (holders_in new))
-          (sym (c.in_ok-note.ensures ∙ ap (λ o. noted o written) c.in_ok-coll.ensures))
+          (sym (c.in_ok-note.ensures ∙ ap (λ o. add_written o written)
+          (c.in_ok-coll.ensures
+          ∙ ap (λ qs. coll_to_note qs (touch entry (world_of i.world))) c.as_slice.ensures.value)))
           (played_quiet entry i.world new i.moment ps written (done c));
     }
 

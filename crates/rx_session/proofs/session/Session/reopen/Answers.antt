@@ -1,7 +1,7 @@
 use Rattle.std.proofs.Common.{◌≡◌, [], ap, sym, ◌∙◌, subst}
 use Rattle.rx_session.specs.Doing.{after, restart}
 use Rattle.rx_session.specs.Emissions.{emissions, settled_session, IsSettled}
-use Rattle.rx_session.specs.Inside.{seen}
+use Rattle.rx_session.specs.Inside.{session_in}
 use Rattle.rx_session.specs.Session.{Session}
 use Rattle.rx_session.proofs.Carrying.{carried_distinct, carried_emissions, carried_placed, carried_quiet, carried_session}
 use Rattle.rx_session.proofs.Settling.{is_settled}
@@ -30,7 +30,7 @@ returns-clause-session c =
     let i = c.self.inside in
     let new = c.carry_all.new.world in
     let number = c.args.world.epoch in
-    subst (λ (s : Session). seen (record { world = new; moment = i.moment; places = i.places; diagram = i.diagram })
+    subst (λ (s : Session). session_in (record { world = new; moment = i.moment; places = i.places; diagram = i.diagram })
     ≡ settled_session (after (restart number) s)) c.self.view_is
     (carried_session i.world i.moment number i.places.items c.self.invariant.quiet new
     c.in_ok-carry_all.ensures.lives

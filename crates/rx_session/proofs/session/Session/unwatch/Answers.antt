@@ -1,6 +1,6 @@
 use Rattle.std.proofs.Common.{◌≡◌, [], sym, ap, ◌∙◌, subst}
 use Rattle.rx_world.specs.Holders.{holders_in}
-use Rattle.rx_session.specs.Applied.{unobserved}
+use Rattle.rx_session.specs.Applied.{without_observed}
 use Rattle.rx_session.specs.Doing.{after, unwatch}
 use Rattle.rx_session.specs.Emissions.{emissions, settled_session, IsSettled}
 use Rattle.rx_session.specs.Placed.{ArePlaced, place_named}
@@ -20,7 +20,7 @@ done c =
       distinct = c.self.invariant.distinct;
       quiet = c.self.invariant.quiet;
       dropped = c.unobserve_at.ensures.lives
-          ∙ ap (λ o. unobserved name o (holders_in i.world))
+          ∙ ap (λ o. without_observed name o (holders_in i.world))
           (c.find_place.ensures ∙ ap (place_named name) c.as_slice.ensures.value);
       replications = c.unobserve_at.ensures.replications;
       epochs = c.unobserve_at.ensures.epoch;

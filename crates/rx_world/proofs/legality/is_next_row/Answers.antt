@@ -1,7 +1,7 @@
 use Rattle.std.proofs.Common.{◌≤◌, ◌∙◌, ap, sym, option_map, arith}
 use Rattle.rx_collection.specs.Time.{most_lwt}
 use Rattle.rx_collection.proofs.Lawful.{height_in_range}
-use Rattle.rx_world.proofs.legality.is_due.Goals as goal
+use Rattle.rx_world.proofs.legality.is_next_row.Goals as goal
 
 pub overflow_add-result : goal.overflow_add-result
 overflow_add-result c =
