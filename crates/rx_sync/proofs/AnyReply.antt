@@ -2,7 +2,7 @@
 use Rattle.std.proofs.Common.{◌≡◌, ◌≢◌, ◌∙◌, ℕ, true, List, [], Some, Ok, unwrap_or, refl, sym, ap, subst}
 use Rattle.rx_value.specs.Due.{◌>>=◌}
 use Rattle.rx_value.specs.Named.{named}
-use Rattle.rx_value.proofs.Outcomes.{some_then}
+use Rattle.rx_value.proofs.Outcomes.{some_then, some_same}
 use Rattle.rx_schema.specs.declared.shape.Shape.{Shape}
 use Rattle.rx_collection.specs.Held.{Held}
 use Rattle.rx_handler.specs.Handlers.{Kinds}
@@ -15,7 +15,6 @@ use Rattle.rx_replication.specs.Taking.{KeepsKey, Resolve, Taking}
 use Rattle.rx_replication.specs.Throughout.{DocumentsPass, KnownPass}
 use Rattle.rx_replication.specs.Write.{AreByKey}
 use Rattle.rx_replication.proofs.Commits.{write_wrote}
-use Rattle.rx_replication.proofs.Lists.{some_same}
 use Rattle.rx_replication.proofs.Takings.{taking_fork_side, taking_up_risen}
 use Rattle.rx_fork.specs.Valid.{is_valid}
 use Rattle.rx_fork.specs.declared.ask.Asked.{Asked}

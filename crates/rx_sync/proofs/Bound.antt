@@ -5,6 +5,7 @@ use Rattle.std.specs.List.{AllByRecursion}
 use Rattle.std.specs.Prelude.{◌⊎◌}
 use Rattle.std.specs.Str.{bytes_eq}
 use Rattle.rx_value.specs.declared.state.State.{State}
+use Rattle.rx_value.proofs.Outcomes.{some_same, not_none}
 use Rattle.rx_document.specs.declared.place.Place.{Place}
 use Rattle.rx_document.specs.declared.stored.Stored.{Stored}
 use Rattle.rx_collection.specs.Since.{since}
@@ -21,7 +22,6 @@ use Rattle.rx_replication.specs.Request.{push_or_pull, push_row}
 use Rattle.rx_replication.specs.Taking.{KeepsKey, Resolve}
 use Rattle.rx_replication.proofs.Bound.{in_time as link_in_time, lowers, pushed_twice}
 use Rattle.rx_replication.proofs.Handled.{states_of}
-use Rattle.rx_replication.proofs.Lists.{some_same, not_none}
 use Rattle.rx_reply.specs.declared.turn.Exchanged.{Exchanged}
 use Rattle.rx_reply.specs.declared.turn.TurnEnd.{TurnEnd}
 use Rattle.rx_reply.specs.declared.turn.TurnEnd.TheVariants.{Quiet, Lost, Clock, More}

@@ -4,6 +4,7 @@ use Rattle.std.specs.List.{AllByRecursion}
 use Rattle.std.specs.Option.{ForSome}
 use Rattle.rx_value.specs.Due.{DueBy, ◌>>◌, lifted}
 use Rattle.rx_value.specs.Named.{named}
+use Rattle.rx_value.proofs.Outcomes.{some_same}
 use Rattle.rx_schema.specs.declared.shape.Shape.{Shape}
 use Rattle.rx_document.specs.Documents.{Documents}
 use Rattle.rx_collection.specs.Held.{Held}
@@ -19,7 +20,7 @@ use Rattle.rx_replication.specs.Known.{NonePendingBelow}
 use Rattle.rx_replication.specs.Master.{writes}
 use Rattle.rx_replication.specs.Throughout.{AskPasses, KnownPass}
 use Rattle.rx_replication.specs.Updates.{KeepsPending}
-use Rattle.rx_replication.proofs.Lists.{some_same, all_each}
+use Rattle.rx_replication.proofs.Lists.{all_each}
 use Rattle.rx_replication.proofs.Throughout.{writes_pass}
 use Rattle.rx_replication.proofs.Updates.{taking_keeps}
 use Rattle.rx_replication.proofs.Walk.{sound-none_pending}
@@ -57,12 +58,6 @@ use Rattle.rx_sync.proofs.Pulls.{taken_leaves_none}
 use Rattle.rx_sync.proofs.Staying.{plain_soundly}
 use Rattle.rx_sync.proofs.Turns.{exchange_well}
 use Rattle.rx_sync.proofs.Worlds.{by_key_at, called_at, for_fork, fork_sound_at, linked_at}
-
--- what holds of each answer
-pub if_ok : {A E : Type 0} (r : Result A E) (P Q : A → Type 0) → IfOk r P → ((x : A) → P x → Q x)
-    → IfOk r Q
-if_ok (Ok x) P Q here each = each x here
-if_ok (Err e) P Q here each = tt
 
 -- what is due of each
 pub due_ok : {X Y E : Type 0} (memory : E) (view : X → Y) (r : Result X E) (due : Result Y E)

@@ -6,6 +6,7 @@ use Rattle.std.specs.Option.{ForSome}
 use Rattle.rx_value.specs.Due.{◌>>=◌}
 use Rattle.rx_value.specs.Named.{named}
 use Rattle.rx_value.specs.declared.state.State.{State}
+use Rattle.rx_value.proofs.Outcomes.{some_same}
 use Rattle.rx_schema.specs.declared.shape.Shape.{Shape}
 use Rattle.rx_document.specs.declared.place.Place.{Place}
 use Rattle.rx_collection.specs.Held.{Held}
@@ -18,7 +19,7 @@ use Rattle.rx_wire.specs.declared.message.Body.{Body}
 use Rattle.rx_wire.specs.declared.message.Body.TheVariants.{Conflicts, Docs}
 use Rattle.rx_wire.specs.declared.message.Reply.{Reply}
 use Rattle.rx_wire.proofs.Lawful.{reply_lawful}
-use Rattle.rx_replication.proofs.Lists.{all_at, some_same}
+use Rattle.rx_replication.proofs.Lists.{all_at}
 use Rattle.rx_replication.specs.Throughout.{AllPass, KnownPass}
 use Rattle.rx_handler.specs.Handlers.{Kinds}
 use Rattle.rx_fork.specs.Valid.{is_valid}

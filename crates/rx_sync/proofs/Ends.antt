@@ -2,6 +2,7 @@
 use Rattle.std.proofs.Common.{◌≡◌, ◌≢◌, ◌∙◌, ℕ, ◌<◌, List, length, Option, Some, refl, sym, ap, subst}
 use Rattle.rx_value.specs.Named.{named}
 use Rattle.rx_value.specs.declared.state.State.{State}
+use Rattle.rx_value.proofs.Outcomes.{some_same}
 use Rattle.rx_document.specs.declared.place.Place.{Place}
 use Rattle.rx_collection.specs.Held.{Held}
 use Rattle.rx_collection.specs.Lawful.{IsLawful}
@@ -19,7 +20,6 @@ use Rattle.rx_replication.specs.Taking.{Taking, differences, taking}
 use Rattle.rx_replication.specs.Write.{AreByKey, state_at}
 use Rattle.rx_replication.proofs.Commits.{Wrote, lawful-by_key}
 use Rattle.rx_replication.proofs.Handled.{pull_agrees, pull_quiet, states_of}
-use Rattle.rx_replication.proofs.Lists.{some_same}
 use Rattle.rx_replication.proofs.Taken.{current_pull, none_pending-known, pull_same}
 use Rattle.rx_fork.specs.declared.ask.Asked.{Asked}
 use Rattle.rx_record.specs.Content.{Content}

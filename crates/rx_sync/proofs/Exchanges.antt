@@ -1,10 +1,12 @@
 -- What an exchange leaves.
-use Rattle.std.proofs.Common.{◌≡◌, ◌≢◌, ◌∙◌, ℕ, ◌==◌, Bool, true, false, cond, List, [], ◌∷◌, length, Option, Some, None, option_map, Result, Ok, Err, unwrap_or, ◌&&◌, refl, sym, ap, subst, arith, eqb-true}
+use Rattle.std.proofs.Common.{◌≡◌, ◌≢◌, ◌∙◌, ℕ, ◌==◌, Bool, true, false, cond, List, [], ◌∷◌, length, Option, Some, None, option_map, Result, Ok, Err, unwrap_or, ◌&&◌, refl, sym, ap, subst, eqb-true}
 use Rattle.std.proofs.lemmas.Bool.{and_parts}
+use Rattle.std.proofs.lemmas.List.{nil_from_length}
 use Rattle.std.specs.List.{list_all}
 use Rattle.rx_value.specs.Due.{◌>>=◌, ◌>>◌, lifted, or_fault}
 use Rattle.rx_value.specs.Named.{named}
 use Rattle.rx_value.specs.declared.state.State.{State}
+use Rattle.rx_value.proofs.Outcomes.{some_same, not_none}
 use Rattle.rx_collection.specs.Held.{Held}
 use Rattle.rx_handler.specs.Handlers.{Kinds}
 use Rattle.rx_handler.specs.declared.kind.HandlerKind.{HandlerKind}
@@ -15,7 +17,7 @@ use Rattle.rx_wire.specs.declared.message.Request.{Request}
 use Rattle.rx_replication.specs.Master.{body_of, master_then, reply_with, writes}
 use Rattle.rx_replication.specs.Throughout.{AskPasses}
 use Rattle.rx_replication.proofs.Commits.{Wrote, write_wrote}
-use Rattle.rx_replication.proofs.Lists.{some_same, not_none, all_each}
+use Rattle.rx_replication.proofs.Lists.{all_each}
 use Rattle.rx_replication.proofs.Throughout.{writes_pass}
 use Rattle.rx_fork.specs.Accept.{accepted}
 use Rattle.rx_fork.specs.Valid.{is_valid}
@@ -86,10 +88,6 @@ has_handled w made m c at q lawful now h is = by (commits_of m now q.ask c) refl
         (record { leaves = valid_writes w made m c at q lawful now cs at'; reply = refl })
 
 -- ---- the reply is taken
-
-length-none : {A : Type 0} (xs : List A) → length xs ≡ 0 → xs ≡ []
-length-none [] is = refl
-length-none (x ∷ xs) is = absurd (omega arith)
 
 -- what a fork did
 pub record HasTaken (w : World) (name : List ℕ) (r : Replication) (fork : Held) (kind : HandlerKind)
@@ -168,7 +166,7 @@ module _ (w : World) (made : IsMadeWorld w) (sound : IsSoundWorld w) (name : Lis
         let e = and_parts (length plan.rows == 0) (list_all (is_known r.side.known) plan.known)
         b.0 in
         subst (λ (cs : List Content). HasTaken w name r fork kind asked reply cs) same
-        (taken_none (length-none plan.rows (eqb-true (length plan.rows) 0 e.0)))
+        (taken_none (nil_from_length plan.rows (eqb-true (length plan.rows) 0 e.0)))
     recorded_by false None cs nothing time is = absurd (cc)
     recorded_by false (Some lwt) cs nothing time is =
         let same : exchange_at name fork plan lwt ∷ [] ≡ cs = cc in

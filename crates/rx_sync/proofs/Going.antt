@@ -3,6 +3,7 @@ use Rattle.std.proofs.Common.{◌≡◌, ◌∙◌, ℕ, ◌≤◌, ◌<◌, Boo
 use Rattle.std.proofs.lemmas.List.{length-map}
 use Rattle.rx_value.specs.Named.{named}
 use Rattle.rx_value.specs.declared.state.State.{State}
+use Rattle.rx_value.proofs.Outcomes.{some_same, not_none}
 use Rattle.rx_schema.specs.declared.shape.Shape.{Shape}
 use Rattle.rx_document.specs.declared.place.Place.{Place}
 use Rattle.rx_document.specs.declared.stored.Stored.{Stored}
@@ -21,7 +22,6 @@ use Rattle.rx_replication.specs.Throughout.{KnownPass}
 use Rattle.rx_replication.specs.Write.{state_at}
 use Rattle.rx_replication.proofs.Commits.{lawful-by_key}
 use Rattle.rx_replication.proofs.Handled.{states_of}
-use Rattle.rx_replication.proofs.Lists.{some_same, not_none}
 use Rattle.rx_handler.specs.Handlers.{Kinds}
 use Rattle.rx_fork.specs.Asked.{asked_of}
 use Rattle.rx_fork.specs.Valid.{is_valid}

@@ -22,3 +22,4 @@ pub mod Bound
 pub mod AnyReply
 pub mod Elsewhere
 pub mod HeardPulls
+pub mod Apart

@@ -4,6 +4,7 @@ use Rattle.std.specs.List.{AllByRecursion}
 use Rattle.std.specs.Map.{values_of}
 use Rattle.rx_value.specs.Named.{named}
 use Rattle.rx_value.specs.declared.state.State.{State}
+use Rattle.rx_value.proofs.Outcomes.{some_same, not_none}
 use Rattle.rx_document.specs.declared.stored.Stored.{Stored}
 use Rattle.rx_collection.specs.Commit.{by_key, row_of, rows_of, with_rows}
 use Rattle.rx_collection.specs.Held.{Held}
@@ -13,7 +14,6 @@ use Rattle.rx_wire.specs.declared.message.AskKind.{AskKind}
 use Rattle.rx_wire.specs.declared.message.AskKind.TheVariants.{Push, Pull}
 use Rattle.rx_replication.specs.Master.{writes, master_then}
 use Rattle.rx_replication.specs.Write.{write}
-use Rattle.rx_replication.proofs.Lists.{some_same, not_none}
 use Rattle.rx_record.specs.Content.{Content, rows}
 use Rattle.rx_world.specs.Commit.{out_of}
 use Rattle.rx_world.specs.Step.{IsValidState, stored_rows, written_to}

@@ -3,6 +3,7 @@ use Rattle.std.proofs.Common.{◌≡◌, ◌⊎◌, ◌∙◌, ℕ, ◌≤◌, t
 use Rattle.std.specs.Cmp.Derive.{both_true}
 use Rattle.rx_value.specs.Due.{◌>>=◌}
 use Rattle.rx_value.specs.Named.{named}
+use Rattle.rx_value.proofs.Outcomes.{some_same}
 use Rattle.rx_schema.specs.Validity.{first_fault}
 use Rattle.rx_document.specs.Documents.{Documents}
 use Rattle.rx_document.specs.declared.place.Place.{Place}
@@ -26,7 +27,6 @@ use Rattle.rx_replication.specs.Write.{AreByKey}
 use Rattle.rx_replication.proofs.Commits.{lawful-by_key, write_wrote}
 use Rattle.rx_replication.proofs.Distinct.{KeysDiffer, conflicts_differ, since_differ}
 use Rattle.rx_replication.proofs.Handled.{push_answered, pull_answered}
-use Rattle.rx_replication.proofs.Lists.{some_same}
 use Rattle.rx_replication.proofs.Pages.{last_place_is, page_held, since-page, stands_above}
 use Rattle.rx_replication.proofs.Throughout.{asked_pass, answered_pass}
 use Rattle.rx_fork.specs.Asked.{asked_of, HasRowsApart}

@@ -4,6 +4,7 @@ use Rattle.std.proofs.lemmas.List.{nil_from_length}
 use Rattle.rx_value.specs.Due.{◌>>=◌}
 use Rattle.rx_value.specs.Named.{named}
 use Rattle.rx_value.specs.declared.state.State.{State}
+use Rattle.rx_value.proofs.Outcomes.{some_same, not_none}
 use Rattle.rx_document.specs.Documents.{Documents}
 use Rattle.rx_document.specs.declared.place.Place.{Place}
 use Rattle.rx_document.specs.declared.stored.Stored.{Stored}
@@ -21,7 +22,7 @@ use Rattle.rx_replication.specs.Taking.{Resolve, Taking, differences, taking}
 use Rattle.rx_replication.specs.Write.{AreByKey}
 use Rattle.rx_replication.proofs.Commits.{Wrote, write_wrote}
 use Rattle.rx_replication.proofs.Distinct.{KeysDiffer, differ-agree}
-use Rattle.rx_replication.proofs.Lists.{some_same, not_none, from_filter}
+use Rattle.rx_replication.proofs.Lists.{from_filter}
 use Rattle.rx_replication.proofs.Orders.{is_state-itself}
 use Rattle.rx_replication.proofs.Pages.{placed, from_placed}
 use Rattle.rx_replication.proofs.Taken.{current_pull, none_pending-known, pull_known}
@@ -44,7 +45,7 @@ no_member [] none = refl
 no_member (d ∷ ds) none = absurd (none d (inl refl))
 
 -- none of them is pending
-none_pending : (documents : Documents) (known : KnownStates) → AreByKey documents
+pub none_pending : (documents : Documents) (known : KnownStates) → AreByKey documents
     → ((k : List ℕ) (d : Stored) → named documents k ≡ Some d → named known k ≡ Some d.state)
     → pending documents known ≡ []
 none_pending documents known by_key each =

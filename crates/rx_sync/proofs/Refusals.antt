@@ -1,10 +1,13 @@
 -- A reply of the master is refused only where no write time is left.
 use Rattle.std.proofs.Common.{◌≡◌, ◌⊎◌, ◌∙◌, ℕ, suc, ◌+◌, ◌-◌, ◌≤◌, ◌==◌, ◌&&◌, ◌||◌, Bool, true, false, cond, not, nat_lt, List, [], ◌∷◌, length, Option, Some, None, option_map, Result, Ok, Err, slice_get, refl, sym, ap, subst, inl, inr, arith, ltb-true, eq-eqb}
+use Rattle.std.proofs.lemmas.Bool.{not-false}
 use Rattle.std.specs.Cmp.Derive.{both_true}
 use Rattle.std.specs.List.{position_or_len}
 use Rattle.std.specs.Str.{bytes_eq}
 use Rattle.rx_value.specs.Due.{◌>>◌, demand, lifted, or_fault, unless}
 use Rattle.rx_value.specs.declared.state.State.{State}
+use Rattle.rx_value.proofs.Bytes.{bytes_itself}
+use Rattle.rx_value.proofs.Outcomes.{some_same}
 use Rattle.rx_document.specs.Documents.{Documents}
 use Rattle.rx_document.specs.declared.place.Place.{Place}
 use Rattle.rx_document.proofs.Places.{place_eq-Decides}
@@ -24,8 +27,6 @@ use Rattle.rx_replication.specs.Taking.{Resolve, Taking, taking}
 use Rattle.rx_replication.specs.Write.{AreByKey}
 use Rattle.rx_replication.proofs.Commits.{lawful-by_key}
 use Rattle.rx_replication.proofs.Handled.{push_fits, pull_fits, states_of}
-use Rattle.rx_replication.proofs.Lists.{some_same}
-use Rattle.rx_replication.proofs.Orders.{key_itself, not_false}
 use Rattle.rx_fork.specs.Accept.{accepted, answered, plan_of}
 use Rattle.rx_fork.specs.BadReply.{bad_reply, first_foreign, has_row, is_fit, place_fits}
 use Rattle.rx_fork.specs.declared.accept.ExchangePlan.{ExchangePlan}
@@ -57,7 +58,7 @@ row_there [] row k m is = absurd m
 row_there (r ∷ rs) row k (inl same) is =
     or_either (bytes_eq r.new.key k) (has_row rs k)
     (inl (ap (λ (z : PushRow). bytes_eq z.new.key k) (sym same)
-    ∙ ap (bytes_eq row.new.key) is ∙ key_itself row.new.key))
+    ∙ ap (bytes_eq row.new.key) is ∙ bytes_itself row.new.key))
 row_there (r ∷ rs) row k (inr m) is =
     or_either (bytes_eq r.new.key k) (has_row rs k) (inr (row_there rs row k m is))
 
@@ -99,9 +100,9 @@ last_is s (t ∷ ss) =
 last_fits : (down : Option Place) (l : State) (p : Place) → is_above down p ≡ true → p.id ≡ l.key
     → place_fits down (Some l) (Some p) ≡ true
 last_fits None l p above same =
-    both_true above (ap (λ (k : List ℕ). bytes_eq k l.key) same ∙ key_itself l.key)
+    both_true above (ap (λ (k : List ℕ). bytes_eq k l.key) same ∙ bytes_itself l.key)
 last_fits (Some q) l p above same =
-    both_true above (ap (λ (k : List ℕ). bytes_eq k l.key) same ∙ key_itself l.key)
+    both_true above (ap (λ (k : List ℕ). bytes_eq k l.key) same ∙ bytes_itself l.key)
 
 same_fits : (down : Option Place) → place_fits down None down ≡ true
 same_fits None = refl
@@ -116,7 +117,7 @@ fits_is down (s ∷ ss) to fits =
     subst (λ (to : Option Place).
     place_fits down (slice_get (s ∷ ss) (length (s ∷ ss) - 1)) to ≡ true) (sym fits.1)
     (subst (λ (last : Option State). place_fits down last (Some fits.0) ≡ true) (sym l.1)
-    (last_fits down l.0 fits.0 (not_false (is_above down fits.0) fits.2) (fits.3 ∙ sym l.2)))
+    (last_fits down l.0 fits.0 (not-false (is_above down fits.0) fits.2) (fits.3 ∙ sym l.2)))
 
 few_by : (b : Bool) (batch count : ℕ) (fit : Bool) → nat_lt batch count ≡ b → count ≤ batch
     → fit ≡ true → cond b (Some batch) (cond fit None (Some count)) ≡ None

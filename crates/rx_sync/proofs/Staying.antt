@@ -2,10 +2,11 @@
 use Rattle.std.proofs.Common.{◌≡◌, ◌∙◌, ℕ, true, List, [], ◌∷◌, Some, option_map, refl, sym, ap, subst, inl, inr}
 use Rattle.std.specs.List.{AllByRecursion}
 use Rattle.rx_value.specs.Named.{named, change_named}
+use Rattle.rx_value.proofs.Bytes.{bytes_cases}
+use Rattle.rx_value.proofs.Outcomes.{some_same}
 use Rattle.rx_schema.specs.declared.shape.Shape.{Shape}
 use Rattle.rx_collection.specs.Held.{Held}
 use Rattle.rx_handler.specs.Handlers.{Kinds}
-use Rattle.rx_replication.proofs.Lists.{some_same}
 use Rattle.rx_record.specs.Content.{Content, collection, rows, replication, exchange, epoch}
 use Rattle.rx_world.specs.Made.{IsMadeWorld}
 use Rattle.rx_world.specs.Replicating.{new_replication, with_exchange}
@@ -13,7 +14,7 @@ use Rattle.rx_world.specs.Sound.{IsSoundWorld}
 use Rattle.rx_world.specs.Step.{legal, step}
 use Rattle.rx_world.specs.World.{World}
 use Rattle.rx_world.specs.declared.replication.Replication.{Replication}
-use Rattle.rx_world.proofs.Links.{StayHeld, begins, held_other, same_or_not, stay_step}
+use Rattle.rx_world.proofs.Links.{StayHeld, begins, held_other, stay_step}
 use Rattle.rx_world.proofs.Looked.{named-put_other, named-change_same, named-change_other}
 use Rattle.rx_world.proofs.Making.{made_step}
 use Rattle.rx_world.proofs.Sounds.{IsNoExchange, sound_step}
@@ -75,7 +76,7 @@ still_step (replication k fork m handler field) w name r is at =
     still_same (step (replication k fork m handler field) w) name r
     (named-put_other w.replications k name new (held_other w.replications name k r free at) ∙ at)
 still_step (exchange k lwt written known up down) w name r is at =
-    elim (same_or_not name k) [
+    elim (bytes_cases name k) [
       | inl same ↦ record {
         now = with_exchange known up down r;
         held = subst (λ (k : List ℕ).

@@ -2,6 +2,7 @@
 use Rattle.std.proofs.Common.{◌≡◌, ◌∙◌, ℕ, ◌≤◌, List, [], ◌++◌, Option, Some, None, Result, Ok, Err, unwrap_or, refl, sym, ap, subst}
 use Rattle.rx_value.specs.Due.{◌>>=◌}
 use Rattle.rx_value.specs.Named.{named}
+use Rattle.rx_value.proofs.Outcomes.{some_same, not_none}
 use Rattle.rx_collection.specs.Held.{Held}
 use Rattle.rx_handler.specs.Handlers.{Kinds}
 use Rattle.rx_handler.specs.Resolve.{resolve}
@@ -14,7 +15,6 @@ use Rattle.rx_replication.specs.Master.{body_of, master_then}
 use Rattle.rx_replication.specs.Request.{ask_of}
 use Rattle.rx_replication.specs.Taking.{KeepsKey, Resolve, Taking, taking}
 use Rattle.rx_replication.proofs.Commits.{lawful-by_key}
-use Rattle.rx_replication.proofs.Lists.{some_same, not_none}
 use Rattle.rx_fork.specs.declared.ask.Asked.{Asked}
 use Rattle.rx_fork.proofs.Validity.{resolves_keys}
 use Rattle.rx_record.specs.Content.{Content}

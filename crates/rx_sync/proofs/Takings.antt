@@ -8,6 +8,7 @@ use Rattle.std.specs.Str.{bytes_eq}
 use Rattle.std.specs.Prelude.{slice_get, ◌-◌}
 use Rattle.rx_value.specs.Named.{named}
 use Rattle.rx_value.specs.declared.state.State.{State}
+use Rattle.rx_value.proofs.Outcomes.{some_same, not_none}
 use Rattle.rx_document.specs.declared.place.Place.{Place}
 use Rattle.rx_document.proofs.Places.{place_eq-Decides}
 use Rattle.rx_collection.specs.Commit.{by_key}
@@ -28,7 +29,7 @@ use Rattle.rx_replication.specs.Write.{AreByKey, is_up_to, write}
 use Rattle.rx_replication.proofs.Commits.{Wrote, write_wrote}
 use Rattle.rx_replication.proofs.Distinct.{KeysDiffer}
 use Rattle.rx_replication.proofs.Learning.{learn-by_key}
-use Rattle.rx_replication.proofs.Lists.{some_same, not_none, all_each}
+use Rattle.rx_replication.proofs.Lists.{all_each}
 use Rattle.rx_replication.proofs.Orders.{up_to_itself, up_to_other}
 use Rattle.rx_replication.proofs.Takings.{AnswerDiffers, taking_fork_side, taking_master_side, taking_up_risen, taking_differs, learnt_held}
 use Rattle.rx_fork.specs.BadReply.{bad_reply, place_fits, is_fit}

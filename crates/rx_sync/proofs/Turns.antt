@@ -1,11 +1,12 @@
 -- What a turn keeps.
-use Rattle.std.proofs.Common.{◌≡◌, ◌∙◌, ℕ, zero, suc, ◌≤◌, List, [], ◌∷◌, ◌++◌, take, Option, Some, None, option_map, refl, sym, ap, subst}
-use Rattle.std.specs.List.{AllByRecursion}
+use Rattle.std.proofs.Common.{◌≡◌, ◌∙◌, ℕ, zero, suc, ◌≤◌, List, ◌∷◌, ◌++◌, Option, Some, None, option_map, refl, sym, ap, subst}
 use Rattle.rx_value.specs.Due.{◌>>=◌}
 use Rattle.rx_value.specs.Named.{named}
+use Rattle.rx_value.proofs.Lists.{all_taken}
+use Rattle.rx_value.proofs.Outcomes.{some_same, not_none}
 use Rattle.rx_collection.specs.Held.{Held}
 use Rattle.rx_wire.specs.declared.message.Request.{Request}
-use Rattle.rx_replication.proofs.Lists.{some_same, not_none, all_at, from_slice_get}
+use Rattle.rx_replication.proofs.Lists.{all_at, from_slice_get}
 use Rattle.rx_fork.specs.Asked.{asked_of}
 use Rattle.rx_fork.specs.declared.ask.Asked.{Asked}
 use Rattle.rx_record.specs.Content.{Content}
@@ -144,12 +145,6 @@ module _ (t : Terms) (w : World) (ready : IsReady w t.name t.kinds) (n batch : �
 
 -- ---- what is remembered
 
-all_take : {A : Type 0} (P : A → Type 0) (n : ℕ) (xs : List A) → AllByRecursion P xs
-    → AllByRecursion P (take n xs)
-all_take P zero xs all = tt
-all_take P (suc n) [] all = tt
-all_take P (suc n) (x ∷ xs) all = (all.0, all_take P n xs all.1)
-
 pub remembers_more : (w : World) (name : List ℕ) (r : Replication) (fork : Held) (q : Request)
     (a : Asks) → named w.replications name ≡ Some r → named w.collections r.fork ≡ Some fork
     → IsLawfulRequest fork.schema q → RemembersLawful w name a
@@ -158,7 +153,7 @@ remembers_more w name r fork q a at held lawful all = λ s s_at c c_held.
     let same : r ≡ s = some_same (sym at ∙ s_at) in
     let here : fork ≡ c =
     some_same (sym held ∙ ap (λ (r : Replication). named w.collections r.fork) same ∙ c_held) in
-    all_take (IsLawfulRequest c.schema) 17 (q ∷ a.requests)
+    all_taken (IsLawfulRequest c.schema) 17 (q ∷ a.requests)
     (subst (λ (c : Held). IsLawfulRequest c.schema q) here lawful, all s s_at c c_held)
 
 -- ---- an exchange with all that belongs to it

@@ -1,7 +1,9 @@
 -- A push that comes twice writes once.
 use Rattle.std.proofs.Common.{◌≡◌, ◌∙◌, Bool, true, false, cond, List, [], ◌∷◌, map, filter, Option, Some, None, is_none, option_map, refl, sym, ap, subst, inl, inr}
+use Rattle.std.proofs.lemmas.Bool.{not-true}
 use Rattle.rx_value.specs.Named.{named}
 use Rattle.rx_value.specs.declared.state.State.{State}
+use Rattle.rx_value.proofs.Outcomes.{some_same, not_none}
 use Rattle.rx_document.specs.Documents.{Documents}
 use Rattle.rx_document.specs.declared.place.Place.{Place}
 use Rattle.rx_document.specs.declared.stored.Stored.{Stored}
@@ -14,8 +16,6 @@ use Rattle.rx_replication.specs.Request.{IsCurrent}
 use Rattle.rx_replication.specs.Write.{AreByKey}
 use Rattle.rx_replication.proofs.Commits.{Wrote}
 use Rattle.rx_replication.proofs.Handled.{RowsApart, push_told, real_is, met_stays}
-use Rattle.rx_replication.proofs.Lists.{some_same, not_none}
-use Rattle.rx_replication.proofs.Orders.{not_true}
 use Rattle.rx_replication.proofs.Taken.{current_push, pushed, rows_of, row_doc, rows_apart, pushed_pending}
 
 -- a row whose state is pending has another one assumed
@@ -39,7 +39,7 @@ module _ (fork : Documents) (known : KnownStates) (down : Option Place) (by_key 
       let pending : is_pending known x.0 ≡ true = pushed_pending fork known by_key current.0 x.0
       x.1 in
       subst (λ (row : PushRow). is_state row.assumed row.new ≡ false) (sym x.3)
-      (not_true (is_state (named known x.0.state.key) x.0.state) pending)
+      (not-true (is_state (named known x.0.state.key) x.0.state) pending)
 
   -- ---- the master after it was handled
 

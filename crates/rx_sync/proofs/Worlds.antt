@@ -1,13 +1,13 @@
 -- What is found in a world that records made.
 use Rattle.std.proofs.Common.{◌≡◌, ◌∙◌, ℕ, List, [], ◌∷◌, ◌++◌, Some, refl, sym, subst}
 use Rattle.rx_value.specs.Named.{named}
+use Rattle.rx_value.proofs.Outcomes.{some_same}
 use Rattle.rx_collection.specs.Held.{Held}
 use Rattle.rx_collection.proofs.Named.{at_name}
 use Rattle.rx_record.specs.Content.{Content}
 use Rattle.rx_replication.specs.Sound.{IsForkSound}
 use Rattle.rx_replication.specs.Write.{AreByKey}
 use Rattle.rx_replication.proofs.Commits.{lawful-by_key}
-use Rattle.rx_replication.proofs.Lists.{some_same}
 use Rattle.rx_world.specs.Sound.{IsSoundWorld, IsSoundIn}
 use Rattle.rx_world.specs.Step.{step}
 use Rattle.rx_world.specs.World.{World}

@@ -1,5 +1,6 @@
 -- What a fork writes when it takes a reply.
 use Rattle.std.proofs.Common.{◌≡◌, ◌⊎◌, ◌∙◌, ℕ, ◌<◌, Bool, true, false, cond, ◌||◌, List, [], ◌∷◌, map, length, Option, Some, None, is_some, option_map, refl, sym, ap, subst, inl, inr, arith, true≢false}
+use Rattle.std.proofs.lemmas.Bool.{or_right}
 use Rattle.std.specs.Cmp.Derive.{both_true}
 use Rattle.std.specs.List.{AllByRecursion, list_all}
 use Rattle.std.specs.List.Sorted.{IsStrictlySortedBy}
@@ -9,6 +10,8 @@ use Rattle.std.specs.Str.{bytes_eq}
 use Rattle.rx_value.specs.Named.{named}
 use Rattle.rx_value.specs.Order.{text_cmp}
 use Rattle.rx_value.specs.declared.state.State.{State}
+use Rattle.rx_value.proofs.Bytes.{bytes_itself, bytes_same}
+use Rattle.rx_value.proofs.Outcomes.{some_same, not_none}
 use Rattle.rx_collection.specs.Commit.{by_key, row_of, rows_of, with_rows}
 use Rattle.rx_collection.specs.Held.{Held}
 use Rattle.rx_collection.specs.Lawful.{IsLawful}
@@ -20,8 +23,7 @@ use Rattle.rx_replication.specs.Member.{Member}
 use Rattle.rx_replication.specs.Throughout.{AllPass}
 use Rattle.rx_replication.specs.Write.{write}
 use Rattle.rx_replication.proofs.Commits.{IsAmong, IsOld, IsNew, Wrote, by_key-among}
-use Rattle.rx_replication.proofs.Lists.{some_same, not_none, all_each}
-use Rattle.rx_replication.proofs.Orders.{same_key, key_itself}
+use Rattle.rx_replication.proofs.Lists.{all_each}
 use Rattle.rx_replication.proofs.Sides.{Holds}
 use Rattle.rx_fork.specs.Valid.{is_valid}
 use Rattle.rx_record.specs.Content.{rows}
@@ -65,11 +67,7 @@ outs_of c lwt ss = map out_of (rows_of c ss lwt)
 both_keys : (k : List ℕ) (s : State) (e : List ℕ) → bytes_eq k e ≡ true → s.key ≡ e
     → bytes_eq s.key k ≡ true
 both_keys k s e is same =
-    ap (λ (z : List ℕ). bytes_eq s.key z) (same_key k e is ∙ sym same) ∙ key_itself s.key
-
-or_right : (a b : Bool) → b ≡ true → (a || b) ≡ true
-or_right true b is = refl
-or_right false b is = is
+    ap (λ (z : List ℕ). bytes_eq s.key z) (bytes_same k e is ∙ sym same) ∙ bytes_itself s.key
 
 -- one of them has the key that a state by key has
 has_by : (c : Held) (lwt : ℕ) (es : List (List ℕ × State)) (k : List ℕ) (s : State) → AreKeyed es

@@ -61,6 +61,12 @@ abbrev pub has_pulled : Option Exchanged → Bool
 has_pulled (Some (Pulled rows place)) = true
 has_pulled other = false
 
+-- a pull was asked for, whatever came of it
+abbrev pub asked_to_pull : Option Exchanged → Bool
+asked_to_pull (Some (Pulled rows place)) = true
+asked_to_pull (Some (PullLost why)) = true
+asked_to_pull other = false
+
 -- ---- the steps of an exchange
 
 -- what an exchange writes, and what it came to: none where a commit found no write time

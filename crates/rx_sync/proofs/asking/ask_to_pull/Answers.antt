@@ -1,8 +1,9 @@
 use Rattle.std.proofs.Common.{◌≡◌}
+use Rattle.rx_value.proofs.Outcomes.{if_ok}
 use Rattle.rx_fork.specs.Asked.{asked_of}
 use Rattle.rx_world.specs.Holders.{world_in}
 use Rattle.rx_sync.specs.Laws.{IsDueIn}
-use Rattle.rx_sync.proofs.Calls.{due_in, if_ok}
+use Rattle.rx_sync.proofs.Calls.{due_in}
 use Rattle.rx_sync.proofs.Pulls.{none_to_push}
 use Rattle.rx_sync.proofs.asking.ask_to_pull.Goals as goal
 

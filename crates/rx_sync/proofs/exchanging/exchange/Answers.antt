@@ -1,11 +1,12 @@
 use Rattle.std.proofs.Common.{◌≡◌, map}
+use Rattle.rx_value.proofs.Outcomes.{if_ok}
 use Rattle.rx_handler.specs.Shown.{kinds_of}
 use Rattle.rx_record.specs.Shown.{content}
 use Rattle.rx_world.specs.Holders.{world_in}
 use Rattle.rx_sync.specs.Exchange.{exchange}
 use Rattle.rx_sync.specs.Laws.{ComeSoundly, PullLeavesNone}
 use Rattle.rx_sync.specs.Shown.{planned_of}
-use Rattle.rx_sync.proofs.Calls.{exchange_pulled, exchange_soundly, if_ok}
+use Rattle.rx_sync.proofs.Calls.{exchange_pulled, exchange_soundly}
 use Rattle.rx_sync.proofs.exchanging.exchange.Goals as goal
 
 pub returns-clause-next : goal.returns-clause-next

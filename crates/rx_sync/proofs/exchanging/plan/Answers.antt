@@ -1,10 +1,11 @@
 use Rattle.std.proofs.Common.{◌≡◌, ◌∙◌, ap}
+use Rattle.rx_value.proofs.Outcomes.{if_ok}
 use Rattle.rx_handler.specs.Shown.{kinds_of}
 use Rattle.rx_script.specs.declared.happening.Happening.{Happening}
 use Rattle.rx_world.specs.Holders.{world_in}
 use Rattle.rx_sync.specs.Exchange.{Terms, exchange, handled_and_taken}
 use Rattle.rx_sync.specs.Shown.{planned_of}
-use Rattle.rx_sync.proofs.Calls.{asked_lawful, if_ok}
+use Rattle.rx_sync.proofs.Calls.{asked_lawful}
 use Rattle.rx_sync.proofs.Repeats.{twice_is_once}
 use Rattle.rx_sync.proofs.exchanging.plan.Goals as goal
 

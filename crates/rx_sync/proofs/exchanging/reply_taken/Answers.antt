@@ -1,11 +1,12 @@
 use Rattle.std.proofs.Common.{◌≡◌, ◌∙◌, Some, ap, sym, map, option_map}
+use Rattle.rx_value.proofs.Outcomes.{if_ok}
 use Rattle.rx_handler.specs.Shown.{kinds_of}
 use Rattle.rx_record.specs.Shown.{content}
 use Rattle.rx_world.specs.Holders.{world_in}
 use Rattle.rx_sync.specs.Exchange.{behind, handled_and_taken, when_taken}
 use Rattle.rx_sync.specs.Handling.{handled_for}
 use Rattle.rx_sync.specs.Shown.{handled_of, planned_of}
-use Rattle.rx_sync.proofs.Calls.{asked_due, asked_lawful, handled_reply, handled_then_taken, if_ok}
+use Rattle.rx_sync.proofs.Calls.{asked_due, asked_lawful, handled_reply, handled_then_taken}
 use Rattle.rx_sync.proofs.exchanging.reply_taken.Goals as goal
 
 pub handled_for-requires-clause-lawful : goal.handled_for-requires-clause-lawful

@@ -1,10 +1,11 @@
 use Rattle.std.proofs.Common.{◌≡◌, Some, rules}
 use Rattle.rx_value.specs.Named.{named}
+use Rattle.rx_value.proofs.Outcomes.{if_ok}
 use Rattle.rx_world.specs.Holders.{world_in}
 use Rattle.rx_sync.specs.Handling.{handled_by}
 use Rattle.rx_sync.specs.Laws.{ComeSoundly}
 use Rattle.rx_sync.specs.Shown.{handled_of, record_in}
-use Rattle.rx_sync.proofs.Calls.{handled_soundly, if_ok}
+use Rattle.rx_sync.proofs.Calls.{handled_soundly}
 use Rattle.rx_sync.proofs.handling.handle.Goals as goal
 
 pub returns-clause-next : goal.returns-clause-next

@@ -1,4 +1,5 @@
 use Rattle.std.proofs.Common.{◌≡◌, map, subst}
+use Rattle.rx_value.proofs.Outcomes.{if_ok}
 use Rattle.rx_handler.specs.Shown.{kinds_of}
 use Rattle.rx_record.specs.Shown.{content}
 use Rattle.rx_world.specs.Holders.{world_in}
@@ -6,7 +7,6 @@ use Rattle.rx_sync.specs.Exchange.{Planned, Terms}
 use Rattle.rx_sync.specs.Laws.{ComeSoundly}
 use Rattle.rx_sync.specs.Remote.{heard_exchange}
 use Rattle.rx_sync.specs.Shown.{heard_of, planned_of}
-use Rattle.rx_sync.proofs.Calls.{if_ok}
 use Rattle.rx_sync.proofs.Elsewhere.{heard_come}
 use Rattle.rx_sync.proofs.remote.hear.Goals as goal
 

@@ -1,4 +1,5 @@
 use Rattle.std.proofs.Common.{◌≡◌, ◌∙◌, ap, sym, append-nil, map, ℕ, Some, Ok, Err, List}
+use Rattle.rx_value.proofs.Outcomes.{if_ok}
 use Rattle.rx_handler.specs.Shown.{kinds_of}
 use Rattle.rx_record.specs.Content.{Content}
 use Rattle.rx_record.specs.Shown.{content}
@@ -11,7 +12,6 @@ use Rattle.rx_sync.specs.Shown.{planned_of, record_in}
 use Rattle.rx_sync.specs.Taking.{taken}
 use Rattle.rx_sync.specs.declared.fault.TakeFault.{TakeFault}
 use Rattle.rx_sync.specs.declared.fault.TakeFault.TheVariants as refused
-use Rattle.rx_sync.proofs.Calls.{if_ok}
 use Rattle.rx_sync.proofs.Elsewhere.{refused_so, taken_so}
 use Rattle.rx_sync.proofs.remote.take_heard.Goals as goal
 

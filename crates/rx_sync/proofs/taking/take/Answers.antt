@@ -1,5 +1,6 @@
 use Rattle.std.proofs.Common.{◌≡◌, Some, Ok, rules}
 use Rattle.rx_value.specs.Named.{named}
+use Rattle.rx_value.proofs.Outcomes.{if_ok}
 use Rattle.rx_handler.specs.Shown.{kinds_of}
 use Rattle.rx_world.specs.Holders.{world_in}
 use Rattle.rx_sync.specs.Exchange.{taken_as}
@@ -7,7 +8,7 @@ use Rattle.rx_sync.specs.Laws.{ComeSoundly, KeepsPendingIn, PullLeavesNone}
 use Rattle.rx_sync.specs.Shown.{record_in}
 use Rattle.rx_sync.specs.Taking.{recorded}
 use Rattle.rx_sync.specs.declared.fault.TakeFault.TheVariants.{Memory}
-use Rattle.rx_sync.proofs.Calls.{due_ok, if_ok, taken_keeps, taken_of, taken_pulled, taken_soundly}
+use Rattle.rx_sync.proofs.Calls.{due_ok, taken_keeps, taken_of, taken_pulled, taken_soundly}
 use Rattle.rx_sync.proofs.taking.take.Goals as goal
 
 pub accept-requires-clause-rows : goal.accept-requires-clause-rows

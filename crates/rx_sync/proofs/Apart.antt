@@ -1,0 +1,315 @@
+-- The records of a turn name no replication but its own.
+use Rattle.std.proofs.Common.{◌≢◌, ℕ, zero, suc, Bool, true, false, cond, List, [], ◌∷◌, ◌++◌, map, Option, Some, None, option_map, IfSome, Result, Ok, Err, IfOk}
+use Rattle.std.specs.List.{AllByRecursion}
+use Rattle.rx_value.specs.Due.{◌>>=◌, ◌>>◌, lifted, or_fault}
+use Rattle.rx_value.specs.Named.{named}
+use Rattle.rx_value.specs.declared.state.State.{State}
+use Rattle.rx_schema.specs.declared.shape.Shape.{Shape}
+use Rattle.rx_collection.specs.Commit.{rows_of}
+use Rattle.rx_collection.specs.Held.{Held}
+use Rattle.rx_collection.specs.Time.{stamp}
+use Rattle.rx_wire.specs.Spelling.{reply_of}
+use Rattle.rx_wire.specs.declared.fault.WireFault.{WireFault}
+use Rattle.rx_wire.specs.declared.message.AskKind.{AskKind}
+use Rattle.rx_wire.specs.declared.message.AskKind.TheVariants.{Push, Pull}
+use Rattle.rx_wire.specs.declared.message.Body.{Body}
+use Rattle.rx_wire.specs.declared.message.Reply.{Reply}
+use Rattle.rx_wire.specs.declared.message.Request.{Request}
+use Rattle.rx_replication.specs.Master.{body_of, reply_with, writes}
+use Rattle.rx_handler.specs.Handlers.{Kinds}
+use Rattle.rx_handler.specs.declared.kind.HandlerKind.{HandlerKind}
+use Rattle.rx_meta.specs.Side.{Side}
+use Rattle.rx_fork.specs.Accept.{accepted}
+use Rattle.rx_fork.specs.declared.accept.ExchangePlan.{ExchangePlan}
+use Rattle.rx_fork.specs.declared.ask.Asked.{Asked}
+use Rattle.rx_fork.specs.declared.fault.AcceptFault.{AcceptFault}
+use Rattle.rx_record.specs.Content.{Content, collection, rows, replication, exchange, epoch}
+use Rattle.rx_reply.specs.declared.turn.Lost.{Lost}
+use Rattle.rx_reply.specs.declared.turn.Lost.TheVariants as lost
+use Rattle.rx_reply.specs.declared.turn.TurnEnd.{TurnEnd}
+use Rattle.rx_script.specs.declared.happening.Happening.{Happening}
+use Rattle.rx_script.specs.declared.happening.Happening.TheVariants as link
+use Rattle.rx_world.specs.Commit.{out_of}
+use Rattle.rx_world.specs.World.{World}
+use Rattle.rx_world.specs.declared.replication.Replication.{Replication}
+use Rattle.rx_world.proofs.Sounds.{IsNoExchange}
+use Rattle.rx_sync.specs.Asking.{asked_in, fork_in}
+use Rattle.rx_sync.specs.Asks.{Asks, next_number, with_request}
+use Rattle.rx_sync.specs.Exchange as step
+use Rattle.rx_sync.specs.Exchange.{Course, Planned, Terms, after, comes_to, course, course_by, handled_again, handled_and_taken, if_taken, late_records, late_request, lost_by, once_handled, once_late, reply_lost, reply_taken, when_taken}
+use Rattle.rx_sync.specs.Handling.{Handled, commits_of, handled, handled_by, handled_for, local_name, written_by}
+use Rattle.rx_sync.specs.Remote.{Heard, RemoteTurned, no_dial, no_wire, no_line, line, first_heard, heard_course, heard_exchange, heard_later, heard_on, lost_as, lost_or_no_time, once_heard, once_read, once_taken, remote_turn, schema_in}
+use Rattle.rx_sync.specs.Taking.{changes_nothing, exchange_at, recorded, resolve_for, take_fault, taken, taken_by, write_time}
+use Rattle.rx_sync.specs.Turn.{Turned, before, end_by, ended_with, first_of, going_on, rest_of, turn}
+use Rattle.rx_sync.specs.declared.fault.TakeFault.{TakeFault}
+use Rattle.rx_sync.specs.declared.fault.TakeFault.TheVariants.{ClockEnd}
+
+-- it is no exchange of that replication
+abbrev pub IsApart : List ℕ → Content → Type 0
+IsApart name (collection k schema) = Unit {0}
+IsApart name (rows k lwt written) = Unit {0}
+IsApart name (replication k fork master handler field) = Unit {0}
+IsApart name (exchange k lwt written known up down) = k ≢ name
+IsApart name (epoch number) = Unit {0}
+
+-- none of them is
+abbrev pub AreApart : List ℕ → List Content → Type 0
+AreApart name cs = AllByRecursion (IsApart name) cs
+
+-- nor is a record that is no exchange at all
+pub plain_apart : (name : List ℕ) (c : Content) → IsNoExchange c → IsApart name c
+plain_apart name (collection k schema) plain = tt
+plain_apart name (rows k lwt written) plain = tt
+plain_apart name (replication k fork master handler field) plain = tt
+plain_apart name (exchange k lwt written known up down) plain = absurd plain
+plain_apart name (epoch number) plain = tt
+
+apart_both : (name : List ℕ) (cs ds : List Content) → AreApart name cs → AreApart name ds
+    → AreApart name (cs ++ ds)
+apart_both name [] ds first rest = rest
+apart_both name (c ∷ cs) ds first rest = (first.0, apart_both name cs ds first.1 rest)
+
+-- ---- what a master writes
+
+apart_written : (name k : List ℕ) (now : ℕ) (c : Held) (ss : List State)
+    → IfSome (written_by k now c ss) (AreApart name)
+apart_written name k now c [] = tt
+apart_written name k now c (s ∷ ss) =
+    elim (stamp c.documents now)
+    as (λ o. IfSome (option_map (λ (r : Content). r ∷ []) (option_map
+    (λ lwt. rows k lwt (map out_of (rows_of c (s ∷ ss) lwt))) o)) (AreApart name)) [
+      | None ↦ tt
+      | Some lwt ↦ (tt, tt)
+    ]
+
+apart_commits : (name k : List ℕ) (now : ℕ) (ask : AskKind) (c : Held)
+    → IfSome (commits_of k now ask c) (AreApart name)
+apart_commits name k now (Push rs) c = apart_written name k now c (writes c.documents rs)
+apart_commits name k now (Pull place batch) c = tt
+
+apart_answered : (name : List ℕ) (reply : Reply) (o : Option (List Content))
+    → IfSome o (AreApart name)
+    → IfSome (option_map (λ (cs : List Content). record { records = cs; reply = reply }) o)
+    (λ (h : Handled). AreApart name h.records)
+apart_answered name reply None is = tt
+apart_answered name reply (Some cs) is = is
+
+apart_held : (name k : List ℕ) (now : ℕ) (q : Request) (o : Option Held)
+    → IfSome (o >>= handled_by k now q) (λ h. AreApart name h.records)
+apart_held name k now q None = tt
+apart_held name k now q (Some c) =
+    apart_answered name (reply_with q (body_of c.documents q.ask)) (commits_of k now q.ask c)
+    (apart_commits name k now q.ask c)
+
+apart_local : (name : List ℕ) (w : World) (q : Request) (now : ℕ) (o : Option (List ℕ))
+    → IfSome (o >>= λ master. handled w master q now) (λ h. AreApart name h.records)
+apart_local name w q now None = tt
+apart_local name w q now (Some k) = apart_held name k now q (named w.collections k)
+
+apart_master : (name : List ℕ) (w : World) (q : Request) (now : ℕ) (o : Option Replication)
+    → IfSome (o >>= λ r. local_name r.master >>= λ master. handled w master q now)
+    (λ h. AreApart name h.records)
+apart_master name w q now None = tt
+apart_master name w q now (Some r) = apart_local name w q now (local_name r.master)
+
+apart_handled : (name : List ℕ) (w : World) (k : List ℕ) (q : Request) (now : ℕ)
+    → IfSome (handled_for w k q now) (λ h. AreApart name h.records)
+apart_handled name w k q now = apart_master name w q now (named w.replications k)
+
+apart_records : (name : List ℕ) (o : Option Handled) → IfSome o (λ h. AreApart name h.records)
+    → IfSome (option_map (λ (h : Handled). h.records) o) (AreApart name)
+apart_records name None is = tt
+apart_records name (Some h) is = is
+
+apart_late : (name : List ℕ) (w : World) (k : List ℕ) (now : ℕ) (o : Option Request)
+    → IfSome (late_records k now w o) (AreApart name)
+apart_late name w k now None = tt
+apart_late name w k now (Some q) =
+    apart_records name (handled_for w k q now) (apart_handled name w k q now)
+
+-- ---- what a fork writes, of another replication
+
+module _ (name k : List ℕ) (other : k ≢ name) where
+  apart_recorded : (fork : Held) (plan : ExchangePlan) (b : Bool) (o : Option ℕ)
+      → IfOk (cond b (Ok []) (or_fault ClockEnd
+      (option_map (λ lwt. exchange_at k fork plan lwt ∷ []) o))) (AreApart name)
+  apart_recorded fork plan true o = tt
+  apart_recorded fork plan false None = tt
+  apart_recorded fork plan false (Some lwt) = (other, tt)
+
+  apart_accepted : (now : ℕ) (fork : Held) (side : Side) (r : Result ExchangePlan AcceptFault)
+      → IfOk (lifted take_fault r >> recorded k now fork side) (AreApart name)
+  apart_accepted now fork side (Ok plan) =
+      apart_recorded fork plan (changes_nothing side plan) (write_time now fork plan.rows)
+  apart_accepted now fork side (Err e) = tt
+
+  apart_kind : (now : ℕ) (asked : Asked) (reply : Reply) (r : Replication) (fork : Held)
+      (o : Option HandlerKind)
+      → IfSome (o >>= λ kind. Some (taken_by k now asked reply r fork kind))
+      (λ x. IfOk x (AreApart name))
+  apart_kind now asked reply r fork None = tt
+  apart_kind now asked reply r fork (Some kind) =
+      apart_accepted now fork r.side
+      (accepted (resolve_for kind r) fork.documents r.side asked reply)
+
+  apart_fork : (kinds : Kinds) (now : ℕ) (asked : Asked) (reply : Reply) (r : Replication)
+      (o : Option Held)
+      → IfSome (o >>= λ fork. named kinds r.handler >>= λ kind.
+      Some (taken_by k now asked reply r fork kind)) (λ x. IfOk x (AreApart name))
+  apart_fork kinds now asked reply r None = tt
+  apart_fork kinds now asked reply r (Some fork) =
+      apart_kind now asked reply r fork (named kinds r.handler)
+
+  apart_replication : (w : World) (kinds : Kinds) (now : ℕ) (asked : Asked) (reply : Reply)
+      (o : Option Replication)
+      → IfSome (o >>= λ r. fork_in w r >>= λ fork. named kinds r.handler >>= λ kind.
+      Some (taken_by k now asked reply r fork kind)) (λ x. IfOk x (AreApart name))
+  apart_replication w kinds now asked reply None = tt
+  apart_replication w kinds now asked reply (Some r) =
+      apart_fork kinds now asked reply r (fork_in w r)
+
+  apart_taken : (w : World) (kinds : Kinds) (asked : Asked) (reply : Reply) (now : ℕ)
+      → IfSome (taken w kinds k asked reply now) (λ x. IfOk x (AreApart name))
+  apart_taken w kinds asked reply now =
+      apart_replication w kinds now asked reply (named w.replications k)
+
+-- ---- an exchange
+
+apart_when : (name : List ℕ) (ask : AskKind) (body : Body)
+    (o : Option (Result (List Content) TakeFault)) → IfSome o (λ x. IfOk x (AreApart name))
+    → AreApart name (when_taken ask body (if_taken o)).records
+apart_when name ask body None is = tt
+apart_when name ask body (Some (Ok cs)) is = apart_both name cs [] is tt
+apart_when name ask body (Some (Err fault)) is = tt
+
+apart_once : (name : List ℕ) (next : Handled → World → Planned) (w : World) (o : Option Handled)
+    → IfSome o (λ h. AreApart name h.records)
+    → ((h : Handled) (v : World) → AreApart name (next h v).records)
+    → AreApart name (once_handled next w o).records
+apart_once name next w None is then = tt
+apart_once name next w (Some h) is then =
+    apart_both name h.records (next h (after h.records w)).records is
+    (then h (after h.records w))
+
+module _ (t : Terms) (name : List ℕ) (other : t.name ≢ name) where
+  apart_reply : (asked : Asked) (h : Handled) (w : World)
+      → AreApart name (reply_taken t asked h w).records
+  apart_reply asked h w =
+      apart_when name asked.request.ask h.reply.body (taken w t.kinds t.name asked h.reply t.now)
+      (apart_taken name t.name other w t.kinds asked h.reply t.now)
+
+  apart_all : (asked : Asked) (w : World) → AreApart name (handled_and_taken t asked w).records
+  apart_all asked w =
+      apart_once name (reply_taken t asked) w (handled_for w t.name asked.request t.now)
+      (apart_handled name w t.name asked.request t.now) (apart_reply asked)
+
+  apart_lost : (why : Lost) (asked : Asked) (w : World)
+      → AreApart name (once_handled (reply_lost why asked) w
+      (handled_for w t.name asked.request t.now)).records
+  apart_lost why asked w =
+      apart_once name (reply_lost why asked) w (handled_for w t.name asked.request t.now)
+      (apart_handled name w t.name asked.request t.now) (λ h v. tt)
+
+  apart_again : (asked : Asked) (h : Handled) (w : World)
+      → AreApart name (handled_again t asked h w).records
+  apart_again asked h w =
+      apart_once name (λ again v. reply_taken t asked h v) w
+      (handled_for w t.name asked.request t.now)
+      (apart_handled name w t.name asked.request t.now) (λ again v. apart_reply asked h v)
+
+  apart_exchange : (asked : Asked) (x : Happening) (w : World)
+      → AreApart name (step.exchange t asked x w).records
+  apart_exchange asked link.Ok w = apart_all asked w
+  apart_exchange asked (link.Late j) w = apart_all asked w
+  apart_exchange asked link.LoseRequest w = tt
+  apart_exchange asked link.LoseReply w = apart_lost lost.LoseReply asked w
+  apart_exchange asked link.Twice w =
+      apart_once name (handled_again t asked) w (handled_for w t.name asked.request t.now)
+      (apart_handled name w t.name asked.request t.now) (apart_again asked)
+  apart_exchange asked link.Stale w = apart_lost lost.Stale asked w
+
+  apart_once_late : (asked : Asked) (x : Happening) (w : World) (o : Option (List Content))
+      → IfSome o (AreApart name) → AreApart name (once_late t asked x w o).records
+  apart_once_late asked x w None is = tt
+  apart_once_late asked x w (Some cs) is =
+      apart_both name cs (step.exchange t asked x (after cs w)).records is
+      (apart_exchange asked x (after cs w))
+
+  apart_course_by : (x : Happening) (w : World) (a : Asks) (o : Option Asked)
+      → AreApart name (course_by t x w a o).records
+  apart_course_by x w a None = tt
+  apart_course_by x w a (Some asked) =
+      let q = late_request x (with_request asked.request a) in
+      apart_once_late asked x w (late_records t.name t.now w q)
+      (apart_late name w t.name t.now q)
+
+  apart_going : (c : Course) (o : Option TurnEnd) (rest : Turned) → AreApart name c.records
+      → AreApart name rest.records → AreApart name (going_on c o rest).records
+  apart_going c None rest first later = apart_both name c.records rest.records first later
+  apart_going c (Some end) rest first later = apart_both name c.records [] first tt
+
+  -- a turn is apart from every replication but its own
+  pub apart_turn : (batch budget : ℕ) (over : List Happening) (w : World) (a : Asks)
+      → AreApart name (turn t batch budget over w a).records
+  apart_turn batch zero over w a = tt
+  apart_turn batch (suc budget) over w a =
+      let c : Course = course t batch (first_of over) w a in
+      apart_going c (end_by batch c.came)
+      (turn t batch budget (rest_of over) (after c.records w) c.asks)
+      (apart_course_by (first_of over) w a (asked_in w t.name (next_number a) batch))
+      (apart_turn batch budget (rest_of over) (after c.records w) c.asks)
+
+  -- ---- to a master elsewhere
+
+  apart_lost_or : (ask : AskKind) (o : Option Lost)
+      → AreApart name (lost_or_no_time ask o).records
+  apart_lost_or ask None = tt
+  apart_lost_or ask (Some why) = tt
+
+  apart_once_taken : (ask : AskKind) (body : Body) (o : Option (Result (List Content) TakeFault))
+      → IfSome o (λ x. IfOk x (AreApart name)) → AreApart name (once_taken ask body o).records
+  apart_once_taken ask body None is = tt
+  apart_once_taken ask body (Some (Ok cs)) is = apart_both name cs [] is tt
+  apart_once_taken ask body (Some (Err fault)) is = apart_lost_or ask (lost_as fault)
+
+  apart_read : (asked : Asked) (w : World) (r : Result Reply WireFault)
+      → AreApart name (once_read t asked w r).records
+  apart_read asked w (Err fault) = tt
+  apart_read asked w (Ok reply) =
+      apart_once_taken asked.request.ask reply.body (taken w t.kinds t.name asked reply t.now)
+      (apart_taken name t.name other w t.kinds asked reply t.now)
+
+  apart_by_schema : (asked : Asked) (w : World) (bytes : List ℕ) (o : Option Shape)
+      → AreApart name (once_heard t asked w bytes o).records
+  apart_by_schema asked w bytes None = tt
+  apart_by_schema asked w bytes (Some schema) = apart_read asked w (reply_of schema bytes)
+
+  apart_heard : (asked : Asked) (h : Heard) (w : World)
+      → AreApart name (heard_exchange t asked h w).records
+  apart_heard asked no_dial w = tt
+  apart_heard asked no_wire w = tt
+  apart_heard asked no_line w = tt
+  apart_heard asked (line bytes) w = apart_by_schema asked w bytes (schema_in w t.name)
+
+  apart_heard_course : (h : Heard) (w : World) (a : Asks) (o : Option Asked)
+      → AreApart name (heard_course t h w a o).records
+  apart_heard_course h w a None = tt
+  apart_heard_course h w a (Some asked) = apart_heard asked h w
+
+  apart_heard_on : (c : Course) (o : Option Asked) (hs : List Heard) (end : Option TurnEnd)
+      (rest : RemoteTurned) → AreApart name c.records → AreApart name rest.turned.records
+      → AreApart name (heard_on c o hs end rest).turned.records
+  apart_heard_on c o hs None rest first later =
+      apart_both name c.records rest.turned.records first later
+  apart_heard_on c o hs (Some end) rest first later = apart_both name c.records [] first tt
+
+  pub apart_remote_turn : (batch budget : ℕ) (hs : List Heard) (w : World) (a : Asks)
+      → AreApart name (remote_turn t batch budget hs w a).turned.records
+  apart_remote_turn batch zero hs w a = tt
+  apart_remote_turn batch (suc budget) hs w a =
+      let o = asked_in w t.name (next_number a) batch in
+      let c : Course = heard_course t (first_heard hs) w a o in
+      apart_heard_on c o (heard_later hs) (end_by batch c.came)
+      (remote_turn t batch budget (heard_later hs) (after c.records w) c.asks)
+      (apart_heard_course (first_heard hs) w a o)
+      (apart_remote_turn batch budget (heard_later hs) (after c.records w) c.asks)
