@@ -1,5 +1,6 @@
 -- What a disk has after one answer of a master.
-use Rattle.std.proofs.Common.{◌≡◌, ◌∙◌, refl, sym, ap, subst, ℕ, ◌≤◌, ◌⊎◌, ⊎_elim, inl, inr, List, [], ◌∷◌, ◌++◌, map, None, Some, Ok, Err, IsErrOf, append-nil}
+use Rattle.std.proofs.Common.{◌≡◌, ◌∙◌, refl, sym, ap, subst, ℕ, ◌≤◌, ◌⊎◌, ⊎_elim, inl, inr, List, [], ◌++◌, None, Some, Ok, Err, IsErrOf, append-nil}
+use Rattle.rx_value.proofs.Lists.{map_none}
 use Rattle.rx_disk.specs.declared.disk.Disk.{Ghosts}
 use Rattle.rx_frame.specs.File.{end_of}
 use Rattle.rx_outside.specs.declared.stop.Stop.{Stop}
@@ -18,11 +19,6 @@ use Rattle.rx_host.specs.declared.host.Work.{Work}
 use Rattle.rx_host.specs.declared.host.Work.TheVariants.{Going, Stopped}
 use Rattle.rx_host.specs.Records.{bodies_of, body_of}
 use Rattle.rx_host.specs.declared.engine.MasterEngine.{MasterEngine}
-
--- commits have records
-no_commits : {X Y : Type 0} (f : X → Y) (xs : List X) → map f xs ≡ [] → xs ≡ []
-no_commits f [] none = refl
-no_commits f (x ∷ xs) none = absurd (cc)
 
 module _ {D : Type 0} (d : Ghosts D) where
   module _ (old new : D) (m : MasterEngine) (why : Stop) (commits : Commits) where
@@ -46,7 +42,7 @@ module _ {D : Type 0} (d : Ghosts D) where
         fits_due : (bodies_due ≡ []) ⊎ (end_of (bodies ++ bodies_due) ≤ limit_of m)
             → (commits ≡ []) ⊎ (end_of (bodies ++ bodies_due) ≤ limit_of m)
         fits_due (inr fit) = inr fit
-        fits_due (inl none) = inl (no_commits (body_of (name_of m)) commits none)
+        fits_due (inl none) = inl (map_none (body_of (name_of m)) commits none)
 
     -- and at a stop
     pub kept_err : (A : Type 0) (bodies : List (List ℕ)) (Q : A → List (List ℕ) → Type 0)

@@ -1,10 +1,11 @@
 -- What a push writes, and what its record makes of the collection.
-use Rattle.std.proofs.Common.{◌≡◌, refl, sym, ap, subst, ℕ, ◌<◌, true, List, [], ◌∷◌, length, map, Option, Some, None, IfSome, IfOk, Result, Ok, Err, option_map, inl, inr, arith}
+use Rattle.std.proofs.Common.{◌≡◌, refl, sym, ap, subst, ℕ, ◌<◌, true, List, [], ◌∷◌, length, map, Option, Some, None, IfSome, IfOk, Result, option_map, inl, inr, arith}
 use Rattle.std.proofs.lemmas.Slice.Eq.{bytes_eq-Decides}
 use Rattle.std.specs.List.{AllByRecursion}
 use Rattle.std.specs.Map.{values_of}
 use Rattle.std.specs.Option.{option_to_list}
 use Rattle.rx_value.specs.declared.state.State.{State}
+use Rattle.rx_value.proofs.Outcomes.{none_mapped, if_ok}
 use Rattle.rx_schema.specs.declared.shape.Shape.{Shape}
 use Rattle.rx_collection.specs.Commit.{by_key, row_of, rows_of, with_rows}
 use Rattle.rx_collection.specs.Held.{Held}
@@ -67,10 +68,6 @@ pub writes_one : (c : Held) (ss : List State) (now : ℕ) (r : Content) → 0 < 
     → Writes c (commit_of c ss now) (write c ss now) (Some r)
 writes_one c [] now r some is = absurd (omega (arith, some))
 writes_one c (s ∷ ss) now r some is = written_at c (s ∷ ss) r (stamp c.documents now) is
-
-unmapped : {X Y : Type 0} (f : X → Y) (o : Option X) → option_map f o ≡ None → o ≡ None
-unmapped f None is = refl
-unmapped f (Some x) is = absurd (cc)
 
 -- ---- the states
 
@@ -140,18 +137,13 @@ module _ (c : Held) (now : ℕ) where
   clock_of [] is = absurd (cc)
   clock_of (s ∷ ss) is =
       ap (option_map (λ lwt. with_rows c (rows_of c (s ∷ ss) lwt)))
-      (unmapped (record_at c (s ∷ ss)) (stamp c.documents now)
-      (unmapped (λ r. r ∷ []) (commit_to c.name (s ∷ ss) now c) is))
+      (none_mapped (record_at c (s ∷ ss)) (stamp c.documents now)
+      (none_mapped (λ r. r ∷ []) (commit_to c.name (s ∷ ss) now c) is))
 
   -- where no write time is left, there is no commit
   pub clock_so : (ask : AskKind) → commits_of c.name now ask c ≡ None → master_then c ask now ≡ None
   clock_so (Push pushed) is = clock_of (writes c.documents pushed) is
   clock_so (Pull place batch) is = absurd (cc)
-
-if_ok : {A E : Type 0} (r : Result A E) (P Q : A → Type 0) → IfOk r P → ((a : A) → P a → Q a)
-    → IfOk r Q
-if_ok (Ok a) P Q is to = to a is
-if_ok (Err e) P Q is to = tt
 
 -- what is handled, by its parts
 module _ (c : Held) (now : ℕ) (q : Request) where
@@ -173,7 +165,7 @@ module _ (c : Held) (now : ℕ) (q : Request) where
           )
 
   pub none_of : handled_by c.name now q c ≡ None → commits_of c.name now q.ask c ≡ None
-  none_of is = unmapped whole (commits_of c.name now q.ask c) is
+  none_of is = none_mapped whole (commits_of c.name now q.ask c) is
 
   module _ (r : Result Handled StepFault)
       (is : IfOk r (λ h. handled_by c.name now q c ≡ Some (handled_of h))) where

@@ -1,9 +1,8 @@
 -- One line more of a connection.
-use Rattle.std.proofs.Common.{◌≡◌, ◌∙◌, refl, sym, ap, subst, ℕ, zero, suc, ◌+◌, ◌<◌, ◌≤◌, true, List, [], ◌∷◌, ◌++◌, length, Option, Some, None, Result, Ok, Err, IfOk, arith, inl, inr, ⊎_elim, ◌⊎◌, append_assoc, append-nil}
+use Rattle.std.proofs.Common.{◌≡◌, ◌∙◌, refl, sym, ap, subst, ℕ, suc, ◌+◌, true, List, [], ◌∷◌, ◌++◌, Option, Some, None, Ok, Err, arith, ⊎_elim, append_assoc, append-nil}
 use Rattle.rx_collection.specs.Held.{Held}
 use Rattle.rx_outside.specs.Sink.{WritesFront}
 use Rattle.rx_wire.specs.Fault.{fault_text}
-use Rattle.rx_wire.specs.Limits.{longest_line}
 use Rattle.rx_wire.specs.Spelling.{request_of}
 use Rattle.rx_wire.specs.Writing.{reply_text}
 use Rattle.rx_wire.specs.declared.fault.WireFault.{WireFault}
@@ -12,8 +11,8 @@ use Rattle.rx_wire.specs.declared.message.AskKind.{AskKind}
 use Rattle.rx_wire.specs.declared.message.AskKind.TheVariants.{Push, Pull}
 use Rattle.rx_wire.specs.declared.message.Reply.{Reply}
 use Rattle.rx_wire.specs.declared.message.Request.{Request}
-use Rattle.rx_serve.specs.Answered.{answered_at, commit_by, commit_if, commit_at, Commits, Gives, AnswersAsk, Answers, StopsAsk, Stops, Continues, HoldsForSome, LeavesSome}
-use Rattle.rx_serve.specs.Course.{IsFront, Standing, Joins, Serves, EndsFor, Breaks, EndsSo, Halts, Steps}
+use Rattle.rx_serve.specs.Answered.{answered_at, commit_by, commit_if, commit_at, Commits, Gives, AnswersAsk, Answers, StopsAsk, Stops, Continues, LeavesSome}
+use Rattle.rx_serve.specs.Course.{Standing, Serves, EndsFor, Breaks, EndsSo, Halts, Steps}
 use Rattle.rx_serve.specs.declared.ended.Ended.{Ended}
 use Rattle.rx_serve.specs.Incoming.{IsNext}
 use Rattle.rx_serve.specs.Lines.{is_within}
@@ -327,12 +326,6 @@ module _
     halts_stopped h = halts_at q.ask refl h
 
 -- ---- a line
-
--- what is known of an answer says another thing of it
-pub on_ok : {T E : Type 0} (r : Result T E) (P Q : T → Type 0) → ((x : T) → P x → Q x) → IfOk r P
-    → IfOk r Q
-on_ok (Ok x) P Q f p = f x p
-on_ok (Err e) P Q f p = tt
 
 -- the line that was taken was answered, and then what is behind it is to come
 pub line_step : (o : Option Ended) (Holds : Commits → Type 0) (c c' : Held)

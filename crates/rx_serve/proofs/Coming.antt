@@ -1,7 +1,7 @@
 -- How a line comes.
-use Rattle.std.proofs.Common.{◌≡◌, ◌∙◌, refl, sym, ap, ℕ, ◌+◌, ◌<◌, ◌≤◌, true, false, List, [], ◌∷◌, ◌++◌, length, arith, append_assoc, append-nil, length-append, Bool, ◌==◌, Option, Some, None, subst}
+use Rattle.std.proofs.Common.{◌≡◌, ◌∙◌, sym, ap, ℕ, ◌≤◌, List, [], ◌∷◌, ◌++◌, length, arith, append_assoc, append-nil, length-append, Option, Some, None, subst}
 use Rattle.rx_wire.specs.Limits.{longest_line}
-use Rattle.rx_serve.specs.Calling.{IsFirstLine, IsNoLine, IsTooLong}
+use Rattle.rx_serve.specs.Calling.{IsNoLine, IsTooLong}
 use Rattle.rx_serve.specs.Incoming.{Received, Advances, Comes, IsNext}
 use Rattle.rx_serve.specs.Lines.{is_within}
 use Rattle.rx_serve.specs.declared.incoming.Next.{Next}

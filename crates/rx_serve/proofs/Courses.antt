@@ -1,8 +1,9 @@
 -- A connection from its parts.
-use Rattle.std.proofs.Common.{◌≡◌, ◌∙◌, refl, sym, ap, subst, ℕ, zero, suc, ◌+◌, ◌-◌, ◌<◌, ◌≤◌, List, [], ◌∷◌, ◌++◌, length, drop, Result, Ok, Err, OnErr, arith, append_assoc, append-nil}
+use Rattle.std.proofs.Common.{◌≡◌, ◌∙◌, refl, sym, ap, subst, ℕ, suc, ◌+◌, ◌-◌, ◌<◌, ◌≤◌, List, [], ◌++◌, length, drop, arith, append_assoc, append-nil, add-zero}
+use Rattle.std.proofs.Math.Seq.{drop-append_seam}
 use Rattle.rx_collection.specs.Held.{Held}
 use Rattle.rx_serve.specs.Answered.{Commits, Continues, HoldsForSome, LeavesSome}
-use Rattle.rx_serve.specs.Course.{IsFront, Standing, Joins, Serves, EndsFor, Breaks, EndsSo, Halts}
+use Rattle.rx_serve.specs.Course.{Standing, Joins, Serves, EndsFor, Breaks, EndsSo, Halts}
 use Rattle.rx_serve.specs.Ends.{joined_since, Connection, IsServed, IsCutOff, IsStopped, EndsBy}
 use Rattle.rx_serve.specs.Served.{Served, ends_here, after_replies, served, served_first, most_requests}
 use Rattle.rx_serve.specs.declared.ended.Why.{Why}
@@ -10,13 +11,8 @@ use Rattle.rx_serve.specs.declared.ended.Why.TheVariants as why
 
 -- ---- parts that join
 
--- what joined to a list
-drop_joined : (old more : List ℕ) → drop (length old) (old ++ more) ≡ more
-drop_joined [] more = refl
-drop_joined (x ∷ old) more = drop_joined old more
-
 pub since : (old new more : List ℕ) → new ≡ old ++ more → joined_since old new ≡ more
-since old new more is = ap (drop (length old)) is ∙ drop_joined old more
+since old new more is = ap (drop (length old)) is ∙ drop-append_seam old more
 
 -- nothing was served yet
 no_replies : (next : Served) → next ≡ after_replies 0 [] [] next
@@ -189,9 +185,6 @@ same_parts a c moments sent more told =
     ap (λ v. by_parts a c v sent) (sym (since a.moments c.moments moments more))
     ∙ ap (by_parts a c (joined_since a.moments c.moments)) (sym (since a.sent c.sent sent told))
 
-plus_none : (n : ℕ) → n + 0 ≡ n
-plus_none n = omega arith
-
 none_plus : (n : ℕ) → n ≡ n + 0
 none_plus n = omega arith
 
@@ -312,7 +305,7 @@ module _ (i : ℕ) (H : Commits → Type 0) (a b : Standing) (first : Serves i H
       (second.sent ∙ first.joins.sent))
       (record {
         n = i;
-        answered = ap (λ (x : Served). x.replies) (first_at joined) ∙ plus_none i;
+        answered = ap (λ (x : Served). x.replies) (first_at joined) ∙ add-zero i;
         sent = ap (λ (x : Served). x.due) (first_at joined) ∙ append-nil replies;
         front = (
           (served_first (most_requests - i) b.collection (joined ++ []) b.coming).due,
@@ -375,8 +368,3 @@ stopped_first c coming sent moments Holds holds =
       due = refl;
       holds = holds;
     })
-
--- what holds at an error
-pub on_err : {T E : Type 0} (r : Result T E) (P : Type 0) → P → OnErr r P
-on_err (Ok x) P p = tt
-on_err (Err e) P p = p

@@ -1,5 +1,5 @@
 -- The lines of a stream, one after another.
-use Rattle.std.proofs.Common.{◌≡◌, ℕ, ◌+◌, ◌<◌, ◌≤◌, zero, suc, leb, Bool, true, false, not, cond, ◌&&◌, ◌==◌, List, [], ◌∷◌, ◌++◌, take, length, Ok, Err, refl, sym, ap, ◌∙◌, arith, inl, inr, append_assoc, length-append, append-nil}
+use Rattle.std.proofs.Common.{◌≡◌, ℕ, ◌<◌, ◌≤◌, zero, suc, leb, Bool, true, false, not, cond, ◌&&◌, ◌==◌, List, [], ◌∷◌, ◌++◌, take, length, Err, refl, sym, ap, ◌∙◌, arith, inl, inr, length-append, append-nil}
 use Rattle.std.proofs.lemmas.Bool.Decides.{leb_tells}
 use Rattle.rx_collection.specs.Held.{Held}
 use Rattle.rx_schema.specs.declared.shape.Shape.{Shape}
@@ -8,7 +8,7 @@ use Rattle.rx_wire.specs.Limits.{longest_line}
 use Rattle.rx_wire.specs.Spelling.{request_of}
 use Rattle.rx_wire.specs.declared.fault.WireFault.TheVariants.{TooLong}
 use Rattle.rx_serve.specs.Lines.{is_within, Cut, cut, byte_before, lines, long_rest}
-use Rattle.rx_serve.specs.Served.{Served, as_line, ends_here, line_then, served_lines, served_first}
+use Rattle.rx_serve.specs.Served.{as_line, ends_here, line_then, served_lines, served_first}
 use Rattle.rx_serve.specs.declared.ended.Why.TheVariants as why
 
 -- with a line at the front

@@ -2,7 +2,7 @@
 use Rattle.std.specs.Prelude.{◌≡◌, ℕ, ◌+◌, suc, ◌≤◌, List, [], ◌++◌, Option, Some, None}
 use Rattle.rx_collection.specs.Held.{Held}
 use Rattle.rx_serve.specs.Answered.{Commits}
-use Rattle.rx_serve.specs.Served.{Served, served_first, ends_here, after_replies}
+use Rattle.rx_serve.specs.Served.{served_first, ends_here, after_replies}
 use Rattle.rx_serve.specs.declared.ended.Ended.{Ended}
 use Rattle.rx_serve.specs.declared.ended.Why.{Why}
 use Rattle.rx_serve.specs.declared.ended.Why.TheVariants as why

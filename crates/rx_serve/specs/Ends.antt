@@ -6,7 +6,6 @@ use Rattle.rx_outside.specs.declared.stop.Stop.TheVariants.{Memory}
 use Rattle.rx_serve.specs.Answered.{Commits}
 use Rattle.rx_serve.specs.Course.{IsFront}
 use Rattle.rx_serve.specs.Served.{served, served_first}
-use Rattle.rx_serve.specs.declared.ended.Ended.{Ended}
 use Rattle.rx_serve.specs.declared.ended.Why.{Why}
 use Rattle.rx_serve.specs.declared.ended.Why.TheVariants as why
 

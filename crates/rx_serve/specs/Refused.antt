@@ -1,5 +1,5 @@
 -- What a line that is no request is told.
-use Rattle.std.specs.Prelude.{◌≡◌, ⊤, ℕ, List, ◌++◌}
+use Rattle.std.specs.Prelude.{◌≡◌, ℕ, List, ◌++◌}
 use Rattle.rx_outside.specs.Sink.{WritesFront}
 use Rattle.rx_serve.specs.declared.ended.Ended.{Ended}
 use Rattle.rx_serve.specs.declared.ended.Why.{Why}

@@ -5,14 +5,12 @@ ghost use Rattle.rx_serve.specs.Incoming.{IsNext, Advances};
 ghost use Rattle.rx_serve.specs.Lines.{is_within};
 ghost use Rattle.rx_wire.specs.Limits.{longest_line};
 
+use crate::piece::{PIECE_BYTES, piece_size};
 use memchr::memchr;
 use rx_outside::Wire;
 use rx_wire::LONGEST_LINE;
 use std::alloc::{AllocError, Global};
 use std::marker::Model;
-
-/// The most bytes that are received in one call.
-const PIECE_BYTES: usize = 65_536;
 
 /// What comes next on a wire.
 #[derive(Clone, Copy, Debug, PartialEq, Eq)]
@@ -146,8 +144,9 @@ impl Incoming {
             → Rises (W.faults wire.old) (W.faults wire.new) }
     {
         self.at = 0;
+        let size = piece_size(self.piece.len());
         self.piece.clear();
-        self.piece.resize(PIECE_BYTES, 0)?;
+        self.piece.resize(size, 0)?;
         match wire.receive(self.piece.as_mut_slice()) {
             Ok(count) => {
                 self.piece.truncate(count);

@@ -6,10 +6,12 @@ mod answer;
 mod calling;
 mod ended;
 mod incoming;
+mod piece;
 mod sending;
 mod serving;
 
 pub use answer::Answer;
 pub use calling::{CallFault, call};
 pub use ended::{Ended, Why};
+pub use piece::{PIECE_BYTES, piece_size};
 pub use serving::serve;

@@ -1,10 +1,10 @@
 use Rattle.std.proofs.Common.{append_assoc, ◌∙◌}
-use Rattle.rx_reply.proofs.Tokens.{on_ok}
+use Rattle.std.proofs.lemmas.Result.{on_ok_weaker}
 use Rattle.rx_host.proofs.report.put_end.Goals as goal
 
 pub returns-clause-tokens : goal.returns-clause-tokens
 returns-clause-tokens c =
-    on_ok c.end_object.result
+    on_ok_weaker c.end_object.result
     (λ last. last ∙ rw (
       c.in_ok-put_number-3.ensures.tokens,
       c.in_ok-put_number-2.ensures.tokens,

@@ -1,12 +1,13 @@
 use Rattle.std.proofs.Common.{append_assoc, ◌∙◌}
+use Rattle.std.proofs.lemmas.Result.{on_ok_weaker}
 use Rattle.serde_json.specs.Data.{string}
-use Rattle.rx_reply.proofs.Tokens.{on_ok, one_more}
+use Rattle.rx_reply.proofs.Tokens.{one_more}
 use Rattle.rx_host.proofs.Reports.{map_map}
 use Rattle.rx_host.proofs.report.put_replication.Goals as goal
 
 pub returns-clause-tokens : goal.returns-clause-tokens
 returns-clause-tokens c =
-    on_ok c.end_object.result
+    on_ok_weaker c.end_object.result
     (λ last. last ∙ rw (
       c.in_ok-put_text-2.ensures.tokens,
       c.in_ok-put_maybe_number.ensures.tokens,

@@ -1,10 +1,10 @@
 use Rattle.std.proofs.Common.{rules, ◌≡◌, ℕ, List, true, Err, refl}
+use Rattle.rx_value.proofs.Outcomes.{on_err}
 use Rattle.rx_wire.specs.Spelling.{request_of}
 use Rattle.rx_serve.specs.Answered.{Commits}
 use Rattle.rx_serve.specs.Course.{Halts}
 use Rattle.rx_serve.specs.Lines.{is_within}
 use Rattle.rx_serve.proofs.Answering.{asked, behind, ends_told, halts_none, refused_line}
-use Rattle.rx_serve.proofs.Courses.{on_err}
 use Rattle.rx_serve.proofs.serving.answer_line.Goals as goal
 
 pub returns-in_ok-refuse-in-Err-clause-steps : goal.returns-in_ok-refuse-in-Err-clause-steps

@@ -1,11 +1,11 @@
 use Rattle.std.proofs.Common.{rules, ◌≡◌, ◌∙◌, ℕ, List, [], ◌∷◌, ◌++◌, true, Ok, refl, sym, ap}
+use Rattle.rx_value.proofs.Outcomes.{on_err}
 use Rattle.rx_wire.specs.Spelling.{request_of}
 use Rattle.rx_serve.specs.Answered.{Commits}
 use Rattle.rx_serve.specs.Course.{Halts}
 use Rattle.rx_serve.specs.Lines.{is_within}
 use Rattle.rx_wire.specs.Writing.{reply_text}
 use Rattle.rx_serve.proofs.Answering.{asked, behind, ends_by_clock, serves_one, breaks_after_one, halts_answered, halts_stopped}
-use Rattle.rx_serve.proofs.Courses.{on_err}
 use Rattle.rx_serve.proofs.serving.answer_request.Goals as goal
 
 pub returns-in_default-clause-steps : goal.returns-in_default-clause-steps

@@ -1,7 +1,8 @@
-use Rattle.std.proofs.Common.{rules, ◌≡◌, ◌≤◌, ◌<◌, ◌++◌, []}
+use Rattle.std.proofs.Common.{rules, ◌≡◌, ◌≤◌, ◌<◌, []}
+use Rattle.rx_value.proofs.Outcomes.{on_err}
 use Rattle.rx_serve.specs.Answered.{Commits, LeavesSome}
 use Rattle.rx_serve.specs.Served.{most_requests}
-use Rattle.rx_serve.proofs.Courses.{Join, serves_begun, serves_more, continues_more, holds_more, leaves_more, ended_so, ended_full, stopped, stopped_first, on_err}
+use Rattle.rx_serve.proofs.Courses.{Join, serves_begun, serves_more, continues_more, holds_more, leaves_more, ended_so, ended_full, stopped, stopped_first}
 use Rattle.rx_serve.proofs.serving.serve.Goals as goal
 
 pub returns-in_err-incoming-clause-stopped : goal.returns-in_err-incoming-clause-stopped

@@ -1,12 +1,13 @@
-use Rattle.std.proofs.Common.{rules, ◌≡◌, ◌∙◌, ◌++◌, refl, subst, List, ℕ}
+use Rattle.std.proofs.Common.{rules, ◌∙◌, ◌++◌, refl, subst, List, ℕ}
+use Rattle.std.proofs.lemmas.Result.{IfOk-weaker}
+use Rattle.rx_value.proofs.Outcomes.{on_err}
 use Rattle.rx_wire.specs.Fault.{fault_text}
 use Rattle.rx_wire.specs.declared.fault.WireFault.TheVariants as fault
 use Rattle.rx_serve.specs.Incoming.{IsNext}
 use Rattle.rx_serve.specs.Refused.{IsToldFor}
 use Rattle.rx_serve.specs.Served.{as_line}
 use Rattle.rx_serve.specs.declared.incoming.Next.TheVariants as next
-use Rattle.rx_serve.proofs.Answering.{ends_told, halts_none, line_step, on_ok, refused_long, ends_by_peer, breaks_unread}
-use Rattle.rx_serve.proofs.Courses.{on_err}
+use Rattle.rx_serve.proofs.Answering.{ends_told, halts_none, line_step, refused_long, ends_by_peer, breaks_unread}
 use Rattle.rx_serve.proofs.serving.serve_next.Goals as goal
 
 pub returns-in_ok-refuse-in-Ok-TooLong-clause-steps :
@@ -52,7 +53,7 @@ returns-in-Ok-Line-clause-steps g c = λ told.
     let old = c.args.incoming.now.unread ++ g.W.Wire.left c.args.wire.now in
     let new = c.next.new.self.unread ++ g.W.Wire.left c.next.new.wire in
     let is : IsNext next.Line c.next.new.self.line old new = search rules in
-    on_ok c.answer_line.result _ _
+    IfOk-weaker c.answer_line.result _ _
     (λ ended steps. line_step ended _ (g.A.Answer.collection c.args.answer.now)
     (g.A.Answer.collection c.answer_line.new.answer) c.next.new.self.line c.line.result.now old
     c.next.new.self.unread (g.W.Wire.left c.next.new.wire) (g.W.Wire.left c.answer_line.new.wire)

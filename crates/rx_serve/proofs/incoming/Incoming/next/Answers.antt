@@ -1,5 +1,3 @@
-use Rattle.std.proofs.Common.{◌≡◌, ◌∙◌, Option, Some, sym, subst}
-use Rattle.rx_serve.specs.Incoming.{Advances}
 use Rattle.rx_serve.proofs.Coming.{comes_next}
 use Rattle.rx_serve.proofs.incoming.Incoming.next.Goals as goal
 
