@@ -1,10 +1,11 @@
 -- How things stand after a turn to a master elsewhere.
-use Rattle.std.proofs.Common.{◌≡◌, ◌≤◌, sym, subst, ℕ, List, Result}
+use Rattle.std.proofs.Common.{◌≡◌, ◌≤◌, sym, subst, ℕ, List, Option, Result}
 use Rattle.rx_value.specs.Named.{put_named}
 use Rattle.rx_disk.specs.declared.disk.Disk.{Ghosts}
 use Rattle.rx_outside.specs.declared.stop.Stop.{Stop}
 use Rattle.rx_session.specs.Session.{Session}
 use Rattle.rx_store.specs.Holds.{Holds}
+use Rattle.rx_sync.proofs.Apart.{apart_remote_turn}
 use Rattle.rx_sync.proofs.Elsewhere.{remote_turn_again, remote_turn_sound}
 use Rattle.rx_sync.proofs.Staying.{made_after, soundly_in_turn}
 use Rattle.rx_sync.proofs.Worlds.{linked_at, sound_after}
@@ -20,10 +21,12 @@ use Rattle.rx_world.specs.World.{World}
 use Rattle.rx_engine.specs.Calling.{Call, CanCall, called}
 use Rattle.rx_engine.specs.Callings.{IsDialledBy, IsRemoteMadeByName, TurnsRemotely}
 use Rattle.rx_engine.specs.Dialled.{DialStanding}
+use Rattle.rx_engine.specs.Marks.{AreMarked, AreMarkedBut}
 use Rattle.rx_engine.specs.Remembered.{AreRemembered}
 use Rattle.rx_engine.specs.Standing.{Standing, asks_of}
 use Rattle.rx_engine.specs.Turning.{terms, written}
 use Rattle.rx_engine.specs.declared.turning.Turned.{Turned as Made}
+use Rattle.rx_engine.proofs.Marking.{marked_then}
 use Rattle.rx_engine.proofs.Plays.{written-world}
 use Rattle.rx_engine.proofs.Remembering.{remembered_after, remembered_put, remembers_lawful}
 use Rattle.rx_journal.specs.declared.journal.Journal.{Journal}
@@ -124,3 +127,11 @@ module _ (c : Call) (s : Standing) (some : 1 ≤ c.batch) (made : IsMadeWorld s.
       subst (λ (v : World). AreRemembered v (put_named s.asks c.name done.asks)) then_is
       (remembered_put v s.asks c.name done.asks here.replication l.fork here.held l.held again.asks
       (remembered_after done.records w s.asks (soundly_in_turn w done.records come) remembers))
+
+  pub others_called : (marks : List (List ℕ × Option ℕ)) → AreMarked w marks
+      → AreMarkedBut c.name then marks
+  others_called marks all =
+      subst (λ (v : World). AreMarkedBut c.name v marks) then_is
+      (marked_then done.records w marks c.name (soundly_in_turn w done.records come)
+      (λ name other. apart_remote_turn (terms c.name s.session.moment s.kinds) name other c.batch
+      c.budget s.heard w (asks_of c.name s.asks)) all)

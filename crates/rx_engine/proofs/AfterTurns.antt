@@ -1,11 +1,12 @@
 -- How things stand after a turn.
-use Rattle.std.proofs.Common.{◌≡◌, ◌≤◌, sym, subst, ℕ, List, Result}
+use Rattle.std.proofs.Common.{◌≡◌, ◌≤◌, sym, subst, ℕ, List, Option, Result}
 use Rattle.rx_value.specs.Named.{put_named}
 use Rattle.rx_disk.specs.declared.disk.Disk.{Ghosts}
 use Rattle.rx_outside.specs.declared.stop.Stop.{Stop}
 use Rattle.rx_reply.specs.declared.turn.TurnEnd.TheVariants.{Quiet}
 use Rattle.rx_session.specs.Session.{Session}
 use Rattle.rx_store.specs.Safe.{IsCrashSafe}
+use Rattle.rx_sync.proofs.Apart.{apart_turn}
 use Rattle.rx_sync.proofs.Staying.{made_after, soundly_in_turn}
 use Rattle.rx_sync.proofs.Turns.{turn_again, turn_quiet, turn_sound}
 use Rattle.rx_sync.proofs.Worlds.{linked_at, sound_after}
@@ -16,12 +17,14 @@ use Rattle.rx_sync.specs.Turn.{Turned, turn}
 use Rattle.rx_world.specs.Made.{IsMadeWorld}
 use Rattle.rx_world.specs.Sound.{IsSoundWorld}
 use Rattle.rx_world.specs.World.{World}
+use Rattle.rx_engine.specs.Marks.{AreMarked, AreMarkedBut}
 use Rattle.rx_engine.specs.Meaning.{bodies_of}
 use Rattle.rx_engine.specs.Play.{IsMadeByName}
 use Rattle.rx_engine.specs.Remembered.{AreRemembered}
 use Rattle.rx_engine.specs.Standing.{Standing, asks_of}
 use Rattle.rx_engine.specs.Turning.{CanTurn, Turn as ToTurn, terms, turned, written}
 use Rattle.rx_engine.specs.declared.turning.Turned.{Turned as Made}
+use Rattle.rx_engine.proofs.Marking.{marked_then}
 use Rattle.rx_engine.proofs.Plays.{written-world}
 use Rattle.rx_engine.proofs.Remembering.{remembered_after, remembered_put, remembers_lawful}
 
@@ -121,6 +124,14 @@ module _ (u : ToTurn) (s : Standing) (some : 1 ≤ u.batch) (made : IsMadeWorld 
       subst (λ (v : World). AreRemembered v (put_named s.asks u.name done.asks)) then_is
       (remembered_put v s.asks u.name done.asks here.replication l.fork here.held l.held again.asks
       (remembered_after done.records w s.asks (soundly_in_turn w done.records come) remembers))
+
+  pub others_then : (marks : List (List ℕ × Option ℕ)) → AreMarked w marks
+      → AreMarkedBut u.name then marks
+  others_then marks all =
+      subst (λ (v : World). AreMarkedBut u.name v marks) then_is
+      (marked_then done.records w marks u.name (soundly_in_turn w done.records come)
+      (λ name other. apart_turn (terms u.name s.session.moment s.kinds) name other u.batch u.budget
+      u.link w (asks_of u.name s.asks)) all)
 
   pub level_then : done.ended ≡ Quiet → IsLevel then u.name
   level_then quiet =

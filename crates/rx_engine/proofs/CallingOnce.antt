@@ -16,7 +16,7 @@ use Rattle.rx_store.specs.Safe.{IsCrashSafe}
 use Rattle.rx_session.specs.Session.{Session}
 use Rattle.rx_sync.specs.Asking.{asked_in, pending_in}
 use Rattle.rx_sync.specs.Asks.{Asks, next_number, with_request}
-use Rattle.rx_sync.specs.Exchange.{Course, Terms, after, course_with, has_pulled}
+use Rattle.rx_sync.specs.Exchange.{Course, Terms, after, asked_to_pull, course_with}
 use Rattle.rx_sync.specs.Remote.{Heard, no_dial, no_wire, no_line, line, heard_course, heard_exchange, schema_in}
 use Rattle.rx_sync.specs.RemoteLaws.{MayCall}
 use Rattle.rx_sync.proofs.Elsewhere.{heard_course_sound}
@@ -98,12 +98,12 @@ module _ {D : Type 0} (d : Ghosts D) (now new : D) (tells : Type 0) (wire wire' 
         got = λ other. got;
       }
 
--- after one that has pulled nothing is to be pushed
+-- after one that asked for a pull nothing is to be pushed
 pub then_none_heard : {D : Type 0} {d : Ghosts D} {now new : D} {tells : Type 0}
     {wire wire' : WireStanding} {t : Terms} {batch : ℕ} {play then_play : Play} {a b : Asks}
     {o : Option Exchanged}
     → MakesHeard d now new tells wire wire' t batch play a b (Ok (then_play, o)) → 1 ≤ batch
-    → MayCall t play.playing.world a → has_pulled o ≡ true
+    → MayCall t play.playing.world a → asked_to_pull o ≡ true
     → pending_in then_play.playing.world t.name ≡ Some 0
 then_none_heard {t = t} {batch = batch} {play = play} {then_play = then_play} {a = a} made some may
     is =
@@ -112,7 +112,7 @@ then_none_heard {t = t} {batch = batch} {play = play} {then_play = then_play} {a
     ap (λ (s : Session). s.world) made.session ∙ written-world c.records play.playing in
     subst (λ (w : World). pending_in w t.name ≡ Some 0) (sym then_world)
     (heard_course_pulled t batch some made.heard play.playing.world a may
-    (ap has_pulled (sym made.came) ∙ is))
+    (ap asked_to_pull (sym made.came) ∙ is))
 
 -- what a wire gave, from what it has left
 pub given_so : (given left given' left' part : List ℕ) → given' ++ left' ≡ given ++ left

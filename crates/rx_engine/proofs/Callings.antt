@@ -1,5 +1,5 @@
 -- A turn to a master that is elsewhere, exchange by exchange.
-use Rattle.std.proofs.Common.{◌≡◌, ◌∙◌, ◌≤◌, ◌<◌, ◌+◌, ℕ, zero, suc, nat_lt, true, List, [], ◌∷◌, ◌++◌, map, length, Option, Some, None, IsSome, Result, Ok, Err, IsErrOf, refl, sym, ap, subst, arith, append_assoc, append-nil, length-append, lt-ltb, inl, inr}
+use Rattle.std.proofs.Common.{◌≡◌, ◌∙◌, ◌≤◌, ◌<◌, ◌+◌, ℕ, zero, suc, nat_lt, Bool, true, List, [], ◌∷◌, ◌++◌, map, length, Option, Some, None, IsSome, Result, Ok, Err, IsErrOf, refl, sym, ap, subst, arith, append_assoc, append-nil, length-append, lt-ltb, inl, inr}
 use Rattle.std.specs.List.{AllByRecursion}
 use Rattle.std.proofs.lemmas.List.{length-map, map-append}
 use Rattle.rx_value.specs.Named.{named}
@@ -165,7 +165,7 @@ pub above : (a b : ℕ) → Rises a b → nat_lt 0 b ≡ true
 above a b (inl less) = lt-ltb 0 b (omega (arith, less))
 above a b (inr last) = ap (λ (n : ℕ). nat_lt 0 n) last
 
-none_left : (left i budget : ℕ) → i + left ≡ budget → budget ≤ i → left ≡ 0
+pub none_left : (left i budget : ℕ) → i + left ≡ budget → budget ≤ i → left ≡ 0
 none_left left i budget span past = omega (arith, span, past)
 
 -- ---- a turn on its way
@@ -682,13 +682,13 @@ module _ {D : Type 0} (t : Terms) (batch : ℕ) (d : Ghosts D) (old : D) (first 
   }
 
   -- the turn is made, and its records are on the disk
-  pub call_made : (now : D) (play : Play) (a : Asks) (es : List Exchanged) (end : TurnEnd)
+  pub call_made : {b : Bool} (now : D) (play : Play) (a : Asks) (es : List Exchanged) (end : TurnEnd)
       (wire : WireStanding) → IsCallOver now play a es end wire
       → TurnsRemotely d old now first.journal.limit (IsPlayAt d old first)
       (λ (m : Made). IsPlayAt d now m.play) total (IsRemoteMade first.playing a)
       (IsHeardOver tells first.playing.world t.name w0 wire)
-      (Ok (record { play = play; exchanges = es; ended = end }))
-  call_made now play a es end wire over = record {
+      (Ok (record { play = play; exchanges = es; ended = end; pulled = b }))
+  call_made {b} now play a es end wire over = record {
     heard = over.heard;
     requests = over.requests;
     so = λ later.
@@ -709,12 +709,12 @@ module _ {D : Type 0} (t : Terms) (batch : ℕ) (d : Ghosts D) (old : D) (first 
     safe = λ later told bodies at.
         subst (λ (cs : List Content). IsCrashSafe d old now bodies (bodies_of cs)
         first.journal.limit (λ (m : Made). IsPlayAt d now m.play)
-        (Ok (record { play = play; exchanges = es; ended = end })))
+        (Ok (record { play = play; exchanges = es; ended = end; pulled = b })))
         (sym (append-nil over.done)
         ∙ ap (λ (u : RemoteTurned). u.turned.records) (sym (over.whole later)))
         (answered d old now bodies (bodies_of over.done) first.journal.limit (IsPlayAt d now)
         (λ (m : Made). IsPlayAt d now m.play) play
-        (record { play = play; exchanges = es; ended = end }) (over.kept.safe told bodies at)
+        (record { play = play; exchanges = es; ended = end; pulled = b }) (over.kept.safe told bodies at)
         (λ held. held));
     asked = λ other later. (
       [],

@@ -1,6 +1,6 @@
 -- Rows of a bulk, one after another.
 use Rattle.std.specs.Prelude.{⊤}
-use Rattle.std.proofs.Common.{length, ◌≤◌, drop, append-nil, ◌≡◌, ℕ, ◌+◌, List, [], ◌∷◌, ◌++◌, map, Bool, true, false, not, cond, Option, Some, None, is_some, Result, Ok, Err, refl, sym, ap, ◌∙◌, subst}
+use Rattle.std.proofs.Common.{length, ◌≤◌, drop, append-nil, append_assoc, ◌≡◌, ℕ, ◌+◌, List, [], ◌∷◌, ◌++◌, map, Bool, true, false, not, cond, Option, Some, None, is_some, Result, Ok, Err, refl, sym, ap, ◌∙◌, subst}
 use Rattle.std.specs.List.{AllByRecursion, IsDistinct}
 use Rattle.std.specs.Str.{bytes_eq}
 use Rattle.std.proofs.lemmas.Cmp.{nat_list_eq_equiv}
@@ -22,6 +22,7 @@ use Rattle.rx_reply.specs.declared.refusal.DocumentFault.TheVariants.{Key}
 use Rattle.rx_world.specs.Step.{IsValidState}
 use Rattle.rx_world.proofs.States.{valid_state}
 use Rattle.rx_value.specs.Value.{text_of}
+use Rattle.rx_value.proofs.Outcomes.{ok_then}
 use Rattle.rx_engine.specs.Documents.{key_in, state_of, valid_by, is_free}
 use Rattle.rx_engine.specs.Faults.{of_document, of_invalidity, of_value}
 use Rattle.rx_engine.specs.Writes.{Keys, in_row, at_row, row_state, rows_states}
@@ -33,11 +34,6 @@ abbrev pub after : List State → Result (List State) Fault → Result (List Sta
 after done rest = rest >> λ more. Ok (done ++ more)
 
 -- ---- what is read of two readings is read of each
-
-bound : {A B E : Type 0} (r : Result A E) (f : A → Result B E) (y : B) → (r >> f) ≡ Ok y
-    → (x : A) × (r ≡ Ok x) × (f x ≡ Ok y)
-bound (Ok x) f y h = (x, refl, h)
-bound (Err e) f y h = absurd (cc)
 
 lifted_ok : {A E F : Type 0} (f : E → F) (r : Result A E) (x : A) → lifted f r ≡ Ok x → r ≡ Ok x
 lifted_ok f (Ok y) x h = cc
@@ -55,9 +51,9 @@ carried (Some (Text t)) k h = cc
 state_carries : (primary : List ℕ) (d : Data) (s : State) → state_of primary d ≡ Ok s
     → named s.fields primary ≡ Some (Text s.key)
 state_carries primary d s h =
-    let fields = bound (lifted of_value (fields_of d)) (λ fields. key_in primary fields >> λ key.
+    let fields = ok_then (lifted of_value (fields_of d)) (λ fields. key_in primary fields >> λ key.
     Ok (record { key = key; fields = fields; deleted = false })) s h in
-    let key = bound (key_in primary fields.0) (λ key.
+    let key = ok_then (key_in primary fields.0) (λ key.
     Ok (record { key = key; fields = fields.0; deleted = false })) s fields.2 in
     let is : record { key = key.0; fields = fields.0; deleted = false } ≡ s = cc (key.2) in
     subst (λ (s : State). named s.fields primary ≡ Some (Text s.key)) is
@@ -85,13 +81,13 @@ module _ (c : Held) where
   pub row_given : (row : ℕ) (seen : Keys) (d : Data) (s : State) → row_state c row seen d ≡ Ok s
       → IsValidState c.schema s × (named seen s.key ≡ None)
   row_given row seen d s h =
-      let read = bound (in_row row (state_of c.schema.primary d)) (checked row seen) s h in
-      let fresh = bound (demand (not (is_some (named seen read.0.key))) (Refused (Twice row)))
+      let read = ok_then (in_row row (state_of c.schema.primary d)) (checked row seen) s h in
+      let fresh = ok_then (demand (not (is_some (named seen read.0.key))) (Refused (Twice row)))
       (λ _. in_row row (valid_by c.schema read.0.fields) >> λ _.
       in_row row (is_free c read.0.key) >> λ _. Ok read.0) s read.2 in
-      let valid = bound (in_row row (valid_by c.schema read.0.fields))
+      let valid = ok_then (in_row row (valid_by c.schema read.0.fields))
       (λ _. in_row row (is_free c read.0.key) >> λ _. Ok read.0) s fresh.2 in
-      let free = bound (in_row row (is_free c read.0.key)) (λ _. Ok read.0) s valid.2 in
+      let free = ok_then (in_row row (is_free c read.0.key)) (λ _. Ok read.0) s valid.2 in
       let is : read.0 ≡ s = cc (free.2) in
       subst (λ (s : State). IsValidState c.schema s × (named seen s.key ≡ None)) is (
         valid_state c.schema read.0
@@ -137,9 +133,9 @@ module _ (c : Held) where
       let is : [] ≡ ss = cc in
       subst (λ (ss : List State). AllByRecursion (Fits seen) ss × IsDistinct bytes_eq (map (λ s. s.key) ss)) is (tt, tt)
   rows_fit row seen (d ∷ ds) ss h =
-      let first = bound (row_state c row seen d) (λ state.
+      let first = ok_then (row_state c row seen d) (λ state.
       rows_states c (row + 1) (put_in_order seen state.key tt) ds >> λ states. Ok (state ∷ states)) ss h in
-      let rest = bound (rows_states c (row + 1) (put_in_order seen first.0.key tt) ds)
+      let rest = ok_then (rows_states c (row + 1) (put_in_order seen first.0.key tt) ds)
       (λ states. Ok (first.0 ∷ states)) ss first.2 in
       let is : first.0 ∷ rest.0 ≡ ss = cc (rest.2) in
       let fit = rows_fit (row + 1) (put_in_order seen first.0.key tt) ds rest.0 rest.1 in
@@ -157,6 +153,30 @@ module _ (c : Held) where
       → AllByRecursion (IsValidState c.schema) ss × IsDistinct bytes_eq (map (λ s. s.key) ss)
   rows_given row seen ds ss h =
       let fit = rows_fit row seen ds ss h in (all_valid seen ss fit.0, fit.1)
+
+  -- one state more was read, before those that are left
+  after_one : (done : List State) (s : State) (rest : Result (List State) Fault)
+      → after done (rest >> λ more. Ok (s ∷ more)) ≡ after (done ++ s ∷ []) rest
+  after_one done s (Ok more) = ap Ok (sym (append_assoc done (s ∷ []) more))
+  after_one done s (Err e) = refl
+
+  pub row_read : (docs : List Json) (row : ℕ) (seen new : Keys) (states : List State) (d : Json)
+      (s : State)
+      → rows_states c 0 [] (map view docs)
+      ≡ after states (rows_states c row seen (map view (drop row docs)))
+      → drop row docs ≡ d ∷ drop (row + 1) docs → row_state c row seen (view d) ≡ Ok s
+      → new ≡ put_in_order seen s.key tt
+      → rows_states c 0 [] (map view docs)
+      ≡ after (states ++ s ∷ []) (rows_states c (row + 1) new (map view (drop (row + 1) docs)))
+  row_read docs row seen new states d s so_far here read is =
+      let left = map view (drop (row + 1) docs) in
+      so_far
+      ∙ ap (λ ds. after states (rows_states c row seen (map view ds))) here
+      ∙ ap (λ r. after states (r >> λ state.
+      rows_states c (row + 1) (put_in_order seen state.key tt) left >> λ more.
+      Ok (state ∷ more))) read
+      ∙ after_one states s (rows_states c (row + 1) (put_in_order seen s.key tt) left)
+      ∙ ap (λ keys. after (states ++ s ∷ []) (rows_states c (row + 1) keys left)) (sym is)
 
   -- no row is left
   pub all_read : (docs : List Json) (row : ℕ) (seen : Keys) (states : List State)

@@ -1,11 +1,12 @@
 -- What was done with an engine and a dial is what the line means.
 use Rattle.std.proofs.Common.{◌≡◌, ◌∙◌, ℕ, List, [], ◌++◌, Result, Ok, Err, IfOk, IsOk, refl, sym, ap, subst}
+use Rattle.rx_value.proofs.Outcomes.{if_ok}
 use Rattle.rx_disk.specs.declared.disk.Disk.{Ghosts}
 use Rattle.rx_handler.specs.Handlers.{Kinds}
 use Rattle.rx_outside.specs.declared.stop.Stop.{Stop}
 use Rattle.rx_outside.specs.declared.stop.Stop.TheVariants.{Memory}
 use Rattle.rx_store.specs.Safe.{IsCrashSafe}
-use Rattle.rx_store.proofs.Crashes.{if_ok, ran_out}
+use Rattle.rx_store.proofs.Crashes.{ran_out}
 use Rattle.rx_store.proofs.Growing.{stays}
 use Rattle.rx_sync.specs.Remote.{Heard, RemoteTurned}
 use Rattle.rx_engine.specs.Calling.{Call, called, to_hear}

@@ -2,6 +2,7 @@ pub mod Cut
 pub mod Meanings
 pub mod Keeping
 pub mod Remembering
+pub mod Marking
 pub mod CanTurns
 pub mod AfterTurns
 pub mod Stops
@@ -11,6 +12,7 @@ pub mod Setting
 pub mod LastPlace
 pub mod Live
 pub mod EachRow
+pub mod OneRow
 pub mod Reading
 pub mod Rows
 pub mod Lines

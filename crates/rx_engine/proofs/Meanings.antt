@@ -1,5 +1,5 @@
 -- What was done and answered is what the line means.
-use Rattle.std.proofs.Common.{◌≡◌, ◌≤◌, ℕ, List, [], ◌++◌, length, string_bytes, true, false, true≢false, Some, None, Result, Ok, Err, IfOk, OnOk, refl, sym, ap, ◌∙◌, subst, append-nil}
+use Rattle.std.proofs.Common.{◌≡◌, ◌≤◌, ℕ, List, [], ◌++◌, length, string_bytes, true, false, true≢false, Some, None, Result, Ok, Err, IfOk, refl, sym, ap, ◌∙◌, subst, append-nil}
 use Rattle.rx_handler.specs.Handlers.{Kinds}
 use Rattle.rx_observe.specs.declared.emission.Emission.{Emission}
 use Rattle.rx_outside.specs.declared.stop.Stop.{Stop}
@@ -97,10 +97,6 @@ some_asked x m s is may = subst (λ (x : Judged). MayDoJudged x s) is may
 pub some_called : (x : Judged) (m : Call) (s : Session) → x ≡ judged.Calls m → MayDoJudged x s
     → 1 ≤ m.batch
 some_called x m s is may = (subst (λ (x : Judged). MayDoJudged x s) is may).0
-
-pub on_ok : {A E P : Type 0} (r : Result A E) → P → OnOk r P
-on_ok (Ok a) p = p
-on_ok (Err e) p = tt
 
 -- ---- parts and wholes
 

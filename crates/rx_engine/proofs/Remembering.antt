@@ -3,10 +3,10 @@ use Rattle.std.proofs.Common.{◌≡◌, ◌∙◌, sym, ap, subst, refl, ℕ, L
 use Rattle.std.specs.Str.{bytes_eq}
 use Rattle.std.proofs.lemmas.Slice.Eq.{bytes_eq-Decides}
 use Rattle.rx_value.specs.Named.{named, put_named}
+use Rattle.rx_value.proofs.Outcomes.{some_same}
 use Rattle.rx_collection.specs.Held.{Held}
 use Rattle.rx_schema.specs.declared.shape.Shape.{Shape}
 use Rattle.rx_record.specs.Content.{Content, epoch}
-use Rattle.rx_replication.proofs.Lists.{some_same}
 use Rattle.rx_sync.proofs.Staying.{stay_after, still_after}
 use Rattle.rx_sync.specs.Asks.{Asks, AsksAreLawful, no_asks}
 use Rattle.rx_sync.specs.Exchange.{after}

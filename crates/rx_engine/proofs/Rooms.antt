@@ -4,7 +4,7 @@ use Rattle.std.specs.Map.{lookup, set_value}
 use Rattle.std.specs.Str.{bytes_eq}
 use Rattle.rx_value.specs.Named.{by_bytes, named, put_named, change_named}
 use Rattle.rx_value.proofs.Named.{by_name-set_value, lookup-by_bytes, named-put_named}
-use Rattle.rx_world.proofs.Looked.{equal_names}
+use Rattle.rx_value.proofs.Bytes.{bytes_itself}
 
 module _ {X : Type 0} where
   put_same : (b : Bool) (e : List ℕ × X) (es later : List (List ℕ × X)) (x : X) (found : Option X)
@@ -26,7 +26,7 @@ module _ {X : Type 0} where
       → named (put_named es name x) name ≡ Some x
   put_found es name x =
       named-put_named es name name x
-      ∙ ap (λ b. cond b (Some x) (named es name)) (equal_names name)
+      ∙ ap (λ b. cond b (Some x) (named es name)) (bytes_itself name)
 
   put_changed : (b : Bool) (e : List ℕ × X) (es : List (List ℕ × X)) (name : List ℕ) (x y : X)
       → bytes_eq name e.0 ≡ b
@@ -44,7 +44,7 @@ module _ {X : Type 0} where
   change_put : (es : List (List ℕ × X)) (name : List ℕ) (x y : X)
       → change_named (put_named es name x) name (λ _. y) ≡ put_named es name y
   change_put [] name x y =
-      ap (λ b. cond b ((name, y) ∷ []) ((name, x) ∷ [])) (equal_names name)
+      ap (λ b. cond b ((name, y) ∷ []) ((name, x) ∷ [])) (bytes_itself name)
   change_put (e ∷ es) name x y =
       put_changed (bytes_eq name e.0) e es name x y refl (change_put es name x y)
 

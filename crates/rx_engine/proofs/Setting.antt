@@ -1,20 +1,16 @@
 -- Fields that are gone through one after another.
-use Rattle.std.proofs.Common.{◌≡◌, ℕ, ◌+◌, ◌&&◌, ◌||◌, not, Bool, true, false, true≢false, List, ◌∷◌, [], drop, Some, ap, sym, ◌∙◌, add-one, slice_get, cond, refl}
+use Rattle.std.proofs.Common.{◌≡◌, ℕ, ◌+◌, ◌&&◌, ◌||◌, not, Bool, true, false, true≢false, List, ◌∷◌, [], drop, Some, ap, sym, ◌∙◌, slice_get, cond, refl}
 use Rattle.std.specs.Str.{bytes_eq}
 use Rattle.std.proofs.lemmas.Slice.Eq.{bytes_eq-Decides}
-use Rattle.rx_schema.proofs.Lists.{from_here}
+use Rattle.std.proofs.lemmas.Bool.{and_parts}
 use Rattle.rx_value.specs.Fields.{Pair, Pairs}
 use Rattle.rx_value.specs.Named.{named, put_in_order}
 use Rattle.rx_value.specs.declared.value.Value.{Value}
 use Rattle.rx_value.specs.declared.value.Value.TheVariants.{Flag, Int, Text}
 use Rattle.rx_value.proofs.Named.{named-put_in_order}
 use Rattle.rx_value.specs.Value.{is_text}
+use Rattle.rx_value.proofs.Lists.{drop_at}
 use Rattle.rx_engine.specs.Documents.{keeps_key, with_fields}
-
--- what is left begins with the item there
-pub left_here : {X : Type 0} (xs : List X) (i : ℕ) (x : X) → slice_get xs i ≡ Some x
-    → drop i xs ≡ x ∷ drop (i + 1) xs
-left_here xs i x h = from_here xs i x h ∙ ap (λ n. x ∷ drop n xs) (sym (add-one i))
 
 module _ (primary key : List ℕ) where
   -- the pair doesn't give the primary key another value
@@ -25,7 +21,7 @@ module _ (primary key : List ℕ) where
   pub keeps_from : (ps : Pairs) (i : ℕ) (p : Pair) (b : Bool) → slice_get ps i ≡ Some p → keeps p ≡ b
       → keeps_key primary key (drop i ps) ≡ b && keeps_key primary key (drop (i + 1) ps)
   keeps_from ps i p b h is =
-      ap (keeps_key primary key) (left_here ps i p h)
+      ap (keeps_key primary key) (drop_at ps i p h)
       ∙ ap (λ k. k && keeps_key primary key (drop (i + 1) ps)) is
 
   -- a value that is the text is that text
@@ -33,11 +29,6 @@ module _ (primary key : List ℕ) where
   text_is (Text t) h = ap (λ s. Some (Text s)) ((bytes_eq-Decides t key).0 h)
   text_is (Flag b) h = cc
   text_is (Int z) h = cc
-
-  -- both of two tests hold
-  both : (a b : Bool) → a && b ≡ true → (a ≡ true) × (b ≡ true)
-  both true b h = (refl, h)
-  both false b h = absurd (true≢false (sym h))
 
   -- of a pair of the primary key that keeps it, the value is the key
   given_key : (n : List ℕ) (v : Value) (b : Bool) → bytes_eq n primary ≡ b
@@ -64,5 +55,5 @@ module _ (primary key : List ℕ) where
       → keeps_key primary key more ≡ true → named (with_fields ps more) primary ≡ Some (Text key)
   set_carries ps [] at keep = at
   set_carries ps (p ∷ more) at keep =
-      let h = both (keeps p) (keeps_key primary key more) keep in
+      let h = and_parts (keeps p) (keeps_key primary key more) keep in
       set_carries (put_in_order ps p.0 p.1) more (put_carries ps p.0 p.1 at h.0) h.1

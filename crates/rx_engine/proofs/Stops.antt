@@ -7,10 +7,15 @@ use Rattle.rx_outside.specs.declared.stop.Stop.TheVariants.{Disk, Memory}
 use Rattle.rx_store.proofs.Crashes.{other_stop}
 use Rattle.rx_store.specs.Safe.{HasDiskCause}
 
+-- a stop that is handed on
+pub handed_on : {A : Type 0} (r : Result A Stop) (stop : Stop) → IsErrAnd r (λ e. e ≡ stop)
+    → r ≡ Err stop
+handed_on r stop is =
+    let err = err_from_is_err_and r is in err.1 ∙ ap (λ (stop : Stop). Err stop) err.2
+
 -- where memory ran out, that is the stop
 pub memory_stop : {A : Type 0} (r : Result A Stop) → IsErrAnd r (λ e. e ≡ Memory) → r ≡ Err Memory
-memory_stop r is =
-    let err = err_from_is_err_and r is in err.1 ∙ ap (λ (stop : Stop). Err stop) err.2
+memory_stop r is = handed_on r Memory is
 
 -- a stop by the disk shows in its count
 pub same_cause : {A B : Type 0} (before now : ℕ) (stop : Stop) (r : Result B Stop) → r ≡ Err stop

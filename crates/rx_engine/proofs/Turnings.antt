@@ -1,5 +1,5 @@
 -- A turn, exchange by exchange.
-use Rattle.std.proofs.Common.{◌≡◌, ◌∙◌, ◌≤◌, ◌<◌, ◌+◌, ℕ, zero, suc, true, List, [], ◌∷◌, ◌++◌, drop, Option, Some, None, Result, Ok, Err, refl, sym, ap, subst, arith, add-one, append_assoc, append-nil}
+use Rattle.std.proofs.Common.{◌≡◌, ◌∙◌, ◌≤◌, ◌<◌, ◌+◌, ℕ, zero, suc, Bool, true, List, [], ◌∷◌, ◌++◌, drop, Option, Some, None, Result, Ok, Err, refl, sym, ap, subst, arith, add-one, append_assoc, append-nil}
 use Rattle.rx_disk.specs.declared.disk.Disk.{Ghosts}
 use Rattle.rx_outside.specs.declared.stop.Stop.{Stop}
 use Rattle.rx_record.specs.Content.{Content}
@@ -23,6 +23,7 @@ use Rattle.rx_engine.specs.Turning.{happening_at, written}
 use Rattle.rx_engine.specs.declared.play.Play.{Play}
 use Rattle.rx_engine.specs.declared.turning.Turned.{Turned as Made}
 use Rattle.rx_engine.proofs.Plays.{IsUnderWay, all_safe, all_written, further, stopped, written-world}
+use Rattle.rx_engine.proofs.Callings.{none_left}
 
 -- ---- the link
 
@@ -59,9 +60,6 @@ one_asks : (c : Course) (o : Option TurnEnd)
     → (going_on c o (ended_with More c.asks)).asks ≡ c.asks
 one_asks c None = refl
 one_asks c (Some end) = refl
-
-used_left : (budget left i : ℕ) → i + left ≡ budget → budget ≤ i → left ≡ 0
-used_left budget left i span past = omega (arith, span, past)
 
 module _ (t : Terms) (batch : ℕ) where
   -- after an exchange another one may follow
@@ -319,7 +317,7 @@ module _ {D : Type 0} {t : Terms} {batch : ℕ} {d : Ghosts D} {old : D} {first 
   used past =
       let none : turn t batch on.left (drop i over) play.playing.world a ≡ ended_with More a =
       ap (λ (n : ℕ). turn t batch n (drop i over) play.playing.world a)
-      (used_left budget on.left i on.span past) in
+      (none_left on.left i budget on.span past) in
       record {
         way = subst (λ (u : Turned). IsUnderWay d old now first total.records play u.records) none
             on.way;
@@ -333,9 +331,9 @@ module _ {D : Type 0} {t : Terms} {batch : ℕ} {d : Ghosts D} {old : D} {first 
     {es : List Exchanged} {end : TurnEnd}
     (all : IsOver t batch d old first over budget total now play a es end) where
   -- the turn is made
-  pub made_so : IsMade total first.playing
-      (record { play = play; exchanges = es; ended = end }) a
-  made_so = record {
+  pub made_so : {b : Bool} → IsMade total first.playing
+      (record { play = play; exchanges = es; ended = end; pulled = b }) a
+  made_so {b} = record {
     session = all_written d old now first total.records play all.way;
     asks = sym all.asks;
     exchanges = sym all.exchanges;
@@ -343,11 +341,11 @@ module _ {D : Type 0} {t : Terms} {batch : ℕ} {d : Ghosts D} {old : D} {first 
   }
 
   -- and its records are on the disk
-  pub kept_so : d.tells → (bodies : List (List ℕ)) → IsPlayAt d old first bodies
+  pub kept_so : {b : Bool} → d.tells → (bodies : List (List ℕ)) → IsPlayAt d old first bodies
       → IsCrashSafe d old now bodies (bodies_of total.records) first.journal.limit
       (λ (made : Made). IsPlayAt d now made.play)
-      (Ok (record { play = play; exchanges = es; ended = end }))
-  kept_so told bodies at =
+      (Ok (record { play = play; exchanges = es; ended = end; pulled = b }))
+  kept_so {b} told bodies at =
       all_safe d old now first total.records play all.way
       (λ (made : Made). IsPlayAt d now made.play)
-      (record { play = play; exchanges = es; ended = end }) (λ bodies held. held) told bodies at
+      (record { play = play; exchanges = es; ended = end; pulled = b }) (λ bodies held. held) told bodies at

@@ -2,6 +2,7 @@ pub mod Faults
 pub mod Documents
 pub mod Standing
 pub mod Remembered
+pub mod Marks
 pub mod Outcome
 pub mod Writes
 pub mod Queries

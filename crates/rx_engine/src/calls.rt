@@ -10,6 +10,7 @@ ghost use Rattle.rx_engine.specs.Shown.{call_of};
 use crate::changing::AfterTurn;
 use crate::dialling::call_by_name;
 use crate::engine::Engine;
+use crate::marks::settle_turn;
 use crate::output::Output;
 use crate::play::Play;
 use crate::remote::Call;
@@ -113,23 +114,28 @@ impl Engine {
             diagram,
         } = self;
         let parts = session.release();
-        let (session, mut asks) = parts;
+        let (session, mut asks, mut marks) = parts;
+        let name = wanted.name.as_str();
+        let none = marks.tell_none(&session, name);
         let now = session.moment();
         let play = Play {
             journal,
             playing: session.begin(alloc),
         };
-        let made = call_by_name(alloc, disk, dial, handlers, play, &mut asks, wanted, now)?;
+        let made = call_by_name(
+            alloc, disk, dial, handlers, play, &mut asks, wanted, now, none,
+        )?;
         let Turned {
             play,
             exchanges,
             ended,
+            pulled,
         } = made;
         let Play { journal, playing } = play;
-        let (session, emissions) = playing.settle(alloc)?;
+        let (session, emissions) = settle_turn(alloc, playing, &mut marks, name, pulled)?;
         let engine = Engine {
             journal,
-            session: SoundSession::new(session, asks),
+            session: SoundSession::new(session, asks, marks),
             diagram,
         };
         Ok(AfterTurn {

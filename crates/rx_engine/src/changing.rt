@@ -14,6 +14,7 @@ ghost use Rattle.rx_engine.specs.Turning.{CanTurn, turned};
 
 use crate::engine::Engine;
 use crate::keep::keep_doing;
+use crate::marks::{Marks, settle_turn};
 use crate::opening::{Opened, is_next, open};
 use crate::outcome::LineDoing;
 use crate::play::Play;
@@ -105,12 +106,12 @@ impl Engine {
             diagram,
         } = self;
         let parts = session.release();
-        let (session, asks) = parts;
+        let (session, asks, marks) = parts;
         let journal = keep_doing(alloc, journal, disk, &doing)?;
         let (session, emissions) = session.next(alloc, doing)?;
         let engine = Engine {
             journal,
-            session: SoundSession::new(session, asks),
+            session: SoundSession::new(session, asks, marks),
             diagram,
         };
         Ok((engine, emissions))
@@ -136,16 +137,17 @@ impl Engine {
             diagram,
         } = self;
         let parts = session.release();
-        let (session, _forgotten) = parts;
+        let (session, _forgotten, _unmarked) = parts;
         let Opened { journal, world } = open(alloc, disk, journal.limit, &diagram)?;
         if !is_next(&session, &world, epoch) {
             return Err(Stop::NotJournal);
         }
         let session = session.reopen(alloc, world)?;
         let asks = IndexMap::new(alloc);
+        let marks = Marks::new(alloc);
         Ok(Engine {
             journal,
-            session: SoundSession::new(session, asks),
+            session: SoundSession::new(session, asks, marks),
             diagram,
         })
     }
@@ -182,23 +184,26 @@ impl Engine {
             diagram,
         } = self;
         let parts = session.release();
-        let (session, mut asks) = parts;
+        let (session, mut asks, mut marks) = parts;
+        let name = wanted.name.as_str();
+        let none = marks.tell_none(&session, name);
         let now = session.moment();
         let play = Play {
             journal,
             playing: session.begin(alloc),
         };
-        let made = turn_by_name(alloc, disk, handlers, play, &mut asks, wanted, now)?;
+        let made = turn_by_name(alloc, disk, handlers, play, &mut asks, wanted, now, none)?;
         let Turned {
             play,
             exchanges,
             ended,
+            pulled,
         } = made;
         let Play { journal, playing } = play;
-        let (session, emissions) = playing.settle(alloc)?;
+        let (session, emissions) = settle_turn(alloc, playing, &mut marks, name, pulled)?;
         let engine = Engine {
             journal,
-            session: SoundSession::new(session, asks),
+            session: SoundSession::new(session, asks, marks),
             diagram,
         };
         Ok(AfterTurn {

@@ -6,8 +6,10 @@ ghost use Rattle.rx_value.specs.Due.{Due, DueBy};
 ghost use Rattle.rx_value.specs.Named.{named};
 ghost use Rattle.rx_value.specs.declared.value.Value.TheVariants.{Text};
 ghost use Rattle.rx_schema.specs.Validity.{first_fault, fault_seen};
+ghost use Rattle.rx_document.specs.Revision.{revision_text};
+ghost use Rattle.rx_collection.specs.Commit.{next_height};
 ghost use Rattle.rx_collection.specs.Lawful.{IsLawful};
-ghost use Rattle.rx_engine.specs.Documents.{key_in, state_of, valid_by, with_fields, keeps_key, live_document, document_at, has_revision, is_free, next_revision};
+ghost use Rattle.rx_engine.specs.Documents.{key_in, state_of, valid_by, with_fields, keeps_key, live_document, document_at, has_revision, is_free};
 ghost use Rattle.rx_engine.specs.Faults.{of_invalidity};
 ghost use Rattle.rx_engine.specs.declared.fault.Fault.TheVariants.{Memory};
 
@@ -140,12 +142,15 @@ pub(crate) fn check_revision(
     }
 }
 
-/// Refuses a key that is that of a live document.
-pub(crate) fn check_free(alloc: Global, collection: &Collection, key: &str) -> Result<(), Fault>
-    ensures { Due Memory result (is_free collection.now key.now) }
+/// The height that the next write of a key gets, which isn't to be that of a live document.
+pub(crate) fn free_height(alloc: Global, collection: &Collection, key: &str) -> Result<u64, Fault>
+    ensures exact { DueBy Memory (λ _. tt) result (is_free collection.now key.now) }
+    ensures height { IfOk result
+        (λ height. height ≡ next_height (named collection.now.documents key.now)) }
 {
-    match find_live_document(collection, key) {
-        None => Ok(()),
+    match collection.get(key) {
+        None => Ok(1),
+        Some(doc) if doc.state.deleted => Ok(doc.rev.height + 1),
         Some(doc) => {
             let rev = doc.rev.text(alloc)?;
             Err(of_document(DocumentFault::Conflict { rev }))
@@ -153,18 +158,15 @@ pub(crate) fn check_free(alloc: Global, collection: &Collection, key: &str) -> R
     }
 }
 
-/// The revision that the next write of a key gets.
-pub(crate) fn next_revision(
+/// The revision of that height that a collection gives.
+pub(crate) fn revision_at(
     alloc: Global,
     collection: &Collection,
-    key: &str,
+    height: u64,
 ) -> Result<RxText, AllocError>
-    ensures { IfOk result (λ rev. rev ≡ next_revision collection.now key.now) }
+    ensures { IfOk result (λ rev. rev
+        ≡ revision_text (record { height = height; token = collection.now.name })) }
 {
-    let height = match collection.get(key) {
-        Some(held) => held.rev.height + 1,
-        None => 1,
-    };
     let token = collection.name().copy(alloc)?;
     Revision { height, token }.text(alloc)
 }

@@ -15,6 +15,7 @@ ghost use Rattle.rx_engine.specs.Lines.{IsIdle, IsRestart, calls, task};
 ghost use Rattle.rx_engine.specs.Opening.{epoch_body, opened};
 
 use crate::judging::{Judged, judge};
+use crate::marks::Marks;
 use crate::opening::{Opened, open};
 use crate::output::Output;
 use crate::sound_session::SoundSession;
@@ -79,7 +80,8 @@ impl Engine {
         let Opened { journal, world } = open(alloc, disk, limit, &diagram)?;
         let session = Session::new(alloc, world, share);
         let asks = IndexMap::new(alloc);
-        let sound = SoundSession::new(session, asks);
+        let marks = Marks::new(alloc);
+        let sound = SoundSession::new(session, asks, marks);
         Ok(Engine {
             journal,
             session: sound,

@@ -17,6 +17,7 @@ mod judging;
 mod keep;
 mod listing;
 mod lookup;
+mod marks;
 mod opening;
 mod outcome;
 mod output;

@@ -1,8 +1,9 @@
 // What is remembered of requests from one turn to the next.
-ghost use Rattle.std.specs.Prelude.{◌≡◌, ◌≤◌, ℕ, List, IfOk, OnOk, IsErrOf};
+ghost use Rattle.std.specs.Prelude.{◌≡◌, ◌≤◌, ℕ, true, List, Some, IfOk, OnOk, IsErrOf};
 ghost use Rattle.rx_handler.specs.Shown.{kinds_of};
 ghost use Rattle.rx_outside.specs.declared.stop.Stop.TheVariants as Stop;
 ghost use Rattle.rx_store.specs.Safe.{HasDiskCause, IsCrashSafe};
+ghost use Rattle.rx_sync.specs.Asking.{pending_in};
 ghost use Rattle.rx_sync.specs.Laws.{MayTurn};
 ghost use Rattle.rx_sync.specs.Turn.{turn};
 ghost use Rattle.rx_value.specs.Named.{by_bytes, put_named};
@@ -29,11 +30,13 @@ pub(crate) fn turn_by_name<D: Disk>(
     asks: &mut IndexMap<String, Asks>,
     wanted: &Turn,
     now: u64,
+    none: bool,
 ) -> Result<Turned, Stop>
     requires at { D.tells → (bodies : List (List ℕ)) × IsPlayAt D.Disk disk.old play bodies }
     requires batch { 1 ≤ wanted.now.batch }
     requires may { MayTurn (terms wanted.now.name now (kinds_of handlers.now)) play.playing.world
         (asks_of wanted.now.name (by_bytes asks.old.entries)) }
+    requires none { none ≡ true → pending_in play.playing.world wanted.now.name ≡ Some 0 }
     ensures turned { IfOk result (λ made. IsMadeByName wanted.now.name
         (turn (terms wanted.now.name now (kinds_of handlers.now)) wanted.now.batch
         wanted.now.budget wanted.now.link.items play.playing.world
@@ -46,12 +49,14 @@ pub(crate) fn turn_by_name<D: Disk>(
         (asks_of wanted.now.name (by_bytes asks.old.entries))).records)
         play.journal.limit (λ made. IsPlayAt D.Disk disk.new made.play) result }
     ensures limit { IfOk result (λ made. made.play.journal.limit ≡ play.journal.limit) }
+    ensures none { IfOk result (λ made. made.pulled ≡ true
+        → pending_in made.play.playing.world wanted.now.name ≡ Some 0) }
     ensures not_journal { IsErrOf result Stop.NotJournal → ⊥ }
     ensures cause { HasDiskCause (D.faults disk.old) (D.faults disk.new) result }
 {
     remember(asks, alloc, wanted.name.as_str())?;
     match asks.get_mut(wanted.name.as_str()) {
-        Some(remembered) => take_turn(alloc, disk, handlers, play, remembered, wanted, now),
+        Some(remembered) => take_turn(alloc, disk, handlers, play, remembered, wanted, now, none),
         None => unreachable!(),
     }
 }

@@ -1,8 +1,9 @@
 // Makes a turn: exchange after exchange, until one ends it.
-ghost use Rattle.std.specs.Prelude.{◌≡◌, ◌≤◌, ℕ, List, Some, IfOk, IsErrOf};
+ghost use Rattle.std.specs.Prelude.{◌≡◌, ◌≤◌, ℕ, true, List, Some, IfOk, IsErrOf};
 ghost use Rattle.rx_handler.specs.Shown.{kinds_of};
 ghost use Rattle.rx_outside.specs.declared.stop.Stop.TheVariants as Stop;
 ghost use Rattle.rx_store.specs.Safe.{HasDiskCause, IsCrashSafe};
+ghost use Rattle.rx_sync.specs.Asking.{pending_in};
 ghost use Rattle.rx_sync.specs.Exchange.{has_pulled};
 ghost use Rattle.rx_sync.specs.Laws.{MayTurn};
 ghost use Rattle.rx_sync.specs.Turn.{end_by, turn};
@@ -31,15 +32,17 @@ pub(crate) struct Turn {
     pub link: Vec<Happening>,
 }
 
-/// A turn that was made.
+/// A turn that was made, and whether its last exchange has pulled, so that nothing is to be pushed.
 #[derive(Drop)]
 pub(crate) struct Turned {
     pub play: Play,
     pub exchanges: RxList<Exchanged>,
     pub ended: TurnEnd,
+    pub pulled: bool,
 }
 
-/// Makes the exchanges of a turn, until one ends it or none is left.
+/// Makes the exchanges of a turn, until one ends it or none is left. Where `none` nothing is to be
+/// pushed before it.
 pub(crate) fn take_turn<D: Disk>(
     alloc: Global,
     disk: &mut D,
@@ -48,11 +51,13 @@ pub(crate) fn take_turn<D: Disk>(
     asks: &mut Asks,
     wanted: &Turn,
     now: u64,
+    none: bool,
 ) -> Result<Turned, Stop>
     requires at { D.tells → (bodies : List (List ℕ)) × IsPlayAt D.Disk disk.old first bodies }
     requires batch { 1 ≤ wanted.now.batch }
     requires may { MayTurn (terms wanted.now.name now (kinds_of handlers.now))
         first.playing.world asks.old }
+    requires none { none ≡ true → pending_in first.playing.world wanted.now.name ≡ Some 0 }
     ensures turned { IfOk result (λ made. IsMade
         (turn (terms wanted.now.name now (kinds_of handlers.now)) wanted.now.batch
         wanted.now.budget wanted.now.link.items first.playing.world asks.old)
@@ -63,12 +68,14 @@ pub(crate) fn take_turn<D: Disk>(
         wanted.now.budget wanted.now.link.items first.playing.world asks.old).records)
         first.journal.limit (λ made. IsPlayAt D.Disk disk.new made.play) result }
     ensures limit { IfOk result (λ made. made.play.journal.limit ≡ first.journal.limit) }
+    ensures none { IfOk result (λ made. made.pulled ≡ true
+        → pending_in made.play.playing.world wanted.now.name ≡ Some 0) }
     ensures not_journal { IsErrOf result Stop.NotJournal → ⊥ }
     ensures cause { HasDiskCause (D.faults disk.old) (D.faults disk.new) result }
 {
     let mut play = first;
     let mut exchanges = RxList::new(alloc);
-    let mut pulled = false;
+    let mut pulled = none;
     for i in 0..wanted.budget {
         let happening = happening_at(wanted.link.as_slice(), i as usize);
         let (next, came) = make_exchange(
@@ -80,6 +87,7 @@ pub(crate) fn take_turn<D: Disk>(
                 play,
                 exchanges,
                 ended: TurnEnd::Clock,
+                pulled: false,
             });
         };
         pulled = has_pulled(&exchanged);
@@ -90,6 +98,7 @@ pub(crate) fn take_turn<D: Disk>(
                 play,
                 exchanges,
                 ended,
+                pulled,
             });
         }
     }
@@ -97,6 +106,7 @@ pub(crate) fn take_turn<D: Disk>(
         play,
         exchanges,
         ended: TurnEnd::More,
+        pulled,
     })
 }
 

@@ -1,23 +1,23 @@
 // The lines that make a collection and write documents.
-ghost use Rattle.std.specs.Prelude.{◌≡◌, ◌<◌, true, [], ◌∷◌, map, length, Some, IfOk};
+ghost use Rattle.std.specs.Prelude.{◌≡◌, ◌<◌, ℕ, List, true, [], map, length, Some, IfOk};
 ghost use Rattle.std.specs.List.{AllByRecursion, IsDistinct};
 ghost use Rattle.std.specs.Str.{bytes_eq};
 ghost use Rattle.serde_json.specs.View.{view};
 ghost use Rattle.rx_value.specs.Due.{Due, DueBy};
 ghost use Rattle.rx_value.specs.Name.{is_name};
 ghost use Rattle.rx_value.specs.Named.{named};
-ghost use Rattle.rx_reply.specs.Answer.{answer_of};
+ghost use Rattle.rx_reply.specs.Answer.{Answer, answer_of};
 ghost use Rattle.rx_world.specs.Step.{IsValidState};
 ghost use Rattle.rx_world.specs.Valid.{AreValid};
 ghost use Rattle.rx_session.specs.Doing.{MayDo};
 ghost use Rattle.rx_engine.specs.Outcome.{commit};
 ghost use Rattle.rx_engine.specs.Shown.{doing_of, outcome_of};
-ghost use Rattle.rx_engine.specs.Writes.{collection_with, collection_line, insert_state, upsert_state, patch_state, remove_state, insert_line, upsert_line, patch_line, remove_line, bulk_line};
+ghost use Rattle.rx_engine.specs.Writes.{collection_with, collection_line, commit_one, insert_state, upsert_state, patch_state, remove_state, insert_line, upsert_line, patch_line, remove_line, bulk_line};
 ghost use Rattle.rx_engine.specs.declared.fault.Fault.TheVariants.{Memory};
 
-use crate::bulk::{next_revisions, read_rows};
+use crate::bulk::{Rows, read_rows};
 use crate::documents::{
-    check_fields, check_free, check_revision, find_document, keeps_key, next_revision, read_state,
+    check_fields, check_revision, find_document, free_height, keeps_key, read_state, revision_at,
     set_fields,
 };
 use crate::fault::{Fault, of_document};
@@ -84,7 +84,7 @@ fn insert_state(alloc: Global, collection: &Collection, doc: &Json) -> Result<St
     ensures valid { IfOk result (λ state. IsValidState collection.now.schema state) }
 {
     let state = upsert_state(alloc, collection, doc)?;
-    check_free(alloc, collection, state.key.as_str())?;
+    free_height(alloc, collection, state.key.as_str())?;
     Ok(state)
 }
 
@@ -161,24 +161,28 @@ fn plan_write<'a>(
     })
 }
 
-// Writes one state.
-fn plan_one_write<'a>(
+// Writes one state: what is done, and the revision that it gets, for the answer.
+fn plan_one_write(
     alloc: Global,
-    session: &'a Session,
+    session: &Session,
     collection: &Collection,
     state: State,
-    reply: Reply<'a>,
-) -> Result<Outcome<'a>, Fault>
+) -> Result<(LineDoing, RxText), Fault>
     requires held { named session.now.world.collections collection.now.name
         ≡ Some collection.now }
     requires valid { IsValidState collection.now.schema state }
-    ensures exact { DueBy Memory outcome_of result
-        (commit collection.now.name (state ∷ []) (answer_of reply.entry) collection.now
-        session.now) }
-    ensures may { IfOk result (λ p. MayDo (doing_of p.doing) session.now) }
+    ensures exact { (answer : List ℕ → Answer)
+        → DueBy Memory (λ w. record { doing = doing_of w.0; answer = answer w.1 }) result
+        (commit_one collection.now.name answer collection.now state session.now) }
+    ensures may { IfOk result (λ w. MayDo (doing_of w.0) session.now) }
 {
     let states = vec![in alloc; state]?;
-    plan_write(alloc, session, collection, states, reply)
+    let entry = session.commit(alloc, collection, states)?;
+    let Record::Rows { rows, .. } = &entry else {
+        unreachable!()
+    };
+    let rev = revision_at(alloc, collection, rows[0].height)?;
+    Ok((LineDoing::InSession(Doing::Write(entry)), rev))
 }
 
 pub(crate) fn insert_line<'a>(
@@ -193,8 +197,11 @@ pub(crate) fn insert_line<'a>(
 {
     let collection = find_collection(alloc, session, coll)?;
     let state = insert_state(alloc, collection, doc)?;
-    let rev = next_revision(alloc, collection, state.key.as_str())?;
-    plan_one_write(alloc, session, collection, state, Reply::Insert { rev })
+    let (doing, rev) = plan_one_write(alloc, session, collection, state)?;
+    Ok(Outcome {
+        doing,
+        reply: Reply::Insert { rev },
+    })
 }
 
 pub(crate) fn upsert_line<'a>(
@@ -209,8 +216,11 @@ pub(crate) fn upsert_line<'a>(
 {
     let collection = find_collection(alloc, session, coll)?;
     let state = upsert_state(alloc, collection, doc)?;
-    let rev = next_revision(alloc, collection, state.key.as_str())?;
-    plan_one_write(alloc, session, collection, state, Reply::Upsert { rev })
+    let (doing, rev) = plan_one_write(alloc, session, collection, state)?;
+    Ok(Outcome {
+        doing,
+        reply: Reply::Upsert { rev },
+    })
 }
 
 pub(crate) fn patch_line<'a>(
@@ -227,8 +237,11 @@ pub(crate) fn patch_line<'a>(
 {
     let collection = find_collection(alloc, session, coll)?;
     let state = patch_state(alloc, collection, key, set, rev)?;
-    let rev = next_revision(alloc, collection, state.key.as_str())?;
-    plan_one_write(alloc, session, collection, state, Reply::Patch { rev })
+    let (doing, rev) = plan_one_write(alloc, session, collection, state)?;
+    Ok(Outcome {
+        doing,
+        reply: Reply::Patch { rev },
+    })
 }
 
 pub(crate) fn remove_line<'a>(
@@ -244,8 +257,11 @@ pub(crate) fn remove_line<'a>(
 {
     let collection = find_collection(alloc, session, coll)?;
     let state = remove_state(alloc, collection, key, rev)?;
-    let rev = next_revision(alloc, collection, state.key.as_str())?;
-    plan_one_write(alloc, session, collection, state, Reply::Remove { rev })
+    let (doing, rev) = plan_one_write(alloc, session, collection, state)?;
+    Ok(Outcome {
+        doing,
+        reply: Reply::Remove { rev },
+    })
 }
 
 pub(crate) fn bulk_line<'a>(
@@ -259,8 +275,7 @@ pub(crate) fn bulk_line<'a>(
     ensures may { IfOk result (λ p. MayDo (doing_of p.doing) session.now) }
 {
     let collection = find_collection(alloc, session, coll)?;
-    let states = read_rows(alloc, collection, docs)?;
-    let revs = next_revisions(alloc, collection, states.as_slice())?;
+    let Rows { states, revs } = read_rows(alloc, collection, docs)?;
     let reply = Reply::Bulk { revs };
     if !states.is_empty() {
         return plan_write(alloc, session, collection, states, reply);

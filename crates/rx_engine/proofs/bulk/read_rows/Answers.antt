@@ -1,7 +1,9 @@
-use Rattle.std.proofs.Common.{[], map, arith}
+use Rattle.std.proofs.Common.{◌≡◌, ◌∷◌, ◌+◌, [], map, drop, drop-cons, add-one, suc, ap, sym, ◌∙◌, arith}
+use Rattle.std.proofs.lemmas.Grind.{common_steps}
 use Rattle.serde_json.specs.View.{view}
 use Rattle.rx_value.specs.Named.{by_bytes}
-use Rattle.rx_engine.proofs.EachRow.{all_read, rows_given}
+use Rattle.rx_engine.specs.Writes.{rows_states}
+use Rattle.rx_engine.proofs.EachRow.{after, all_read, row_read, rows_given}
 use Rattle.rx_engine.proofs.bulk.read_rows.Goals as goal
 
 pub returns-clause-valid : goal.returns-clause-valid
@@ -11,7 +13,7 @@ returns-clause-valid c =
     let states = c.loop-row.states.items in
     (rows_given held 0 [] (map view docs) states
     (all_read held docs c.loop-row.row (by_bytes c.loop-row.seen.entries) states (omega arith)
-    c.loop-row.invariant)).0
+    c.loop-row.invariant.states)).0
 
 pub returns-clause-distinct : goal.returns-clause-distinct
 returns-clause-distinct c =
@@ -20,4 +22,24 @@ returns-clause-distinct c =
     let states = c.loop-row.states.items in
     (rows_given held 0 [] (map view docs) states
     (all_read held docs c.loop-row.row (by_bytes c.loop-row.seen.entries) states (omega arith)
-    c.loop-row.invariant)).1
+    c.loop-row.invariant.states)).1
+
+pub loop-row-preserved : goal.loop-row-preserved
+loop-row-preserved c =
+    let docs = c.args.docs.now in
+    let row = c.loop-row.row in
+    let d = c.index-docs-row.result in
+    let here : drop row docs ≡ d ∷ drop (row + 1) docs =
+    drop-cons docs row d (omega arith)
+    ∙ ap (λ x. x ∷ drop (suc row) docs) (sym c.index-docs-row.is)
+    ∙ ap (λ n. d ∷ drop n docs) (sym (add-one row)) in
+    record {
+      states =
+          row_read c.args.collection.now docs row (by_bytes c.loop-row.seen.entries)
+          (by_bytes c.read_row.new.seen.entries) c.loop-row.states.items d c.in_ok-state.state
+          c.loop-row.invariant.states here c.in_ok-state.ensures.exact c.in_ok-state.ensures.seen
+          ∙ ap (λ states. after states (rows_states c.args.collection.now (row + 1)
+          (by_bytes c.read_row.new.seen.entries) (map view (drop (row + 1) docs))))
+          (sym c.in_ok-push.ensures.items);
+      revs = grind (arith, common_steps);
+    }

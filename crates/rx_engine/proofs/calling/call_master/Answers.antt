@@ -1,5 +1,5 @@
 use Rattle.std.proofs.Common.{◌≡◌, ◌∙◌, ℕ, List, ap, sym, subst, inl, inr, rules}
-use Rattle.rx_replication.proofs.Lists.{some_same}
+use Rattle.rx_value.proofs.Outcomes.{some_same}
 use Rattle.rx_schema.specs.declared.shape.Shape.{Shape}
 use Rattle.rx_sync.specs.Remote.{no_wire, no_line, line, schema_in}
 use Rattle.rx_wire.specs.Writing.{request_text}

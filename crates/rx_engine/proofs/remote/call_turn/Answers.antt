@@ -3,7 +3,7 @@ use Rattle.rx_handler.specs.Shown.{kinds_of}
 use Rattle.rx_outside.specs.declared.stop.Stop.TheVariants.{Memory}
 use Rattle.rx_reply.specs.declared.turn.Exchanged.{Exchanged}
 use Rattle.rx_reply.specs.declared.turn.TurnEnd.TheVariants.{Clock, More}
-use Rattle.rx_sync.specs.Exchange.{has_pulled}
+use Rattle.rx_sync.specs.Exchange.{asked_to_pull}
 use Rattle.rx_sync.specs.Turn.{as_list, end_by}
 use Rattle.rx_engine.specs.Callings.{wire_stands}
 use Rattle.rx_engine.specs.Turning.{terms}
@@ -23,7 +23,7 @@ loop-i-init g c =
           c.args.asks.now c.args.wanted.now.budget g.W.Wire.tells
           (wire_stands g.W.Wire c.args.wire.now) c.args.disk.now kept c.requires.may
           c.requires.none_given c.requires.none_sent c.new-exchanges.result c.new-exchanges.ensures;
-      none = λ is. absurd (cc);
+      none = c.requires.none;
       later = search rules;
       count = search rules;
     }
@@ -38,6 +38,14 @@ returns-in_err-next-clause-turned g c =
     c.call_exchange.new.asks (wire_stands g.W.Wire c.call_exchange.new.wire)
     c.in_err-next.field-0.0 c.in_err-next.ensures.made c.from_residual.result (search rules)
     c.loop-i-test.true
+
+pub returns-in-Some-end-clause-none : goal.returns-in-Some-end-clause-none
+returns-in-Some-end-clause-none g c is =
+    then_none_heard c.in_ok-next.ensures.made c.requires.batch c.loop-i.invariant.on.may
+    (ap asked_to_pull c.in-Some.is ∙ sym c.asked_to_pull-pulled.ensures ∙ is)
+
+pub returns-clause-none : goal.returns-clause-none
+returns-clause-none g c = c.loop-i.invariant.none
 
 pub returns-in_default-clause-turned : goal.returns-in_default-clause-turned
 returns-in_default-clause-turned g c =
@@ -113,7 +121,7 @@ loop-i-preserved g c =
           c.in_ok-push.ensures.ok;
       none = λ is. then_none_heard c.in_ok-next.ensures.made c.requires.batch
           c.loop-i.invariant.on.may
-          (ap has_pulled c.in-Some.is ∙ sym c.has_pulled-pulled.ensures ∙ is);
+          (ap asked_to_pull c.in-Some.is ∙ sym c.asked_to_pull-pulled.ensures ∙ is);
       later = search rules;
       count = search rules;
     }

@@ -1,13 +1,12 @@
 use Rattle.std.proofs.Common.{◌≡◌, ◌∙◌, ℕ, List, IfOk, ap, sym, subst, rules}
 use Rattle.rx_handler.specs.Shown.{kinds_of}
-use Rattle.rx_replication.proofs.Lists.{not_none, some_same}
 use Rattle.rx_store.specs.Safe.{IsCrashSafe}
-use Rattle.rx_store.proofs.Crashes.{if_ok}
 use Rattle.rx_sync.specs.Asks.{Asks}
 use Rattle.rx_sync.specs.Laws.{MayTurn}
 use Rattle.rx_sync.specs.Turn.{Turned, turn}
 use Rattle.rx_sync.proofs.Turns.{turn_sound}
 use Rattle.rx_value.specs.Named.{by_bytes, put_named}
+use Rattle.rx_value.proofs.Outcomes.{some_same, not_none, if_ok}
 use Rattle.rx_engine.specs.Meaning.{bodies_of}
 use Rattle.rx_engine.specs.Play.{IsMade, IsPlayAt}
 use Rattle.rx_engine.specs.Standing.{asks_of}

@@ -32,7 +32,7 @@ loop-i-init g c =
             (sym c.new-exchanges.ensures);
         ended = refl;
       };
-      none = λ is. absurd (cc);
+      none = c.requires.none;
       later = search rules;
     }
 
@@ -45,6 +45,26 @@ returns-in_err-next-clause-safe g c told bodies at =
     _ _
     c.in_err-next.field-0.0 c.from_residual.result stop is c.loop-i-test.true told bodies at
     (λ bodies at. c.in_err-next.ensures.safe told bodies at)
+
+pub returns-in-Some-end-clause-none : goal.returns-in-Some-end-clause-none
+returns-in-Some-end-clause-none g c is =
+    let given = c.happening_at-happening.ensures ∙ ap (happening_at c.loop-i.i)
+    c.as_slice.ensures.value in
+    let t = terms c.args.wanted.now.name c.args.now (kinds_of c.args.handlers.now) in
+    let made : HasMade t c.args.wanted.now.batch g.D.Disk c.loop-i.disk c.make_exchange.new.disk
+    c.loop-i.play c.in_ok-next.next c.loop-i.asks c.make_exchange.new.asks
+    c.happening_at-happening.result c.in_ok-next.came = record {
+      came = c.in_ok-next.ensures.came;
+      asks = c.in_ok-next.ensures.asks;
+      session = c.in_ok-next.ensures.session;
+      limit = c.in_ok-next.ensures.limit;
+      safe = λ told bodies at. c.in_ok-next.ensures.safe told bodies at;
+    } in
+    then_none c.loop-i.invariant.on made c.requires.batch
+    (ap has_pulled c.in-Some.is ∙ sym c.has_pulled-pulled.ensures ∙ is)
+
+pub returns-clause-none : goal.returns-clause-none
+returns-clause-none g c = c.loop-i.invariant.none
 
 pub returns-in_default-clause-turned : goal.returns-in_default-clause-turned
 returns-in_default-clause-turned g c =

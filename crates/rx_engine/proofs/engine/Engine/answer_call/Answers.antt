@@ -9,7 +9,7 @@ use Rattle.rx_engine.specs.declared.engine.Engine.{Engine}
 use Rattle.rx_engine.specs.declared.output.Output.{Output}
 use Rattle.rx_engine.proofs.Meanings.{turned_so}
 use Rattle.rx_engine.proofs.Remotely.{done_so, ran_out_then, stops_so}
-use Rattle.rx_engine.proofs.Stops.{memory_stop}
+use Rattle.rx_engine.proofs.Stops.{done_cause, memory_cause, memory_stop}
 use Rattle.rx_engine.proofs.engine.Engine.answer_call.Goals as goal
 
 pub returns-in_err-engine-clause-turned : goal.returns-in_err-engine-clause-turned
@@ -55,3 +55,22 @@ returns-clause-turned g c =
           c.in_ok-output.ensures.refused c.in_ok-output.ensures.end;
       later_so = so.later_so;
     })
+
+pub returns-in_err-text-clause-cause : goal.returns-in_err-text-clause-cause
+returns-in_err-text-clause-cause g c =
+    memory_cause (g.D.Disk.faults c.args.disk.now) (g.D.Disk.faults c.make_call.new.disk)
+    c.in_ok-engine.field-0 _
+    (memory_stop c.from_residual-in_err-text.result c.from_residual-in_err-text.ensures.1)
+    c.in_ok-engine.ensures.cause
+
+pub returns-in_err-output-clause-cause : goal.returns-in_err-output-clause-cause
+returns-in_err-output-clause-cause g c =
+    memory_cause (g.D.Disk.faults c.args.disk.now) (g.D.Disk.faults c.make_call.new.disk)
+    c.in_ok-engine.field-0 _
+    (memory_stop c.from_residual-in_err-output.result c.from_residual-in_err-output.ensures.1)
+    c.in_ok-engine.ensures.cause
+
+pub returns-clause-cause : goal.returns-clause-cause
+returns-clause-cause g c =
+    done_cause (g.D.Disk.faults c.args.disk.now) (g.D.Disk.faults c.make_call.new.disk)
+    c.in_ok-engine.field-0 _ c.in_ok-engine.ensures.cause

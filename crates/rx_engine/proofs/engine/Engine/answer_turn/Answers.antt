@@ -9,7 +9,7 @@ use Rattle.rx_engine.specs.Meaning.{lines_of}
 use Rattle.rx_engine.specs.Shown.{turn_of}
 use Rattle.rx_engine.specs.Turning.{turned}
 use Rattle.rx_engine.proofs.Meanings.{turned_so}
-use Rattle.rx_engine.proofs.Stops.{memory_stop}
+use Rattle.rx_engine.proofs.Stops.{done_cause, memory_cause, memory_stop}
 use Rattle.rx_engine.proofs.engine.Engine.answer_turn.Goals as goal
 
 pub returns-in_err-engine-clause-safe : goal.returns-in_err-engine-clause-safe
@@ -60,3 +60,22 @@ pub returns-clause-safe : goal.returns-clause-safe
 returns-clause-safe g c told bodies at =
     answered g.D.Disk c.args.disk.now c.make_turn.new.disk bodies _ (limit_of c.args.self) _
     _ _ _ (c.in_ok-engine.ensures.safe told bodies at) (λ holds. holds)
+
+pub returns-in_err-text-clause-cause : goal.returns-in_err-text-clause-cause
+returns-in_err-text-clause-cause g c =
+    memory_cause (g.D.Disk.faults c.args.disk.now) (g.D.Disk.faults c.make_turn.new.disk)
+    c.in_ok-engine.field-0 _
+    (memory_stop c.from_residual-in_err-text.result c.from_residual-in_err-text.ensures.1)
+    c.in_ok-engine.ensures.cause
+
+pub returns-in_err-output-clause-cause : goal.returns-in_err-output-clause-cause
+returns-in_err-output-clause-cause g c =
+    memory_cause (g.D.Disk.faults c.args.disk.now) (g.D.Disk.faults c.make_turn.new.disk)
+    c.in_ok-engine.field-0 _
+    (memory_stop c.from_residual-in_err-output.result c.from_residual-in_err-output.ensures.1)
+    c.in_ok-engine.ensures.cause
+
+pub returns-clause-cause : goal.returns-clause-cause
+returns-clause-cause g c =
+    done_cause (g.D.Disk.faults c.args.disk.now) (g.D.Disk.faults c.make_turn.new.disk)
+    c.in_ok-engine.field-0 _ c.in_ok-engine.ensures.cause

@@ -6,13 +6,15 @@ use Rattle.rx_session.specs.Shown.{done_by}
 use Rattle.rx_store.specs.Holds.{Holds}
 use Rattle.rx_store.proofs.Crashes.{answered, ran_out, same_stop}
 use Rattle.rx_engine.specs.Engine.{IsAt, asks_in, session_of}
+use Rattle.rx_engine.specs.Marks.{AreMarked}
 use Rattle.rx_engine.specs.Remembered.{AreRemembered}
 use Rattle.rx_engine.specs.SoundSession.{SessionWithAsks}
 use Rattle.rx_engine.specs.Meaning.{bodies_of, records_of}
 use Rattle.rx_world.specs.Made.{IsMadeWorld}
 use Rattle.rx_world.specs.Sound.{IsSoundWorld}
 use Rattle.rx_engine.proofs.Keeping.{has_order, made_then, sound_then}
-use Rattle.rx_engine.proofs.Stops.{done_cause, same_cause}
+use Rattle.rx_engine.proofs.Stops.{done_cause, handed_on, memory_stop, same_cause}
+use Rattle.rx_engine.proofs.Marking.{marked_doing}
 use Rattle.rx_engine.proofs.Remembering.{remembered_doing}
 use Rattle.rx_engine.proofs.engine.Engine.change_session.Goals as goal
 
@@ -30,7 +32,8 @@ unfolding session_of asks_in
 returns-in_err-journal-clause-safe g c told bodies at =
     same_stop g.D.Disk c.args.disk.now c.keep_doing.new.disk bodies
     (bodies_of (records_of (done_by c.args.doing)))
-    c.args.self.journal.limit _ _ c.in_err-journal.field-0.0 c.from_residual.result (search rules)
+    c.args.self.journal.limit _ _ c.in_err-journal.field-0.0 c.from_residual.result
+    (handed_on c.from_residual.result c.in_err-journal.field-0.0 c.from_residual.ensures.1)
     (c.in_err-journal.ensures.safe told bodies (session_of c.args.self) at c.requires.may
     (sound_then (done_by c.args.doing) c.args.self.session.session c.requires.may c.requires.apart
     c.release-parts.ensures.made c.release-parts.ensures.sound))
@@ -46,7 +49,8 @@ unfolding session_of asks_in
 returns-in_err-session-clause-safe g c told bodies at =
     ran_out g.D.Disk c.args.disk.now c.keep_doing.new.disk bodies
     (bodies_of (records_of (done_by c.args.doing)))
-    c.args.self.journal.limit _ c.from_residual-in_err-session.result (search rules)
+    c.args.self.journal.limit _ c.from_residual-in_err-session.result
+    (memory_stop c.from_residual-in_err-session.result c.from_residual-in_err-session.ensures.1)
     (c.in_ok-journal.ensures.safe told bodies (session_of c.args.self) at c.requires.may
     (sound_then (done_by c.args.doing) c.args.self.session.session c.requires.may c.requires.apart
     c.release-parts.ensures.made c.release-parts.ensures.sound)).moments
@@ -83,6 +87,17 @@ new-requires-clause-remembered g c =
     c.release-parts.ensures.same))
     (remembered_doing (done_by c.args.doing) s asks c.requires.may
     c.release-parts.ensures.remembered))
+
+pub new-requires-clause-marked : goal.new-requires-clause-marked
+unfolding session_of asks_in
+new-requires-clause-marked g c =
+    let s = c.args.self.session.session in
+    let marks = c.release-parts.result.2 in
+    subst (λ (x : Session). AreMarked x.world marks) (sym (c.in_ok-session.ensures.session
+    ∙ ap (λ (x : Session). settled_session (after (done_by c.args.doing) x))
+    c.release-parts.ensures.same))
+    (marked_doing (done_by c.args.doing) s marks c.requires.may c.requires.apart
+    c.release-parts.ensures.marked)
 
 pub returns-clause-asks : goal.returns-clause-asks
 unfolding session_of asks_in
@@ -132,7 +147,9 @@ returns-clause-idle g c is =
 pub returns-in_err-journal-clause-cause : goal.returns-in_err-journal-clause-cause
 returns-in_err-journal-clause-cause g c =
     same_cause (g.D.Disk.faults c.args.disk.now) (g.D.Disk.faults c.keep_doing.new.disk)
-    c.in_err-journal.field-0.0 c.from_residual.result (search rules) c.in_err-journal.ensures.cause
+    c.in_err-journal.field-0.0 c.from_residual.result
+    (handed_on c.from_residual.result c.in_err-journal.field-0.0 c.from_residual.ensures.1)
+    c.in_err-journal.ensures.cause
 
 pub returns-clause-cause : goal.returns-clause-cause
 returns-clause-cause g c =

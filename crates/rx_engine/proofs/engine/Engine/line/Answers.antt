@@ -1,8 +1,8 @@
 use Rattle.std.proofs.Common.{◌≡◌, ◌∙◌, sym, subst, refl, true, List, [], IfOk}
+use Rattle.rx_value.proofs.Outcomes.{if_ok, on_ok}
 use Rattle.rx_handler.specs.Shown.{kinds_of}
 use Rattle.rx_record.specs.Content.{Content}
 use Rattle.rx_store.specs.Safe.{IsCrashSafe}
-use Rattle.rx_store.proofs.Crashes.{if_ok}
 use Rattle.rx_sync.specs.Remote.{Heard}
 use Rattle.rx_engine.specs.Engine.{Answers, IsAt, LeavesAll, asks_in, limit_of, session_of, standing_of}
 use Rattle.rx_engine.specs.Lines.{IsIdleTask}
@@ -13,7 +13,7 @@ use Rattle.rx_engine.proofs.AfterCalls.{may_call}
 use Rattle.rx_engine.proofs.AfterTurns.{may}
 use Rattle.rx_engine.proofs.CanTurns.{can_call, can_turn}
 use Rattle.rx_engine.proofs.Hearing.{plays_call, plays_none, plays_out_of_memory, shown_printed, shown_turn}
-use Rattle.rx_engine.proofs.Meanings.{answers_so, bounded_so, busy_so, call_is, calling_so, left_so, level_so, may_do, no_bound_so, no_level_so, no_master_so, no_other_so, no_turn_so, not_refused, of_each, on_ok, printed_is, records_so, refused_so, some_asked, some_called, turn_is, turn_so, unbounded_so, unharmed_so}
+use Rattle.rx_engine.proofs.Meanings.{answers_so, bounded_so, busy_so, call_is, calling_so, left_so, level_so, may_do, no_bound_so, no_level_so, no_master_so, no_other_so, no_turn_so, not_refused, of_each, printed_is, records_so, refused_so, some_asked, some_called, turn_is, turn_so, unbounded_so, unharmed_so}
 use Rattle.rx_engine.proofs.Outcomes.{lawful_outcome}
 use Rattle.rx_engine.proofs.Stops.{memory_stop}
 use Rattle.rx_engine.specs.declared.engine.Engine.{Engine}
@@ -238,7 +238,7 @@ returns-in-Printed-clause-bounded g c =
     let j = printed_is c.args.number s.kinds c.args.text.now c.session.result.now s.session
     c.session.ensures.value c.in_ok-printed.field-0 p c.in-Printed.is c.in_ok-printed.ensures.judged
     in
-    on_ok c.answer.result (unbounded_so c.args.number c.args.text.now s j.0 p j.1 j.2)
+    on_ok c.answer.result _ (unbounded_so c.args.number c.args.text.now s j.0 p j.1 j.2)
 
 pub returns-in-Turns-clause-bounded : goal.returns-in-Turns-clause-bounded
 unfolding session_of asks_in standing_of
@@ -250,7 +250,7 @@ returns-in-Turns-clause-bounded g c =
     c.session.ensures.value c.in_ok-printed.field-0 m c.in-Turns.is c.in_ok-printed.ensures.judged in
     let here = c.session.ensures.sound in
     let some = some_asked c.in_ok-printed.field-0 m _ c.in-Turns.is c.in_ok-printed.ensures.may in
-    on_ok c.answer_turn.result (bounded_so c.args.number c.args.text.now s u is some
+    on_ok c.answer_turn.result _ (bounded_so c.args.number c.args.text.now s u is some
     (may u s some here.made here.sound (can_turn s.kinds c.args.text.now s.session u is)
     here.remembered))
 
@@ -261,7 +261,7 @@ returns-in-Calls-clause-bounded g c =
     let m = c.in-Calls.call in
     let is = call_is c.args.number s.kinds c.args.text.now c.session.result.now s.session
     c.session.ensures.value c.in_ok-printed.field-0 m c.in-Calls.is c.in_ok-printed.ensures.judged in
-    on_ok c.answer_call.result (no_bound_so c.args.number c.args.text.now s (call_of m) is)
+    on_ok c.answer_call.result _ (no_bound_so c.args.number c.args.text.now s (call_of m) is)
 
 -- ---- what no master can do
 

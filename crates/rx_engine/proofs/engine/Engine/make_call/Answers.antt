@@ -1,16 +1,18 @@
-use Rattle.std.proofs.Common.{◌∙◌, ℕ, List, [], ◌++◌, Ok, Err, Result, ap, refl, sym, subst, rules}
+use Rattle.std.proofs.Common.{◌≡◌, ◌∙◌, ℕ, List, [], ◌++◌, Some, Ok, Err, Result, ap, refl, sym, subst, rules}
 use Rattle.rx_value.specs.Named.{by_bytes, put_named}
 use Rattle.rx_handler.specs.Shown.{kinds_of}
 use Rattle.rx_outside.specs.declared.stop.Stop.{Stop}
 use Rattle.rx_session.specs.Emissions.{emissions, settled_session}
 use Rattle.rx_session.specs.Session.{Session}
 use Rattle.rx_store.specs.Holds.{Holds}
+use Rattle.rx_sync.specs.Asking.{pending_in}
 use Rattle.rx_sync.specs.Remote.{Heard}
 use Rattle.rx_world.specs.Made.{IsMadeWorld}
 use Rattle.rx_world.specs.Sound.{IsSoundWorld}
 use Rattle.rx_engine.specs.Calling.{called}
 use Rattle.rx_engine.specs.Callings.{IsDialledBy, IsRemoteMadeByName}
 use Rattle.rx_engine.specs.Engine.{IsAfterCall, IsAt, asks_in, session_of, standing_of}
+use Rattle.rx_engine.specs.Marks.{AreMarked, AreMarkedBut}
 use Rattle.rx_engine.specs.Play.{IsPlayAt}
 use Rattle.rx_engine.specs.Remembered.{AreRemembered}
 use Rattle.rx_engine.specs.Shown.{call_of}
@@ -18,9 +20,9 @@ use Rattle.rx_engine.specs.SoundSession.{SessionWithAsks}
 use Rattle.rx_engine.specs.Standing.{Standing}
 use Rattle.rx_engine.specs.declared.changing.AfterTurn.{AfterTurn}
 use Rattle.rx_engine.specs.declared.turning.Turned.{Turned as Made}
-use Rattle.rx_engine.proofs.AfterCalls.{call_here, made_called, may_call, may_call_here, remembered_called, sound_called}
+use Rattle.rx_engine.proofs.AfterCalls.{call_here, made_called, may_call, may_call_here, others_called, remembered_called, sound_called}
 use Rattle.rx_engine.proofs.Remotely.{done_so, ran_out_then, stops_so}
-use Rattle.rx_engine.proofs.Stops.{done_cause, memory_cause, memory_stop}
+use Rattle.rx_engine.proofs.Stops.{done_cause, handed_on, memory_cause, memory_stop, same_cause}
 use Rattle.rx_engine.proofs.engine.Engine.make_call.Goals as goal
 
 pub call_by_name-requires-clause-at : goal.call_by_name-requires-clause-at
@@ -59,7 +61,7 @@ returns-in_err-made-clause-turned g c =
     c.in_err-made.ensures.turned in
     stops_so g.D.Disk c.args.disk.now c.call_by_name.new.disk c.args.self.journal.limit _ _ _ _ _
     (Err c.in_err-made.field-0.0) here _ _ c.in_err-made.field-0.0 refl c.from_residual.result
-    (search rules)
+    (handed_on c.from_residual.result c.in_err-made.field-0.0 c.from_residual.ensures.1)
 
 pub returns-in_err-session-clause-turned : goal.returns-in_err-session-clause-turned
 unfolding session_of asks_in standing_of
@@ -77,6 +79,50 @@ returns-in_err-session-clause-turned g c =
     ran_out_then g.D.Disk c.args.disk.now c.call_by_name.new.disk c.args.self.journal.limit _ _ _ _
     _ (Ok c.in_ok-made.made) here _ _ _ c.from_residual-in_err-session.result
     (memory_stop c.from_residual-in_err-session.result c.from_residual-in_err-session.ensures.1)
+
+pub tell_none-none-requires : goal.tell_none-none-requires
+unfolding session_of
+tell_none-none-requires g c = record {
+  marked = subst (λ (x : Session). AreMarked x.world c.release-parts.result.2)
+      (sym c.release-parts.ensures.same) c.release-parts.ensures.marked;
+}
+
+pub call_by_name-requires-clause-none : goal.call_by_name-requires-clause-none
+call_by_name-requires-clause-none g c is =
+    subst (λ (x : Session). pending_in x.world c.args.wanted.now.name ≡ Some 0)
+    (sym c.begin.ensures.same)
+    (subst (λ (n : List ℕ). pending_in c.release-parts.result.0.world n ≡ Some 0)
+    c.as_str-name.ensures (c.tell_none-none.ensures is))
+
+pub settle_turn-requires-clause-none : goal.settle_turn-requires-clause-none
+settle_turn-requires-clause-none g c is =
+    subst (λ (n : List ℕ). pending_in c.in_ok-made.made.play.playing.world n ≡ Some 0)
+    (sym c.as_str-name.ensures) (c.in_ok-made.ensures.none is)
+
+pub new-requires-clause-marked : goal.new-requires-clause-marked
+new-requires-clause-marked g c = c.in_ok-session.ensures.marked
+
+pub settle_turn-requires-clause-others : goal.settle_turn-requires-clause-others
+unfolding session_of asks_in standing_of
+settle_turn-requires-clause-others g c =
+    let kinds = kinds_of c.args.handlers.now in
+    let u = call_of c.args.wanted.now in
+    let parts = c.release-parts.ensures in
+    let here = call_here u (standing_of kinds [] c.args.self) c.begin.result c.moment-now.result
+    (by_bytes c.release-parts.result.1.entries) (c.begin.ensures.same ∙ parts.same)
+    (c.moment-now.ensures ∙ ap (λ (x : Session). x.moment) parts.same) parts.asks g.D.Disk
+    c.args.disk.now c.call_by_name.new.disk c.args.self.journal c.args.self.journal.limit
+    (λ (m : Made). IsPlayAt g.D.Disk c.call_by_name.new.disk m.play) g.L.W.Wire.tells _ _
+    (by_bytes c.call_by_name.new.asks.entries) (Ok c.in_ok-made.made)
+    c.in_ok-made.ensures.turned in
+    let s = standing_of kinds (here.heard ++ []) c.args.self in
+    let made = here.so [] in
+    subst (λ (n : List ℕ). AreMarkedBut n c.in_ok-made.made.play.playing.world
+    c.release-parts.result.2) (sym c.as_str-name.ensures)
+    (subst (λ (x : Session). AreMarkedBut u.name x.world c.release-parts.result.2)
+    (sym made.made_so.session)
+    (others_called u s c.requires.batch parts.made parts.sound c.requires.can parts.remembered
+    c.release-parts.result.2 parts.marked))
 
 -- the session's world stays one that records made, and sound
 pub new-requires-clause-made : goal.new-requires-clause-made
@@ -185,3 +231,10 @@ returns-in_err-session-clause-cause g c =
     c.in_ok-made.made _
     (memory_stop c.from_residual-in_err-session.result c.from_residual-in_err-session.ensures.1)
     c.in_ok-made.ensures.cause
+
+pub returns-in_err-made-clause-cause : goal.returns-in_err-made-clause-cause
+returns-in_err-made-clause-cause g c =
+    same_cause (g.D.Disk.faults c.args.disk.now) (g.D.Disk.faults c.call_by_name.new.disk)
+    c.in_err-made.field-0.0 c.from_residual.result
+    (handed_on c.from_residual.result c.in_err-made.field-0.0 c.from_residual.ensures.1)
+    c.in_err-made.ensures.cause

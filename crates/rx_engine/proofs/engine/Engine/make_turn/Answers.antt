@@ -1,21 +1,23 @@
-use Rattle.std.proofs.Common.{◌∙◌, [], ◌++◌, ap, sym, subst, rules}
+use Rattle.std.proofs.Common.{◌≡◌, ◌∙◌, ℕ, List, [], ◌++◌, Some, ap, sym, subst, rules}
 use Rattle.rx_value.specs.Named.{by_bytes, put_named}
 use Rattle.rx_handler.specs.Shown.{kinds_of}
 use Rattle.rx_session.specs.Emissions.{emissions, settled_session}
 use Rattle.rx_session.specs.Session.{Session}
 use Rattle.rx_store.specs.Holds.{Holds}
 use Rattle.rx_store.proofs.Crashes.{answered, ran_out, same_stop}
+use Rattle.rx_sync.specs.Asking.{pending_in}
 use Rattle.rx_sync.specs.Laws.{IsLevel}
 use Rattle.rx_world.specs.Made.{IsMadeWorld}
 use Rattle.rx_world.specs.Sound.{IsSoundWorld}
 use Rattle.rx_engine.specs.Engine.{IsAt, asks_in, session_of, standing_of}
+use Rattle.rx_engine.specs.Marks.{AreMarked, AreMarkedBut}
 use Rattle.rx_engine.specs.Meaning.{bodies_of}
 use Rattle.rx_engine.specs.Remembered.{AreRemembered}
 use Rattle.rx_engine.specs.Shown.{turn_of}
 use Rattle.rx_engine.specs.SoundSession.{SessionWithAsks}
 use Rattle.rx_engine.specs.Turning.{turned}
-use Rattle.rx_engine.proofs.AfterTurns.{level_then, made_here, made_then, may, may_here, remembered_then, safe_here, sound_then}
-use Rattle.rx_engine.proofs.Stops.{done_cause, memory_stop}
+use Rattle.rx_engine.proofs.AfterTurns.{level_then, made_here, made_then, may, may_here, others_then, remembered_then, safe_here, sound_then}
+use Rattle.rx_engine.proofs.Stops.{done_cause, handed_on, memory_cause, memory_stop, same_cause}
 use Rattle.rx_engine.proofs.engine.Engine.make_turn.Goals as goal
 
 pub turn_by_name-requires-clause-at : goal.turn_by_name-requires-clause-at
@@ -48,7 +50,8 @@ returns-in_err-made-clause-safe g c told bodies at =
     let session = c.begin.ensures.same ∙ parts.same in
     same_stop g.D.Disk c.args.disk.now c.turn_by_name.new.disk bodies
     (bodies_of (turned u s).records)
-    c.args.self.journal.limit _ _ c.in_err-made.field-0.0 c.from_residual.result (search rules)
+    c.args.self.journal.limit _ _ c.in_err-made.field-0.0 c.from_residual.result
+    (handed_on c.from_residual.result c.in_err-made.field-0.0 c.from_residual.ensures.1)
     (safe_here u s c.begin.result c.moment-now.result (by_bytes c.release-parts.result.1.entries)
     session (c.moment-now.ensures ∙ ap (λ (x : Session). x.moment) parts.same) parts.asks
     g.D.Disk c.args.disk.now c.turn_by_name.new.disk bodies c.args.self.journal.limit _ _
@@ -73,6 +76,46 @@ returns-in_err-session-clause-safe g c told bodies at =
     (c.in_ok-made.ensures.safe told bodies
     (subst (λ (x : Session). Holds g.D.Disk c.args.disk.now c.args.self.journal bodies x.world)
     (sym session) at))).moments
+
+pub tell_none-none-requires : goal.tell_none-none-requires
+unfolding session_of
+tell_none-none-requires g c = record {
+  marked = subst (λ (x : Session). AreMarked x.world c.release-parts.result.2)
+      (sym c.release-parts.ensures.same) c.release-parts.ensures.marked;
+}
+
+pub turn_by_name-requires-clause-none : goal.turn_by_name-requires-clause-none
+turn_by_name-requires-clause-none g c is =
+    subst (λ (x : Session). pending_in x.world c.args.wanted.now.name ≡ Some 0)
+    (sym c.begin.ensures.same)
+    (subst (λ (n : List ℕ). pending_in c.release-parts.result.0.world n ≡ Some 0)
+    c.as_str-name.ensures (c.tell_none-none.ensures is))
+
+pub settle_turn-requires-clause-none : goal.settle_turn-requires-clause-none
+settle_turn-requires-clause-none g c is =
+    subst (λ (n : List ℕ). pending_in c.in_ok-made.made.play.playing.world n ≡ Some 0)
+    (sym c.as_str-name.ensures) (c.in_ok-made.ensures.none is)
+
+pub new-requires-clause-marked : goal.new-requires-clause-marked
+new-requires-clause-marked g c = c.in_ok-session.ensures.marked
+
+pub settle_turn-requires-clause-others : goal.settle_turn-requires-clause-others
+unfolding session_of asks_in standing_of
+settle_turn-requires-clause-others g c =
+    let s = standing_of (kinds_of c.args.handlers.now) [] c.args.self in
+    let u = turn_of c.args.wanted.now in
+    let parts = c.release-parts.ensures in
+    let session = c.begin.ensures.same ∙ parts.same in
+    let now = c.moment-now.ensures ∙ ap (λ (x : Session). x.moment) parts.same in
+    let made = made_here u s c.begin.result c.moment-now.result
+    (by_bytes c.release-parts.result.1.entries) session now parts.asks c.in_ok-made.made
+    (by_bytes c.turn_by_name.new.asks.entries) c.in_ok-made.ensures.turned in
+    subst (λ (n : List ℕ). AreMarkedBut n c.in_ok-made.made.play.playing.world
+    c.release-parts.result.2) (sym c.as_str-name.ensures)
+    (subst (λ (x : Session). AreMarkedBut u.name x.world c.release-parts.result.2)
+    (sym made.session)
+    (others_then u s c.requires.batch parts.made parts.sound c.requires.can parts.remembered
+    c.release-parts.result.2 parts.marked))
 
 -- the session's world stays one that records made, and sound
 pub new-requires-clause-made : goal.new-requires-clause-made
@@ -190,3 +233,17 @@ pub returns-clause-cause : goal.returns-clause-cause
 returns-clause-cause g c =
     done_cause (g.D.Disk.faults c.args.disk.now) (g.D.Disk.faults c.turn_by_name.new.disk)
     c.in_ok-made.made _ c.in_ok-made.ensures.cause
+
+pub returns-in_err-made-clause-cause : goal.returns-in_err-made-clause-cause
+returns-in_err-made-clause-cause g c =
+    same_cause (g.D.Disk.faults c.args.disk.now) (g.D.Disk.faults c.turn_by_name.new.disk)
+    c.in_err-made.field-0.0 c.from_residual.result
+    (handed_on c.from_residual.result c.in_err-made.field-0.0 c.from_residual.ensures.1)
+    c.in_err-made.ensures.cause
+
+pub returns-in_err-session-clause-cause : goal.returns-in_err-session-clause-cause
+returns-in_err-session-clause-cause g c =
+    memory_cause (g.D.Disk.faults c.args.disk.now) (g.D.Disk.faults c.turn_by_name.new.disk)
+    c.in_ok-made.made _
+    (memory_stop c.from_residual-in_err-session.result c.from_residual-in_err-session.ensures.1)
+    c.in_ok-made.ensures.cause

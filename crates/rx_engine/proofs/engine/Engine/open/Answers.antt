@@ -6,8 +6,10 @@ use Rattle.rx_world.specs.Made.{IsMadeWorld}
 use Rattle.rx_world.specs.Sound.{IsSoundWorld}
 use Rattle.rx_value.specs.Named.{by_bytes}
 use Rattle.rx_engine.specs.Engine.{IsAt, asks_in, session_of, standing_of}
+use Rattle.rx_engine.specs.Marks.{AreMarked}
 use Rattle.rx_engine.specs.Remembered.{AreRemembered}
 use Rattle.rx_engine.specs.SoundSession.{SessionWithAsks}
+use Rattle.rx_engine.proofs.Marking.{none_marked}
 use Rattle.rx_engine.proofs.Meanings.{standing_same}
 use Rattle.rx_engine.specs.Opening.{epoch_body, session_on, opened}
 use Rattle.rx_engine.proofs.Opened.{not_begun, untouched}
@@ -32,6 +34,10 @@ new-sound-requires-clause-sound g c =
 pub new-sound-requires-clause-remembered : goal.new-sound-requires-clause-remembered
 new-sound-requires-clause-remembered g c =
     subst (AreRemembered c.new-session.result.world) (sym (ap by_bytes c.new-asks.ensures.empty)) tt
+
+pub new-sound-requires-clause-marked : goal.new-sound-requires-clause-marked
+new-sound-requires-clause-marked g c =
+    subst (AreMarked c.new-session.result.world) (sym c.new-marks.ensures) (none_marked _)
 
 pub returns-clause-opened : goal.returns-clause-opened
 unfolding session_of asks_in standing_of opened

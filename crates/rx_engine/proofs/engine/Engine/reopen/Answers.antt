@@ -14,9 +14,12 @@ use Rattle.rx_engine.proofs.Keeping.{made_then}
 use Rattle.rx_world.specs.World.{World}
 use Rattle.rx_engine.specs.Engine.{IsAt, asks_in, session_of}
 use Rattle.rx_value.specs.Named.{by_bytes}
+use Rattle.rx_engine.specs.Marks.{AreMarked}
 use Rattle.rx_engine.specs.Remembered.{AreRemembered}
 use Rattle.rx_engine.specs.SoundSession.{SessionWithAsks}
+use Rattle.rx_engine.proofs.Marking.{none_marked}
 use Rattle.rx_engine.proofs.Opened.{by_number}
+use Rattle.rx_engine.proofs.Stops.{handed_on, memory_stop}
 use Rattle.rx_engine.proofs.engine.Engine.reopen.Goals as goal
 
 pub returns-in_err-journal-clause-safe : goal.returns-in_err-journal-clause-safe
@@ -28,7 +31,8 @@ returns-in_err-journal-clause-safe g c told bodies at =
     let legal = held_legal d c.args.disk.now old bodies w at in
     same_stop d c.args.disk.now c.open.new.disk bodies (content_bytes
     (epoch c.args.epoch) ∷ []) old.limit _ _
-    c.in_err-journal.field-0.0 c.from_residual.result (search rules)
+    c.in_err-journal.field-0.0 c.from_residual.result
+    (handed_on c.from_residual.result c.in_err-journal.field-0.0 c.from_residual.ensures.1)
     (by_number d c.args.disk.now c.open.new.disk bodies w c.args.epoch old.limit c.requires.next _
     (Err c.in_err-journal.field-0.0) (c.in_err-journal.ensures.safe told bodies w legal))
 
@@ -56,7 +60,9 @@ returns-in_err-session-clause-safe g c told bodies at =
     (c.in_ok-journal.ensures.safe told bodies w legal) in
     ran_out d c.args.disk.now c.open.new.disk bodies (content_bytes
     (epoch c.args.epoch) ∷ []) old.limit _
-    c.from_residual-in_err-session.result (search rules) safe.moments
+    c.from_residual-in_err-session.result
+    (memory_stop c.from_residual-in_err-session.result c.from_residual-in_err-session.ensures.1)
+    safe.moments
 
 -- the world is the one before, in its next epoch
 pub new-requires-clause-made : goal.new-requires-clause-made
@@ -89,6 +95,10 @@ pub new-requires-clause-remembered : goal.new-requires-clause-remembered
 new-requires-clause-remembered g c =
     subst (AreRemembered c.in_ok-session.session.world) (sym
     (ap by_bytes c.new-asks.ensures.empty)) tt
+
+pub new-requires-clause-marked : goal.new-requires-clause-marked
+new-requires-clause-marked g c =
+    subst (AreMarked c.in_ok-session.session.world) (sym c.new-marks.ensures) (none_marked _)
 
 pub returns-clause-asks : goal.returns-clause-asks
 unfolding session_of asks_in
