@@ -2,7 +2,7 @@
 use Rattle.std.proofs.Common.{◌≡◌, ◌∙◌, refl, sym, ap, ℕ, ◌+◌, true, false, List, [], ◌∷◌, ◌++◌, length, arith, append_assoc, append-nil, length-append, ◌<◌, zero, suc, take, Err, IsErrOf, Bool, ◌==◌, inl, inr}
 use Rattle.std.proofs.lemmas.Bool.Decides.{eqb_tells}
 use Rattle.rx_top.specs.declared.reader.Next.{Next}
-use Rattle.rx_top.specs.declared.cause.ReadFault.{ReadFault}
+use Rattle.rx_top.specs.declared.early_end.ReadFault.{ReadFault}
 use Rattle.rx_script.specs.Line.{max_line_bytes}
 use Rattle.rx_top.specs.Reader.{Reading, Advances, Comes, TakesKept, StopsWithin, Took, kept_front, rest_of}
 use Rattle.rx_top.specs.declared.reader.Next.TheVariants.{Line, Last}

@@ -1,15 +1,13 @@
 -- Where a line ends.
+use Rattle.rx_serve.specs.Lines.{is_within}
 use Rattle.std.proofs.Common.{◌≡◌, ◌∙◌, refl, sym, ap, ℕ, zero, suc, ◌+◌, ◌≤◌, Bool, true, false, true≢false, not, ◌&&◌, ◌==◌, List, [], ◌∷◌, ◌++◌, ◌-◌, take, min, length, Option, None, Some, IfNone, IfSome, arith, inl, inr}
 use Rattle.std.proofs.lemmas.Bool.Decides.{leb_tells}
 use Rattle.std.proofs.lemmas.List.{take_all, take_min, take-append-le, length-take-le}
 use Rattle.std.proofs.Math.Seq.{take-append-add, take-length}
+use Rattle.std.proofs.lemmas.Bool.{and_from, false_from_ne_true, not_from_false}
 use Rattle.memchr.specs.Find.{is_byte, Passes, Nowhere, IsFirstByte}
 use Rattle.rx_script.specs.Line.{max_line_bytes}
-use Rattle.rx_top.specs.Reader.{is_within, kept_front}
-
-other : (b : Bool) (rest : Bool) → (b ≡ true → ⊥) → rest ≡ true → (not b && rest) ≡ true
-other true rest h g = absurd (h refl)
-other false rest h g = g
+use Rattle.rx_top.specs.Reader.{kept_front}
 
 -- bytes before the first line feed
 pub within_take : (n : ℕ) (xs : List ℕ) → Nowhere (Passes (is_byte 10) xs) 0 n → n ≤ length xs
@@ -17,7 +15,9 @@ pub within_take : (n : ℕ) (xs : List ℕ) → Nowhere (Passes (is_byte 10) xs)
 within_take zero xs h fits = refl
 within_take (suc n) [] h fits = refl
 within_take (suc n) (x ∷ xs) h fits =
-    other (x == 10) (is_within (take n xs)) (λ e. h 0 (omega arith) (omega arith) e)
+    and_from (not (x == 10)) (is_within (take n xs))
+    (not_from_false (x == 10)
+    (false_from_ne_true (x == 10) (λ e. h 0 (omega arith) (omega arith) e)))
     (within_take n xs (λ k low high. h (suc k) (omega arith) (omega arith)) (omega arith))
 
 pub within_all : (xs : List ℕ) → Nowhere (Passes (is_byte 10) xs) 0 (length xs)

@@ -5,7 +5,7 @@ use Rattle.std.specs.Fmt.{digits}
 use Rattle.rx_outside.specs.declared.stop.Stop.TheVariants.{Disk}
 use Rattle.rx_top.specs.Lines.{lines}
 use Rattle.rx_top.specs.Stops.{full_line, last_words}
-use Rattle.rx_top.specs.declared.cause.Cause.TheVariants.{Work}
+use Rattle.rx_top.specs.declared.early_end.EarlyEnd.TheVariants.{Work}
 
 -- a line may be empty, and the last one needs no end
 in_lines : lines (codes "a\n\nb") ≡ codes "a" ∷ [] ∷ codes "b" ∷ []

@@ -1,4 +1,5 @@
 -- How the play of a script goes on, and how it ends.
+use Rattle.rx_serve.specs.Lines.{cut}
 use Rattle.std.proofs.Common.{◌≡◌, ◌≢◌, ◌∙◌, refl, sym, ap, subst, ℕ, ◌+◌, ◌≤◌, Bool, false, ◌||◌, List, [], ◌∷◌, ◌++◌, length, take, ◌⊎◌, Option, None, Some, Result, Ok, Err, IsErrOf, IsOk, OnOk, inl, inr, arith, append_assoc, append-nil, length-append}
 use Rattle.std.proofs.Math.Seq.{take-append_seam}
 use Rattle.rx_disk.specs.declared.disk.Disk.{Ghosts}
@@ -16,17 +17,17 @@ use Rattle.rx_outside.specs.declared.stop.Stop.TheVariants.{Memory}
 use Rattle.rx_sync.specs.Remote.{Heard}
 use Rattle.rx_top.specs.Chunks.{Keeps, all_of}
 use Rattle.rx_top.specs.Hears.{HearsAll, HearsLines, IsShownAt}
-use Rattle.rx_top.specs.Lines.{cut, is_blank, lines}
+use Rattle.rx_top.specs.Lines.{is_blank, lines}
 use Rattle.rx_top.specs.Reader.{Takes, TakesKept, StopsWithin, Took, max_input_bytes}
 use Rattle.rx_top.specs.Run.{KeepsFrom, Plays, Reads, Writes, stop_of}
 use Rattle.rx_top.specs.Script.{line_effect}
 use Rattle.rx_top.specs.Story.{EachLine, Effect, chunks, next_chunk, replies, state_after}
 use Rattle.rx_top.specs.Work.{HasAll, work_of}
 use Rattle.rx_top.specs.Turns.{HoldsOfTurn}
-use Rattle.rx_top.specs.declared.cause.Cause.{Cause}
-use Rattle.rx_top.specs.declared.cause.Cause.TheVariants.{Read, Sink, Work}
-use Rattle.rx_top.specs.declared.cause.ReadFault.{ReadFault}
-use Rattle.rx_top.specs.declared.cause.ReadFault.TheVariants as fault
+use Rattle.rx_top.specs.declared.early_end.EarlyEnd.{EarlyEnd}
+use Rattle.rx_top.specs.declared.early_end.EarlyEnd.TheVariants.{Read, Sink, Work}
+use Rattle.rx_top.specs.declared.early_end.ReadFault.{ReadFault}
+use Rattle.rx_top.specs.declared.early_end.ReadFault.TheVariants as fault
 use Rattle.rx_top.specs.declared.reader.Next.{Next}
 use Rattle.rx_top.specs.declared.reader.Next.TheVariants.{Line, Last, End}
 use Rattle.rx_top.proofs.Chunks.{CountsNow, Kept, OnlyNow, all_of-push, keeps_all, keeps_stopped, kept_more, kept_none}
@@ -157,7 +158,7 @@ begins s0 d k_tells wires disk dial first w input unread none only_now = record 
 -- an end with all that was due on the disk
 pub ends : (s : Standing) {D : Type 0} (d : Ghosts D) (d0 d1 : D) (tells wires : Type 0)
     (n0 n1 : DialStanding) (w0 w1 : List ℕ) (first : Engine) (ls rest : List (List ℕ))
-    (input left : List ℕ) (ended : Result Bool Cause)
+    (input left : List ℕ) (ended : Result Bool EarlyEnd)
     → stop_of ended ≡ None → lines input ≡ ls ++ rest
     → EachLine line_effect HoldsOfTurn 1 ls s
     → HearsAll wires s n0 n1 ended ls rest
@@ -254,7 +255,7 @@ module _
     cs = chunks line_effect 1 ls s0
 
     -- how the play ends, and what the disk keeps then
-    abbrev Ends : D → DialStanding → List ℕ → List ℕ → Result Bool Cause → Type 0
+    abbrev Ends : D → DialStanding → List ℕ → List ℕ → Result Bool EarlyEnd → Type 0
     Ends d2 n2 w2 left ended =
         Plays line_effect HoldsOfTurn k_tells w0 w2 input left s0 ended
         (HearsAll wires s0 n0 n2 ended) (KeepsFrom s0 d d0 d2 first ended)
@@ -269,7 +270,7 @@ module _
     to_come = rest_lines line_effect a.bytes input rest n r s0 s1 a.so
 
     -- between two lines, where nothing is to be heard any more
-    hears_none : (ended : Result Bool Cause) (more : List (List ℕ)) → s1.heard ≡ []
+    hears_none : (ended : Result Bool EarlyEnd) (more : List (List ℕ)) → s1.heard ≡ []
         → HearsAll wires s0 n0 n1 ended ls more
     hears_none ended more none = record {
       between = n1;
@@ -355,7 +356,7 @@ module _
             ∙ ap (λ (x : Effect Standing). heard ++ x.next.heard) same)
 
         -- and nothing is to be heard any more
-        hears_last : (ended : Result Bool Cause) (more : List (List ℕ)) (heard : List Heard)
+        hears_last : (ended : Result Bool EarlyEnd) (more : List (List ℕ)) (heard : List Heard)
             → IsKeptShown heard (Unit {0}) → s1.heard ≡ heard ++ m.next.heard → m.next.heard ≡ []
             → HearsAll wires s0 n0 n2 ended (ls ++ l ∷ []) more
         hears_last ended more heard shown took none = record {
@@ -406,12 +407,12 @@ module _
         whole_with more e = e ∙ sym (append_assoc ls (l ∷ []) more)
 
         -- what one line's work does to a disk that has the bodies before it
-        abbrev IsSafe : Result (Engine × Bool) Cause → Type 0
+        abbrev IsSafe : Result (Engine × Bool) EarlyEnd → Type 0
         IsSafe worked =
             d.tells → (before : List (List ℕ)) → IsAt d d1 engine before
             → IsCrashSafe d d1 d2 before m.bodies (limit_of engine) (HasAll d d2) (work_of worked)
 
-        pub line_kept : (worked : Result (Engine × Bool) Cause) (x : Option Engine)
+        pub line_kept : (worked : Result (Engine × Bool) EarlyEnd) (x : Option Engine)
             → work_of worked ≡ Ok x → IsSafe worked → (d.tells → OnlyNow d d2)
             → KeptAt d2 (ls ++ l ∷ [])
         line_kept worked x is safe only_now = λ t bodies at le.
@@ -493,7 +494,7 @@ module _
             → why ≡ Memory
         same_stop why same = cc
 
-        pub line_failed : (why : Cause) (left : List ℕ)
+        pub line_failed : (why : EarlyEnd) (left : List ℕ)
             → ((f : ReadFault) → IsErrOf {T = Engine × Bool} (Err why) (Read f) → ⊥)
             → (k_tells → IsErrOf {T = Engine × Bool} (Err why) Sink → WritesFront w1 w2 m.reply)
             → (k_tells → (st : Stop) → IsErrOf {T = Engine × Bool} (Err why) (Work st) → w2 ≡ w1)

@@ -1,5 +1,7 @@
 -- Lines that aren't blank, as those of a generated script.
-use Rattle.std.proofs.Common.{◌≡◌, ◌∙◌, refl, ap, subst, ℕ, zero, suc, Bool, true, false, cond, ◌&&◌, List, [], ◌∷◌, ◌++◌, All, arith}
+use Rattle.std.proofs.Common.{◌≡◌, ◌∙◌, ap, subst, ℕ, false, cond, List, [], ◌∷◌, ◌++◌, All, arith}
+use Rattle.std.proofs.Math.Bool.{and-false}
+use Rattle.std.proofs.lemmas.List.Elements.{All-cons, All-head, All-tail}
 use Rattle.rx_engine.specs.Meaning.{meaning}
 use Rattle.rx_engine.specs.Standing.{Standing}
 use Rattle.rx_trial.specs.Lines.{script}
@@ -11,35 +13,21 @@ use Rattle.rx_top.specs.Script.{effect_of, line_effect, no_effect}
 abbrev pub IsFilled : List ℕ → Type 0
 IsFilled line = is_blank line ≡ false
 
-pub all_first : {X : Type 0} (P : X → Type 0) (x : X) (xs : List X) → All P (x ∷ xs) → P x
-all_first P x xs all = all 0 x (omega arith)
-
-pub all_rest : {X : Type 0} (P : X → Type 0) (x : X) (xs : List X) → All P (x ∷ xs) → All P xs
-all_rest P x xs all = λ k d low. all (suc k) d (omega (arith, low))
-
-all_more : {X : Type 0} (P : X → Type 0) (x : X) (xs : List X) → P x → All P xs → All P (x ∷ xs)
-all_more P x xs here rest zero d low = here
-all_more P x xs here rest (suc k) d low = rest k d (omega (arith, low))
-
 pub all_front : {X : Type 0} (P : X → Type 0) (xs ys : List X) → All P (xs ++ ys) → All P xs
 all_front P [] ys all = λ k d low. absurd (omega (arith, low))
 all_front P (x ∷ xs) ys all =
-    all_more P x xs (all_first P x (xs ++ ys) all) (all_front P xs ys (all_rest P x (xs ++ ys) all))
+    All-cons P x xs (All-head P x (xs ++ ys) all) (all_front P xs ys (All-tail P x (xs ++ ys) all))
 
 pub all_back : {X : Type 0} (P : X → Type 0) (xs ys : List X) → All P (xs ++ ys) → All P ys
 all_back P [] ys all = all
-all_back P (x ∷ xs) ys all = all_back P xs ys (all_rest P x (xs ++ ys) all)
-
-and_false : (b : Bool) → (b && false) ≡ false
-and_false true = refl
-and_false false = refl
+all_back P (x ∷ xs) ys all = all_back P xs ys (All-tail P x (xs ++ ys) all)
 
 -- a line that begins with a brace
 braced_filled : (line : List ℕ) → IsBraced line → IsFilled line
 braced_filled [] first = cc
 braced_filled (b ∷ bs) first =
     let brace : b ≡ 123 = cc in
-    ap (λ x. is_blank (x ∷ bs)) brace ∙ and_false _
+    ap (λ x. is_blank (x ∷ bs)) brace ∙ and-false _
 
 pub script_filled : (seed n : ℕ) → All IsFilled (script seed n)
 script_filled seed n = λ k d low. braced_filled _ (script_braced seed n k d low)
@@ -54,7 +42,7 @@ filled_effect n line s filled =
 pub first_filled : (lines done : List (List ℕ)) (l : List ℕ) (left' left : List (List ℕ))
     → lines ≡ done ++ left → left ≡ l ∷ left' → All IsFilled lines → IsFilled l
 first_filled lines done l left' left whole next filled =
-    all_first IsFilled l left'
+    All-head IsFilled l left'
     (all_back IsFilled done (l ∷ left')
     (subst (λ (v : List (List ℕ)). All IsFilled v)
     (whole ∙ ap (λ (v : List (List ℕ)). done ++ v) next) filled))

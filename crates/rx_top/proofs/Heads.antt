@@ -24,10 +24,10 @@ use Rattle.rx_top.specs.Run.{KeepsFrom, KeepsRun, NeedsJournal, Plays, Reads, Wr
 use Rattle.rx_top.specs.Script.{line_effect}
 use Rattle.rx_top.specs.Start.{IsStart, StaysLegal}
 use Rattle.rx_top.specs.Story.{chunks, next_chunk, state_after}
-use Rattle.rx_top.specs.declared.cause.Cause.{Cause}
+use Rattle.rx_top.specs.declared.early_end.EarlyEnd.{EarlyEnd}
 use Rattle.rx_top.specs.Turns.{HoldsOfTurn}
-use Rattle.rx_top.specs.declared.cause.Cause.TheVariants.{Read, Work}
-use Rattle.rx_top.specs.declared.cause.ReadFault.TheVariants as fault
+use Rattle.rx_top.specs.declared.early_end.EarlyEnd.TheVariants.{Read, Work}
+use Rattle.rx_top.specs.declared.early_end.ReadFault.TheVariants as fault
 use Rattle.rx_top.proofs.Hears.{unheard}
 use Rattle.rx_top.proofs.Chunks.{CountsNow, OnlyNow, keeps_behind, leaves_then, stays_legal}
 
@@ -36,7 +36,7 @@ pub same_open : (why st : Stop) → IsErrOf {T = Bool} (Err (Work why)) (Work st
 same_open why st h = let same : why ≡ st = cc in ap Err same
 
 -- what is said beside the play is said in other words
-pub said_as : {k_tells : Type 0} {w0 w1 input left : List ℕ} {s : Standing} {ended : Result Bool Cause}
+pub said_as : {k_tells : Type 0} {w0 w1 input left : List ℕ} {s : Standing} {ended : Result Bool EarlyEnd}
     {Shown : List (List ℕ) → List (List ℕ) → Type 0} (P Q : List (List ℕ) → List (List ℕ) → Type 0)
     → ((done rest : List (List ℕ)) → P done rest → Q done rest)
     → Plays line_effect HoldsOfTurn k_tells w0 w1 input left s ended Shown P
@@ -54,7 +54,7 @@ said_as P Q f p = record {
 
 -- nothing was played
 pub unplayed : (tells wires : Type 0) (dial : DialStanding) (w0 w1 input left : List ℕ) (s : Standing)
-    (ended : Result Bool Cause) (P : List (List ℕ) → List (List ℕ) → Type 0) → s.heard ≡ []
+    (ended : Result Bool EarlyEnd) (P : List (List ℕ) → List (List ℕ) → Type 0) → s.heard ≡ []
     → Reads line_effect ended input left [] (lines input) s
     → (tells → Writes ended w0 w1 []) → P [] (lines input)
     → Plays line_effect HoldsOfTurn tells w0 w1 input left s ended (HearsAll wires s dial dial ended) P
@@ -139,7 +139,7 @@ module _
         )
 
     -- the lines were played over the journal that was opened
-    pub played_keeps : (d0 d1 d2 : D) (first : Engine) (ended : Result Bool Cause)
+    pub played_keeps : (d0 d1 d2 : D) (first : Engine) (ended : Result Bool EarlyEnd)
         (done rest : List (List ℕ)) → GrowsLegally d d0 d1 bodies (epoch_body w ∷ [])
         → end_of (bodies ++ epoch_body w ∷ []) ≤ limit → limit_of first ≡ limit
         → (s : Standing) → s ≡ opened kinds heard w → IsAt d d1 first (bodies ++ epoch_body w ∷ []) → d.tells

@@ -15,8 +15,8 @@ use Rattle.rx_top.specs.Hears.{HearsAll, HearsLast, HearsLines, HearsNothing, Is
 use Rattle.rx_top.specs.Lines.{is_blank}
 use Rattle.rx_top.specs.Script.{line_effect}
 use Rattle.rx_top.specs.Story.{state_after}
-use Rattle.rx_top.specs.declared.cause.Cause.{Cause}
-use Rattle.rx_top.specs.declared.cause.Cause.TheVariants.{Read, Sink, Work}
+use Rattle.rx_top.specs.declared.early_end.EarlyEnd.{EarlyEnd}
+use Rattle.rx_top.specs.declared.early_end.EarlyEnd.TheVariants.{Read, Sink, Work}
 
 -- ---- what is to be heard
 
@@ -94,7 +94,7 @@ hears_push wires n (y ∷ ys) l s k old between new heard is before shown took =
 -- ---- ends
 
 -- no line was begun and not done
-pub nothing_last : (wires : Type 0) (ended : Result Bool Cause) (rest : List (List ℕ)) (s : Standing)
+pub nothing_last : (wires : Type 0) (ended : Result Bool EarlyEnd) (rest : List (List ℕ)) (s : Standing)
     (old new : DialStanding) → HearsNothing s old new → HearsLast wires ended rest s old new
 nothing_last wires (Ok refused) rest s old new none = none
 nothing_last wires (Err (Read fault)) rest s old new none = none
@@ -102,7 +102,7 @@ nothing_last wires (Err Sink) rest s old new none = none
 nothing_last wires (Err (Work why)) rest s old new none = λ other. inl none
 
 -- no line was
-pub unheard : (wires : Type 0) (dial : DialStanding) (s : Standing) (ended : Result Bool Cause)
+pub unheard : (wires : Type 0) (dial : DialStanding) (s : Standing) (ended : Result Bool EarlyEnd)
     (rest : List (List ℕ)) → s.heard ≡ [] → HearsAll wires s dial dial ended [] rest
 unheard wires dial s ended rest none = record {
   between = dial;

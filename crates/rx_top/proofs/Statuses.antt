@@ -1,4 +1,5 @@
 -- What a status says of the end of a run.
+use Rattle.rx_serve.specs.Lines.{cut}
 use Rattle.std.proofs.Common.{◌≡◌, ◌<◌, ◌≤◌, ◌⊎◌, ⊎_elim, inl, inr, ℕ, ◌+◌, List, [], ◌∷◌, ◌++◌, Bool, true, false, Result, Ok, Err, refl, sym, ◌∙◌, ap, subst, arith, append_assoc, append-nil, length, take, cond}
 use Rattle.std.specs.Prelude.{codes}
 use Rattle.rx_disk.specs.declared.disk.Disk.{Ghosts}
@@ -16,20 +17,20 @@ use Rattle.rx_outside.specs.declared.stop.Stop.TheVariants.{Disk, NotJournal, Fu
 use Rattle.rx_world.specs.World.{World}
 use Rattle.rx_top.specs.Chunks.{Keeps}
 use Rattle.rx_top.specs.Hears.{HearsAll}
-use Rattle.rx_top.specs.Lines.{cut, lines}
+use Rattle.rx_top.specs.Lines.{lines}
 use Rattle.rx_top.specs.Reader.{max_input_bytes}
 use Rattle.rx_top.specs.Run.{HasRun, IsDue, KeepsRun, NeedsJournal, Plays, StopsAfter, due_after, run_bodies, run_chunks, stop_of}
 use Rattle.rx_top.specs.Script.{line_effect, transcript}
 use Rattle.rx_top.specs.Stops.{EndsWith, Stops, full_line, last_words, stop_line, status_of}
 use Rattle.rx_top.specs.Story.{EachLine, any_refused, replies, state_after}
 use Rattle.rx_top.specs.Turns.{HoldsOfTurn}
-use Rattle.rx_top.specs.declared.cause.Cause.{Cause}
-use Rattle.rx_top.specs.declared.cause.Cause.TheVariants.{Read, Sink, Work}
-use Rattle.rx_top.specs.declared.cause.ReadFault.TheVariants as fault
+use Rattle.rx_top.specs.declared.early_end.EarlyEnd.{EarlyEnd}
+use Rattle.rx_top.specs.declared.early_end.EarlyEnd.TheVariants.{Read, Sink, Work}
+use Rattle.rx_top.specs.declared.early_end.ReadFault.TheVariants as fault
 use Rattle.rx_top.proofs.Stopping.{stops_told}
 use Rattle.rx_top.proofs.Story.{replies-append}
 
-pub is_ok : (e : Result Bool Cause) → status_of e < 2 → (r : Bool) × (e ≡ Ok r)
+pub is_ok : (e : Result Bool EarlyEnd) → status_of e < 2 → (r : Bool) × (e ≡ Ok r)
 is_ok (Ok false) h = (false, refl)
 is_ok (Ok true) h = (true, refl)
 is_ok (Err (Work Disk)) h = absurd (omega (arith, h))
@@ -41,7 +42,7 @@ is_ok (Err (Work NotJournal)) h = absurd (omega (arith, h))
 is_ok (Err (Work (Full would limit))) h = absurd (omega (arith, h))
 is_ok (Err (Read fault.TooLong)) h = absurd (omega (arith, h))
 
-pub is_disk : (e : Result Bool Cause) → status_of e ≡ 3 → e ≡ Err (Work Disk)
+pub is_disk : (e : Result Bool EarlyEnd) → status_of e ≡ 3 → e ≡ Err (Work Disk)
 is_disk (Ok false) h = absurd (omega (arith, h))
 is_disk (Ok true) h = absurd (omega (arith, h))
 is_disk (Err (Work Disk)) h = refl
@@ -53,7 +54,7 @@ is_disk (Err (Work NotJournal)) h = absurd (omega (arith, h))
 is_disk (Err (Work (Full would limit))) h = absurd (omega (arith, h))
 is_disk (Err (Read fault.TooLong)) h = absurd (omega (arith, h))
 
-pub is_read : (e : Result Bool Cause) → status_of e ≡ 4 → e ≡ Err (Read fault.Failed)
+pub is_read : (e : Result Bool EarlyEnd) → status_of e ≡ 4 → e ≡ Err (Read fault.Failed)
 is_read (Ok false) h = absurd (omega (arith, h))
 is_read (Ok true) h = absurd (omega (arith, h))
 is_read (Err (Work Disk)) h = absurd (omega (arith, h))
@@ -65,7 +66,7 @@ is_read (Err (Work NotJournal)) h = absurd (omega (arith, h))
 is_read (Err (Work (Full would limit))) h = absurd (omega (arith, h))
 is_read (Err (Read fault.TooLong)) h = absurd (omega (arith, h))
 
-pub is_sink : (e : Result Bool Cause) → status_of e ≡ 5 → e ≡ Err Sink
+pub is_sink : (e : Result Bool EarlyEnd) → status_of e ≡ 5 → e ≡ Err Sink
 is_sink (Ok false) h = absurd (omega (arith, h))
 is_sink (Ok true) h = absurd (omega (arith, h))
 is_sink (Err (Work Disk)) h = absurd (omega (arith, h))
@@ -77,7 +78,7 @@ is_sink (Err (Work NotJournal)) h = absurd (omega (arith, h))
 is_sink (Err (Work (Full would limit))) h = absurd (omega (arith, h))
 is_sink (Err (Read fault.TooLong)) h = absurd (omega (arith, h))
 
-pub is_memory : (e : Result Bool Cause) → status_of e ≡ 6 → (e ≡ Err (Work Memory)) ⊎ (e ≡ Err (Read fault.Memory))
+pub is_memory : (e : Result Bool EarlyEnd) → status_of e ≡ 6 → (e ≡ Err (Work Memory)) ⊎ (e ≡ Err (Read fault.Memory))
 is_memory (Ok false) h = absurd (omega (arith, h))
 is_memory (Ok true) h = absurd (omega (arith, h))
 is_memory (Err (Work Disk)) h = absurd (omega (arith, h))
@@ -89,7 +90,7 @@ is_memory (Err (Work NotJournal)) h = absurd (omega (arith, h))
 is_memory (Err (Work (Full would limit))) h = absurd (omega (arith, h))
 is_memory (Err (Read fault.TooLong)) h = absurd (omega (arith, h))
 
-pub is_not_journal : (e : Result Bool Cause) → status_of e ≡ 7 → e ≡ Err (Work NotJournal)
+pub is_not_journal : (e : Result Bool EarlyEnd) → status_of e ≡ 7 → e ≡ Err (Work NotJournal)
 is_not_journal (Ok false) h = absurd (omega (arith, h))
 is_not_journal (Ok true) h = absurd (omega (arith, h))
 is_not_journal (Err (Work Disk)) h = absurd (omega (arith, h))
@@ -101,7 +102,7 @@ is_not_journal (Err (Work NotJournal)) h = refl
 is_not_journal (Err (Work (Full would limit))) h = absurd (omega (arith, h))
 is_not_journal (Err (Read fault.TooLong)) h = absurd (omega (arith, h))
 
-pub is_full : (e : Result Bool Cause) → status_of e ≡ 8 → (would : ℕ) × (limit : ℕ) × (e ≡ Err (Work (Full would limit)))
+pub is_full : (e : Result Bool EarlyEnd) → status_of e ≡ 8 → (would : ℕ) × (limit : ℕ) × (e ≡ Err (Work (Full would limit)))
 is_full (Ok false) h = absurd (omega (arith, h))
 is_full (Ok true) h = absurd (omega (arith, h))
 is_full (Err (Work Disk)) h = absurd (omega (arith, h))
@@ -113,7 +114,7 @@ is_full (Err (Work NotJournal)) h = absurd (omega (arith, h))
 is_full (Err (Work (Full would limit))) h = (would, limit, refl)
 is_full (Err (Read fault.TooLong)) h = absurd (omega (arith, h))
 
-pub is_too_long : (e : Result Bool Cause) → status_of e ≡ 9 → e ≡ Err (Read fault.TooLong)
+pub is_too_long : (e : Result Bool EarlyEnd) → status_of e ≡ 9 → e ≡ Err (Read fault.TooLong)
 is_too_long (Ok false) h = absurd (omega (arith, h))
 is_too_long (Ok true) h = absurd (omega (arith, h))
 is_too_long (Err (Work Disk)) h = absurd (omega (arith, h))
@@ -125,7 +126,7 @@ is_too_long (Err (Work NotJournal)) h = absurd (omega (arith, h))
 is_too_long (Err (Work (Full would limit))) h = absurd (omega (arith, h))
 is_too_long (Err (Read fault.TooLong)) h = refl
 
-pub status_low : (e : Result Bool Cause) → status_of e ≤ 9
+pub status_low : (e : Result Bool EarlyEnd) → status_of e ≤ 9
 status_low (Ok false) = omega arith
 status_low (Ok true) = omega arith
 status_low (Err (Work Disk)) = omega arith
@@ -137,7 +138,7 @@ status_low (Err (Work NotJournal)) = omega arith
 status_low (Err (Work (Full would limit))) = omega arith
 status_low (Err (Read fault.TooLong)) = omega arith
 
-pub no_usage : (e : Result Bool Cause) → status_of e ≡ 2 → ⊥
+pub no_usage : (e : Result Bool EarlyEnd) → status_of e ≡ 2 → ⊥
 no_usage (Ok false) h = omega (arith, h)
 no_usage (Ok true) h = omega (arith, h)
 no_usage (Err (Work Disk)) h = omega (arith, h)
@@ -161,7 +162,7 @@ unlike n low a b c d (inr (inr (inl h))) = absurd (b h)
 unlike n low a b c d (inr (inr (inr (inl h)))) = absurd (c h)
 unlike n low a b c d (inr (inr (inr (inr h)))) = absurd (d h)
 
-pub over_journal : (e : Result Bool Cause) → IsOverJournal (status_of e) → NeedsJournal e
+pub over_journal : (e : Result Bool EarlyEnd) → IsOverJournal (status_of e) → NeedsJournal e
 over_journal (Ok refused) h = tt
 over_journal (Err (Work Disk)) h = unlike 3 (omega arith) (λ e. omega (arith, e)) (λ e. omega (arith, e))
     (λ e. omega (arith, e)) (λ e. omega (arith, e)) h
@@ -202,17 +203,17 @@ no_line f0 f2 a b (inr f) =
 module _
     {kinds : Kinds} {heard : List Heard} {wires : Type 0} {n0 n2 : DialStanding} (tells : Type 0)
     (f0 f2 : ℕ) (w0 w2 : List ℕ) (w : World) (input left : List ℕ) (status : ℕ)
-    (Kept : Result Bool Cause → List (List ℕ) → List (List ℕ) → Type 0)
+    (Kept : Result Bool EarlyEnd → List (List ℕ) → List (List ℕ) → Type 0)
     (has : HasRun kinds heard wires n0 n2 tells f0 f2 w0 w2 w input left status Kept)
   where
     -- the play and the last line, where the end is known
-    abbrev Ended : Result Bool Cause → Type 0
+    abbrev Ended : Result Bool EarlyEnd → Type 0
     Ended e =
         Plays line_effect HoldsOfTurn tells w0 has.before input left (opened kinds heard w) e
         (HearsAll wires (opened kinds heard w) n0 n2 e) (Kept e)
         × EndsWith tells f0 f2 has.before w2 (last_words e)
 
-    ended_as : (e : Result Bool Cause) → has.ended ≡ e → Ended e
+    ended_as : (e : Result Bool EarlyEnd) → has.ended ≡ e → Ended e
     ended_as e is = subst Ended is (has.run, has.line)
 
     -- ---- the whole input

@@ -60,18 +60,6 @@ front_more old mid new a b e f = (
   f.3 ∙ ap (λ v. v ++ f.0) e ∙ append_assoc old a f.0,
 )
 
-pub any_err : {T E : Type 0} (r : Result T E) (P : Type 0) → P → OnErr r P
-any_err (Ok x) P p = tt
-any_err (Err x) P p = p
-
-pub err_so : {T E : Type 0} (r : Result T E) (P Q : Type 0) → (P → Q) → OnErr r P → OnErr r Q
-err_so (Ok x) P Q f p = tt
-err_so (Err x) P Q f p = f p
-
-pub ok_so : {T E : Type 0} (r : Result T E) (P Q : Type 0) → (P → Q) → OnOk r P → OnOk r Q
-ok_so (Ok x) P Q f p = f p
-ok_so (Err x) P Q f p = tt
-
 -- three parts
 pub three : (old one two new a b c : List ℕ) → one ≡ old ++ a → two ≡ one ++ b → new ≡ two ++ c
     → new ≡ old ++ (a ++ (b ++ c))

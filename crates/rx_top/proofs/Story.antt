@@ -1,7 +1,8 @@
 -- The story of a run, line after line.
+use Rattle.rx_serve.specs.Lines.{Cut, byte_before, cut, is_within}
 use Rattle.std.proofs.Common.{◌≡◌, ◌∙◌, refl, sym, ap, subst, ℕ, ◌+◌, suc, Bool, true, false, not, cond, ◌&&◌, ◌||◌, ◌==◌, List, [], ◌∷◌, ◌++◌, length, arith, append_assoc, append-nil, length-append}
-use Rattle.rx_top.specs.Lines.{Cut, cut, byte_before, last_line, lines}
-use Rattle.rx_top.specs.Reader.{is_within}
+use Rattle.std.proofs.Math.Bool.{or_assoc, or-false}
+use Rattle.rx_top.specs.Lines.{last_line, lines}
 use Rattle.rx_top.specs.Story.{EachLine, Step, any_refused, chunks, replies, state_after}
 
 -- the lines of `done` were played from a state on, and `rest` is to come
@@ -84,14 +85,6 @@ cut-append (b ∷ bs) x h = append_step b bs x (b == 10) h (cut-append bs x)
 
 -- ---- lists of lines
 
-or_assoc : (a b c : Bool) → ((a || b) || c) ≡ (a || (b || c))
-or_assoc true b c = refl
-or_assoc false b c = refl
-
-or_false : (b : Bool) → (b || false) ≡ b
-or_false true = refl
-or_false false = refl
-
 module _ {S : Type 0} (step : Step S) where
   pub replies-append : (n : ℕ) (ls ms : List (List ℕ)) (s : S)
       → replies step n (ls ++ ms) s
@@ -141,7 +134,7 @@ module _ {S : Type 0} (step : Step S) where
       ≡ (any_refused step n ls s || (step k l (state_after step n ls s)).refused)
   refused-push n [] l s k is =
       let e : n ≡ k = omega (arith, is) in
-      or_false (step n l s).refused ∙ ap (λ m. (step m l s).refused) e
+      or-false (step n l s).refused ∙ ap (λ m. (step m l s).refused) e
   refused-push n (y ∷ ys) l s k is =
       let now = step n y s in
       ap (λ v. now.refused || v) (refused-push (n + 1) ys l now.next k (omega (arith, is)))

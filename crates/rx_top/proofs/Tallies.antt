@@ -1,6 +1,7 @@
 -- How a tally grows by a line.
 use Rattle.std.proofs.Common.{◌≡◌, ◌∙◌, refl, sym, ap, ℕ, ◌+◌, ◌≤◌, List, [], ◌∷◌, ◌++◌, length, sum_by, count_by, cond, All, Option, None, Some, option_and_then, arith, length-append}
 use Rattle.std.proofs.lemmas.List.Sums.{count_by-le-length, sum_by-append}
+use Rattle.std.proofs.lemmas.List.Elements.{All-head, All-tail}
 use Rattle.std.specs.List.{last_or}
 use Rattle.rx_engine.specs.Engine.{session_of, standing_of}
 use Rattle.rx_engine.specs.Meaning.{Meaning, meaning}
@@ -15,7 +16,7 @@ use Rattle.rx_top.specs.Script.{line_effect}
 use Rattle.rx_top.specs.Story.{Effect, state_after}
 use Rattle.rx_top.specs.Tally.{ComesTo, meanings, summary_of, summary_text, tally_of, with_line}
 use Rattle.rx_top.specs.declared.tally.Tally.{Tally}
-use Rattle.rx_top.proofs.Filled.{IsFilled, all_first, all_rest, filled_effect}
+use Rattle.rx_top.proofs.Filled.{IsFilled, filled_effect}
 
 pub length-meanings : (n : ℕ) (ls : List (List ℕ)) (s : Standing) → length (meanings n ls s) ≡ length ls
 length-meanings n [] s = refl
@@ -32,9 +33,9 @@ meanings-push n [] l s k filled is =
 meanings-push n (y ∷ ys) l s k filled is =
     let next = (meaning n y s).next in
     let same : (line_effect n y s).next ≡ next =
-    ap (λ (e : Effect Standing). e.next) (filled_effect n y s (all_first IsFilled y ys filled)) in
+    ap (λ (e : Effect Standing). e.next) (filled_effect n y s (All-head IsFilled y ys filled)) in
     ap (λ (ms : List Meaning). meaning n y s ∷ ms)
-    (meanings-push (n + 1) ys l next k (all_rest IsFilled y ys filled) (omega (arith, is))
+    (meanings-push (n + 1) ys l next k (All-tail IsFilled y ys filled) (omega (arith, is))
     ∙ ap (λ (x : Standing). meanings (n + 1) ys next
     ++ meaning k l (state_after line_effect (n + 1) ys x) ∷ []) (sym same))
 

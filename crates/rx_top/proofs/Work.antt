@@ -20,8 +20,8 @@ use Rattle.rx_top.specs.Script.{effect_of, line_effect, no_effect}
 use Rattle.rx_top.specs.Story.{Effect}
 use Rattle.rx_top.specs.Turns.{HoldsOfTurn}
 use Rattle.rx_top.specs.Work.{HasAll, WorksLine, work_of}
-use Rattle.rx_top.specs.declared.cause.Cause.{Cause}
-use Rattle.rx_top.specs.declared.cause.Cause.TheVariants.{Sink, Work}
+use Rattle.rx_top.specs.declared.early_end.EarlyEnd.{EarlyEnd}
+use Rattle.rx_top.specs.declared.early_end.EarlyEnd.TheVariants.{Sink, Work}
 use Rattle.rx_top.proofs.Chunks.{OnlyNow, still}
 use Rattle.rx_top.proofs.Exits.{leaves_at}
 use Rattle.rx_top.proofs.Hears.{shown_in}
@@ -32,7 +32,7 @@ module _ (s : Standing) {D : Type 0} (d : Ghosts D) (e : Engine) (n : ℕ) (line
   effect = line_effect n line s
 
   -- work on the line is safe, by what it came to
-  abbrev IsSafe : D → D → List (List ℕ) → Result (Engine × Bool) Cause → Type 0
+  abbrev IsSafe : D → D → List (List ℕ) → Result (Engine × Bool) EarlyEnd → Type 0
   IsSafe old new bodies worked =
       IsCrashSafe d old new bodies effect.bodies (limit_of e) (HasAll d new) (work_of worked)
 

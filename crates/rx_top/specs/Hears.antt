@@ -11,8 +11,8 @@ use Rattle.rx_sync.specs.Remote.{Heard}
 use Rattle.rx_top.specs.Lines.{is_blank}
 use Rattle.rx_top.specs.Script.{line_effect}
 use Rattle.rx_top.specs.Story.{state_after}
-use Rattle.rx_top.specs.declared.cause.Cause.{Cause}
-use Rattle.rx_top.specs.declared.cause.Cause.TheVariants.{Read, Sink, Work}
+use Rattle.rx_top.specs.declared.early_end.EarlyEnd.{EarlyEnd}
+use Rattle.rx_top.specs.declared.early_end.EarlyEnd.TheVariants.{Read, Sink, Work}
 
 -- how a dial stands
 abbrev pub stands : {N W : Type 0} → Ghosts N W → N → DialStanding
@@ -42,7 +42,7 @@ HearsNothing s old new = (s.heard ≡ []) × (new ≡ old)
 -- in the line at which work stopped, of which not all may be done; no master harmed a fork in it;
 -- nothing of it is said where memory was wanting
 abbrev pub HearsLast
-    : Type 0 → Result Bool Cause → List (List ℕ) → Standing → DialStanding → DialStanding → Type 0
+    : Type 0 → Result Bool EarlyEnd → List (List ℕ) → Standing → DialStanding → DialStanding → Type 0
 HearsLast wires (Ok refused) rest s old new = HearsNothing s old new
 HearsLast wires (Err (Read fault)) rest s old new = HearsNothing s old new
 HearsLast wires (Err Sink) rest s old new = HearsNothing s old new
@@ -56,7 +56,7 @@ pub record HearsAll
     (wires : Type 0)
     (s : Standing)
     (old new : DialStanding)
-    (ended : Result Bool Cause)
+    (ended : Result Bool EarlyEnd)
     (done rest : List (List ℕ)) : Type 0 where
   pub between : DialStanding
   pub lines : HearsLines wires 1 done s old between

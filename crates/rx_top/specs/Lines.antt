@@ -1,24 +1,8 @@
 -- The lines of an input.
+use Rattle.rx_serve.specs.Lines.{cut}
 use Rattle.std.specs.Prelude.{ℕ, List, [], ◌∷◌, ◌++◌, length, Bool, ◌&&◌, ◌||◌, ◌==◌, nat_le, if◌then◌else◌}
 use Rattle.std.specs.List.{list_all}
 use Rattle.rx_script.specs.Line.{max_line_bytes}
-
--- the lines that ended, and what has come of the next one
-pub record Cut : Type 0 where
-  pub whole : List (List ℕ)
-  pub rest : List ℕ
-
--- a byte more at the front
-abbrev pub byte_before : ℕ → List (List ℕ) → List ℕ → Cut
-byte_before b [] rest = record { whole = []; rest = b ∷ rest }
-byte_before b (l ∷ ls) rest = record { whole = (b ∷ l) ∷ ls; rest = rest }
-
--- a line ends at a line feed, byte 10, which is not part of it
-abbrev pub cut : List ℕ → Cut
-cut [] = record { whole = []; rest = [] }
-cut (b ∷ bs) =
-    if b == 10 then record { whole = [] ∷ (cut bs).whole; rest = (cut bs).rest }
-    else byte_before b (cut bs).whole (cut bs).rest
 
 -- a rest that is not empty is a last line
 abbrev pub last_line : List ℕ → List (List ℕ)

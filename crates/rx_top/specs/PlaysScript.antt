@@ -1,4 +1,5 @@
 -- The command `run`: what it promises, wherever it ends.
+use Rattle.rx_serve.specs.Lines.{cut}
 use Rattle.std.specs.Prelude.{◌≡◌, ◌≢◌, ◌<◌, ◌≤◌, ◌⊎◌, ℕ, ◌+◌, List, [], ◌++◌, length, take, codes, if◌then◌else◌}
 use Rattle.rx_disk.specs.declared.disk.Disk.{Ghosts}
 use Rattle.rx_engine.specs.Opening.{opened}
@@ -14,7 +15,7 @@ use Rattle.rx_outside.specs.declared.source.Source.{Ghosts as SourceGhosts}
 use Rattle.rx_store.specs.Holds.{IsIllegalFile, IsJournalOfSome, IsLegalFile}
 use Rattle.rx_world.specs.World.{World}
 use Rattle.rx_top.specs.Hears.{stands}
-use Rattle.rx_top.specs.Lines.{cut, lines}
+use Rattle.rx_top.specs.Lines.{lines}
 use Rattle.rx_top.specs.Reader.{Took, max_input_bytes}
 use Rattle.rx_top.specs.Run.{HasRun, HasRunSomewhere, IsDue, KeepsRun, StopsAfter, run_bodies}
 use Rattle.rx_top.specs.Script.{has_refusal, line_effect, transcript}

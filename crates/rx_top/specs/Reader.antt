@@ -1,4 +1,5 @@
 -- Taking one line after another of what is to come.
+use Rattle.rx_serve.specs.Lines.{is_within}
 use Rattle.std.specs.Prelude.{◌≡◌, ◌≢◌, ℕ, ◌+◌, ◌≤◌, List, [], ◌∷◌, ◌++◌, take, length, Bool, true, false, not, ◌==◌, if◌then◌else◌}
 use Rattle.std.specs.List.{list_all}
 use Rattle.rx_script.specs.Line.{max_line_bytes}
@@ -8,10 +9,6 @@ use Rattle.rx_top.specs.declared.reader.Next.TheVariants.{Line, Last, End}
 -- the most bytes that an input may have, 4 GiB
 abbrev pub max_input_bytes : ℕ
 max_input_bytes = 4294967296
-
--- no line ends in them
-abbrev pub is_within : List ℕ → Bool
-is_within = list_all (λ b. not (b == 10))
 
 -- what is kept of a line: enough to tell that it is too long
 abbrev pub kept_front : List ℕ → List ℕ

@@ -1,4 +1,5 @@
 -- What a run over a journal wrote and left, wherever it ended.
+use Rattle.rx_serve.specs.Lines.{cut}
 use Rattle.std.specs.Prelude.{◌≡◌, ◌≤◌, ◌⊎◌, ⊤, ℕ, ◌+◌, List, [], ◌∷◌, ◌++◌, length, take, Bool, Option, None, Some, Result, Ok, Err}
 use Rattle.rx_disk.specs.declared.disk.Disk.{Ghosts}
 use Rattle.rx_engine.specs.Dialled.{DialStanding}
@@ -16,21 +17,21 @@ use Rattle.rx_outside.specs.declared.stop.Stop.TheVariants.{Disk, NotJournal, Fu
 use Rattle.rx_world.specs.World.{World}
 use Rattle.rx_top.specs.Chunks.{Keeps, all_of}
 use Rattle.rx_top.specs.Hears.{HearsAll}
-use Rattle.rx_top.specs.Lines.{cut, lines}
+use Rattle.rx_top.specs.Lines.{lines}
 use Rattle.rx_top.specs.Reader.{max_input_bytes}
 use Rattle.rx_top.specs.Script.{line_effect, transcript}
 use Rattle.rx_top.specs.Stops.{EndsWith, Stops, last_words, status_of}
 use Rattle.rx_top.specs.Story.{EachLine, Step, any_refused, chunks, next_chunk, replies, state_after}
 use Rattle.rx_top.specs.Turns.{HoldsOfTurn}
-use Rattle.rx_top.specs.declared.cause.Cause.{Cause}
-use Rattle.rx_top.specs.declared.cause.Cause.TheVariants.{Read, Sink, Work}
-use Rattle.rx_top.specs.declared.cause.ReadFault.TheVariants as fault
+use Rattle.rx_top.specs.declared.early_end.EarlyEnd.{EarlyEnd}
+use Rattle.rx_top.specs.declared.early_end.EarlyEnd.TheVariants.{Read, Sink, Work}
+use Rattle.rx_top.specs.declared.early_end.ReadFault.TheVariants as fault
 
 -- ---- what the sink got
 
 -- which lines of an input are done, by how the play of them ended
 abbrev pub Reads
-    : {S : Type 0} → Step S → Result Bool Cause → List ℕ → List ℕ → List (List ℕ) → List (List ℕ) → S
+    : {S : Type 0} → Step S → Result Bool EarlyEnd → List ℕ → List ℕ → List (List ℕ) → List (List ℕ) → S
     → Type 0
 -- all of them
 Reads step (Ok refused) input left done rest s =
@@ -49,7 +50,7 @@ Reads step (Err (Work stop)) input left done rest s = Unit
 Reads step (Err Sink) input left done rest s = Unit
 
 -- the replies are written, or a front of them where the sink failed
-abbrev pub Writes : Result Bool Cause → List ℕ → List ℕ → List ℕ → Type 0
+abbrev pub Writes : Result Bool EarlyEnd → List ℕ → List ℕ → List ℕ → Type 0
 Writes (Ok refused) old new replies = new ≡ old ++ replies
 Writes (Err (Read fault)) old new replies = new ≡ old ++ replies
 Writes (Err (Work stop)) old new replies = new ≡ old ++ replies
@@ -66,7 +67,7 @@ pub record Plays
     (written written' : List ℕ)
     (input left : List ℕ)
     (s : S)
-    (ended : Result Bool Cause)
+    (ended : Result Bool EarlyEnd)
     (Shown Kept : List (List ℕ) → List (List ℕ) → Type 0) : Type 0 where
   pub done : List (List ℕ)
   pub rest : List (List ℕ)
@@ -81,14 +82,14 @@ pub record Plays
 -- ---- what the disk holds
 
 -- why work stopped, where it did
-abbrev pub stop_of : Result Bool Cause → Option Stop
+abbrev pub stop_of : Result Bool EarlyEnd → Option Stop
 stop_of (Ok refused) = None
 stop_of (Err (Read fault)) = None
 stop_of (Err (Work stop)) = Some stop
 stop_of (Err Sink) = None
 
 -- only over a journal does a run end so: lines were played, or a record that was due did not fit
-abbrev pub NeedsJournal : Result Bool Cause → Type 0
+abbrev pub NeedsJournal : Result Bool EarlyEnd → Type 0
 NeedsJournal (Ok refused) = Unit
 NeedsJournal (Err (Read fault.Failed)) = Unit
 NeedsJournal (Err (Read fault.TooLong)) = Unit
@@ -100,7 +101,7 @@ NeedsJournal (Err (Work Memory)) = ⊥
 NeedsJournal (Err Sink) = Unit
 
 -- lines were played: neither did work stop, nor did the reader lack memory
-abbrev pub WasPlayed : Result Bool Cause → Type 0
+abbrev pub WasPlayed : Result Bool EarlyEnd → Type 0
 WasPlayed (Ok refused) = Unit
 WasPlayed (Err (Read fault.Failed)) = Unit
 WasPlayed (Err (Read fault.TooLong)) = Unit
@@ -110,7 +111,7 @@ WasPlayed (Err Sink) = Unit
 
 -- the disk keeps the lines that are done, each a chunk
 abbrev pub KeepsLines
-    : {D : Type 0} → Ghosts D → D → D → List (List ℕ) → Standing → ℕ → Result Bool Cause
+    : {D : Type 0} → Ghosts D → D → D → List (List ℕ) → Standing → ℕ → Result Bool EarlyEnd
     → List (List ℕ) → List (List ℕ) → Type 0
 KeepsLines d old new bodies s limit ended done rest =
     Keeps d old new bodies (chunks line_effect 1 done s)
@@ -118,7 +119,7 @@ KeepsLines d old new bodies s limit ended done rest =
 
 -- the same from an engine on, whatever bodies its disk has within the limit
 abbrev pub KeepsFrom
-    : {D : Type 0} → Standing → Ghosts D → D → D → Engine → Result Bool Cause → List (List ℕ)
+    : {D : Type 0} → Standing → Ghosts D → D → D → Engine → Result Bool EarlyEnd → List (List ℕ)
     → List (List ℕ) → Type 0
 KeepsFrom s d old new first ended done rest =
     d.tells → (bodies : List (List ℕ)) → IsAt d old first bodies → end_of bodies ≤ limit_of first
@@ -140,7 +141,7 @@ due_after kinds heard w done rest =
 -- The disk keeps the chunks of a run from the journal as it was found: where that wasn't opened none,
 -- and the record of the epoch was due; and where it was, that one with those of the lines done.
 abbrev pub KeepsRun
-    : {D : Type 0} → Kinds → List Heard → Ghosts D → D → D → List (List ℕ) → World → ℕ → Result Bool Cause
+    : {D : Type 0} → Kinds → List Heard → Ghosts D → D → D → List (List ℕ) → World → ℕ → Result Bool EarlyEnd
     → List (List ℕ) → List (List ℕ) → Type 0
 KeepsRun kinds heard d old new bodies w limit ended done rest =
     ((WasPlayed ended → ⊥) × (done ≡ [])
@@ -163,8 +164,8 @@ pub record HasRun
     (w : World)
     (input left : List ℕ)
     (status : ℕ)
-    (Kept : Result Bool Cause → List (List ℕ) → List (List ℕ) → Type 0) : Type 0 where
-  pub ended : Result Bool Cause
+    (Kept : Result Bool EarlyEnd → List (List ℕ) → List (List ℕ) → Type 0) : Type 0 where
+  pub ended : Result Bool EarlyEnd
   pub is_status : status ≡ status_of ended
   -- what the sink had before the last line
   pub before : List ℕ

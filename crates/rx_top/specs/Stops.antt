@@ -4,9 +4,9 @@ use Rattle.rx_outside.specs.Failed.{Rises}
 use Rattle.rx_outside.specs.Sink.{WritesFront}
 use Rattle.rx_outside.specs.declared.stop.Stop.{Stop}
 use Rattle.rx_outside.specs.declared.stop.Stop.TheVariants.{Disk, NotJournal, Full, Memory}
-use Rattle.rx_top.specs.declared.cause.Cause.{Cause}
-use Rattle.rx_top.specs.declared.cause.Cause.TheVariants.{Read, Sink, Work}
-use Rattle.rx_top.specs.declared.cause.ReadFault.TheVariants as fault
+use Rattle.rx_top.specs.declared.early_end.EarlyEnd.{EarlyEnd}
+use Rattle.rx_top.specs.declared.early_end.EarlyEnd.TheVariants.{Read, Sink, Work}
+use Rattle.rx_top.specs.declared.early_end.ReadFault.TheVariants as fault
 
 -- the status where the work on a journal stopped
 abbrev pub stop_status : Stop → ℕ
@@ -16,7 +16,7 @@ stop_status NotJournal = 7
 stop_status (Full would limit) = 8
 
 -- the status of a run: of one that was played to its end, with a refusal or without, or of a stop
-abbrev pub status_of : Result Bool Cause → ℕ
+abbrev pub status_of : Result Bool EarlyEnd → ℕ
 status_of (Ok false) = 0
 status_of (Ok true) = 1
 status_of (Err (Work stop)) = stop_status stop
@@ -43,7 +43,7 @@ stop_words (Full would limit) = full_line would limit
 stop_words Memory = stop_line (codes "memory")
 
 -- the last line of a run, which one that was played to its end lacks, and one whose sink failed
-abbrev pub last_words : Result Bool Cause → List ℕ
+abbrev pub last_words : Result Bool EarlyEnd → List ℕ
 last_words (Ok refused) = []
 last_words (Err (Work stop)) = stop_words stop
 last_words (Err (Read fault.Failed)) = stop_line (codes "read")

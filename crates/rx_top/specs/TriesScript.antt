@@ -22,8 +22,8 @@ use Rattle.rx_top.specs.Start.{FromStart, StaysLegal}
 use Rattle.rx_top.specs.Stops.{EndsWith, full_line, stop_line}
 use Rattle.rx_top.specs.Tally.{summary_of}
 use Rattle.rx_top.specs.Tells.{TellsStop, TellsText}
-use Rattle.rx_top.specs.declared.cause.Cause.{Cause}
-use Rattle.rx_top.specs.declared.cause.Cause.TheVariants.{Work}
+use Rattle.rx_top.specs.declared.early_end.EarlyEnd.{EarlyEnd}
+use Rattle.rx_top.specs.declared.early_end.EarlyEnd.TheVariants.{Work}
 
 -- ---- how it ends
 
@@ -41,7 +41,7 @@ pub record DoesLines
   pub kept : Kept done rest
 
 -- such an end as that of a run
-abbrev pub as_run : Option Stop → Result Bool Cause
+abbrev pub as_run : Option Stop → Result Bool EarlyEnd
 as_run None = Ok false
 as_run (Some why) = Err (Work why)
 

@@ -15,11 +15,11 @@ use Rattle.rx_top.specs.Hears.{IsShownAt}
 use Rattle.rx_top.specs.Lines.{is_blank}
 use Rattle.rx_top.specs.Script.{line_effect}
 use Rattle.rx_top.specs.Turns.{HoldsOfTurn}
-use Rattle.rx_top.specs.declared.cause.Cause.{Cause}
-use Rattle.rx_top.specs.declared.cause.Cause.TheVariants.{Read, Sink, Work}
+use Rattle.rx_top.specs.declared.early_end.EarlyEnd.{EarlyEnd}
+use Rattle.rx_top.specs.declared.early_end.EarlyEnd.TheVariants.{Read, Sink, Work}
 
 -- it was done, and there is the engine after it unless the sink failed; or it stopped
-abbrev pub work_of : Result (Engine × Bool) Cause → Result (Option Engine) Stop
+abbrev pub work_of : Result (Engine × Bool) EarlyEnd → Result (Option Engine) Stop
 work_of (Ok pair) = Ok (Some pair.0)
 work_of (Err (Work stop)) = Err stop
 work_of (Err (Read fault)) = Ok None
@@ -43,7 +43,7 @@ pub record WorksLine
     (old new : D)
     (dial dial' : DialStanding)
     (written written' : List ℕ)
-    (result : Result (Engine × Bool) Cause) : Type 0 where
+    (result : Result (Engine × Bool) EarlyEnd) : Type 0 where
   pub heard : List Heard
   pub next : (later : List Heard) → IfOk result (λ p. standing_of kinds later p.0
       ≡ (line_effect number line (standing_of kinds (heard ++ later) engine)).next)

@@ -6,8 +6,8 @@
 //! `TriesScript` of `trial`. It knows nothing of what a line means.
 #![tactic(auto)]
 
-mod cause;
 mod check;
+mod early_end;
 mod laws;
 mod play;
 mod reader;

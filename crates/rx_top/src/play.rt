@@ -8,8 +8,8 @@ ghost use Rattle.rx_outside.specs.Sink.{WritesFront};
 ghost use Rattle.rx_outside.specs.declared.stop.Stop.{Stop};
 ghost use Rattle.rx_outside.specs.declared.stop.Stop.TheVariants as stop;
 ghost use Rattle.rx_store.specs.Safe.{IsCrashSafe};
-ghost use Rattle.rx_top.specs.declared.cause.ReadFault.{ReadFault};
-ghost use Rattle.rx_top.specs.declared.cause.ReadFault.TheVariants as fault;
+ghost use Rattle.rx_top.specs.declared.early_end.ReadFault.{ReadFault};
+ghost use Rattle.rx_top.specs.declared.early_end.ReadFault.TheVariants as fault;
 ghost use Rattle.rx_top.specs.Hears.{HearsAll, stands};
 ghost use Rattle.rx_top.specs.Lines.{is_blank, is_space};
 ghost use Rattle.rx_top.specs.Reader.{Took, max_input_bytes};
@@ -20,7 +20,7 @@ ghost use Rattle.rx_top.specs.Turns.{HoldsOfTurn};
 ghost use Rattle.rx_sync.specs.Remote.{Heard};
 ghost use Rattle.rx_top.specs.Work.{WorksLine};
 
-use crate::cause::Cause;
+use crate::early_end::EarlyEnd;
 use crate::reader::{Next, Reader};
 use rx_disk::Disk;
 use rx_engine::Engine;
@@ -40,7 +40,7 @@ pub(crate) fn play<S: Source, K: Sink, D: Disk, N: Dial>(
     disk: &mut D,
     dial: &mut N,
     handlers: &Handlers,
-) -> Result<bool, Cause>
+) -> Result<bool, EarlyEnd>
     requires at { D.tells → (bodies : List (List ℕ)) × IsAt D.Disk disk.old first bodies }
     requires fresh { reader.old ≡ record { line = []; unread = []; given = 0 } }
     // By what was heard of masters elsewhere in all lines, as the dial shows.
@@ -53,14 +53,14 @@ pub(crate) fn play<S: Source, K: Sink, D: Disk, N: Dial>(
     ensures legal { D.tells → (bodies : List (List ℕ)) → IsAt D.Disk disk.old first bodies
         → StaysLegal D.Disk disk.old disk.new bodies }
     ensures whole { S.tells → OnOk result (S.left source.new ≡ []) }
-    ensures within { S.tells → (IsErrOf result (Cause.Read fault.TooLong) → ⊥)
+    ensures within { S.tells → (IsErrOf result (EarlyEnd.Read fault.TooLong) → ⊥)
         → Took 0 (S.left source.old) (S.left source.new) (λ n. n ≤ max_input_bytes) }
-    ensures read { IsErrOf result (Cause.Read fault.Failed)
+    ensures read { IsErrOf result (EarlyEnd.Read fault.Failed)
         → Rises (S.faults source.old) (S.faults source.new) }
-    ensures sink { IsErrOf result Cause.Sink → Rises (K.faults out.old) (K.faults out.new) }
-    ensures disk_only { IsErrOf result (Cause.Work stop.Disk)
+    ensures sink { IsErrOf result EarlyEnd.Sink → Rises (K.faults out.old) (K.faults out.new) }
+    ensures disk_only { IsErrOf result (EarlyEnd.Work stop.Disk)
         → Rises (D.faults disk.old) (D.faults disk.new) }
-    ensures not_journal { D.tells → IsErrOf result (Cause.Work stop.NotJournal) → ⊥ }
+    ensures not_journal { D.tells → IsErrOf result (EarlyEnd.Work stop.NotJournal) → ⊥ }
     ensures source_faults { S.faults source.old ≤ S.faults source.new }
     ensures sink_faults { K.faults out.old ≤ K.faults out.new }
     ensures disk_faults { D.faults disk.old ≤ D.faults disk.new }
@@ -72,7 +72,7 @@ pub(crate) fn play<S: Source, K: Sink, D: Disk, N: Dial>(
     'lines: loop {
         let next = match reader.next(source) {
             Ok(next) => next,
-            Err(fault) => return Err(Cause::Read(fault)),
+            Err(fault) => return Err(EarlyEnd::Read(fault)),
         };
         if let Next::End = next {
             return Ok(refused);
@@ -109,21 +109,21 @@ fn play_line<K: Sink, D: Disk, N: Dial>(
     disk: &mut D,
     dial: &mut N,
     handlers: &Handlers,
-) -> Result<(Engine, bool), Cause>
+) -> Result<(Engine, bool), EarlyEnd>
     requires { D.tells → (bodies : List (List ℕ)) × IsAt D.Disk disk.old engine bodies }
     // What was heard in it, and by that the next engine, the reply, and the records: what holds at
     // each moment, where the work was done, and where it stopped.
     ensures works { WorksLine D.Disk (kinds_of handlers.now) N.W.tells K.tells number line.now engine
         disk.old disk.new
         (stands N.Dial dial.old) (stands N.Dial dial.new) (K.written out.old) (K.written out.new) result }
-    ensures unsaid { K.tells → (s : Stop) → IsErrOf result (Cause.Work s)
+    ensures unsaid { K.tells → (s : Stop) → IsErrOf result (EarlyEnd.Work s)
         → K.written out.new ≡ K.written out.old }
-    ensures no_read { (f : ReadFault) → IsErrOf result (Cause.Read f) → ⊥ }
+    ensures no_read { (f : ReadFault) → IsErrOf result (EarlyEnd.Read f) → ⊥ }
     ensures limit { IfOk result (λ p. limit_of p.0 ≡ limit_of engine) }
-    ensures sink { IsErrOf result Cause.Sink → Rises (K.faults out.old) (K.faults out.new) }
-    ensures disk_only { IsErrOf result (Cause.Work stop.Disk)
+    ensures sink { IsErrOf result EarlyEnd.Sink → Rises (K.faults out.old) (K.faults out.new) }
+    ensures disk_only { IsErrOf result (EarlyEnd.Work stop.Disk)
         → Rises (D.faults disk.old) (D.faults disk.new) }
-    ensures not_journal { D.tells → IsErrOf result (Cause.Work stop.NotJournal) → ⊥ }
+    ensures not_journal { D.tells → IsErrOf result (EarlyEnd.Work stop.NotJournal) → ⊥ }
     ensures sink_faults { K.faults out.old ≤ K.faults out.new }
     ensures disk_faults { D.faults disk.old ≤ D.faults disk.new }
     ensures dial_faults { N.faults dial.old ≤ N.faults dial.new }
@@ -133,11 +133,11 @@ fn play_line<K: Sink, D: Disk, N: Dial>(
     }
     let (engine, output) = match engine.line(alloc, disk, dial, handlers, line, number) {
         Ok(pair) => pair,
-        Err(stop) => return Err(Cause::Work(stop)),
+        Err(stop) => return Err(EarlyEnd::Work(stop)),
     };
     match write_all(out, output.text.as_bytes()) {
         Ok(()) => Ok((engine, output.refused)),
-        Err(_) => Err(Cause::Sink),
+        Err(_) => Err(EarlyEnd::Sink),
     }
 }
 

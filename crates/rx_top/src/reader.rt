@@ -1,21 +1,20 @@
 // The lines of a source, which is read in pieces.
+ghost use Rattle.rx_serve.specs.Lines.{is_within};
 ghost use Rattle.std.specs.Prelude.{◌≡◌, ◌<◌, ◌≤◌, ◌+◌, ◌-◌, ◌++◌, ◌∷◌, ◌⊎◌, ℕ, List, [], true, false, take, drop, length, IfOk, OnOk, OnErr, IfSome, IfNone, IsErrOf, min};
 ghost use Rattle.rx_outside.specs.Failed.{Rises};
 ghost use Rattle.rx_script.specs.Line.{max_line_bytes};
-ghost use Rattle.rx_top.specs.Reader.{is_within, kept_front, max_input_bytes, TakesKept, StopsWithin};
+ghost use Rattle.rx_top.specs.Reader.{kept_front, max_input_bytes, TakesKept, StopsWithin};
 
-use crate::cause::ReadFault;
+use crate::early_end::ReadFault;
 use memchr::memchr;
 use rx_outside::Source;
 use rx_script::MAX_LINE_BYTES;
+use rx_serve::{PIECE_BYTES, piece_size};
 use std::alloc::{AllocError, Global};
 use std::marker::Model;
 
 /// The most bytes that an input may have.
 const MAX_INPUT_BYTES: u64 = 4_294_967_296;
-
-/// The most bytes that are read in one call.
-const PIECE_BYTES: u64 = 65_536;
 
 /// What comes next of an input.
 #[derive(Clone, Copy, Debug, PartialEq, Eq)]
@@ -58,7 +57,7 @@ impl Reader {
     {
         Ok(Reader {
             line: Vec::with_capacity(alloc, MAX_LINE_BYTES + 1)?,
-            piece: Vec::with_capacity(alloc, PIECE_BYTES as usize)?,
+            piece: Vec::with_capacity(alloc, PIECE_BYTES)?,
             at: 0,
             given: 0,
         })
@@ -198,8 +197,9 @@ fn read_piece<S: Source>(piece: &mut Vec<u8>, most: u64, source: &mut S) -> Resu
     ensures read { IsErrOf result ReadFault.Failed → Rises (S.faults source.old) (S.faults source.new) }
     ensures others { OnErr result (IsErrOf result ReadFault.Failed ⊎ IsErrOf result ReadFault.Memory) }
 {
+    let size = most.min(piece_size(piece.len()) as u64);
     piece.clear();
-    piece.resize(most.min(PIECE_BYTES) as usize, 0)?;
+    piece.resize(size as usize, 0)?;
     match source.read(piece.as_mut_slice()) {
         Ok(n) => {
             piece.truncate(n);

@@ -15,9 +15,9 @@ ghost use Rattle.rx_top.specs.Run.{KeepsRun, NeedsJournal, Plays};
 ghost use Rattle.rx_top.specs.Script.{line_effect};
 ghost use Rattle.rx_top.specs.Start.{FromStart, StaysLegal};
 ghost use Rattle.rx_top.specs.Turns.{HoldsOfTurn};
-ghost use Rattle.rx_top.specs.declared.cause.ReadFault.TheVariants as fault;
+ghost use Rattle.rx_top.specs.declared.early_end.ReadFault.TheVariants as fault;
 
-use crate::cause::{Cause, ReadFault};
+use crate::early_end::{EarlyEnd, ReadFault};
 use crate::play::play;
 use crate::reader::Reader;
 use crate::stop::{status_of, write_end};
@@ -59,7 +59,7 @@ fn open_and_play<S: Source, K: Sink, D: Disk, N: Dial>(
     disk: &mut D,
     dial: &mut N,
     handlers: &Handlers,
-) -> Result<bool, Cause>
+) -> Result<bool, EarlyEnd>
     requires low { 9 ≤ limit }
     requires high { limit < 2 ^ 32 }
     // By what was heard of masters elsewhere in all lines, as the dial shows, over a disk that tells its
@@ -81,19 +81,19 @@ fn open_and_play<S: Source, K: Sink, D: Disk, N: Dial>(
     ensures illegal { D.tells → IsIllegalFile (D.content disk.old)
         → IsUntouched D.Disk disk.old disk.new }
     ensures whole { S.tells → OnOk result (S.left source.new ≡ []) }
-    ensures within { S.tells → (IsErrOf result (Cause.Read fault.TooLong) → ⊥)
+    ensures within { S.tells → (IsErrOf result (EarlyEnd.Read fault.TooLong) → ⊥)
         → Took 0 (S.left source.old) (S.left source.new) (λ n. n ≤ max_input_bytes) }
     ensures stood { D.tells → NeedsJournal result → IsJournalOfSome (D.content disk.old) }
-    ensures read { IsErrOf result (Cause.Read fault.Failed)
+    ensures read { IsErrOf result (EarlyEnd.Read fault.Failed)
         → Rises (S.faults source.old) (S.faults source.new) }
-    ensures sink { IsErrOf result Cause.Sink → Rises (K.faults out.old) (K.faults out.new) }
-    ensures disk_only { IsErrOf result (Cause.Work stop.Disk)
+    ensures sink { IsErrOf result EarlyEnd.Sink → Rises (K.faults out.old) (K.faults out.new) }
+    ensures disk_only { IsErrOf result (EarlyEnd.Work stop.Disk)
         → Rises (D.faults disk.old) (D.faults disk.new) }
-    ensures not_journal { D.tells → IsErrOf result (Cause.Work stop.NotJournal)
+    ensures not_journal { D.tells → IsErrOf result (EarlyEnd.Work stop.NotJournal)
         → IsIllegalFile (D.content disk.old) }
-    ensures not_journal_unread { D.tells → IsErrOf result (Cause.Work stop.NotJournal)
+    ensures not_journal_unread { D.tells → IsErrOf result (EarlyEnd.Work stop.NotJournal)
         → source.new ≡ source.old }
-    ensures not_journal_unsaid { D.tells → K.tells → IsErrOf result (Cause.Work stop.NotJournal)
+    ensures not_journal_unsaid { D.tells → K.tells → IsErrOf result (EarlyEnd.Work stop.NotJournal)
         → K.written out.new ≡ K.written out.old }
     ensures source_faults { S.faults source.old ≤ S.faults source.new }
     ensures sink_faults { K.faults out.old ≤ K.faults out.new }
@@ -102,7 +102,7 @@ fn open_and_play<S: Source, K: Sink, D: Disk, N: Dial>(
 {
     let mut reader = match Reader::new(alloc) {
         Ok(reader) => reader,
-        Err(_) => return Err(Cause::Read(ReadFault::Memory)),
+        Err(_) => return Err(EarlyEnd::Read(ReadFault::Memory)),
     };
     match Engine::open(alloc, disk, limit) {
         Ok(engine) => play(
@@ -115,6 +115,6 @@ fn open_and_play<S: Source, K: Sink, D: Disk, N: Dial>(
             dial,
             handlers,
         ),
-        Err(stop) => Err(Cause::Work(stop)),
+        Err(stop) => Err(EarlyEnd::Work(stop)),
     }
 }

@@ -4,22 +4,22 @@ ghost use Rattle.rx_outside.specs.Failed.{Rises};
 ghost use Rattle.rx_outside.specs.Sink.{WritesFront};
 ghost use Rattle.rx_top.specs.Stops.{full_line, last_words, status_of, stop_status, stop_words};
 
-use crate::cause::{Cause, ReadFault};
+use crate::early_end::{EarlyEnd, ReadFault};
 use itoa::Buffer;
 use rx_outside::{Failed, Sink, Stop, write_all};
 
 /// The status of a run.
-pub(crate) fn status_of(ended: &Result<bool, Cause>) -> u8
+pub(crate) fn status_of(ended: &Result<bool, EarlyEnd>) -> u8
     ensures { result ≡ status_of ended.now }
 {
     match ended {
         Ok(false) => 0,
         Ok(true) => 1,
-        Err(Cause::Work(stop)) => stop_status(stop),
-        Err(Cause::Read(ReadFault::Failed)) => 4,
-        Err(Cause::Sink) => 5,
-        Err(Cause::Read(ReadFault::Memory)) => 6,
-        Err(Cause::Read(ReadFault::TooLong)) => 9,
+        Err(EarlyEnd::Work(stop)) => stop_status(stop),
+        Err(EarlyEnd::Read(ReadFault::Failed)) => 4,
+        Err(EarlyEnd::Sink) => 5,
+        Err(EarlyEnd::Read(ReadFault::Memory)) => 6,
+        Err(EarlyEnd::Read(ReadFault::TooLong)) => 9,
     }
 }
 
@@ -36,7 +36,7 @@ pub(crate) fn stop_status(stop: &Stop) -> u8
 }
 
 /// Writes the last line of a run, or the front of it that the sink takes.
-pub(crate) fn write_end<K: Sink>(out: &mut K, ended: &Result<bool, Cause>) -> Result<(), Failed>
+pub(crate) fn write_end<K: Sink>(out: &mut K, ended: &Result<bool, EarlyEnd>) -> Result<(), Failed>
     ensures ok { K.tells
         → OnOk result (K.written out.new ≡ K.written out.old ++ last_words ended.now) }
     ensures err { K.tells → OnErr result
@@ -46,11 +46,11 @@ pub(crate) fn write_end<K: Sink>(out: &mut K, ended: &Result<bool, Cause>) -> Re
 {
     match ended {
         Ok(_) => Ok(()),
-        Err(Cause::Sink) => Ok(()),
-        Err(Cause::Work(stop)) => write_stop(out, stop),
-        Err(Cause::Read(ReadFault::Failed)) => write_all(out, b"{\"stop\":\"read\"}\n"),
-        Err(Cause::Read(ReadFault::Memory)) => write_all(out, b"{\"stop\":\"memory\"}\n"),
-        Err(Cause::Read(ReadFault::TooLong)) => write_all(out, b"{\"stop\":\"too_long\"}\n"),
+        Err(EarlyEnd::Sink) => Ok(()),
+        Err(EarlyEnd::Work(stop)) => write_stop(out, stop),
+        Err(EarlyEnd::Read(ReadFault::Failed)) => write_all(out, b"{\"stop\":\"read\"}\n"),
+        Err(EarlyEnd::Read(ReadFault::Memory)) => write_all(out, b"{\"stop\":\"memory\"}\n"),
+        Err(EarlyEnd::Read(ReadFault::TooLong)) => write_all(out, b"{\"stop\":\"too_long\"}\n"),
     }
 }
 

@@ -1,4 +1,4 @@
-use Rattle.std.proofs.Common.{◌≡◌, ◌∙◌, ◌++◌, ◌+◌, ◌≤◌, ◌||◌, List, [], Ok, Some, refl, sym, ap, subst, append_assoc, append-nil, rules, arith}
+use Rattle.std.proofs.Common.{◌≡◌, ◌∙◌, ◌++◌, ◌+◌, ◌≤◌, ◌||◌, List, [], Ok, Some, IsErrOf, refl, sym, ap, subst, append_assoc, append-nil, rules, arith}
 use Rattle.rx_engine.specs.Engine.{standing_of}
 use Rattle.rx_handler.specs.Shown.{kinds_of}
 use Rattle.rx_sync.specs.Remote.{Heard}
@@ -9,6 +9,21 @@ use Rattle.rx_top.proofs.Exits.{Along, begins, took_on, within_on, none_left, on
 use Rattle.rx_top.proofs.Hears.{heard_in, then_shown}
 use Rattle.rx_top.proofs.Growth.{grown_end, grown_more, grown_now, not_grown}
 use Rattle.rx_top.proofs.play.play.Goals as goal
+
+last_not_line : Last ≡ Line → ⊥
+last_not_line e = cc
+
+end_not_line : End ≡ Line → ⊥
+end_not_line e = cc
+
+last_not_end : Last ≡ End → ⊥
+last_not_end e = cc
+
+line_not_end : Line ≡ End → ⊥
+line_not_end e = cc
+
+no_error : {A E : Type 0} (x : A) (e : E) → IsErrOf (Ok x) e → ⊥
+no_error x e is = cc
 
 pub lines-init : goal.lines-init
 lines-init g c = record {
@@ -96,7 +111,7 @@ returns-in-End-clause-whole g c = λ told.
     ++ g.S.Source.left c.lines.source)
     (c.next.new.self.unread
     ++ g.S.Source.left c.next.new.source) = rw c.in-End.is at (c.in-Ok.ensures.next told) in
-    none_left End c.next.new.self.line _ c.next.new.self.unread _ (λ e. cc) takes
+    none_left End c.next.new.self.line _ c.next.new.self.unread _ end_not_line takes
 
 pub returns-in-End-clause-within : goal.returns-in-End-clause-within
 returns-in-End-clause-within g c = λ told _.
@@ -166,14 +181,14 @@ returns-in-Last-clause-exit g c =
           (works.refused []) (works.told []) (works.turn []) works.heard
           (heard_in (kinds_of c.args.handlers.now) (works.heard ++ []) c.lines.engine ∙ append-nil works.heard)
           (then_shown g.N.W.Wire.tells c.line.result.now (stands g.N.Dial c.lines.dial)
-          (stands g.N.Dial c.play_line.new.dial) works.heard (λ all. refl) s1 (works.shown [] (λ is. cc)))
+          (stands g.N.Dial c.play_line.new.dial) works.heard (λ all. refl) s1 (works.shown [] (no_error _ _)))
           (works.later_so [])
           (line_kept s0 s1 g.D.Disk g.K.Sink.tells
           g.N.W.Wire.tells c.args.disk.now c.lines.disk (stands g.N.Dial c.args.dial.now)
           (stands g.N.Dial c.lines.dial) c.args.first
           c.lines.engine (g.K.Sink.written c.args.out.now) (g.K.Sink.written c.lines.out)
           (g.S.Source.left c.args.source.now) _ c.lines.number c.lines.refused a c.play_line.new.disk
-          (stands g.N.Dial c.play_line.new.dial) (g.K.Sink.written c.play_line.new.out) Last c.line.result.now _ (λ e. cc) takes
+          (stands g.N.Dial c.play_line.new.dial) (g.K.Sink.written c.play_line.new.out) Last c.line.result.now _ last_not_end takes
           (Ok c.in-Ok-play_line.played) (Some c.in-Ok-play_line.played.0) refl (works.safe [])
           (λ t f. g.met.D.Disk.only_now c.play_line.new.disk f t))
           (λ t f. g.met.D.Disk.only_now c.play_line.new.disk f t),
@@ -193,7 +208,7 @@ returns-in-Last-clause-whole g c = λ told.
     ++ g.S.Source.left c.lines.source)
     (c.next.new.self.unread
     ++ g.S.Source.left c.next.new.source) = rw c.in-Last.is at (c.in-Ok.ensures.next told) in
-    none_left Last c.next.new.self.line _ c.next.new.self.unread _ (λ e. cc) takes
+    none_left Last c.next.new.self.line _ c.next.new.self.unread _ last_not_line takes
 
 pub returns-in-Last-clause-within : goal.returns-in-Last-clause-within
 returns-in-Last-clause-within g c = λ told _.
@@ -239,7 +254,7 @@ lines-preserved g c =
             (works.told later) (λ t before here. (works.safe later t before here).at)
             (works.turn later) works.heard
             (then_shown g.N.W.Wire.tells c.line.result.now (stands g.N.Dial c.lines.dial)
-            (stands g.N.Dial c.play_line.new.dial) works.heard (λ all. refl) s1 (works.shown later (λ is. cc)))
+            (stands g.N.Dial c.play_line.new.dial) works.heard (λ all. refl) s1 (works.shown later (no_error _ _)))
             (heard_in (kinds_of c.args.handlers.now) (works.heard ++ later) c.lines.engine
             ∙ ap (λ (hs : List Heard). works.heard ++ hs) (sym (works.later_so later)))
             (line_kept s0 s1 g.D.Disk g.K.Sink.tells
@@ -247,7 +262,7 @@ lines-preserved g c =
             (stands g.N.Dial c.lines.dial) c.args.first
             c.lines.engine (g.K.Sink.written c.args.out.now) (g.K.Sink.written c.lines.out)
             (g.S.Source.left c.args.source.now) _ c.lines.number c.lines.refused a c.play_line.new.disk
-            (stands g.N.Dial c.play_line.new.dial) (g.K.Sink.written c.play_line.new.out) Line c.line.result.now _ (λ e. cc) takes
+            (stands g.N.Dial c.play_line.new.dial) (g.K.Sink.written c.play_line.new.out) Line c.line.result.now _ line_not_end takes
             (Ok c.in-Ok-play_line.played) (Some c.in-Ok-play_line.played.0) refl (works.safe later)
             (λ t f. g.met.D.Disk.only_now c.play_line.new.disk f t))),
       );

@@ -11,8 +11,8 @@ use Rattle.rx_top.specs.Lines.{lines}
 use Rattle.rx_top.specs.Run.{KeepsRun, Plays}
 use Rattle.rx_top.specs.Script.{line_effect}
 use Rattle.rx_top.specs.Turns.{HoldsOfTurn}
-use Rattle.rx_top.specs.declared.cause.Cause.TheVariants.{Read, Work}
-use Rattle.rx_top.specs.declared.cause.ReadFault.TheVariants as ReadFault
+use Rattle.rx_top.specs.declared.early_end.EarlyEnd.TheVariants.{Read, Work}
+use Rattle.rx_top.specs.declared.early_end.ReadFault.TheVariants as ReadFault
 use Rattle.rx_top.proofs.Chunks.{stays_legal}
 use Rattle.rx_top.proofs.Growth.{legal_on}
 use Rattle.rx_top.proofs.Hears.{heard_at_first}

@@ -6,7 +6,7 @@ use Rattle.rx_top.specs.PlaysScript.{PlaysScript}
 use Rattle.rx_top.specs.Run.{HasRun, HasRunSomewhere, KeepsRun}
 use Rattle.rx_top.specs.Start.{FromStart}
 use Rattle.rx_top.specs.Stops.{EndsWith, last_words, status_of, stop_line}
-use Rattle.rx_top.specs.declared.cause.Cause.{Cause}
+use Rattle.rx_top.specs.declared.early_end.EarlyEnd.{EarlyEnd}
 use Rattle.rx_top.proofs.Stopping.{ended_with, ends_later, rises_still, stops_told}
 use Rattle.rx_top.proofs.Statuses as by
 use Rattle.rx_top.proofs.run.run.Goals as goal
@@ -68,7 +68,7 @@ returns g c =
                   let s = anywhere told in (s.0, by.wrote_transcript _ _ _ _ _ s.0 _ _ _ _ s.1 low k);
               illegal = c.open_and_play-ended.ensures.illegal;
               whole_input = λ low told.
-                  subst (λ (e : Result Bool Cause). OnOk e (left ≡ [])) (by.is_ok ended low).1
+                  subst (λ (e : Result Bool EarlyEnd). OnOk e (left ≡ [])) (by.is_ok ended low).1
                   (c.open_and_play-ended.ensures.whole told);
               refusal = λ low told t bodies w start.
                   by.status_tells _ _ _ _ _ w _ _ _ _ (headline told t bodies w start) low;
@@ -102,7 +102,7 @@ returns g c =
                   let why = by.is_not_journal ended is in
                   stops_told g.K.Sink.tells f0 f0 f2 w0 w1 w2 [] (stop_line (codes "not_journal")) (omega arith)
                   (λ k. c.open_and_play-ended.ensures.not_journal_unsaid t k why ∙ sym (append-nil w0))
-                  (subst (λ (e : Result Bool Cause). EndsWith g.K.Sink.tells f0 f2 w1 w2 (last_words e)) why line);
+                  (subst (λ (e : Result Bool EarlyEnd). EndsWith g.K.Sink.tells f0 f2 w1 w2 (last_words e)) why line);
               not_journal_over_any_disk = λ is told.
                   let s = anywhere told in (s.0, by.not_journal _ _ _ _ _ s.0 _ _ _ _ s.1 is);
               stood = λ is t. c.open_and_play-ended.ensures.stood t (by.over_journal ended is);

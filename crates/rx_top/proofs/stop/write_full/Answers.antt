@@ -1,18 +1,20 @@
 use Rattle.std.proofs.Common.{◌++◌, decimal}
+use Rattle.std.proofs.lemmas.Result.{on_ok_weaker, on_err_weaker}
 use Rattle.std.specs.Prelude.{codes}
-use Rattle.rx_top.proofs.Stopping.{any_err, err_so, ok_so, front_short, front_more, three}
+use Rattle.rx_value.proofs.Outcomes.{on_err}
+use Rattle.rx_top.proofs.Stopping.{front_short, front_more, three}
 use Rattle.rx_top.proofs.stop.write_full.Goals as goal
 
 pub returns-in_err-write_number-clause-err : goal.returns-in_err-write_number-clause-err
 returns-in_err-write_number-clause-err g c = λ told.
-    any_err c.from_residual.result _
+    on_err c.from_residual.result _
     (front_short _ _ (codes "{\"limit\":" ++ decimal c.args.limit)
     ((codes ",\"stop\":\"full\",\"would\":" ++ decimal c.args.would) ++ codes "}\n")
     (c.in_err-write_number.ensures.err told))
 
 pub returns-in_err-write_number-2-clause-err : goal.returns-in_err-write_number-2-clause-err
 returns-in_err-write_number-2-clause-err g c = λ told.
-    any_err c.from_residual-in_err-write_number-2.result _
+    on_err c.from_residual-in_err-write_number-2.result _
     (front_more _ (g.K.Sink.written c.write_number.new.out) _
     (codes "{\"limit\":" ++ decimal c.args.limit)
     ((codes ",\"stop\":\"full\",\"would\":" ++ decimal c.args.would) ++ codes "}\n")
@@ -22,7 +24,7 @@ returns-in_err-write_number-2-clause-err g c = λ told.
 
 pub returns-clause-ok : goal.returns-clause-ok
 returns-clause-ok g c = λ told.
-    ok_so c.write_all.result _ _
+    on_ok_weaker c.write_all.result
     (three (g.K.Sink.written c.args.out.now) (g.K.Sink.written c.write_number.new.out)
     (g.K.Sink.written c.write_number-2.new.out) (g.K.Sink.written c.write_all.new.sink)
     (codes "{\"limit\":" ++ decimal c.args.limit)
@@ -32,7 +34,7 @@ returns-clause-ok g c = λ told.
 
 pub returns-clause-err : goal.returns-clause-err
 returns-clause-err g c = λ told.
-    err_so c.write_all.result _ _
+    on_err_weaker c.write_all.result
     (λ front. front_more _ (g.K.Sink.written c.write_number.new.out) _
     (codes "{\"limit\":" ++ decimal c.args.limit)
     ((codes ",\"stop\":\"full\",\"would\":" ++ decimal c.args.would) ++ codes "}\n")

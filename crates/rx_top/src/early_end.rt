@@ -14,7 +14,7 @@ pub(crate) enum ReadFault {
 
 /// Why a run ends before its script does.
 #[derive(Debug, Drop)]
-pub(crate) enum Cause {
+pub(crate) enum EarlyEnd {
     Read(ReadFault),
     Work(Stop),
     /// The sink failed.
@@ -23,7 +23,7 @@ pub(crate) enum Cause {
 
 impl From<AllocError> for ReadFault {
     ghost use Rattle.std.specs.Prelude.{◌≡◌};
-    ghost use Rattle.rx_top.specs.declared.cause.ReadFault.TheVariants.{Memory};
+    ghost use Rattle.rx_top.specs.declared.early_end.ReadFault.TheVariants.{Memory};
 
     ghost from_gives = { λ _ e. e ≡ Memory };
 
@@ -34,7 +34,7 @@ impl From<AllocError> for ReadFault {
 
 impl<T: Drop> From<AllocFailed<T>> for ReadFault {
     ghost use Rattle.std.specs.Prelude.{◌≡◌};
-    ghost use Rattle.rx_top.specs.declared.cause.ReadFault.TheVariants.{Memory};
+    ghost use Rattle.rx_top.specs.declared.early_end.ReadFault.TheVariants.{Memory};
 
     ghost from_gives = { λ _ e. e ≡ Memory };
 
