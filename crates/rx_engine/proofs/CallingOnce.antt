@@ -1,12 +1,11 @@
 -- One exchange with a master that is elsewhere.
-use Rattle.std.proofs.Common.{◌≡◌, ◌∙◌, ◌≤◌, ℕ, true, List, [], ◌∷◌, ◌++◌, Option, Some, IsSome, Result, Ok, Err, IfOk, OnOk, IsErrOf, refl, sym, ap, subst, append_assoc, append-nil, inl, inr}
+use Rattle.std.proofs.Common.{◌≡◌, ◌∙◌, ◌≤◌, ℕ, true, List, [], ◌∷◌, ◌++◌, Option, Some, IsSome, Result, Ok, Err, IfOk, OnOk, refl, sym, ap, subst, append_assoc, append-nil, inl, inr}
 use Rattle.std.proofs.lemmas.List.{append_cancel_right}
 use Rattle.rx_disk.specs.declared.disk.Disk.{Ghosts}
 use Rattle.rx_fork.specs.declared.ask.Asked.{Asked}
 use Rattle.rx_outside.specs.Failed.{Rises}
 use Rattle.rx_outside.specs.declared.stop.Stop.{Stop}
 use Rattle.rx_outside.specs.declared.stop.Stop.TheVariants.{Memory}
-use Rattle.rx_record.specs.Content.{Content}
 use Rattle.rx_reply.specs.declared.turn.Exchanged.{Exchanged}
 use Rattle.rx_outside.specs.Sink.{WritesFront}
 use Rattle.rx_schema.specs.declared.shape.Shape.{Shape}

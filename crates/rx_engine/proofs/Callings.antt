@@ -2,7 +2,6 @@
 use Rattle.std.proofs.Common.{◌≡◌, ◌∙◌, ◌≤◌, ◌<◌, ◌+◌, ℕ, zero, suc, nat_lt, Bool, true, List, [], ◌∷◌, ◌++◌, map, length, Option, Some, None, IsSome, Result, Ok, Err, IsErrOf, refl, sym, ap, subst, arith, append_assoc, append-nil, length-append, lt-ltb, inl, inr}
 use Rattle.std.specs.List.{AllByRecursion}
 use Rattle.std.proofs.lemmas.List.{length-map, map-append}
-use Rattle.rx_value.specs.Named.{named}
 use Rattle.rx_disk.specs.declared.disk.Disk.{Ghosts}
 use Rattle.rx_fork.specs.declared.ask.Asked.{Asked}
 use Rattle.rx_outside.specs.Failed.{Rises}
@@ -22,21 +21,21 @@ use Rattle.rx_sync.specs.Asking.{asked_in}
 use Rattle.rx_sync.specs.Asks.{Asks, next_number}
 use Rattle.rx_sync.specs.Exchange.{Course, Terms, after}
 use Rattle.rx_sync.specs.Laws.{ComeSoundly}
-use Rattle.rx_sync.specs.Remote.{Heard, no_dial, no_wire, no_line, line, RemoteTurned, heard_course, heard_on, remote_turn, request_made, schema_in}
+use Rattle.rx_sync.specs.Remote.{Heard, no_dial, no_wire, no_line, line, RemoteTurned, heard_on, remote_turn, request_made, schema_in}
 use Rattle.rx_sync.specs.RemoteLaws.{MayCall}
-use Rattle.rx_sync.specs.Turn.{Turned, as_list, end_by, ended_with}
+use Rattle.rx_sync.specs.Turn.{as_list, end_by, ended_with}
 use Rattle.rx_sync.proofs.Elsewhere.{goes_on_by_line, heard_course_sound, remote_turn_sound, schema_after}
 use Rattle.rx_wire.specs.Writing.{request_text}
 use Rattle.rx_wire.specs.declared.message.Request.{Request}
 use Rattle.rx_world.specs.World.{World}
-use Rattle.rx_engine.specs.Callings.{HasMade, Hears, HearsAsked, IsHeardOver, IsRemoteMade, MakesHeard, TurnsRemotely, WireStanding, course_heard}
+use Rattle.rx_engine.specs.Callings.{Hears, HearsAsked, IsHeardOver, IsRemoteMade, MakesHeard, TurnsRemotely, WireStanding, course_heard}
 use Rattle.rx_engine.specs.Dialled.{IsHeardIn}
 use Rattle.rx_engine.specs.Meaning.{bodies_of}
-use Rattle.rx_engine.specs.Play.{IsMade, IsPlayAt}
+use Rattle.rx_engine.specs.Play.{IsPlayAt}
 use Rattle.rx_engine.specs.Turning.{written}
 use Rattle.rx_engine.specs.declared.play.Play.{Play}
 use Rattle.rx_engine.specs.declared.turning.Turned.{Turned as Made}
-use Rattle.rx_engine.proofs.Plays.{IsUnderWay, all_safe, further, out_of_memory, stopped, written-append, written-world}
+use Rattle.rx_engine.proofs.Plays.{IsUnderWay, further, out_of_memory, stopped, written-append, written-world}
 use Rattle.rx_engine.proofs.Remotely.{if_err, not_done}
 use Rattle.rx_engine.proofs.Wires.{HasHeard, all_shown, heard_line, line_shown, no_line_shown, none_heard, wire_shown}
 

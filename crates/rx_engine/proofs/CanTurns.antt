@@ -1,5 +1,5 @@
 -- A turn that a line asks for can be made.
-use Rattle.std.proofs.Common.{◌≡◌, ◌∙◌, ap, subst, refl, ℕ, List, Bool, true, false, Option, Some, None, is_none, Result, Ok, Err}
+use Rattle.std.proofs.Common.{◌≡◌, ap, subst, refl, ℕ, List, Bool, true, false, Option, Some, None, is_none, Result, Ok, Err}
 use Rattle.std.specs.Bool.{⊤}
 use Rattle.std.specs.Option.{option_map_or}
 use Rattle.rx_value.specs.Due.{◌>>◌, demand, lifted, or_fault}

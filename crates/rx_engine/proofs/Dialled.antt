@@ -1,26 +1,24 @@
 -- What a dial shows of a turn over one of its wires.
-use Rattle.std.proofs.Common.{◌≡◌, ◌∙◌, ◌≤◌, ◌<◌, ◌+◌, ◌-◌, ◌^◌, ◌⊎◌, ℕ, List, [], ◌∷◌, ◌++◌, map, min, nat_lt, true, Some, refl, sym, ap, subst, arith, inl, inr, lt-ltb, IfOk, Result, Ok, Err, IsOk, IsErrOf}
+use Rattle.std.proofs.Common.{◌≡◌, ◌∙◌, ◌≤◌, ℕ, List, [], ◌∷◌, ◌++◌, nat_lt, true, refl, sym, ap, subst, arith, inl, inr, Result, Ok, Err}
 use Rattle.std.proofs.lemmas.List.{length-map}
 use Rattle.rx_disk.specs.declared.disk.Disk.{Ghosts}
-use Rattle.rx_fork.specs.declared.ask.Asked.{Asked}
-use Rattle.rx_outside.specs.Failed.{Rises, last_count, one_more}
-use Rattle.rx_outside.specs.Talk.{Talk, broken_after, talk}
+use Rattle.rx_outside.specs.Failed.{Rises, one_more}
+use Rattle.rx_outside.specs.Talk.{broken_after, talk}
 use Rattle.rx_outside.specs.declared.stop.Stop.{Stop}
 use Rattle.rx_outside.specs.declared.stop.Stop.TheVariants.{Memory}
-use Rattle.rx_schema.specs.declared.shape.Shape.{Shape}
 use Rattle.rx_store.specs.Safe.{IsCrashSafe}
 use Rattle.rx_store.proofs.Crashes.{idle}
 use Rattle.rx_store.proofs.Growing.{stays}
-use Rattle.rx_sync.specs.Asks.{Asks, with_request}
+use Rattle.rx_sync.specs.Asks.{Asks}
 use Rattle.rx_sync.specs.Exchange.{Terms}
-use Rattle.rx_sync.specs.Remote.{Heard, no_dial, no_wire, RemoteTurned, remote_turn, schema_in}
+use Rattle.rx_sync.specs.Remote.{Heard, no_dial, RemoteTurned, remote_turn}
 use Rattle.rx_sync.specs.RemoteLaws.{MayCall}
 use Rattle.rx_sync.proofs.Elsewhere.{missed, missed_turn, remote_turn_sound}
 use Rattle.rx_wire.specs.Writing.{request_text}
 use Rattle.rx_wire.specs.declared.message.Request.{Request}
 use Rattle.rx_world.specs.World.{World}
 use Rattle.rx_engine.specs.Callings.{IsDialledBy, IsHeardOver, IsMissed, IsRemoteMade, TurnsRemotely, WireStanding}
-use Rattle.rx_engine.specs.Dialled.{DialStanding, Dials, FailsToDial, IsDialled, IsHeardIn}
+use Rattle.rx_engine.specs.Dialled.{DialStanding}
 use Rattle.rx_engine.specs.Meaning.{bodies_of}
 use Rattle.rx_engine.specs.Play.{IsPlayAt}
 use Rattle.rx_engine.specs.Turning.{written}

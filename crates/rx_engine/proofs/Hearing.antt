@@ -1,5 +1,5 @@
 -- What was done with an engine and a dial is what the line means.
-use Rattle.std.proofs.Common.{◌≡◌, ◌∙◌, ℕ, List, [], ◌++◌, Result, Ok, Err, IfOk, IsOk, refl, sym, ap, subst}
+use Rattle.std.proofs.Common.{◌≡◌, ℕ, List, [], ◌++◌, Result, Err, IfOk, IsOk, refl, sym, subst}
 use Rattle.rx_value.proofs.Outcomes.{if_ok}
 use Rattle.rx_disk.specs.declared.disk.Disk.{Ghosts}
 use Rattle.rx_handler.specs.Handlers.{Kinds}
@@ -12,7 +12,7 @@ use Rattle.rx_sync.specs.Remote.{Heard, RemoteTurned}
 use Rattle.rx_engine.specs.Calling.{Call, called, to_hear}
 use Rattle.rx_engine.specs.Callings.{IsDialledBy, TurnsRemotely}
 use Rattle.rx_engine.specs.Dialled.{DialStanding}
-use Rattle.rx_engine.specs.Engine.{Answers, AnswersCall, IsAt, asks_in, limit_of, session_of, standing_of}
+use Rattle.rx_engine.specs.Engine.{Answers, AnswersCall, IsAt, limit_of, session_of, standing_of}
 use Rattle.rx_engine.specs.Hearing.{IsShownBy, PlaysLine}
 use Rattle.rx_engine.specs.Lines.{Task, answered, turns, calls, task}
 use Rattle.rx_engine.specs.Meaning.{Meaning, bodies_of, meaning, turn_meaning}

@@ -1,14 +1,12 @@
 -- Marks hold until a fork is written.
-use Rattle.std.proofs.Common.{◌≡◌, ◌≢◌, ◌∙◌, ℕ, ◌<◌, ◌≤◌, true, false, List, [], ◌∷◌, length, Option, Some, None, option_map, refl, sym, ap, subst, ◌⊎◌, inl, inr, cond, arith}
-use Rattle.std.specs.List.{AllByRecursion}
+use Rattle.std.proofs.Common.{◌≡◌, ◌≢◌, ◌∙◌, ℕ, ◌<◌, ◌≤◌, true, List, [], ◌∷◌, Option, Some, None, option_map, refl, sym, ap, subst, ◌⊎◌, inl, inr, cond, arith}
 use Rattle.std.specs.Option.{option_map_or}
 use Rattle.std.specs.Str.{bytes_eq}
-use Rattle.rx_value.specs.Named.{change_named, named, put_in_order, put_named}
+use Rattle.rx_value.specs.Named.{change_named, named, put_named}
 use Rattle.rx_value.proofs.Bytes.{bytes_cases, bytes_itself}
 use Rattle.rx_value.proofs.Named.{named-put_in_order, named-put_named}
 use Rattle.rx_value.proofs.Outcomes.{not_none, some_same}
 use Rattle.rx_schema.specs.declared.shape.Shape.{Shape}
-use Rattle.rx_document.specs.declared.stored.Stored.{Stored}
 use Rattle.rx_collection.specs.Commit.{with_row, with_rows}
 use Rattle.rx_collection.specs.Held.{Held, held_with}
 use Rattle.rx_collection.specs.Time.{last_lwt}

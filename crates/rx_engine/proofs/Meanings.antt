@@ -18,7 +18,7 @@ use Rattle.rx_sync.proofs.Elsewhere.{remote_turn_unharmed}
 use Rattle.rx_sync.specs.Bound.{AreOk, EveryOkTurn}
 use Rattle.rx_sync.specs.Exchange.{Terms}
 use Rattle.rx_sync.specs.Laws.{IsLevel, MayTurn}
-use Rattle.rx_sync.specs.Remote.{Heard, RemoteTurned}
+use Rattle.rx_sync.specs.Remote.{Heard}
 use Rattle.rx_sync.specs.RemoteLaws.{EachIsUnharmed, MayCall}
 use Rattle.rx_sync.specs.Turn.{Turned}
 use Rattle.rx_world.specs.World.{World}

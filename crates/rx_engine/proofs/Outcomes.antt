@@ -35,7 +35,7 @@ use Rattle.rx_engine.specs.Shown.{WritesNoExchange}
 use Rattle.rx_engine.specs.Documents.{document_at, next_revision}
 use Rattle.rx_world.specs.declared.replication.Replication.{Replication}
 use Rattle.rx_engine.specs.Faults.{of_line, of_schema}
-use Rattle.rx_engine.specs.Lines.{IsRestart, Task, answered, turns, calls, asked_outcome, asked_task, task, task_or_refusal, turn_to}
+use Rattle.rx_engine.specs.Lines.{IsRestart, Task, answered, asked_outcome, asked_task, task, task_or_refusal, turn_to}
 use Rattle.rx_engine.specs.Listing.{changes_answer, place_named}
 use Rattle.rx_engine.specs.Outcome.{Outcome, answer_alone, collection_at, write_outcome}
 use Rattle.rx_engine.specs.Replicate.{has_handler, has_schema, master_at, master_of, replicate_line}

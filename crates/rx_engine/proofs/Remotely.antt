@@ -1,10 +1,9 @@
 -- Turns to masters elsewhere, as each call hands them on.
-use Rattle.std.proofs.Common.{◌≡◌, ◌∙◌, ℕ, List, ◌++◌, Result, Ok, Err, IfOk, IsOk, IsErrOf, is_ok, true≢false, refl, sym, ap, subst}
+use Rattle.std.proofs.Common.{◌≡◌, ◌∙◌, ℕ, List, ◌++◌, Result, Ok, Err, IfOk, IsOk, IsErrOf, is_ok, true≢false, sym, ap, subst}
 use Rattle.rx_value.proofs.Outcomes.{if_ok}
 use Rattle.rx_disk.specs.declared.disk.Disk.{Ghosts}
 use Rattle.rx_outside.specs.declared.stop.Stop.{Stop}
 use Rattle.rx_outside.specs.declared.stop.Stop.TheVariants.{Memory}
-use Rattle.rx_record.specs.Content.{Content}
 use Rattle.rx_store.specs.Safe.{IsCrashSafe}
 use Rattle.rx_store.proofs.Crashes.{answered, other_stop, ran_out, same_stop}
 use Rattle.rx_sync.specs.Remote.{Heard, RemoteTurned}

@@ -1,13 +1,12 @@
 -- What a wire shows of a turn over it.
 use Rattle.std.proofs.Common.{◌≡◌, ◌∙◌, ℕ, List, [], ◌∷◌, ◌++◌, map, nat_lt, true, refl, sym, ap, subst, append_assoc, append-nil}
 use Rattle.std.proofs.lemmas.Grind.{flat_map-append}
-use Rattle.std.proofs.lemmas.List.{append_cancel_right, map-append}
+use Rattle.std.proofs.lemmas.List.{map-append}
 use Rattle.rx_outside.specs.Talk.{talk}
-use Rattle.rx_outside.specs.Sink.{WritesFront}
 use Rattle.rx_serve.specs.Lines.{Cut, cut, is_within}
 use Rattle.rx_serve.specs.Served.{as_line}
 use Rattle.rx_serve.proofs.Cuts.{cut_joined, cut_one, cut_part}
-use Rattle.rx_sync.specs.Remote.{Heard, no_dial, no_wire, no_line, line}
+use Rattle.rx_sync.specs.Remote.{Heard, no_wire, no_line, line}
 use Rattle.rx_engine.specs.Callings.{Hears, WireStanding}
 use Rattle.rx_engine.specs.Dialled.{IsHeardIn, IsWithoutLine, as_lines}
 

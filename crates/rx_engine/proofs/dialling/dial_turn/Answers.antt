@@ -1,4 +1,4 @@
-use Rattle.std.proofs.Common.{◌≡◌, ◌∙◌, ◌∷◌, ◌++◌, [], ℕ, List, ap, refl, rules}
+use Rattle.std.proofs.Common.{◌∙◌, ◌∷◌, ◌++◌, [], ℕ, List, ap, refl, rules}
 use Rattle.rx_handler.specs.Shown.{kinds_of}
 use Rattle.rx_outside.specs.Talk.{Talk, broken_after, talk}
 use Rattle.rx_sync.specs.Remote.{Heard, remote_turn}

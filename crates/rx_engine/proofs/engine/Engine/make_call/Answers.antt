@@ -1,23 +1,19 @@
-use Rattle.std.proofs.Common.{◌≡◌, ◌∙◌, ℕ, List, [], ◌++◌, Some, Ok, Err, Result, ap, refl, sym, subst, rules}
+use Rattle.std.proofs.Common.{◌≡◌, ◌∙◌, ℕ, List, [], ◌++◌, Some, Ok, Err, ap, refl, sym, subst}
 use Rattle.rx_value.specs.Named.{by_bytes, put_named}
 use Rattle.rx_handler.specs.Shown.{kinds_of}
-use Rattle.rx_outside.specs.declared.stop.Stop.{Stop}
 use Rattle.rx_session.specs.Emissions.{emissions, settled_session}
 use Rattle.rx_session.specs.Session.{Session}
 use Rattle.rx_store.specs.Holds.{Holds}
 use Rattle.rx_sync.specs.Asking.{pending_in}
-use Rattle.rx_sync.specs.Remote.{Heard}
 use Rattle.rx_world.specs.Made.{IsMadeWorld}
 use Rattle.rx_world.specs.Sound.{IsSoundWorld}
 use Rattle.rx_engine.specs.Calling.{called}
-use Rattle.rx_engine.specs.Callings.{IsDialledBy, IsRemoteMadeByName}
 use Rattle.rx_engine.specs.Engine.{IsAfterCall, IsAt, asks_in, session_of, standing_of}
 use Rattle.rx_engine.specs.Marks.{AreMarked, AreMarkedBut}
 use Rattle.rx_engine.specs.Play.{IsPlayAt}
 use Rattle.rx_engine.specs.Remembered.{AreRemembered}
 use Rattle.rx_engine.specs.Shown.{call_of}
 use Rattle.rx_engine.specs.SoundSession.{SessionWithAsks}
-use Rattle.rx_engine.specs.Standing.{Standing}
 use Rattle.rx_engine.specs.declared.changing.AfterTurn.{AfterTurn}
 use Rattle.rx_engine.specs.declared.turning.Turned.{Turned as Made}
 use Rattle.rx_engine.proofs.AfterCalls.{call_here, made_called, may_call, may_call_here, others_called, remembered_called, sound_called}

@@ -1,4 +1,4 @@
-use Rattle.std.proofs.Common.{◌≡◌, ◌∙◌, ℕ, List, [], ◌++◌, Some, ap, sym, subst, rules}
+use Rattle.std.proofs.Common.{◌≡◌, ◌∙◌, ℕ, List, [], ◌++◌, Some, ap, sym, subst}
 use Rattle.rx_value.specs.Named.{by_bytes, put_named}
 use Rattle.rx_handler.specs.Shown.{kinds_of}
 use Rattle.rx_session.specs.Emissions.{emissions, settled_session}
