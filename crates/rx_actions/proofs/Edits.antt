@@ -88,7 +88,7 @@ pub last-some : {X : Type 0} (p : X → Bool) (xs : List X) → last_passes p xs
 last-some p [] e = absurd (false≢true e)
 last-some p (x ∷ xs) e = omega arith
 
--- in a window that has a row's place, the row is insert_in_order as in the whole
+-- in a window that has a row's place, the row is placed as in the whole
 pub placed_in_window : {X : Type 0} (before : X → X → Bool) (x : X) (s m q : ℕ) (xs : List X)
     → rank before x xs ≡ s + q → q ≤ m → insert_in_order before x (window s m xs) ≡ put q x (window s m xs)
 placed_in_window before x s m q xs e h =

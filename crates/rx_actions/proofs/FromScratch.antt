@@ -1,4 +1,4 @@
--- The rows that a query gives from scratch are its live documents' rows, in order and at_most.
+-- The rows that a query gives from scratch are its live documents' rows, in order and cut.
 use Rattle.std.proofs.Common.{◌≡◌, Bool, true, false, cond, List, [], ◌∷◌, map, filter, drop, refl, ap, ◌∙◌}
 use Rattle.std.specs.List.{AllByRecursion}
 use Rattle.std.specs.Map.{values_of}

@@ -1,4 +1,4 @@
--- How the fields of an observed query are watched_in.
+-- How the fields of an observed query are seen.
 use Rattle.std.specs.Prelude.{◌≡◌, false, List, Some}
 use Rattle.rx_query.specs.Asked.{asked}
 use Rattle.rx_query.specs.declared.results.Row.{Row}

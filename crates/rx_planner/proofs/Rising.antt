@@ -81,7 +81,7 @@ stored_total q = on_total (λ (d : Stored). d.state.fields) (query_total q)
 
 -- ---- one document after another
 
--- each insert_in_order in turn among rows in order
+-- each placed in turn among rows in order
 abbrev pub all_placed : Asked → List Stored → List Stored → List Stored
 all_placed q rows [] = rows
 all_placed q rows (d ∷ ds) = all_placed q (insert_in_order (stored_before q) d rows) ds
@@ -95,7 +95,7 @@ take_all_placed q n rows (d ∷ ds) =
     ∙ ap (λ xs. take n (all_placed q xs ds)) (take_placed (stored_before q) n d rows)
     ∙ take_all_placed q n (insert_in_order (stored_before q) d rows) ds
 
--- ---- insert_in_order one by one, or sorted
+-- ---- placed one by one, or sorted
 
 abbrev pub turned_onto : List Stored → List Stored → List Stored
 turned_onto [] xs = xs

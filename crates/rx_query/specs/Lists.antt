@@ -17,7 +17,8 @@ last_passes p xs = some_passes p (slice_get xs (length xs - 1))
 -- with x before the first one that x precedes, or at the end
 abbrev pub insert_in_order : {X : Type 0} → (X → X → Bool) → X → List X → List X
 insert_in_order precedes x [] = x ∷ []
-insert_in_order precedes x (y ∷ ys) = if precedes x y then x ∷ y ∷ ys else y ∷ insert_in_order precedes x ys
+insert_in_order precedes x (y ∷ ys) =
+    if precedes x y then x ∷ y ∷ ys else y ∷ insert_in_order precedes x ys
 
 -- in order: each is put before the first that it precedes
 abbrev pub sorted : {X : Type 0} → (X → X → Bool) → List X → List X

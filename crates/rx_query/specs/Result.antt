@@ -34,9 +34,10 @@ abbrev pub stored_before : Asked → Stored → Stored → Bool
 stored_before q x y = is_lt (stored_cmp q x y)
 
 -- The result of a query over documents: the live matching ones in order, without the first `skip`,
--- at_most at `limit`.
+-- cut at `limit`.
 abbrev pub result_of : Asked → List Stored → List Stored
-result_of q docs = at_most q.limit (drop q.skip (sorted (stored_before q) (filter (is_due q) docs)))
+result_of q docs =
+    at_most q.limit (drop q.skip (sorted (stored_before q) (filter (is_due q) docs)))
 
 -- the row of a document
 abbrev pub row_of : Stored → Row
@@ -49,7 +50,7 @@ fresh_rows q documents = map row_of (result_of q (values_of documents))
 -- ---- that this is a result, and the only one
 
 -- such rows are the live matching documents, each once, each before those that it precedes, without
--- the first `skip`, at_most at `limit`
+-- the first `skip`, cut at `limit`
 pub record IsResult (q : Asked) (docs rows : List Stored) : Type 0 where
   pub all : List Stored
   pub each_once : IsPermutation (filter (is_due q) docs) all

@@ -8,7 +8,7 @@ use std::alloc::{AllocError, Global};
 
 impl Query {
     /// The result over documents of distinct keys: the live matching ones in the order of the
-    /// query, without the first `skip`, at_most at `limit`. The rows are lent.
+    /// query, without the first `skip`, cut at `limit`. The rows are lent.
     pub fn scratch<'a>(
         &self,
         alloc: Global,

@@ -1,4 +1,4 @@
--- How the fields of a session are session_in.
+-- How the fields of a session are seen.
 use Rattle.std.specs.List.{AllByRecursion}
 use Rattle.rx_world.specs.Holders.{holders_in}
 use Rattle.rx_world.specs.Valid.{AreDistinct}

@@ -1,4 +1,4 @@
--- The records of a journal, counted as they are after_body.
+-- The records of a journal, counted as they are played.
 use Rattle.std.proofs.Common.{◌≡◌, ℕ, ◌+◌, ◌<◌, ◌^◌, List, [], ◌∷◌, ◌++◌, length, Some, refl, sym, ◌∙◌, ap, subst, arith, append-nil, append_assoc, length-append}
 use Rattle.rx_frame.specs.File.{records}
 use Rattle.rx_frame.specs.Gate.{IsClosed, NextIs}
@@ -13,7 +13,7 @@ use Rattle.rx_world.specs.World.{World, empty}
 use Rattle.rx_world.proofs.Replays.{replay-append, replay_from-first, replay_from-nothing}
 use Rattle.rx_store.specs.Counted.{AreCounted}
 
--- bodies that stood before those which windows still are to lend were after_body and counted
+-- bodies that stood before those which windows still are to lend were played and counted
 pub record HasRead (content : List ℕ) (first now : Windows) (w : World) (count size : ℕ)
     : Type 0 where
   pub done : List (List ℕ)

@@ -27,7 +27,7 @@ use Rattle.rx_store.specs.Made.{AreMade}
 use Rattle.rx_store.specs.Stops.{of_open}
 
 -- of the bodies that windows were to lend at first, those that they still are to lend are still to be
--- after_body on the world
+-- played on the world
 abbrev pub IsPlaying : List ℕ → Windows → Windows → World → Type 0
 IsPlaying content first now w = (bodies : List (List ℕ)) → WillLend content first bodies
     → (rest : List (List ℕ)) × WillLend content now rest × (replay bodies ≡ replay_from (Some w) rest)
@@ -41,7 +41,7 @@ abbrev pub Lends : List ℕ → Windows → List ℕ → Windows → Type 0
 Lends content w body w' = (bodies : List (List ℕ)) → WillLend content w bodies
     → (more : List (List ℕ)) × (bodies ≡ body ∷ more) × WillLend content w' more
 
--- what is left to be after_body from the next body on
+-- what is left to be played from the next body on
 turned : (content : List ℕ) (f f' : Windows) (body : List ℕ) (w : World) (rest : List (List ℕ))
     → Lends content f body f' → WillLend content f rest
     → (more : List (List ℕ)) × WillLend content f' more
@@ -66,7 +66,7 @@ refused content first f f' body w playing lends is bodies will =
     let next = turned content f f' body w left.0 lends left.1 in
     left.2 ∙ next.2 ∙ ap (λ o. replay_from o next.0) is ∙ replay_from-none next.0
 
--- bodies that no windows may lend aren't after_body
+-- bodies that no windows may lend aren't played
 pub not_read : (content : List ℕ) (first f : Windows) (w : World) → IsPlaying content first f w
     → ((bodies : List (List ℕ)) → WillLend content f bodies → ⊥)
     → (bodies : List (List ℕ)) → WillLend content first bodies → replay bodies ≡ None
