@@ -12,6 +12,8 @@ use Rattle.rx_script.specs.Since.{maybe_since}
 use Rattle.rx_script.specs.Target.{target_member, a_target, a_target_name}
 use Rattle.rx_script.specs.declared.fault.LineFault.{LineFault}
 use Rattle.rx_script.specs.declared.fault.LineFault.TheVariants as fault
+use Rattle.rx_script.specs.declared.form.Form.{Form}
+use Rattle.rx_script.specs.declared.form.Form.TheVariants as form
 
 -- the most bytes that a line may have
 abbrev pub max_line_bytes : ℕ
@@ -132,28 +134,38 @@ digest_of d =
     a_name (codes "in") coll >> λ _.
     Ok (Digest coll)
 
--- each form by what `do` says
-abbrev pub forms : List (List ℕ × (Data → Result Asked LineFault))
+-- the forms by what `do` says
+abbrev pub forms : List (List ℕ × Form)
 forms =
-    (codes "collection", collection_of)
-    ∷ (codes "insert", λ d. document_of d >> λ m. Ok (Insert m.0 m.1))
-    ∷ (codes "bulk", bulk_of)
-    ∷ (codes "upsert", λ d. document_of d >> λ m. Ok (Upsert m.0 m.1))
-    ∷ (codes "patch", patch_of)
-    ∷ (codes "remove", remove_of)
-    ∷ (codes "get", get_of)
-    ∷ (codes "find", λ d. query_of d >> λ m. Ok (Find m.0 m.1))
-    ∷ (codes "count", λ d. query_of d >> λ m. Ok (Count m.0 m.1))
-    ∷ (codes "observe", observe_of)
-    ∷ (codes "unobserve", λ d. name_of d >> λ name. Ok (Unobserve name))
-    ∷ (codes "explain", λ d. name_of d >> λ name. Ok (Explain name))
-    ∷ (codes "replicate", replicate_of)
-    ∷ (codes "turn", turn_of)
-    ∷ (codes "changes", changes_of)
-    ∷ (codes "tick", tick_of)
-    ∷ (codes "restart", restart_of)
-    ∷ (codes "digest", digest_of)
-    ∷ []
+    (codes "collection", form.Collection) ∷ (codes "insert", form.Insert)
+    ∷ (codes "bulk", form.Bulk) ∷ (codes "upsert", form.Upsert) ∷ (codes "patch", form.Patch)
+    ∷ (codes "remove", form.Remove) ∷ (codes "get", form.Get) ∷ (codes "find", form.Find)
+    ∷ (codes "count", form.Count) ∷ (codes "observe", form.Observe)
+    ∷ (codes "unobserve", form.Unobserve) ∷ (codes "explain", form.Explain)
+    ∷ (codes "replicate", form.Replicate) ∷ (codes "turn", form.Turn)
+    ∷ (codes "changes", form.Changes) ∷ (codes "tick", form.Tick)
+    ∷ (codes "restart", form.Restart) ∷ (codes "digest", form.Digest) ∷ []
+
+-- what an object of a form asks
+abbrev pub asked_as : Form → Data → Result Asked LineFault
+asked_as form.Collection d = collection_of d
+asked_as form.Insert d = document_of d >> λ m. Ok (Insert m.0 m.1)
+asked_as form.Bulk d = bulk_of d
+asked_as form.Upsert d = document_of d >> λ m. Ok (Upsert m.0 m.1)
+asked_as form.Patch d = patch_of d
+asked_as form.Remove d = remove_of d
+asked_as form.Get d = get_of d
+asked_as form.Find d = query_of d >> λ m. Ok (Find m.0 m.1)
+asked_as form.Count d = query_of d >> λ m. Ok (Count m.0 m.1)
+asked_as form.Observe d = observe_of d
+asked_as form.Unobserve d = name_of d >> λ name. Ok (Unobserve name)
+asked_as form.Explain d = name_of d >> λ name. Ok (Explain name)
+asked_as form.Replicate d = replicate_of d
+asked_as form.Turn d = turn_of d
+asked_as form.Changes d = changes_of d
+asked_as form.Tick d = tick_of d
+asked_as form.Restart d = restart_of d
+asked_as form.Digest d = digest_of d
 
 -- ---- lines
 
@@ -162,7 +174,7 @@ abbrev pub form_of : Data → Result Asked LineFault
 form_of d =
     has_needed (codes "do" ∷ []) d >> λ _.
     a_text (codes "do") d >> λ word.
-    or_fault (fault.UnknownDo word) (named forms word) >> λ form. form d
+    or_fault (fault.UnknownDo word) (named forms word) >> λ form. asked_as form d
 
 -- the JSON of a text, which is UTF-8
 abbrev pub json_of : List ℕ → Option Data

@@ -1,6 +1,6 @@
 -- What happens to the exchanges of a turn, as a line says it.
 use Rattle.std.specs.Prelude.{⊤, ◌≤◌, ℕ, List, [], ◌∷◌, ◌++◌, codes, Option, Some, None, is_none, Result, Ok}
-use Rattle.serde_json.specs.Data.{Data, null, boolean, number, string, array, object, Items, no_items, item}
+use Rattle.serde_json.specs.Data.{Data, Items, no_items, item}
 use Rattle.serde_json.specs.Find.{get, as_array, as_str}
 use Rattle.rx_value.specs.Due.{◌>>◌, ◌>>=◌, only_if, or_fault}
 use Rattle.rx_value.specs.Form.{unexpected, whole_within}

@@ -1,5 +1,5 @@
 -- The members of a line, their kinds, names and limits.
-use Rattle.std.specs.Prelude.{⊤, ℕ, List, [], ◌∷◌, ◌&&◌, ◌||◌, Bool, is_some, is_none, if◌then◌else◌, Option, Some, None, option_map, unwrap_or, Result, Ok, Err}
+use Rattle.std.specs.Prelude.{⊤, ℕ, List, [], ◌∷◌, ◌&&◌, ◌||◌, Bool, is_some, is_none, if◌then◌else◌, Option, Some, None, option_map, unwrap_or, Result, Ok}
 use Rattle.std.specs.List.{list_all}
 use Rattle.serde_json.specs.Data.{Data, null, Items, no_items, item}
 use Rattle.serde_json.specs.Find.{get, as_array, as_object}

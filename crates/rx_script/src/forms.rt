@@ -4,11 +4,12 @@ ghost use Rattle.serde_json.specs.View.{view};
 ghost use Rattle.rx_value.specs.Due.{Due, DueBy};
 ghost use Rattle.rx_value.specs.Name.{is_name};
 ghost use Rattle.rx_script.specs.Asked.{asked, IsLawful};
-ghost use Rattle.rx_script.specs.Line.{collection_of, document_of, bulk_of, patch_of, remove_of, get_of, query_of, observe_of, name_of, replicate_of, turn_of, changes_of, tick_of, restart_of, digest_of, form_of};
+ghost use Rattle.rx_script.specs.Line.{collection_of, document_of, bulk_of, patch_of, remove_of, get_of, query_of, observe_of, name_of, replicate_of, turn_of, changes_of, tick_of, restart_of, digest_of, asked_as, form_of};
 ghost use Rattle.rx_script.specs.Member.{is_object};
 ghost use Rattle.rx_script.specs.declared.fault.LineFault.TheVariants.{Memory};
 
 use crate::fault::LineFault;
+use crate::form::{Form, form_by_word};
 use crate::line::{Line, MAX_BATCH, MAX_BUDGET, USUAL_BUDGET};
 use crate::link::read_maybe_link;
 use crate::member::{
@@ -27,43 +28,55 @@ pub(crate) fn read_form(alloc: Global, json: Json) -> Result<Line, LineFault>
     ensures lawful { IfOk result (λ line. IsLawful (asked line)) }
 {
     check_needed(alloc, &json, &["do"])?;
-    match text_at(&json, "do") {
-        Some("collection") => read_collection(alloc, json),
-        Some("insert") => {
+    let Some(word) = text_at(&json, "do") else {
+        return Err(LineFault::WrongType(RxText::new(alloc, "do")?));
+    };
+    match form_by_word(word) {
+        Some(form) => read_as(alloc, form, json),
+        None => Err(LineFault::UnknownDo(RxText::new(alloc, word)?)),
+    }
+}
+
+// What an object of a form asks.
+fn read_as(alloc: Global, form: Form, json: Json) -> Result<Line, LineFault>
+    ensures exact { DueBy Memory asked result (asked_as form (view json)) }
+    ensures lawful { IfOk result (λ line. IsLawful (asked line)) }
+{
+    match form {
+        Form::Collection => read_collection(alloc, json),
+        Form::Insert => {
             let (coll, doc) = read_document(alloc, json)?;
             Ok(Line::Insert { coll, doc })
         }
-        Some("bulk") => read_bulk(alloc, json),
-        Some("upsert") => {
+        Form::Bulk => read_bulk(alloc, json),
+        Form::Upsert => {
             let (coll, doc) = read_document(alloc, json)?;
             Ok(Line::Upsert { coll, doc })
         }
-        Some("patch") => read_patch(alloc, json),
-        Some("remove") => read_remove(alloc, json),
-        Some("get") => read_get(alloc, json),
-        Some("find") => {
+        Form::Patch => read_patch(alloc, json),
+        Form::Remove => read_remove(alloc, json),
+        Form::Get => read_get(alloc, json),
+        Form::Find => {
             let (coll, query) = read_query(alloc, json)?;
             Ok(Line::Find { coll, query })
         }
-        Some("count") => {
+        Form::Count => {
             let (coll, query) = read_query(alloc, json)?;
             Ok(Line::Count { coll, query })
         }
-        Some("observe") => read_observe(alloc, json),
-        Some("unobserve") => Ok(Line::Unobserve {
+        Form::Observe => read_observe(alloc, json),
+        Form::Unobserve => Ok(Line::Unobserve {
             name: read_name(alloc, json)?,
         }),
-        Some("explain") => Ok(Line::Explain {
+        Form::Explain => Ok(Line::Explain {
             name: read_name(alloc, json)?,
         }),
-        Some("replicate") => read_replicate(alloc, json),
-        Some("turn") => read_turn(alloc, json),
-        Some("changes") => read_changes(alloc, json),
-        Some("tick") => read_tick(alloc, json),
-        Some("restart") => read_restart(alloc, json),
-        Some("digest") => read_digest(alloc, json),
-        Some(word) => Err(LineFault::UnknownDo(RxText::new(alloc, word)?)),
-        None => Err(LineFault::WrongType(RxText::new(alloc, "do")?)),
+        Form::Replicate => read_replicate(alloc, json),
+        Form::Turn => read_turn(alloc, json),
+        Form::Changes => read_changes(alloc, json),
+        Form::Tick => read_tick(alloc, json),
+        Form::Restart => read_restart(alloc, json),
+        Form::Digest => read_digest(alloc, json),
     }
 }
 

@@ -40,6 +40,7 @@
 #![tactic(auto)]
 
 mod fault;
+mod form;
 mod forms;
 mod happening;
 mod line;
