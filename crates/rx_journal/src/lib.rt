@@ -18,6 +18,3 @@ pub use journal::{AppendFault, Journal, LONGEST, SHORTEST};
 pub use laws::grows_on;
 pub use open::OpenFault;
 pub use windows::Windows;
-
-#[cfg(test)]
-mod tests;

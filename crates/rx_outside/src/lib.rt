@@ -22,8 +22,6 @@ mod system_clock;
 mod tcp_dial;
 mod tcp_door;
 mod tcp_wire;
-#[cfg(test)]
-mod tests;
 mod wire;
 mod wires;
 mod writing;

@@ -1,5 +1,6 @@
-use super::*;
+// A record appended, call by call: in memory with a stop within each, and to a real file.
 use rx_disk::{Disk, FileDisk, MemoryDisk};
+use rx_journal::{Journal, OpenFault};
 use rx_value::RxText;
 use std::alloc::Global;
 use std::test::Fail;

@@ -1,4 +1,5 @@
-use crate::{
+// Streams, doors and clocks: the forms in memory, and those of the system.
+use rx_outside::{
     Clock, Dial, Listen, MemoryClock, MemoryDoor, MemorySink, MemorySource, MemoryWire, Source,
     SystemClock, TcpDial, TcpDoor, Wire, send_all, write_all,
 };
