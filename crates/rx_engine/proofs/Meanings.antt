@@ -208,15 +208,17 @@ module _ (number : ℕ) (line : List ℕ) (s : Standing) (o : Outcome) (p : Prin
 
 -- the engine and the output are those of the turn's meaning
 pub turned_so : (number : ℕ) (name : List ℕ) (t : Turned) (s : Standing) (m : AfterTurn)
-    (o : Output)
-    → IsAfterTurn name t s m
+    (e : Engine) (o : Output)
+    → IsAfterTurn name t s m → e ≡ m.engine
     → string_bytes o.text
     ≡ answer_lines number (turn m.exchanges m.ended) ++ lines_of m.emissions.items
     → o.emissions ≡ length m.emissions.items → o.refused ≡ false → o.end ≡ Some m.ended
-    → Answers s.kinds s.heard (turn_meaning number name t s) m.engine o
+    → Answers s.kinds s.heard (turn_meaning number name t s) e o
 unfolding standing_of
-turned_so number name t s m o made text emitted refused end = record {
-  next = standing_same s.kinds s.heard _ _ _ _ made.session made.asks;
+turned_so number name t s m e o made here text emitted refused end = record {
+  next = standing_same s.kinds s.heard _ _ _ _
+      (ap (λ (x : Engine). session_of x) here ∙ made.session)
+      (ap (λ (x : Engine). asks_in x) here ∙ made.asks);
   reply = text
       ∙ ap (λ (es : List Exchanged).
       answer_lines number (turn es m.ended) ++ lines_of m.emissions.items) made.exchanges

@@ -1,7 +1,6 @@
 -- A write of one state.
 use Rattle.std.proofs.Common.{◌≡◌, ◌⊎◌, ℕ, List, [], ◌∷◌, Option, Some, None, option_map, Result, Ok, Err, refl, get_or, sym, ap, ◌∙◌, subst}
 use Rattle.std.specs.Result.{IsErrAnd}
-use Rattle.std.proofs.lemmas.Result.{err_from_is_err_and}
 use Rattle.rx_value.specs.Due.{◌>>◌, DueBy}
 use Rattle.rx_value.specs.Named.{named}
 use Rattle.rx_value.specs.declared.state.State.{State}
@@ -16,6 +15,7 @@ use Rattle.rx_record.specs.declared.record.RowOut.{RowOut}
 use Rattle.rx_reply.specs.Answer.{Answer}
 use Rattle.rx_world.specs.Commit.{commit_to}
 use Rattle.rx_session.specs.Session.{Session}
+use Rattle.rx_engine.proofs.Stops.{handed_on}
 use Rattle.rx_engine.specs.Outcome.{Outcome, collection_at}
 use Rattle.rx_engine.specs.Writes.{commit_one}
 use Rattle.rx_engine.specs.declared.fault.Fault.{Fault}
@@ -76,10 +76,8 @@ module _ (coll : List ℕ) (reads : Held → Result State Fault) (answer : List 
       → (e ≡ Memory) ⊎ (one_state ≡ Err e)
   state_refused e = subst (λ due. (e ≡ Memory) ⊎ (due ≡ Err e)) (sym state_written)
 
--- a fault that is handed on
+-- a fault that is due where it is handed on
 pub refused_on : {X Y E : Type 0} (memory : E) (view : X → Y) (r : Result X E) (due : Result Y E)
     (e : E) → IsErrAnd r (λ x. x ≡ e) → (e ≡ memory) ⊎ (due ≡ Err e) → DueBy memory view r due
 refused_on {X} {Y} {E} memory view r due e is so =
-    let err = err_from_is_err_and r is in
-    subst (λ (r : Result X E). DueBy memory view r due)
-    (sym (err.1 ∙ ap (λ (x : E). Err x) err.2)) so
+    subst (λ (r : Result X E). DueBy memory view r due) (sym (handed_on r e is)) so

@@ -7,11 +7,10 @@ use Rattle.rx_outside.specs.declared.stop.Stop.TheVariants.{Disk, Memory}
 use Rattle.rx_store.proofs.Crashes.{other_stop}
 use Rattle.rx_store.specs.Safe.{HasDiskCause}
 
--- a stop that is handed on
-pub handed_on : {A : Type 0} (r : Result A Stop) (stop : Stop) → IsErrAnd r (λ e. e ≡ stop)
-    → r ≡ Err stop
-handed_on r stop is =
-    let err = err_from_is_err_and r is in err.1 ∙ ap (λ (stop : Stop). Err stop) err.2
+-- a fault that is handed on
+pub handed_on : {A E : Type 0} (r : Result A E) (e : E) → IsErrAnd r (λ x. x ≡ e) → r ≡ Err e
+handed_on {E = E} r e is =
+    let err = err_from_is_err_and r is in err.1 ∙ ap (λ (x : E). Err x) err.2
 
 -- where memory ran out, that is the stop
 pub memory_stop : {A : Type 0} (r : Result A Stop) → IsErrAnd r (λ e. e ≡ Memory) → r ≡ Err Memory

@@ -1,5 +1,5 @@
 -- A turn to a master that is elsewhere, in play.
-use Rattle.std.specs.Prelude.{◌≡◌, ◌≤◌, ℕ, List, [], ◌∷◌, ◌++◌, length, map, true, Some, Option, IsSome, Result, IfOk, IsOk, OnOk, IsErrOf}
+use Rattle.std.specs.Prelude.{◌≡◌, ℕ, List, [], ◌∷◌, ◌++◌, length, map, true, Some, Option, IsSome, Result, IfOk, IsOk, OnOk, IsErrOf}
 use Rattle.std.specs.List.{AllByRecursion}
 use Rattle.rx_disk.specs.declared.disk.Disk.{Ghosts}
 use Rattle.rx_fork.specs.declared.ask.Asked.{Asked}
@@ -20,9 +20,7 @@ use Rattle.rx_store.specs.Safe.{IsCrashSafe}
 use Rattle.rx_sync.specs.Asking.{asked_in}
 use Rattle.rx_sync.specs.Asks.{Asks, next_number, with_request}
 use Rattle.rx_sync.specs.Exchange.{Course, Terms, lost_by}
-use Rattle.rx_sync.specs.Remote.{Heard, no_dial, no_wire, no_line, line, RemoteTurned, heard_course, remote_turn, schema_in}
-use Rattle.rx_value.specs.Named.{put_named}
-use Rattle.rx_wire.specs.Limits.{longest_line}
+use Rattle.rx_sync.specs.Remote.{Heard, no_dial, no_wire, no_line, line, RemoteTurned, heard_course, schema_in}
 use Rattle.rx_wire.specs.Writing.{request_text}
 use Rattle.rx_wire.specs.declared.message.Request.{Request}
 use Rattle.rx_world.specs.World.{World}

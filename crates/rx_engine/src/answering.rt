@@ -1,7 +1,9 @@
 // Does what a line was judged to be, and answers it.
-ghost use Rattle.std.specs.Prelude.{◌≡◌, ◌≤◌, ◌++◌, ℕ, List, [], None, length, IfOk, IsErrOf, string_bytes};
+ghost use Rattle.std.specs.Prelude.{◌≡◌, ◌≤◌, ◌++◌, ℕ, List, [], Some, None, false, length, IfOk, IsErrOf, string_bytes};
 ghost use Rattle.rx_handler.specs.Shown.{kinds_of};
 ghost use Rattle.rx_outside.specs.declared.stop.Stop.TheVariants as Stop;
+ghost use Rattle.rx_reply.specs.Answer.{turn};
+ghost use Rattle.rx_reply.specs.Reply.{answer_lines};
 ghost use Rattle.rx_reply.specs.declared.turn.TurnEnd.TheVariants.{Quiet};
 ghost use Rattle.rx_session.specs.Doing.{nothing, restart, after, MayDo};
 ghost use Rattle.rx_session.specs.Emissions.{emissions, settled_session};
@@ -20,8 +22,9 @@ use crate::turning::Turn;
 use rx_disk::Disk;
 use rx_handler::Handlers;
 use rx_outside::Stop;
-use rx_reply::Reply;
-use std::alloc::Global;
+use rx_reply::{Exchanged, Reply, TurnEnd};
+use rx_value::RxList;
+use std::alloc::{AllocError, Global};
 
 impl Engine {
     ghost use Rattle.rx_engine.specs.Engine.{IsAt, Answers, asks_in, session_of, standing_of, limit_of};
@@ -99,18 +102,43 @@ impl Engine {
         ensures not_journal { IsErrOf result Stop.NotJournal → ⊥ }
         ensures cause { HasDiskCause (D.faults disk.old) (D.faults disk.new) result }
     {
+        let made = self.make_turn(alloc, disk, handlers, wanted)?;
+        let answered = made.answer(alloc, number)?;
+        Ok(answered)
+    }
+}
+
+impl AfterTurn {
+    /// The engine, and the line of each exchange, that of the turn, and the emissions that are due.
+    pub(crate) fn answer(self, alloc: Global, number: u64) -> Result<(Engine, Output), AllocError>
+        ensures engine { IfOk result (λ p. p.0 ≡ self.engine) }
+        ensures text { IfOk result (λ p. string_bytes p.1.text
+            ≡ answer_lines number (turn self.exchanges self.ended) ++ lines_of self.emissions.items) }
+        ensures emissions { IfOk result (λ p. p.1.emissions ≡ length self.emissions.items) }
+        ensures refused { IfOk result (λ p. p.1.refused ≡ false) }
+        ensures end { IfOk result (λ p. p.1.end ≡ Some self.ended) }
+    {
         let AfterTurn {
             engine,
             emissions,
             exchanges,
             ended,
-        } = self.make_turn(alloc, disk, handlers, wanted)?;
-        let reply = Reply::Turn {
-            exchanges,
-            end: ended,
-        };
-        let text = reply.lines(alloc, number)?;
+        } = self;
+        let text = turn_lines(alloc, exchanges, ended, number)?;
         let output = Output::new(alloc, text, emissions.as_slice(), false, Some(ended))?;
         Ok((engine, output))
     }
+}
+
+// The line of each exchange of a turn, and the turn's own.
+fn turn_lines(
+    alloc: Global,
+    exchanges: RxList<Exchanged>,
+    end: TurnEnd,
+    number: u64,
+) -> Result<String, AllocError>
+    ensures { IfOk result (λ text. string_bytes text ≡ answer_lines number (turn exchanges end)) }
+{
+    let reply = Reply::Turn { exchanges, end };
+    reply.lines(alloc, number)
 }

@@ -19,7 +19,6 @@ use crate::turning::Turned;
 use rx_disk::Disk;
 use rx_handler::Handlers;
 use rx_outside::{Dial, Stop};
-use rx_reply::Reply;
 use std::alloc::Global;
 
 impl Engine {
@@ -60,19 +59,9 @@ impl Engine {
         ensures cause { HasDiskCause (D.faults disk.old) (D.faults disk.new) result }
         ensures dial_count { L.faults dial.old ≤ L.faults dial.new }
     {
-        let AfterTurn {
-            engine,
-            emissions,
-            exchanges,
-            ended,
-        } = self.make_call(alloc, disk, dial, handlers, wanted)?;
-        let reply = Reply::Turn {
-            exchanges,
-            end: ended,
-        };
-        let text = reply.lines(alloc, number)?;
-        let output = Output::new(alloc, text, emissions.as_slice(), false, Some(ended))?;
-        Ok((engine, output))
+        let made = self.make_call(alloc, disk, dial, handlers, wanted)?;
+        let answered = made.answer(alloc, number)?;
+        Ok(answered)
     }
 
     // The engine after the turn, all of whose records are on the disk.

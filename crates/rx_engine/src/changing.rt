@@ -136,13 +136,12 @@ impl Engine {
             session,
             diagram,
         } = self;
-        let parts = session.release();
-        let (session, _forgotten, _unmarked) = parts;
+        let before = session.into_session();
         let Opened { journal, world } = open(alloc, disk, journal.limit, &diagram)?;
-        if !is_next(&session, &world, epoch) {
+        if !is_next(&before, &world, epoch) {
             return Err(Stop::NotJournal);
         }
-        let session = session.reopen(alloc, world)?;
+        let session = before.reopen(alloc, world)?;
         let asks = IndexMap::new(alloc);
         let marks = Marks::new(alloc);
         Ok(Engine {

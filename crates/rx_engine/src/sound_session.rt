@@ -60,6 +60,16 @@ impl SoundSession {
         &self.session
     }
 
+    /// The session alone: its requests and marks are forgotten.
+    pub(crate) fn into_session(self) -> Session
+        ensures same { result ≡ self.session }
+        ensures made { IsMadeWorld self.session.world }
+        ensures sound { IsSoundWorld self.session.world }
+    {
+        let (session, _asks, _marks) = self.release();
+        session
+    }
+
     pub(crate) fn release(self) -> (Session, IndexMap<String, Asks>, Marks)
         ensures same { result.0 ≡ self.session }
         ensures asks { by_bytes result.1.entries ≡ self.asks }

@@ -44,7 +44,7 @@ returns-then-not-is_next-clause-safe g c told bodies at =
     let opened = c.in_ok-journal.ensures.opened told bodies w legal in
     let goes : c.is_next.result ≡ true =
     c.is_next.ensures.1 (opened ∙ ap (λ (n : ℕ). step (epoch n) w) (sym c.requires.next)
-    ∙ sym (ap (λ (x : Session). step (epoch c.args.epoch) x.world) c.release-parts.ensures.same)) in
+    ∙ sym (ap (λ (x : Session). step (epoch c.args.epoch) x.world) c.into_session-before.ensures.same)) in
     let not : c.is_next.result ≡ false = search rules in
     absurd (true≢false (sym goes ∙ not))
 
@@ -73,11 +73,11 @@ new-requires-clause-made g c =
     let number : (world_of c.in_ok-journal.field-0.world).epoch ≡ c.args.epoch =
     ap (λ (x : World). x.epoch) (c.is_next.ensures.0 goes) in
     let is = ap (λ (x : Session). x.world) (c.in_ok-session.ensures.session
-    ∙ ap (λ (n : ℕ). settled_session (after (restart n) c.release-parts.result.0)) number
+    ∙ ap (λ (n : ℕ). settled_session (after (restart n) c.into_session-before.result)) number
     ∙ ap (λ (x : Session). settled_session (after
-    (restart c.args.epoch) x)) c.release-parts.ensures.same) in
+    (restart c.args.epoch) x)) c.into_session-before.ensures.same) in
     subst IsMadeWorld (sym is) (made_then (restart c.args.epoch) s c.requires.next
-    c.release-parts.ensures.made)
+    c.into_session-before.ensures.made)
 
 pub new-requires-clause-sound : goal.new-requires-clause-sound
 unfolding session_of asks_in
@@ -86,10 +86,10 @@ new-requires-clause-sound g c =
     let number : (world_of c.in_ok-journal.field-0.world).epoch ≡ c.args.epoch =
     ap (λ (x : World). x.epoch) (c.is_next.ensures.0 goes) in
     let is = ap (λ (x : Session). x.world) (c.in_ok-session.ensures.session
-    ∙ ap (λ (n : ℕ). settled_session (after (restart n) c.release-parts.result.0)) number
+    ∙ ap (λ (n : ℕ). settled_session (after (restart n) c.into_session-before.result)) number
     ∙ ap (λ (x : Session). settled_session (after
-    (restart c.args.epoch) x)) c.release-parts.ensures.same) in
-    subst IsSoundWorld (sym is) c.release-parts.ensures.sound
+    (restart c.args.epoch) x)) c.into_session-before.ensures.same) in
+    subst IsSoundWorld (sym is) c.into_session-before.ensures.sound
 
 pub new-requires-clause-remembered : goal.new-requires-clause-remembered
 new-requires-clause-remembered g c =
@@ -115,7 +115,7 @@ returns-clause-session g c =
     ap (λ (x : SessionWithAsks). x.session) c.new.ensures ∙ c.in_ok-session.ensures.session
     ∙ ap (λ (x : Session). settled_session (after (restart
     (world_of c.in_ok-journal.field-0.world).epoch) x))
-    c.release-parts.ensures.same ∙ ap (λ (n : ℕ). settled_session (after (restart n) s)) number
+    c.into_session-before.ensures.same ∙ ap (λ (n : ℕ). settled_session (after (restart n) s)) number
 
 pub returns-clause-quiet : goal.returns-clause-quiet
 unfolding session_of asks_in
@@ -127,7 +127,7 @@ returns-clause-quiet g c =
     sym (ap (λ (n : ℕ). emissions (after (restart n) s)) number)
     ∙ sym (ap (λ (x : Session). emissions (after (restart
     (world_of c.in_ok-journal.field-0.world).epoch) x))
-    c.release-parts.ensures.same) ∙ c.in_ok-session.ensures.emissions
+    c.into_session-before.ensures.same) ∙ c.in_ok-session.ensures.emissions
 
 pub returns-clause-safe : goal.returns-clause-safe
 unfolding session_of asks_in
@@ -144,7 +144,7 @@ returns-clause-safe g c told bodies at =
     ap (λ (x : SessionWithAsks). x.session) c.new.ensures ∙ c.in_ok-session.ensures.session
     ∙ ap (λ (x : Session). settled_session (after (restart
     (world_of c.in_ok-journal.field-0.world).epoch) x))
-    c.release-parts.ensures.same ∙ ap (λ (n : ℕ). settled_session (after (restart n) s)) number in
+    c.into_session-before.ensures.same ∙ ap (λ (n : ℕ). settled_session (after (restart n) s)) number in
     let safe = by_number d c.args.disk.now c.open.new.disk bodies s.world c.args.epoch old.limit
     c.requires.next _ _
     (c.in_ok-journal.ensures.safe told bodies s.world legal) in
