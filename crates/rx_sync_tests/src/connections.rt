@@ -18,6 +18,7 @@ ghost use Rattle.std.specs.Prelude.{IfOk};
 ghost use Rattle.rx_outside.specs.MemoryWire.{Unused};
 
 use crate::served::{LIMIT, hash, journal};
+use rx_disk::MemoryDisk;
 use rx_host::{MasterEngine, ServeFault, serve_connections};
 use rx_outside::{MemoryClock, MemoryDoor, MemorySink, MemoryWire, Stop};
 use std::alloc::{AllocError, Global};
@@ -54,9 +55,11 @@ const CASES: &str = r#"
 ! {"connection":3,"end":"peer","requests":2}
 = ok
 
-== no connection is asked for, and a door that doesn't open
+== no connection is asked for
 @ connections=0
 = ok
+
+== a door that doesn't open
 @ connections=2 door=1
 = door
 
@@ -140,30 +143,27 @@ struct Call {
 fn connections_are_served_in_turn(rt: HostRuntime) -> Result<(), Fail> {
     let alloc = rt.alloc();
     let hash = hash(alloc)?;
-    let mut call = no_call(alloc);
-    let mut played = 0usize;
-    for line in CASES.lines() {
-        let text = line.replace(alloc, "HASH", hash.as_str())?;
-        let text = text.as_str().replace(alloc, "SPACE", " ")?;
-        let Some((mark, rest)) = text.as_str().split_once(' ') else {
-            continue;
-        };
-        if mark == "=" {
-            let answer = answer_of(alloc, &call)?;
-            if answer.as_str() != rest {
-                let why = format!(in alloc; "it answers {answer}, and {rest} is due")?;
-                return Err(Fail::new(why.as_str()));
-            }
-            call = no_call(alloc);
-            played = played.saturating_add(1);
-        } else {
-            call.add(alloc, mark, rest)?;
-        }
+    let cases = CASES.replace(alloc, "HASH", hash.as_str())?;
+    let cases = cases.as_str().replace(alloc, "SPACE", " ")?;
+    let mut played = 0u64;
+    for case in cases.as_str().split("\n== ").skip(1) {
+        play(alloc, case)?;
+        played = played.saturating_add(1);
     }
     if played == 0 {
         return Err(Fail::new("a text without cases"));
     }
     Ok(())
+}
+
+fn play(alloc: Global, case: &str) -> Result<(), Fail> {
+    let (facts, due) = case.split_once("\n= ").unwrap_or((case, ""));
+    let mut call = no_call(alloc);
+    for fact in facts.lines().skip(1) {
+        let (mark, rest) = fact.split_once(' ').unwrap_or((fact, ""));
+        call.add(alloc, mark, rest)?;
+    }
+    compare_answer(alloc, &call, due.trim())
 }
 
 fn no_call(alloc: Global) -> Call {
@@ -182,7 +182,7 @@ impl Call {
     // Adds a fact of its case.
     fn add(&mut self, alloc: Global, mark: &str, fact: &str) -> Result<(), Fail> {
         match mark {
-            "==" => {}
+            "" => {}
             "@" => self.set_all(fact)?,
             "*" => self.peers.push(Peer {
                 input: String::new(alloc),
@@ -228,44 +228,73 @@ fn number_after(word: &str, name: &str) -> Result<u64, Fail> {
     }
 }
 
-// Makes the call, compares what was sent and written, opens the journal again, and says how the
-// call answered.
-fn answer_of(alloc: Global, call: &Call) -> Result<String, Fail> {
+// Makes the call, compares what was sent and written and how it answers, and opens the journal
+// again.
+fn compare_answer(alloc: Global, call: &Call, due: &str) -> Result<(), Fail> {
     let mut disk = journal(alloc)?;
-    let size = disk.bytes().len() as u64;
-    let limit = size.saturating_add(call.room).min(LIMIT).max(9);
-    let Ok(Some(master)) = MasterEngine::open(alloc, &mut disk, limit, "c") else {
-        return Err(Fail::new("the journal has no master"));
-    };
+    let answer = answer_of(alloc, call, &mut disk)?;
+    if answer.as_str() != due {
+        return Err(Fail::new(format_args!("it answers {answer}, and {due} is due")));
+    }
+    open_again(alloc, &mut disk)
+}
+
+fn open_again(alloc: Global, disk: &mut MemoryDisk) -> Result<(), Fail> {
+    match MasterEngine::open(alloc, disk, LIMIT, "c") {
+        Ok(Some(_)) => Ok(()),
+        _ => Err(Fail::new("the journal has no master afterwards")),
+    }
+}
+
+fn answer_of(alloc: Global, call: &Call, disk: &mut MemoryDisk) -> Result<String, Fail> {
     let wires = wires_of(alloc, call.peers.as_slice())?;
     let mut door = MemoryDoor::new(alloc, wires, one_call(alloc, call.door)?);
-    let mut clock = MemoryClock::new(one_call(alloc, call.clock)?);
     let mut out = MemorySink::new(alloc, one_call(alloc, call.sink)?);
+    let answer = serve_at(alloc, call, disk, &mut door, &mut out)?;
+    compare_written(call, &out)?;
+    compare_sent(call, &door)?;
+    Ok(answer)
+}
+
+fn serve_at(
+    alloc: Global,
+    call: &Call,
+    disk: &mut MemoryDisk,
+    door: &mut MemoryDoor,
+    out: &mut MemorySink,
+) -> Result<String, Fail> {
+    let mut clock = MemoryClock::new(one_call(alloc, call.clock)?);
+    let size = disk.bytes().len() as u64;
+    let limit = size.saturating_add(call.room).min(LIMIT).max(9);
+    let Ok(Some(master)) = MasterEngine::open(alloc, disk, limit, "c") else {
+        return Err(Fail::new("the journal has no master"));
+    };
     let answered = serve_connections(
         alloc,
         master,
         7000,
         call.connections,
-        &mut door,
-        &mut disk,
+        door,
+        disk,
         &mut clock,
-        &mut out,
+        out,
     );
-    compare(alloc, call, &door, &out)?;
-    let Ok(Some(_)) = MasterEngine::open(alloc, &mut disk, LIMIT, "c") else {
-        return Err(Fail::new("the journal has no master afterwards"));
-    };
-    Ok(match answered {
-        Ok(_) => String::from_str(alloc, "ok")?,
-        Err(ServeFault::Door) => String::from_str(alloc, "door")?,
-        Err(ServeFault::Sink) => String::from_str(alloc, "sink")?,
-        Err(ServeFault::Stopped(Stop::Full { would, limit })) => {
+    Ok(shown(alloc, size, answered.err().as_ref())?)
+}
+
+// What the call came to, with how far a full journal would have grown and may grow.
+fn shown(alloc: Global, size: u64, fault: Option<&ServeFault>) -> Result<String, AllocError> {
+    match fault {
+        None => String::from_str(alloc, "ok"),
+        Some(ServeFault::Door) => String::from_str(alloc, "door"),
+        Some(ServeFault::Sink) => String::from_str(alloc, "sink"),
+        Some(ServeFault::Stopped(Stop::Full { would, limit })) => {
             let would = would.saturating_sub(size);
             let limit = limit.saturating_sub(size);
-            format!(in alloc; "full {would} {limit}")?
+            format!(in alloc; "full {would} {limit}")
         }
-        Err(ServeFault::Stopped(_)) => String::from_str(alloc, "another stop")?,
-    })
+        Some(ServeFault::Stopped(_)) => String::from_str(alloc, "another stop"),
+    }
 }
 
 // The wires of peers, in turn. None was used.
@@ -290,12 +319,15 @@ fn one_call(alloc: Global, number: u64) -> Result<Vec<u64>, AllocError> {
     Ok(calls)
 }
 
-fn compare(alloc: Global, call: &Call, door: &MemoryDoor, out: &MemorySink) -> Result<(), Fail> {
+fn compare_written(call: &Call, out: &MemorySink) -> Result<(), Fail> {
     let due = call.written.as_str();
-    if out.bytes() != due.as_bytes() {
-        let why = format!(in alloc; "other lines are written than {due}")?;
-        return Err(Fail::new(why.as_str()));
+    if out.bytes() == due.as_bytes() {
+        return Ok(());
     }
+    Err(Fail::new(format_args!("other lines are written than {due}")))
+}
+
+fn compare_sent(call: &Call, door: &MemoryDoor) -> Result<(), Fail> {
     let closed = door.closed_wires();
     if closed.len() != call.peers.len() {
         return Err(Fail::new("a wire isn't handed back"));
@@ -303,8 +335,7 @@ fn compare(alloc: Global, call: &Call, door: &MemoryDoor, out: &MemorySink) -> R
     for (wire, peer) in closed.iter().zip(call.peers.as_slice()) {
         let due = peer.due.as_str();
         if wire.sent() != due.as_bytes() {
-            let why = format!(in alloc; "other bytes are sent than {due}")?;
-            return Err(Fail::new(why.as_str()));
+            return Err(Fail::new(format_args!("other bytes are sent than {due}")));
         }
     }
     Ok(())

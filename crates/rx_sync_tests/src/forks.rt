@@ -89,113 +89,139 @@ asks 0 {"ask":"pull","batch":2,"epoch":1,"n":1,"schema":HASH}
 #[test]
 fn forks_ask_and_make_of_replies_what_is_due(rt: HostRuntime) -> Result<(), Fail> {
     let alloc = rt.alloc();
-    let schema = schema(alloc)?;
+    let name = RxText::new(alloc, "greater")?;
     let call = Box::new(
         alloc,
         |alloc: Global, field: &str, real: &State, new: &State| {
             resolved(alloc, HandlerKind::Greater, field, real, new)
         },
     )?;
-    let handler = Handler::new(RxText::new(alloc, "greater")?, HandlerKind::Greater, call);
-    let cases = long(alloc, &schema, CASES)?;
-    let played = play_all(alloc, &schema, &handler, cases.as_str())?;
-    assert_eq!(&rt; played, 3);
-    Ok(())
+    play_all(alloc, &Handler::new(name, HandlerKind::Greater, call))
 }
 
 #[test]
 fn a_handler_may_want_memory(rt: HostRuntime) -> Result<(), Fail> {
     let alloc = rt.alloc();
-    let schema = schema(alloc)?;
+    let name = RxText::new(alloc, "none")?;
     let call = Box::new(
         alloc,
         |_alloc: Global, _field: &str, _real: &State, _new: &State| { Err(AllocError) },
     )?;
-    let handler = Handler::new(RxText::new(alloc, "none")?, HandlerKind::Join, call);
-    let told = told_of_a_conflict(alloc, &schema, &handler, 1)?;
-    assert_eq!(&rt; told.as_str(), "memory");
-    Ok(())
+    compare_conflict(
+        alloc,
+        &Handler::new(name, HandlerKind::Join, call),
+        1,
+        "memory",
+    )
 }
 
 #[test]
 fn a_fork_that_was_written_takes_nothing(rt: HostRuntime) -> Result<(), Fail> {
     let alloc = rt.alloc();
-    let schema = schema(alloc)?;
+    let name = RxText::new(alloc, "join")?;
     let call = Box::new(
         alloc,
         |alloc: Global, field: &str, real: &State, new: &State| {
             resolved(alloc, HandlerKind::Join, field, real, new)
         },
     )?;
-    let handler = Handler::new(RxText::new(alloc, "join")?, HandlerKind::Join, call);
-    let told = told_of_a_conflict(alloc, &schema, &handler, 4)?;
-    assert_eq!(&rt; told.as_str(), "moved 4 1");
-    Ok(())
-}
-
-#[test]
-fn a_master_takes_rows_of_what_it_holds_as_assumed(rt: HostRuntime) -> Result<(), Fail> {
-    let alloc = rt.alloc();
-    let schema = schema(alloc)?;
-    let told = taken(alloc, &schema)?;
-    let due = long(
+    compare_conflict(
         alloc,
-        &schema,
-        "writes [#a=8;,#x=8;] conflicts [#b=2;,#c=3;]",
-    )?;
-    assert_eq!(&rt; told.as_str(), due.as_str());
-    Ok(())
+        &Handler::new(name, HandlerKind::Join, call),
+        4,
+        "moved 4 1",
+    )
 }
 
 // What a fork with one document makes of a conflict, where it had this last write time at its asking.
-fn told_of_a_conflict(
+fn compare_conflict(alloc: Global, handler: &Handler, lwt: u64, due: &str) -> Result<(), Fail> {
+    let schema = schema(alloc)?;
+    let world = held(alloc, &schema, "holds #a=1;\n")?;
+    conflict(alloc, &schema, world, handler, lwt, due)
+}
+
+fn conflict(
     alloc: Global,
     schema: &Schema,
+    world: World<Plain>,
     handler: &Handler,
     lwt: u64,
-) -> Result<String, Fail> {
-    let case = long(alloc, schema, "holds #a=1;\n")?;
+    due: &str,
+) -> Result<(), Fail> {
+    match world.holder("f") {
+        Some(holder) => take_conflict(alloc, schema, &holder.collection, handler, lwt, due),
+        None => Err(Fail::new("no collection")),
+    }
+}
+
+fn take_conflict(
+    alloc: Global,
+    schema: &Schema,
+    collection: &Collection,
+    handler: &Handler,
+    lwt: u64,
+    due: &str,
+) -> Result<(), Fail> {
     let reply = long(alloc, schema, r##"{"conflicts":[#a=5;],"epoch":1,"n":1}"##)?;
-    let world = world_of(alloc, schema, case.as_str())?;
-    let Some(holder) = world.holder("f") else {
-        return Err(Fail::new("no collection"));
-    };
-    let meta = meta_of(alloc, schema, case.as_str())?;
+    let meta = Meta::new(alloc);
     let fork = Fork { meta: &meta };
-    let mut asked = ask(alloc, &fork, &holder.collection)?;
+    let mut asked = ask(alloc, &fork, collection)?;
     asked.lwt = lwt;
-    answer(
+    play_reply(
         alloc,
         schema,
         &fork,
-        &holder.collection,
+        collection,
         &asked,
         handler,
         reply.as_str(),
+        due,
     )
 }
 
 const PUSH: &str =
     r##"{"ask":"push","epoch":1,"n":1,"rows":[{"assumed":#a=1;,"new":#a=8;},{"assumed":#b=1;,"new":#b=8;},{"new":#c=8;},{"assumed":#x=1;,"new":#x=8;}],"schema":HASH}"##;
 
-// What a master with three documents takes of a push, and its conflicts.
-fn taken(alloc: Global, schema: &Schema) -> Result<String, Fail> {
-    let case = long(alloc, schema, "holds #a=1;\nholds #b=2;\nholds #c=3;\n")?;
-    let world = world_of(alloc, schema, case.as_str())?;
-    let Some(holder) = world.holder("f") else {
-        return Err(Fail::new("no collection"));
-    };
+#[test]
+fn a_master_takes_rows_of_what_it_holds_as_assumed(rt: HostRuntime) -> Result<(), Fail> {
+    let alloc = rt.alloc();
+    let schema = schema(alloc)?;
+    let world = held(alloc, &schema, "holds #a=1;\nholds #b=2;\nholds #c=3;\n")?;
+    push(alloc, &schema, world)
+}
+
+fn push(alloc: Global, schema: &Schema, world: World<Plain>) -> Result<(), Fail> {
+    match world.holder("f") {
+        Some(holder) => compare_taken(alloc, schema, &holder.collection),
+        None => Err(Fail::new("no collection")),
+    }
+}
+
+fn compare_taken(alloc: Global, schema: &Schema, collection: &Collection) -> Result<(), Fail> {
     let line = long(alloc, schema, PUSH)?;
-    let Ok(request) = Request::read(alloc, line.as_str().as_bytes(), schema) else {
-        return Err(Fail::new("no request"));
+    let due = long(
+        alloc,
+        schema,
+        "writes [#a=8;,#x=8;] conflicts [#b=2;,#c=3;]",
+    )?;
+    match Request::read(alloc, line.as_str().as_bytes(), schema) {
+        Ok(request) => {
+            let taken = taken(alloc, collection, &request.ask)?;
+            compare("the push", due.as_str(), taken.as_str())
+        }
+        Err(_) => Err(Fail::new("no request")),
+    }
+}
+
+// What a master takes of a push, and its conflicts.
+fn taken(alloc: Global, collection: &Collection, ask: &AskKind) -> Result<String, AllocError> {
+    let AskKind::Push(rows) = ask else {
+        return String::from_str(alloc, "no push");
     };
-    let AskKind::Push(rows) = request.ask else {
-        return Err(Fail::new("no push"));
-    };
-    let plan = take(alloc, &holder.collection, rows.as_slice())?;
+    let plan = take(alloc, collection, rows.as_slice())?;
     let writes = listed(alloc, plan.writes.as_slice())?;
     let conflicts = listed(alloc, plan.conflicts.as_slice())?;
-    Ok(format!(in alloc; "writes {writes} conflicts {conflicts}")?)
+    format!(in alloc; "writes {writes} conflicts {conflicts}")
 }
 
 pub fn schema(alloc: Global) -> Result<Schema, Fail> {
@@ -212,50 +238,69 @@ fn long(alloc: Global, schema: &Schema, short: &str) -> Result<String, AllocErro
     text.as_str().replace(alloc, "HASH", hash.as_str())
 }
 
-// Plays the cases, and counts them.
-fn play_all(alloc: Global, schema: &Schema, handler: &Handler, cases: &str) -> Result<u64, Fail> {
+// Plays the three cases.
+fn play_all(alloc: Global, handler: &Handler) -> Result<(), Fail> {
+    let schema = schema(alloc)?;
+    let cases = long(alloc, &schema, CASES)?;
     let mut played = 0u64;
-    for case in cases.split("-- ") {
+    for case in cases.as_str().split("-- ") {
         if !case.trim().is_empty() {
-            play(alloc, schema, handler, case)?;
+            play(alloc, &schema, handler, case)?;
             played = played.saturating_add(1);
         }
     }
-    Ok(played)
+    if played == 3 {
+        return Ok(());
+    }
+    Err(Fail::new("cases are missing"))
 }
 
 fn play(alloc: Global, schema: &Schema, handler: &Handler, case: &str) -> Result<(), Fail> {
     let world = world_of(alloc, schema, case)?;
-    let Some(holder) = world.holder("f") else {
-        return Err(Fail::new("no collection"));
-    };
+    match world.holder("f") {
+        Some(holder) => play_fork(alloc, schema, &holder.collection, handler, case),
+        None => Err(Fail::new("no collection")),
+    }
+}
+
+fn play_fork(
+    alloc: Global,
+    schema: &Schema,
+    collection: &Collection,
+    handler: &Handler,
+    case: &str,
+) -> Result<(), Fail> {
     let meta = meta_of(alloc, schema, case)?;
     let fork = Fork { meta: &meta };
-    let pending = count(&fork, &holder.collection);
-    let asked = ask(alloc, &fork, &holder.collection)?;
-    let request = asked.request.text(alloc, schema)?;
-    compare_request(alloc, case, pending, request.as_str())?;
+    let pending = count(&fork, collection);
+    let asked = ask(alloc, &fork, collection)?;
+    compare_request(alloc, schema, case, pending, &asked)?;
     for exchange in case.split("\n> ").skip(1) {
-        let Some((reply, due)) = exchange.split_once("\n< ") else {
-            return Err(Fail::new("a reply to which nothing is due"));
-        };
-        let told = answer(
+        let (reply, due) = exchange.split_once("\n< ").unwrap_or((exchange, ""));
+        play_reply(
             alloc,
             schema,
             &fork,
-            &holder.collection,
+            collection,
             &asked,
             handler,
             reply,
+            due.trim(),
         )?;
-        compare(reply, due.trim(), told.as_str())?;
     }
     Ok(())
 }
 
 // Each request that the case tells is this one.
-fn compare_request(alloc: Global, case: &str, pending: usize, request: &str) -> Result<(), Fail> {
-    let told = format!(in alloc; "{pending} {request}")?;
+fn compare_request(
+    alloc: Global,
+    schema: &Schema,
+    case: &str,
+    pending: usize,
+    asked: &Asked,
+) -> Result<(), Fail> {
+    let request = asked.request.text(alloc, schema)?;
+    let told = format!(in alloc; "{pending} {}", request.as_str())?;
     for line in case.lines() {
         if let Some(due) = line.strip_prefix("asks ") {
             compare(line, due, told.as_str())?;
@@ -284,8 +329,8 @@ fn ask(alloc: Global, fork: &Fork<'_>, collection: &Collection) -> Result<Asked,
     fork.ask(alloc, collection, 1, 1, 2)
 }
 
-// What is told of a line that answers.
-fn answer(
+// What is told of a line that answers is what is due.
+fn play_reply(
     alloc: Global,
     schema: &Schema,
     fork: &Fork<'_>,
@@ -293,14 +338,16 @@ fn answer(
     asked: &Asked,
     handler: &Handler,
     line: &str,
-) -> Result<String, Fail>
+    due: &str,
+) -> Result<(), Fail>
     requires { HasRowsApart asked.now.request.ask }
 {
     let Ok(reply) = Reply::read(alloc, line.as_bytes(), schema) else {
         return Err(Fail::new("no reply"));
     };
     let plan = fork.accept(alloc, collection, asked, &reply, handler, "n");
-    Ok(told(alloc, &plan)?)
+    let told = told(alloc, &plan)?;
+    compare(line, due, told.as_str())
 }
 
 fn told(alloc: Global, plan: &Result<ExchangePlan, AcceptFault>) -> Result<String, AllocError> {
@@ -341,22 +388,37 @@ fn listed(alloc: Global, states: &[State]) -> Result<String, AllocError> {
     Ok(list)
 }
 
+fn held(alloc: Global, schema: &Schema, short: &str) -> Result<World<Plain>, Fail> {
+    let case = long(alloc, schema, short)?;
+    world_of(alloc, schema, case.as_str())
+}
+
 // A world with the collection f of what the case holds.
 fn world_of(alloc: Global, schema: &Schema, case: &str) -> Result<World<Plain>, Fail> {
-    let entry = Record::Collection {
-        name: RxText::new(alloc, "f")?,
-        schema: schema.canonical().copy(alloc)?,
-    };
-    let mut world = World::new(alloc).apply(alloc, entry, &plain)?;
+    let mut world = World::new(alloc).apply(alloc, collection(alloc, schema)?, &plain)?;
     let mut lwt = 0u64;
     for line in case.lines() {
         if let Some(json) = line.strip_prefix("holds ") {
             lwt = lwt.saturating_add(1);
-            let entry = row(alloc, state(alloc, schema, json)?, lwt)?;
-            world = world.apply(alloc, entry, &plain)?;
+            world = world.apply(alloc, document(alloc, schema, json, lwt)?, &plain)?;
         }
     }
     Ok(world)
+}
+
+fn collection(alloc: Global, schema: &Schema) -> Result<Record, AllocError>
+    ensures { IfOk result (λ entry. IsOrdered (content entry)) }
+{
+    Ok(Record::Collection {
+        name: RxText::new(alloc, "f")?,
+        schema: schema.canonical().copy(alloc)?,
+    })
+}
+
+fn document(alloc: Global, schema: &Schema, json: &str, lwt: u64) -> Result<Record, Fail>
+    ensures { IfOk result (λ entry. IsOrdered (content entry)) }
+{
+    Ok(row(alloc, state(alloc, schema, json)?, lwt)?)
 }
 
 fn plain(collection: Collection) -> Result<Plain, AllocError>

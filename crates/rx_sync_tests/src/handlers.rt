@@ -79,55 +79,67 @@ fn kind_of(word: &str) -> HandlerKind {
 fn a_handler_is_added_once(rt: HostRuntime) -> Result<(), Fail> {
     let alloc = rt.alloc();
     let mut handlers = Handlers::new(alloc);
-    let first = Box::new(
-        alloc,
-        |alloc: Global, field: &str, real: &State, new: &State| {
-            resolved(alloc, HandlerKind::ForkWins, field, real, new)
-        },
-    )?;
-    handlers.add(Handler::new(RxText::new(alloc, "x")?, HandlerKind::ForkWins, first))?;
-    let second = Box::new(
-        alloc,
-        |alloc: Global, field: &str, real: &State, new: &State| {
-            resolved(alloc, HandlerKind::MasterWins, field, real, new)
-        },
-    )?;
-    let again = Handler::new(RxText::new(alloc, "x")?, HandlerKind::MasterWins, second);
-    let Err(HandlerFault::Twice(name)) = handlers.add(again) else {
-        return Err(Fail::new("a second handler of one name"));
-    };
-    assert_eq!(&rt; name.as_str(), "x");
+    for kind in [HandlerKind::ForkWins, HandlerKind::MasterWins] {
+        let name = RxText::new(alloc, "x")?;
+        let call = Box::new(
+            alloc,
+            move |alloc: Global, field: &str, real: &State, new: &State| {
+                resolved(alloc, kind, field, real, new)
+            },
+        )?;
+        compare_added(kind, handlers.add(Handler::new(name, kind, call)))?;
+    }
     Ok(())
+}
+
+// The first handler of a name is added, and the second isn't.
+fn compare_added(kind: HandlerKind, added: Result<(), HandlerFault>) -> Result<(), Fail> {
+    match (kind, added) {
+        (HandlerKind::ForkWins, Ok(())) => Ok(()),
+        (HandlerKind::MasterWins, Err(HandlerFault::Twice(name))) if name.as_str() == "x" => Ok(()),
+        _ => Err(Fail::new("a handler added twice or not at all")),
+    }
 }
 
 #[test]
 fn a_handler_is_found_by_its_name(rt: HostRuntime) -> Result<(), Fail> {
     let alloc = rt.alloc();
-    let schema = schema(alloc)?;
-    let mut handlers = Handlers::new(alloc);
+    let name = RxText::new(alloc, "x")?;
     let call = Box::new(
         alloc,
         |alloc: Global, field: &str, real: &State, new: &State| {
             resolved(alloc, HandlerKind::ForkWins, field, real, new)
         },
     )?;
-    handlers.add(Handler::new(RxText::new(alloc, "x")?, HandlerKind::ForkWins, call))?;
-    let found = found(alloc, &schema, &handlers)?;
-    assert_eq!(&rt; found.as_str(), r#"x {"_deleted":false,"id":"k","n":2}"#);
-    Ok(())
+    let mut handlers = Handlers::new(alloc);
+    handlers.add(Handler::new(name, HandlerKind::ForkWins, call))?;
+    find_both(alloc, &handlers)
 }
 
-// The name of the handler x, where there is no y, and how it resolves a conflict.
-fn found(alloc: Global, schema: &Schema, handlers: &Handlers) -> Result<String, Fail> {
+// There is no handler y, and the handler x resolves a conflict.
+fn find_both(alloc: Global, handlers: &Handlers) -> Result<(), Fail> {
     if handlers.find("y").is_some() {
         return Err(Fail::new("a handler y"));
     }
-    let Some(handler) = handlers.find("x") else {
-        return Err(Fail::new("no handler x"));
-    };
+    match handlers.find("x") {
+        Some(handler) => compare_resolved(alloc, handler),
+        None => Err(Fail::new("no handler x")),
+    }
+}
+
+fn compare_resolved(alloc: Global, handler: &Handler) -> Result<(), Fail> {
+    let schema = schema(alloc)?;
+    let found = resolved_by(alloc, &schema, handler)?;
+    let due = r#"{"_deleted":false,"id":"k","n":2}"#;
+    if found.as_str() == due && handler.name().as_str() == "x" {
+        return Ok(());
+    }
+    Err(Fail::new("another handler"))
+}
+
+fn resolved_by(alloc: Global, schema: &Schema, handler: &Handler) -> Result<RxText, Fail> {
     let real = state(alloc, schema, r#"{"_deleted":false,"id":"k","n":1}"#)?;
     let new = state(alloc, schema, r#"{"_deleted":false,"id":"k","n":2}"#)?;
-    let name = handler.name().as_str();
-    let became = text(alloc, &handler.resolve(alloc, "", &real, &new)?)?;
-    Ok(format!(in alloc; "{name} {}", became.as_str())?)
+    let became = handler.resolve(alloc, "", &real, &new)?;
+    Ok(text(alloc, &became)?)
 }

@@ -269,22 +269,13 @@ fn a_reply_is_read_or_its_first_fault_told(rt: HostRuntime) -> Result<(), Fail> 
     play_all(rt.alloc(), Kind::Reply, REPLIES)
 }
 
+// Plays the cases: each line up to the next, with what is told of it.
 fn play_all(alloc: Global, kind: Kind, cases: &str) -> Result<(), Fail> {
     let schema = schema(alloc)?;
-    let mut line = String::new(alloc);
     let mut played = 0u64;
-    for fact in cases.lines() {
-        if let Some(due) = fact.strip_prefix("< ") {
-            let told = told(alloc, &schema, kind, line.as_str())?;
-            if told.as_str() != due {
-                let why = format!(in alloc; "{line} is told {told}, and {due} is due")?;
-                return Err(Fail::new(why.as_str()));
-            }
-            played = played.saturating_add(1);
-        } else if let Some(short) = fact.strip_prefix('>') {
-            line = short.trim_start().replace(alloc, "HASH", HASH)?;
-            line = line.as_str().replace(alloc, "SPACE", " ")?;
-        }
+    for case in cases.split("\n>").skip(1) {
+        play(alloc, &schema, kind, case)?;
+        played = played.saturating_add(1);
     }
     if played == 0 {
         return Err(Fail::new("a text without cases"));
@@ -292,22 +283,54 @@ fn play_all(alloc: Global, kind: Kind, cases: &str) -> Result<(), Fail> {
     Ok(())
 }
 
-// What is told of a line.
-fn told(alloc: Global, schema: &Schema, kind: Kind, line: &str) -> Result<String, AllocError> {
-    let read = match kind {
-        Kind::Request => match Request::read(alloc, line.as_bytes(), schema) {
-            Ok(request) => Ok(request.text(alloc, schema)?),
-            Err(fault) => Err(fault),
-        },
-        Kind::Reply => match Reply::read(alloc, line.as_bytes(), schema) {
-            Ok(reply) => Ok(reply.text(alloc)?),
-            Err(fault) => Err(fault),
-        },
+fn play(alloc: Global, schema: &Schema, kind: Kind, case: &str) -> Result<(), Fail> {
+    let Some((short, rest)) = case.split_once("\n< ") else {
+        return Err(Fail::new("a line of which nothing is told"));
     };
-    match read {
-        Ok(text) if text.as_str() == line => String::from_str(alloc, "read"),
-        Ok(text) => String::from_str(alloc, text.as_str()),
-        Err(fault) => shown(alloc, &fault),
+    let due = rest.lines().next().unwrap_or("");
+    let line = long(alloc, short.trim_start())?;
+    compare(alloc, schema, kind, line.as_str(), due)
+}
+
+// The line that a short one stands for.
+fn long(alloc: Global, short: &str) -> Result<String, AllocError> {
+    let line = short.replace(alloc, "HASH", HASH)?;
+    line.as_str().replace(alloc, "SPACE", " ")
+}
+
+fn compare(alloc: Global, schema: &Schema, kind: Kind, line: &str, due: &str) -> Result<(), Fail> {
+    let told = told(alloc, schema, kind, line)?;
+    if told.as_str() == due {
+        return Ok(());
+    }
+    Err(Fail::new(format_args!("{line} is told {}, and {due} is due", told.as_str())))
+}
+
+// What is told of a line.
+fn told(alloc: Global, schema: &Schema, kind: Kind, line: &str) -> Result<RxText, AllocError> {
+    let text = match kind {
+        Kind::Request => text_of_request(alloc, schema, line)?,
+        Kind::Reply => text_of_reply(alloc, schema, line)?,
+    };
+    if text.as_str() == line {
+        return RxText::new(alloc, "read");
+    }
+    Ok(text)
+}
+
+// The text of the request that is read, or its fault.
+fn text_of_request(alloc: Global, schema: &Schema, line: &str) -> Result<RxText, AllocError> {
+    match Request::read(alloc, line.as_bytes(), schema) {
+        Ok(request) => request.text(alloc, schema),
+        Err(fault) => RxText::from_string(alloc, shown(alloc, &fault)?),
+    }
+}
+
+// The text of the reply that is read, or its fault.
+fn text_of_reply(alloc: Global, schema: &Schema, line: &str) -> Result<RxText, AllocError> {
+    match Reply::read(alloc, line.as_bytes(), schema) {
+        Ok(reply) => reply.text(alloc),
+        Err(fault) => RxText::from_string(alloc, shown(alloc, &fault)?),
     }
 }
 
@@ -316,62 +339,74 @@ fn a_message_has_at_most_a_hundred_states(rt: HostRuntime) -> Result<(), Fail> {
     let alloc = rt.alloc();
     let schema = schema(alloc)?;
     for (count, due) in [(1, true), (MOST_STATES, true), (MOST_STATES + 1, false)] {
-        let rows = listed(alloc, count, "{\"new\":", "}")?;
-        let push = format!(in alloc;
-            "{{\"ask\":\"push\",\"epoch\":1,\"n\":1,\"rows\":{rows},\"schema\":{HASH}}}"
-        )?;
-        let read = Request::read(alloc, push.as_str().as_bytes(), &schema);
-        assert_eq!(&rt; read.is_ok(), due);
-        let states = listed(alloc, count, "", "")?;
-        let docs = format!(in alloc; "{{\"docs\":{states},\"epoch\":1,\"n\":1}}")?;
-        let read = Reply::read(alloc, docs.as_str().as_bytes(), &schema);
-        assert_eq!(&rt; read.is_ok(), due);
+        compare_count(alloc, &schema, count, due)?;
     }
     Ok(())
+}
+
+fn compare_count(alloc: Global, schema: &Schema, count: usize, due: bool) -> Result<(), Fail> {
+    let push = is_push_read(alloc, schema, count)?;
+    let page = is_page_read(alloc, schema, count)?;
+    if push == due && page == due {
+        return Ok(());
+    }
+    Err(Fail::new(format_args!("{count} states")))
+}
+
+// Whether a push of so many rows is read.
+fn is_push_read(alloc: Global, schema: &Schema, count: usize) -> Result<bool, AllocError> {
+    let rows = listed(alloc, count, "{\"new\":", "}")?;
+    let push = format!(in alloc;
+        "{{\"ask\":\"push\",\"epoch\":1,\"n\":1,\"rows\":{rows},\"schema\":{HASH}}}"
+    )?;
+    Ok(Request::read(alloc, push.as_str().as_bytes(), schema).is_ok())
+}
+
+// Whether the reply to a pull with so many states is read.
+fn is_page_read(alloc: Global, schema: &Schema, count: usize) -> Result<bool, AllocError> {
+    let states = listed(alloc, count, "", "")?;
+    let docs = format!(in alloc; "{{\"docs\":{states},\"epoch\":1,\"n\":1}}")?;
+    Ok(Reply::read(alloc, docs.as_str().as_bytes(), schema).is_ok())
 }
 
 #[test]
 fn a_line_has_a_longest_length(rt: HostRuntime) -> Result<(), Fail> {
     let alloc = rt.alloc();
+    let line = " ".repeat(alloc, LONGEST_LINE + 1)?;
     let schema = schema(alloc)?;
-    let block = [0u8; 65_536];
-    let mut line = Vec::with_capacity(alloc, LONGEST_LINE + 1)?;
-    for _ in 0..LONGEST_LINE / block.len() {
-        line.extend_from_slice(&block)?;
+    for kind in [Kind::Request, Kind::Reply] {
+        compare(alloc, &schema, kind, line.as_str(), "too_long")?;
     }
-    line.push(0)?;
-    let Err(fault) = Request::read(alloc, line.as_slice(), &schema) else {
-        return Err(Fail::new("a request of a line that is too long"));
-    };
-    assert_eq!(&rt; fault.name(), "too_long");
-    let Err(fault) = Reply::read(alloc, line.as_slice(), &schema) else {
-        return Err(Fail::new("a reply of a line that is too long"));
-    };
-    assert_eq!(&rt; fault.name(), "too_long");
     Ok(())
 }
 
 #[test]
 fn the_members_of_a_pull_are_its_parts(rt: HostRuntime) -> Result<(), Fail> {
     let alloc = rt.alloc();
+    let line = long(
+        alloc,
+        r#"{"ask":"pull","batch":3,"epoch":4,"n":5,"place":{"id":"k","lwt":6},"schema":HASH}"#,
+    )?;
     let schema = schema(alloc)?;
-    let line =
-        r#"{"ask":"pull","batch":3,"epoch":4,"n":5,"place":{"id":"k","lwt":6},"schema":HASH}"#;
-    let line = line.replace(alloc, "HASH", HASH)?;
-    let Ok(request) = Request::read(alloc, line.as_str().as_bytes(), &schema) else {
-        return Err(Fail::new("a line that is no request"));
-    };
-    assert_eq!(&rt; (request.epoch, request.n), (4, 5));
+    match Request::read(alloc, line.as_str().as_bytes(), &schema) {
+        Ok(request) => compare_parts(&request),
+        Err(_) => Err(Fail::new("a line that is no request")),
+    }
+}
+
+fn compare_parts(request: &Request) -> Result<(), Fail> {
     let AskKind::Pull {
         place: Some(place),
-        batch: 3,
-    } = request.ask
+        batch,
+    } = &request.ask
     else {
         return Err(Fail::new("another pull"));
     };
-    assert_eq!(&rt; place.lwt, 6);
-    assert_eq!(&rt; place.id.as_str(), "k");
-    Ok(())
+    let numbers = (*batch, request.epoch, request.n, place.lwt);
+    if numbers == (3, 4, 5, 6) && place.id.as_str() == "k" {
+        return Ok(());
+    }
+    Err(Fail::new("other parts"))
 }
 
 #[test]

@@ -6,7 +6,7 @@
 //     == a fork                    what the case is about
 //     + rows f 5 1:a 2:b!          a record; a height and a key, with a mark where it is deleted
 //     < {"end":END,..}             a line of the report
-use crate::served::{hash, schema};
+use crate::served::{add_record, collection, hash};
 use rx_disk::MemoryDisk;
 use rx_host::check;
 use rx_outside::Stop;
@@ -47,29 +47,11 @@ const CASES: &str = r#"
 fn a_report_tells_what_a_journal_holds(rt: HostRuntime) -> Result<(), Fail> {
     let alloc = rt.alloc();
     let hash = hash(alloc)?;
+    let cases = CASES.replace(alloc, "HASH", hash.as_str())?;
     let mut played = 0u64;
-    for case in CASES.split("\n== ") {
-        let Some((_, facts)) = case.split_once('\n') else {
-            continue;
-        };
-        let mut bytes = Vec::from_slice(alloc, b"RXJOURN1")?;
-        let mut due = String::new(alloc);
-        for line in facts.lines() {
-            if let Some(words) = line.strip_prefix("+ ") {
-                let record = record_of(alloc, words)?;
-                add_record(&mut bytes, &record.write(alloc)?)?;
-            } else if let Some(line) = line.strip_prefix("< ") {
-                write!(due, "{line}\n")?;
-                played = played.saturating_add(1);
-            }
-        }
-        // Any byte but 1 is a closed gate, and what stands behind it counts for nothing.
-        let length = bytes.len().saturating_add(1);
-        bytes.extend_from_slice(b"\xffRXJOURN1")?;
-        let length = format!(in alloc; "{length}")?;
-        let due = due.as_str().replace(alloc, "END", length.as_str())?;
-        let due = due.as_str().replace(alloc, "HASH", hash.as_str())?;
-        compare(alloc, bytes, due.as_str())?;
+    for case in cases.as_str().split("\n== ").skip(1) {
+        play(alloc, case)?;
+        played = played.saturating_add(1);
     }
     if played == 0 {
         return Err(Fail::new("a text without cases"));
@@ -77,112 +59,153 @@ fn a_report_tells_what_a_journal_holds(rt: HostRuntime) -> Result<(), Fail> {
     Ok(())
 }
 
+fn play(alloc: Global, case: &str) -> Result<(), Fail> {
+    let mut bytes = records_of(alloc, case)?;
+    let due = report_due(alloc, case, bytes.len().saturating_add(1))?;
+    // Any byte but 1 is a closed gate, and what stands behind it counts for nothing.
+    bytes.extend_from_slice(b"\xffRXJOURN1")?;
+    compare(alloc, bytes.as_slice(), due.as_str())
+}
+
+// A journal of the records that a case says, without a closed gate.
+fn records_of(alloc: Global, case: &str) -> Result<Vec<u8>, Fail> {
+    let mut bytes = Vec::from_slice(alloc, b"RXJOURN1")?;
+    for line in case.lines() {
+        if let Some(words) = line.strip_prefix("+ ") {
+            add_record(alloc, &mut bytes, record_of(alloc, words)?)?;
+        }
+    }
+    Ok(bytes)
+}
+
+// The lines of the report that a case says, of a journal of this length.
+fn report_due(alloc: Global, case: &str, length: usize) -> Result<String, AllocError> {
+    let mut due = String::new(alloc);
+    for line in case.lines() {
+        if let Some(line) = line.strip_prefix("< ") {
+            write!(due, "{line}\n")?;
+        }
+    }
+    let length = format!(in alloc; "{length}")?;
+    due.as_str().replace(alloc, "END", length.as_str())
+}
+
 #[test]
 fn a_file_that_is_no_journal_is_not_reported_of(rt: HostRuntime) -> Result<(), Fail> {
     let alloc = rt.alloc();
     let bytes = Vec::from_slice(alloc, b"hello world")?;
     let mut disk = MemoryDisk::new(alloc, bytes, Vec::new(alloc));
-    let Err(Stop::NotJournal) = check(alloc, &mut disk) else {
-        return Err(Fail::new("a report of no journal"));
-    };
-    assert!(rt; disk.bytes() == b"hello world".as_slice());
-    // A file that isn't there is a journal without records, and isn't made.
-    let mut disk = MemoryDisk::new(alloc, Vec::new(alloc), Vec::new(alloc));
-    let Ok(report) = check(alloc, &mut disk) else {
-        return Err(Fail::new("no report of an absent file"));
-    };
-    assert_eq!(rt; report.as_str(), "{\"end\":9,\"epoch\":0,\"records\":0}\n");
-    assert!(rt; disk.bytes().is_empty());
-    let mut disk = MemoryDisk::new(alloc, Vec::new(alloc), Vec::from_slice(alloc, &[1])?);
-    let Err(Stop::Disk) = check(alloc, &mut disk) else {
-        return Err(Fail::new("a disk that failed unseen"));
-    };
-    Ok(())
+    let is_refused = matches!(check(alloc, &mut disk), Err(Stop::NotJournal));
+    if is_refused && disk.bytes() == b"hello world".as_slice() {
+        return Ok(());
+    }
+    Err(Fail::new("a report of no journal, or another file"))
 }
 
-fn compare(alloc: Global, bytes: Vec<u8>, due: &str) -> Result<(), Fail> {
-    let mut disk = MemoryDisk::new(alloc, bytes, Vec::new(alloc));
-    let before = Vec::from_slice(alloc, disk.bytes())?;
+#[test]
+fn a_file_that_is_not_there_is_a_journal_without_records(rt: HostRuntime) -> Result<(), Fail> {
+    compare(rt.alloc(), &[], "{\"end\":9,\"epoch\":0,\"records\":0}\n")
+}
+
+#[test]
+fn a_disk_that_fails_gives_no_report(rt: HostRuntime) -> Result<(), Fail> {
+    let alloc = rt.alloc();
+    let fails = Vec::from_slice(alloc, &[1])?;
+    let mut disk = MemoryDisk::new(alloc, Vec::new(alloc), fails);
+    match check(alloc, &mut disk) {
+        Err(Stop::Disk) => Ok(()),
+        _ => Err(Fail::new("a disk that failed unseen")),
+    }
+}
+
+// The report of these bytes is this one, and they stay as they are.
+fn compare(alloc: Global, bytes: &[u8], due: &str) -> Result<(), Fail> {
+    let mut disk = MemoryDisk::new(alloc, Vec::from_slice(alloc, bytes)?, Vec::new(alloc));
     let Ok(report) = check(alloc, &mut disk) else {
         return Err(Fail::new("a stop"));
     };
     if report.as_str() != due {
-        let why = format!(in alloc; "it reports {report}, and {due} is due")?;
-        return Err(Fail::new(why.as_str()));
+        return Err(Fail::new(format_args!("it reports {report}, and {due} is due")));
     }
-    if disk.bytes() != before.as_slice() {
+    if disk.bytes() != bytes {
         return Err(Fail::new("the journal is changed"));
     }
     Ok(())
 }
 
-// Adds a record behind its open gate.
-fn add_record(bytes: &mut Vec<u8>, body: &Vec<u8>) -> Result<(), Fail> {
-    let Ok(count) = u32::try_from(body.len()) else {
-        return Err(Fail::new("a long body"));
-    };
-    bytes.push(1)?;
-    bytes.extend_from_slice(&count.to_be_bytes())?;
-    bytes.extend_from_slice(body.as_slice())?;
-    Ok(())
-}
-
 // The record that these words say.
 fn record_of(alloc: Global, words: &str) -> Result<Record, Fail> {
-    let mut words = words.split(' ');
-    let kind = words.next().unwrap_or("");
-    let first = words.next().unwrap_or("");
-    let name = RxText::new(alloc, first)?;
+    let (kind, rest) = words.split_once(' ').unwrap_or((words, ""));
     match kind {
         "epoch" => Ok(Record::Epoch {
-            number: first.parse()?,
+            number: rest.parse()?,
         }),
-        "collection" => Ok(Record::Collection {
-            name,
-            schema: schema(alloc)?.canonical().copy(alloc)?,
-        }),
-        "rows" => {
-            let lwt = words.next().unwrap_or("").parse()?;
-            let mut rows = Vec::new(alloc);
-            for word in words {
-                let (height, key) = word.split_once(':').unwrap_or(("", ""));
-                rows.push(RowOut {
-                    height: height.parse()?,
-                    state: state_of(alloc, key)?,
-                })?;
-            }
-            Ok(Record::Rows { name, lwt, rows })
-        }
-        "replication" | "remote" => {
-            let fork = RxText::new(alloc, words.next().unwrap_or(""))?;
-            let master = words.next().unwrap_or("");
-            Ok(Record::Replication {
-                name,
-                fork,
-                master: if kind == "remote" {
-                    MasterName::Port(master.parse()?)
-                } else {
-                    MasterName::Local(RxText::new(alloc, master)?)
-                },
-                handler: RxText::new(alloc, "join")?,
-                field: None,
-            })
-        }
-        _ => {
-            let mut known = Vec::new(alloc);
-            for key in words {
-                known.push(state_of(alloc, key)?)?;
-            }
-            Ok(Record::Exchange {
-                name,
-                lwt: 0,
-                rows: Vec::new(alloc),
-                known,
-                up: None,
-                down: None,
-            })
-        }
+        "collection" => collection(alloc, rest),
+        "rows" => rows(alloc, rest),
+        "replication" => replication(alloc, rest, false),
+        "remote" => replication(alloc, rest, true),
+        _ => known(alloc, rest),
     }
+}
+
+// Documents of a collection, with their write time.
+fn rows(alloc: Global, words: &str) -> Result<Record, Fail> {
+    let mut words = words.split(' ');
+    let name = words.next().unwrap_or("");
+    let lwt = words.next().unwrap_or("").parse()?;
+    let mut rows = Vec::new(alloc);
+    for word in words {
+        rows.push(row(alloc, word)?)?;
+    }
+    let name = RxText::new(alloc, name)?;
+    Ok(Record::Rows { name, lwt, rows })
+}
+
+fn row(alloc: Global, word: &str) -> Result<RowOut, Fail> {
+    let (height, key) = word.split_once(':').unwrap_or(("", ""));
+    let height = height.parse()?;
+    let state = state_of(alloc, key)?;
+    Ok(RowOut { height, state })
+}
+
+// A replication of a fork with a master, here or at a port.
+fn replication(alloc: Global, words: &str, is_remote: bool) -> Result<Record, Fail> {
+    let mut words = words.split(' ');
+    let name = RxText::new(alloc, words.next().unwrap_or(""))?;
+    let fork = RxText::new(alloc, words.next().unwrap_or(""))?;
+    let master = master(alloc, words.next().unwrap_or(""), is_remote)?;
+    let handler = RxText::new(alloc, "join")?;
+    Ok(Record::Replication {
+        name,
+        fork,
+        master,
+        handler,
+        field: None,
+    })
+}
+
+fn master(alloc: Global, word: &str, is_remote: bool) -> Result<MasterName, Fail> {
+    if is_remote {
+        return Ok(MasterName::Port(word.parse()?));
+    }
+    Ok(MasterName::Local(RxText::new(alloc, word)?))
+}
+
+// What the fork of a replication knows.
+fn known(alloc: Global, words: &str) -> Result<Record, Fail> {
+    let (name, keys) = words.split_once(' ').unwrap_or((words, ""));
+    let mut known = Vec::new(alloc);
+    for key in keys.split(' ') {
+        known.push(state_of(alloc, key)?)?;
+    }
+    Ok(Record::Exchange {
+        name: RxText::new(alloc, name)?,
+        lwt: 0,
+        rows: Vec::new(alloc),
+        known,
+        up: None,
+        down: None,
+    })
 }
 
 // A document of a key alone; a mark tells that it is deleted.

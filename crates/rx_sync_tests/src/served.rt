@@ -4,10 +4,10 @@
 // for a space.
 //
 //     == paging                          what the case is about
+//     = request 1                        a connection: how it ends, after so many requests
 //     > {"ask":"pull",..}                a line that the peer sends
 //     ~ {"ask"                           what it sends without an end
 //     < {"docs":[],..}                   a line that is due
-//     = request 1                        how the connection ends, after so many requests
 ghost use Rattle.std.specs.Prelude.{◌<◌};
 
 use rx_disk::MemoryDisk;
@@ -28,24 +28,25 @@ pub(crate) const LIMIT: u64 = 268_435_456;
 
 const CASES: &str = r#"
 == a request, and the same with a space too many
+= request 1
 > {"ask":"pull","batch":100,"epoch":1,"n":1,"schema":HASH}
 > {SPACE"ask":"pull","batch":100,"epoch":1,"n":1,"schema":HASH}
 > {"ask":"pull","batch":100,"epoch":1,"n":2,"schema":HASH}
 < {"docs":[],"epoch":1,"n":1}
 < {"fault":"spelling"}
-= request 1
 
 == a peer that sends nothing, one that goes away in mid-line, and bytes that are no request
 = peer 0
+= peer 1
 > {"ask":"pull","batch":1,"epoch":1,"n":1,"schema":HASH}
 ~ {"ask":"pull","batch":1
 < {"docs":[],"epoch":1,"n":1}
-= peer 1
+= request 0
 > hello
 < {"fault":"not_json"}
-= request 0
 
 == paging: five documents of one commit, two at a time
+= peer 5
 > {"ask":"push","epoch":1,"n":1,"rows":[{"new":{"_deleted":false,"id":"g"}},{"new":{"_deleted":false,"id":"a"}},{"new":{"_deleted":false,"id":"e"}},{"new":{"_deleted":false,"id":"b"}},{"new":{"_deleted":false,"id":"d"}}],"schema":HASH}
 > {"ask":"pull","batch":2,"epoch":1,"n":2,"schema":HASH}
 > {"ask":"pull","batch":2,"epoch":1,"n":3,"place":{"id":"b","lwt":1},"schema":HASH}
@@ -56,9 +57,9 @@ const CASES: &str = r#"
 < {"docs":[{"_deleted":false,"id":"d"},{"_deleted":false,"id":"e"}],"epoch":1,"n":3,"place":{"id":"e","lwt":1}}
 < {"docs":[{"_deleted":false,"id":"g"}],"epoch":1,"n":4,"place":{"id":"g","lwt":1}}
 < {"docs":[],"epoch":1,"n":5,"place":{"id":"g","lwt":1}}
-= peer 5
 
 == two peers race for one document, by turns: the second meets what the first wrote
+= peer 1
 > {"ask":"push","epoch":1,"n":1,"rows":[{"new":{"_deleted":false,"id":"a","n":1}}],"schema":HASH}
 < {"conflicts":[],"epoch":1,"n":1}
 = peer 1
@@ -67,12 +68,11 @@ const CASES: &str = r#"
 = peer 1
 > {"ask":"push","epoch":7,"n":2,"rows":[{"assumed":{"_deleted":false,"id":"a","n":1},"new":{"_deleted":false,"id":"a","n":2}}],"schema":HASH}
 < {"conflicts":[],"epoch":7,"n":2}
-= peer 1
+= peer 2
 > {"ask":"push","epoch":1,"n":2,"rows":[{"assumed":{"_deleted":false,"id":"a","n":1},"new":{"_deleted":true,"id":"a","n":1}}],"schema":HASH}
 > {"ask":"pull","batch":1,"epoch":1,"n":3,"schema":HASH}
 < {"conflicts":[{"_deleted":false,"id":"a","n":2}],"epoch":1,"n":2}
 < {"docs":[{"_deleted":false,"id":"a","n":2}],"epoch":1,"n":3,"place":{"id":"a","lwt":2}}
-= peer 2
 "#;
 
 #[test]
@@ -85,36 +85,40 @@ fn a_wire_that_gives_byte_by_byte_changes_nothing(rt: HostRuntime) -> Result<(),
     play_all(rt.alloc(), 1)
 }
 
+// A push and a pull, and the replies to them.
+const BOTH: &str =
+    r#"{"ask":"push","epoch":1,"n":1,"rows":[{"new":{"_deleted":false,"id":"a"}}],"schema":HASH}
+{"ask":"pull","batch":1,"epoch":1,"n":2,"schema":HASH}
+"#;
+
+const REPLIES: &str = r#"{"conflicts":[],"epoch":1,"n":1}
+{"docs":[{"_deleted":false,"id":"a"}],"epoch":1,"n":2,"place":{"id":"a","lwt":1}}
+"#;
+
 #[test]
 fn each_call_of_a_wire_may_fail(rt: HostRuntime) -> Result<(), Fail> {
     let alloc = rt.alloc();
     let hash = hash(alloc)?;
-    let push =
-        r#"{"ask":"push","epoch":1,"n":1,"rows":[{"new":{"_deleted":false,"id":"a"}}],"schema":HASH}"#;
-    let pull = r#"{"ask":"pull","batch":1,"epoch":1,"n":2,"schema":HASH}"#;
-    let both = format!(in alloc; "{push}\n{pull}\n")?;
-    let input = both.as_str().replace(alloc, "HASH", hash.as_str())?;
-    let due = r#"{"conflicts":[],"epoch":1,"n":1}
-{"docs":[{"_deleted":false,"id":"a"}],"epoch":1,"n":2,"place":{"id":"a","lwt":1}}
-"#;
+    let input = BOTH.replace(alloc, "HASH", hash.as_str())?;
     for call in 1..12 {
-        let mut disk = journal(alloc)?;
-        let fails = Vec::from_slice(alloc, &[call])?;
-        let (sent, ended) = serve(alloc, &mut disk, input.as_str(), 60, fails)?;
-        if !due.as_bytes().starts_with(sent.as_slice()) {
-            return Err(Fail::new("what was sent is no front of what is due"));
-        }
-        if sent.len() == due.len() {
-            continue;
-        }
-        assert_eq!(&rt; ended.why == Why::Wire, true);
-        // A commit of whose reply a byte was sent is in the journal.
-        let again = pull.replace(alloc, "HASH", hash.as_str())?;
-        let line = format!(in alloc; "{again}\n")?;
-        let (held, _) = serve(alloc, &mut disk, line.as_str(), 60, Vec::new(alloc))?;
-        if sent.len() > 0 && held.len() < 60 {
-            return Err(Fail::new("a commit is missing whose reply was sent"));
-        }
+        fail_at(alloc, hash.as_str(), input.as_str(), call)?;
+    }
+    Ok(())
+}
+
+// A commit of whose reply a byte was sent is in the journal, whichever call of the wire fails.
+fn fail_at(alloc: Global, hash: &str, input: &str, call: u64) -> Result<(), Fail> {
+    let mut disk = journal(alloc)?;
+    let fails = Vec::from_slice(alloc, &[call])?;
+    let (sent, ended) = serve(alloc, &mut disk, input, 60, fails)?;
+    if !REPLIES.as_bytes().starts_with(sent.as_slice()) {
+        return Err(Fail::new("what was sent is no front of what is due"));
+    }
+    if sent.len() < REPLIES.len() && ended.why != Why::Wire {
+        return Err(Fail::new("a reply is missing"));
+    }
+    if sent.len() > 0 && held(alloc, disk.bytes(), hash)? == 0 {
+        return Err(Fail::new("a commit is missing whose reply was sent"));
     }
     Ok(())
 }
@@ -139,42 +143,52 @@ fn each_call_of_a_disk_may_fail_and_stop(rt: HostRuntime) -> Result<(), Fail> {
     let input = PUSHES.replace(alloc, "HASH", hash.as_str())?;
     let mut most = 0;
     for failing in 1..CALLS {
-        let bytes = Vec::from_slice(alloc, journal(alloc)?.bytes())?;
-        let mut disk = MemoryDisk::new(alloc, bytes, Vec::from_slice(alloc, &[failing])?);
-        let answered = pushed(alloc, &mut disk, input.as_str())?;
-        for stop in failing..failing + 2 {
-            for pick in PICKS {
-                let held = held(alloc, disk.stopped(stop, pick)?, hash.as_str())?;
-                assert!(rt;
-                    answered <= held && held <= answered.saturating_add(1),
-                    "call {failing} fails, stop within {stop}: {held} for {answered}"
-                );
-            }
-        }
-        most = most.max(answered);
+        most = most.max(stop_at(alloc, hash.as_str(), input.as_str(), failing)?);
     }
     assert_eq!(rt; most, 2);
     Ok(())
 }
 
+// How many of the pushes are answered where this call fails; each of them is there after a stop.
+fn stop_at(alloc: Global, hash: &str, input: &str, failing: u64) -> Result<usize, Fail> {
+    let mut disk = journal_that_fails(alloc, failing)?;
+    let answered = pushed(alloc, &mut disk, input)?;
+    for stop in failing..failing.saturating_add(2) {
+        for pick in PICKS {
+            let bytes = disk.stopped(stop, pick)?;
+            let held = held(alloc, bytes.as_slice(), hash)?;
+            if held < answered || held > answered.saturating_add(1) {
+                return Err(Fail::new(format_args!(
+                    "call {failing} fails, stop within {stop}: {held} for {answered}"
+                )));
+            }
+        }
+    }
+    Ok(answered)
+}
+
+fn journal_that_fails(alloc: Global, failing: u64) -> Result<MemoryDisk, Fail> {
+    let disk = journal(alloc)?;
+    let bytes = Vec::from_slice(alloc, disk.bytes())?;
+    let fails = Vec::from_slice(alloc, &[failing])?;
+    Ok(MemoryDisk::new(alloc, bytes, fails))
+}
+
 // How many of the pushes were answered, on a disk that may fail.
 fn pushed(alloc: Global, disk: &mut MemoryDisk, input: &str) -> Result<usize, Fail> {
-    let Ok(Some(master)) = MasterEngine::open(alloc, disk, LIMIT, "c") else {
-        return Ok(0);
-    };
     let bytes = Vec::from_slice(alloc, input.as_bytes())?;
     let mut wire = MemoryWire::new(alloc, bytes, 65_536, Vec::new(alloc));
-    let mut clock = MemoryClock::new(Vec::new(alloc));
-    let _ = master.serve(alloc, &mut wire, disk, &mut clock);
+    // A disk that fails is no fault of the test.
+    let _ = serve_wire(alloc, disk, &mut wire);
     Ok(str::from_utf8(wire.sent())?.lines().count())
 }
 
 // How many documents a journal holds, which opens.
-fn held(alloc: Global, bytes: Vec<u8>, hash: &str) -> Result<usize, Fail> {
-    let mut disk = MemoryDisk::new(alloc, bytes, Vec::new(alloc));
+fn held(alloc: Global, bytes: &[u8], hash: &str) -> Result<usize, Fail> {
     let pull = format!(in alloc;
         "{{\"ask\":\"pull\",\"batch\":100,\"epoch\":2,\"n\":1,\"schema\":{hash}}}\n"
     )?;
+    let mut disk = MemoryDisk::new(alloc, Vec::from_slice(alloc, bytes)?, Vec::new(alloc));
     let (sent, _) = serve(alloc, &mut disk, pull.as_str(), 65_536, Vec::new(alloc))?;
     Ok(str::from_utf8(sent.as_slice())?.matches("_deleted").count())
 }
@@ -193,37 +207,12 @@ fn play_all(alloc: Global, piece: usize) -> Result<(), Fail>
     requires { 0 < piece }
 {
     let hash = hash(alloc)?;
-    let mut disk = journal(alloc)?;
-    let mut input = String::new(alloc);
-    let mut due = String::new(alloc);
-    let mut played = 0usize;
-    for line in CASES.lines() {
-        let text = line.replace(alloc, "HASH", hash.as_str())?;
-        let text = text.as_str().replace(alloc, "SPACE", " ")?;
-        let text = text.as_str();
-        if text.starts_with("==") {
-            disk = journal(alloc)?;
-        } else if let Some(sent) = text.strip_prefix("> ") {
-            write!(input, "{sent}\n")?;
-        } else if let Some(rest) = text.strip_prefix("~ ") {
-            input.push_str(rest)?;
-        } else if let Some(reply) = text.strip_prefix("< ") {
-            write!(due, "{reply}\n")?;
-        } else if let Some(end) = text.strip_prefix("= ") {
-            let (sent, ended) = serve(alloc, &mut disk, input.as_str(), piece, Vec::new(alloc))?;
-            if sent.as_slice() != due.as_str().as_bytes() {
-                let why = format!(in alloc; "other bytes than those due: {due}")?;
-                return Err(Fail::new(why.as_str()));
-            }
-            let shown = shown(alloc, &ended)?;
-            if shown.as_str() != end {
-                let why = format!(in alloc; "it ends by {shown}, and {end} is due")?;
-                return Err(Fail::new(why.as_str()));
-            }
-            input.clear();
-            due.clear();
-            played = played.saturating_add(1);
-        }
+    let cases = CASES.replace(alloc, "HASH", hash.as_str())?;
+    let cases = cases.as_str().replace(alloc, "SPACE", " ")?;
+    let mut played = 0u64;
+    for case in cases.as_str().split("\n== ").skip(1) {
+        play(alloc, piece, case)?;
+        played = played.saturating_add(1);
     }
     if played == 0 {
         return Err(Fail::new("a text without cases"));
@@ -231,7 +220,54 @@ fn play_all(alloc: Global, piece: usize) -> Result<(), Fail>
     Ok(())
 }
 
-// Opens the journal and serves a peer that sends this.
+// Plays the connections of a case over one journal, one behind another.
+fn play(alloc: Global, piece: usize, case: &str) -> Result<(), Fail>
+    requires { 0 < piece }
+{
+    let mut disk = journal(alloc)?;
+    for connection in case.split("\n= ").skip(1) {
+        connect(alloc, &mut disk, piece, connection)?;
+    }
+    Ok(())
+}
+
+fn connect(alloc: Global, disk: &mut MemoryDisk, piece: usize, connection: &str) -> Result<(), Fail>
+    requires { 0 < piece }
+{
+    let (end, lines) = connection.split_once('\n').unwrap_or((connection, ""));
+    let (input, due) = sides(alloc, lines)?;
+    let (sent, ended) = serve(alloc, disk, input.as_str(), piece, Vec::new(alloc))?;
+    if sent.as_slice() != due.as_str().as_bytes() {
+        return Err(Fail::new(format_args!("other bytes than those due: {due}")));
+    }
+    compare_end(alloc, &ended, end)
+}
+
+fn compare_end(alloc: Global, ended: &Ended, due: &str) -> Result<(), Fail> {
+    let shown = shown(alloc, ended)?;
+    if shown.as_str() == due {
+        return Ok(());
+    }
+    Err(Fail::new(format_args!("it ends by {shown}, and {due} is due")))
+}
+
+// What the peer of a connection sends, and what it is due to be sent.
+fn sides(alloc: Global, lines: &str) -> Result<(String, String), AllocError> {
+    let mut input = String::new(alloc);
+    let mut due = String::new(alloc);
+    for line in lines.lines() {
+        let (mark, text) = line.split_once(' ').unwrap_or((line, ""));
+        match mark {
+            ">" => write!(input, "{text}\n")?,
+            "~" => input.push_str(text)?,
+            "<" => write!(due, "{text}\n")?,
+            _ => {}
+        }
+    }
+    Ok((input, due))
+}
+
+// Serves a peer that sends this, and says what it was sent and how it ended.
 fn serve(
     alloc: Global,
     disk: &mut MemoryDisk,
@@ -241,34 +277,58 @@ fn serve(
 ) -> Result<(Vec<u8>, Ended), Fail>
     requires { 0 < piece }
 {
-    let Ok(Some(master)) = MasterEngine::open(alloc, disk, LIMIT, "c") else {
-        return Err(Fail::new("the journal has no master"));
-    };
     let bytes = Vec::from_slice(alloc, input.as_bytes())?;
     let mut wire = MemoryWire::new(alloc, bytes, piece, fails);
-    let mut clock = MemoryClock::new(Vec::new(alloc));
-    let Ok((_, ended)) = master.serve(alloc, &mut wire, disk, &mut clock) else {
-        return Err(Fail::new("a stop"));
+    match serve_wire(alloc, disk, &mut wire) {
+        Some(ended) => Ok((Vec::from_slice(alloc, wire.sent())?, ended)),
+        None => Err(Fail::new("no master, or a stop")),
+    }
+}
+
+// Opens the journal and serves what comes over a wire, where neither is stopped.
+fn serve_wire(alloc: Global, disk: &mut MemoryDisk, wire: &mut MemoryWire) -> Option<Ended> {
+    let Ok(Some(master)) = MasterEngine::open(alloc, disk, LIMIT, "c") else {
+        return None;
     };
-    Ok((Vec::from_slice(alloc, wire.sent())?, ended))
+    let mut clock = MemoryClock::new(Vec::new(alloc));
+    match master.serve(alloc, wire, disk, &mut clock) {
+        Ok((_, ended)) => Some(ended),
+        Err(_) => None,
+    }
 }
 
 // A journal that holds the collection.
 pub(crate) fn journal(alloc: Global) -> Result<MemoryDisk, Fail> {
-    let schema = schema(alloc)?;
-    let entry = Record::Collection {
-        name: RxText::new(alloc, "c")?,
-        schema: schema.canonical().copy(alloc)?,
-    };
+    let mut bytes = Vec::from_slice(alloc, b"RXJOURN1")?;
+    add_record(alloc, &mut bytes, collection(alloc, "c")?)?;
+    bytes.push(0)?;
+    Ok(MemoryDisk::new(alloc, bytes, Vec::new(alloc)))
+}
+
+// Adds a record behind its open gate.
+pub(crate) fn add_record(alloc: Global, bytes: &mut Vec<u8>, entry: Record) -> Result<(), Fail> {
     let body = entry.write(alloc)?;
+    add_body(bytes, body.as_slice())
+}
+
+fn add_body(bytes: &mut Vec<u8>, body: &[u8]) -> Result<(), Fail> {
     let Ok(count) = u32::try_from(body.len()) else {
         return Err(Fail::new("a long body"));
     };
-    let mut bytes = Vec::from_slice(alloc, b"RXJOURN1\x01")?;
+    bytes.push(1)?;
     bytes.extend_from_slice(&count.to_be_bytes())?;
-    bytes.extend_from_slice(body.as_slice())?;
-    bytes.push(0)?;
-    Ok(MemoryDisk::new(alloc, bytes, Vec::new(alloc)))
+    bytes.extend_from_slice(body)?;
+    Ok(())
+}
+
+// The record of a collection of the schema.
+pub(crate) fn collection(alloc: Global, name: &str) -> Result<Record, Fail> {
+    let schema = schema(alloc)?;
+    let canonical = schema.canonical().copy(alloc)?;
+    Ok(Record::Collection {
+        name: RxText::new(alloc, name)?,
+        schema: canonical,
+    })
 }
 
 pub(crate) fn schema(alloc: Global) -> Result<Schema, Fail> {
