@@ -47,6 +47,21 @@ pub(crate) fn collection_line<'a>(
     ensures may { IfOk result (λ p. MayDo (doing_of p.doing) session.now) }
 {
     let schema = Schema::read(alloc, schema)?;
+    plan_collection(alloc, session, name, &schema)
+}
+
+// The schema is only lent, so what is answered has none to drop.
+fn plan_collection<'a>(
+    alloc: Global,
+    session: &'a Session,
+    name: RxText,
+    schema: &Schema,
+) -> Result<Outcome<'a>, Fault>
+    requires { is_name name ≡ true }
+    ensures exact { DueBy Memory outcome_of result (collection_with name schema.now
+        (named session.now.world.collections name) session.now.world) }
+    ensures may { IfOk result (λ p. MayDo (doing_of p.doing) session.now) }
+{
     if let Some(holder) = session.holder(name.as_str()) {
         if holder.collection().schema().canonical() != schema.canonical() {
             return Err(Fault::Refused(Refusal::SchemaDiffers));

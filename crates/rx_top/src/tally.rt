@@ -34,11 +34,11 @@ impl Tally {
     }
 
     /// The tally with a line more, unless the emissions are too many to be counted.
-    pub(crate) fn with_line(&self, output: &Output) -> Option<Tally>
+    pub(crate) fn with_line(&self, output: Output) -> Option<Tally>
         requires room { self.now.lines < 2 ^ 64 - 1 }
         requires among { self.now.refused ≤ self.now.lines }
-        ensures some { IfSome result (λ t. t ≡ with_line self.now output.now) }
-        ensures none { IfNone result (2 ^ 64 ≤ self.now.emissions + output.now.emissions) }
+        ensures some { IfSome result (λ t. t ≡ with_line self.now output) }
+        ensures none { IfNone result (2 ^ 64 ≤ self.now.emissions + output.emissions) }
     {
         let emissions = self.emissions.checked_add(output.emissions as u64)?;
         Some(Tally {
@@ -49,8 +49,15 @@ impl Tally {
         })
     }
 
-    /// The line that sums it up, with what the engine holds at the end.
-    pub(crate) fn summary(&self, alloc: Global, engine: &Engine) -> Result<String, AllocError>
+    /// The line that sums it up, with what the engine holds at the end. The engine is dropped.
+    pub(crate) fn summary(&self, alloc: Global, engine: Engine) -> Result<String, AllocError>
+        ensures { IfOk result (λ text. string_bytes text
+            ≡ summary_text self.now (session_of engine).world) }
+    {
+        self.summary_of(alloc, &engine)
+    }
+
+    fn summary_of(&self, alloc: Global, engine: &Engine) -> Result<String, AllocError>
         ensures { IfOk result (λ text. string_bytes text
             ≡ summary_text self.now (session_of engine.now).world) }
     {

@@ -96,7 +96,8 @@ fn open_and_play<D: Disk, N: Dial>(
         Ok(played) => played,
         Err(stop) => return Err(stop),
     };
-    match played.1.summary(alloc, &played.0) {
+    let (engine, tally) = played;
+    match tally.summary(alloc, engine) {
         Ok(text) => Ok(text),
         Err(_) => Err(Stop::Memory),
     }
@@ -140,7 +141,7 @@ fn play_lines<D: Disk, N: Dial>(
             Err(stop) => return Err(stop),
         };
         engine = after;
-        tally = match tally.with_line(&output) {
+        tally = match tally.with_line(output) {
             Some(tally) => tally,
             None => return Err(Stop::Memory),
         };

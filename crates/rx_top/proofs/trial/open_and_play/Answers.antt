@@ -88,8 +88,8 @@ pub returns-in-Ok-summary-clause-illegal : goal.returns-in-Ok-summary-clause-ill
 returns-in-Ok-summary-clause-illegal g c = λ t illegal.
     not_both (g.D.Disk.content c.args.disk.now) illegal (c.in-Ok.ensures.stood t)
 
-pub returns-clause-plays : goal.returns-clause-plays
-returns-clause-plays g c =
+pub returns-in-Err-summary-clause-plays : goal.returns-in-Err-summary-clause-plays
+returns-in-Err-summary-clause-plays g c =
     let kinds = kinds_of c.args.handlers.now in
     let lines = script c.args.seed c.args.count in
     let n0 = stands g.N.Dial c.args.dial.now in
@@ -114,8 +114,8 @@ returns-clause-plays g c =
       tt,
     )
 
-pub returns-clause-illegal : goal.returns-clause-illegal
-returns-clause-illegal g c = λ t illegal.
+pub returns-in-Err-summary-clause-illegal : goal.returns-in-Err-summary-clause-illegal
+returns-in-Err-summary-clause-illegal g c = λ t illegal.
     not_both (g.D.Disk.content c.args.disk.now) illegal (c.in-Ok.ensures.stood t)
 
 pub returns-in-Err-play_lines-clause-plays : goal.returns-in-Err-play_lines-clause-plays
