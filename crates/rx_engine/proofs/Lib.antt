@@ -5,7 +5,6 @@ pub mod Remembering
 pub mod Marking
 pub mod CanTurns
 pub mod AfterTurns
-pub mod Stops
 pub mod Opened
 pub mod Outcomes
 pub mod Setting

@@ -15,7 +15,7 @@ use Rattle.rx_record.specs.declared.record.RowOut.{RowOut}
 use Rattle.rx_reply.specs.Answer.{Answer}
 use Rattle.rx_world.specs.Commit.{commit_to}
 use Rattle.rx_session.specs.Session.{Session}
-use Rattle.rx_engine.proofs.Stops.{handed_on}
+use Rattle.rx_store.proofs.Stops.{handed_on}
 use Rattle.rx_engine.specs.Outcome.{Outcome, collection_at}
 use Rattle.rx_engine.specs.Writes.{commit_one}
 use Rattle.rx_engine.specs.declared.fault.Fault.{Fault}

@@ -10,3 +10,4 @@ pub mod Moving
 mod Opened
 mod ReadFile
 mod Scan
+mod Syncing

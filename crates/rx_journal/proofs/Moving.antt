@@ -124,6 +124,23 @@ module _ {D X : Type 0} (d : Ghosts D) (before after : D) (old new : Windows) (r
     memory = memory;
   }
 
+  pub refused : (e : OpenFault) (r : Result (Option X) OpenFault) → r ≡ Err e
+      → (d.tells → Stay (d.content before) old new) → limit_of new ≡ limit_of old
+      → (d.tells → room new ≤ max (room old) (65536 + length (left old (d.content before))))
+      → Move d before after old new read r
+  refused e r is stay limit memory =
+      let here : Move d before after old new read (Err e) = record {
+        lends = λ told bodies will. tt;
+        lent = λ told bodies lent. tt;
+        stood = λ told. tt;
+        stay = stay;
+        end = tt;
+        place = tt;
+        limit = limit;
+        memory = memory;
+      } in
+      subst (λ (r : Result (Option X) OpenFault). Move d before after old new read r) (sym is) here
+
   -- an answer that reads alike
   module _ {Y : Type 0} (reread : Y → List ℕ) where
     pub lent_alike : (x : X) (y : Y) → reread y ≡ read x → Move d before after old new read (Ok (Some x))

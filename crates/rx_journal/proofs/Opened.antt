@@ -3,13 +3,15 @@ use Rattle.std.proofs.Common.{◌≡◌, inl, inr, ℕ, ◌<◌, ◌≤◌, ◌^
 use Rattle.std.proofs.lemmas.List.{drop_all}
 use Rattle.rx_disk.specs.declared.disk.Disk.{Ghosts}
 use Rattle.rx_disk.specs.Bytes.{overwritten}
-use Rattle.rx_disk.specs.Disk.{Only}
+use Rattle.rx_disk.specs.Disk.{Elapses, Only, Torn}
+use Rattle.rx_disk.specs.Moments.{LeavesOnly}
+use Rattle.rx_disk.proofs.Moments.{started, goes_on, joined}
 use Rattle.rx_frame.specs.File.{header, records, end_of, IsWhole, no_records}
 use Rattle.rx_frame.proofs.Headers.{header_size, header_is}
 use Rattle.rx_frame.proofs.Records.{short_none}
 use Rattle.rx_journal.specs.Image.{image_bytes}
-use Rattle.rx_journal.specs.Opening.{IsBare, IsJournal, Shows, Opens}
-use Rattle.rx_journal.specs.Reading.{IsRead}
+use Rattle.rx_journal.specs.Opening.{IsBare, IsJournal, IsNoWorse, Shows, Opens}
+use Rattle.rx_journal.specs.Reading.{IsRead, IsUntouched}
 use Rattle.rx_journal.specs.declared.image.Image.{Image}
 use Rattle.rx_journal.specs.declared.journal.Journal.{Journal}
 use Rattle.rx_journal.proofs.ReadFile.{wider, none_within}
@@ -152,3 +154,38 @@ pub header_written : (old new : List ℕ) → length old ≤ 9 → new ≡ overw
     → new ≡ no_records
 header_written old new short holds =
     holds ∙ ap (λ (l : List ℕ). no_records ++ l) (drop_all 9 old short) ∙ append-nil no_records
+
+-- what crashes leave until an opening writes: first it syncs, and then it reads
+module _ {D : Type 0} (d : Ghosts D) (old synced : D)
+    (only_now : (c : List ℕ) → d.image_since old (d.moment old) c → d.image old c)
+    (crash : (c : List ℕ) → d.image synced c → d.image old c)
+    (time : Elapses (d.moment old) (d.moment synced) (d.image_since old) (d.image_since synced)
+    (d.image synced)) where
+  pub leaves_synced : LeavesOnly d old synced (IsNoWorse d old)
+  leaves_synced =
+      goes_on d old old synced (IsNoWorse d old)
+      (started d old (IsNoWorse d old) (λ c left. inl (only_now c left))) time
+      (λ c now. inl (crash c now))
+
+  pub leaves_read : (new : D) → IsUntouched d synced new → LeavesOnly d old new (IsNoWorse d old)
+  leaves_read new read =
+      joined d old synced new _ _ (IsNoWorse d old) leaves_synced read.moments (λ c p. p)
+      (λ c now. inl (crash c now))
+
+  pub untouched_read : (new : D) → d.content synced ≡ d.content old → IsUntouched d synced new
+      → IsUntouched d old new
+  untouched_read new same read = record {
+    same = read.same ∙ same;
+    crash = λ c now. crash c (read.crash c now);
+    moments = joined d old synced new _ _ (d.image old)
+        (goes_on d old old synced (d.image old) (started d old (d.image old) only_now) time crash) read.moments
+        (λ c p. p) crash;
+  }
+
+  -- and then it writes over a file of at most 9 bytes
+  pub leaves_made : (read new : D) → IsUntouched d synced read → d.content read ≡ d.content old
+      → length (d.content old) ≤ 9 → LeavesOnly d read new (Torn 0 9 (d.content read))
+      → LeavesOnly d old new (IsNoWorse d old)
+  leaves_made read new untouched same short made =
+      joined d old read new _ _ (IsNoWorse d old) (leaves_read read untouched) made (λ c p. p)
+      (λ c torn. inr (short, omega (arith, torn.no_longer, short, ap length same)))

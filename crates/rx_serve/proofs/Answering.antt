@@ -11,7 +11,7 @@ use Rattle.rx_wire.specs.declared.message.AskKind.{AskKind}
 use Rattle.rx_wire.specs.declared.message.AskKind.TheVariants.{Push, Pull}
 use Rattle.rx_wire.specs.declared.message.Reply.{Reply}
 use Rattle.rx_wire.specs.declared.message.Request.{Request}
-use Rattle.rx_serve.specs.Answered.{answered_at, commit_by, commit_if, commit_at, Commits, Gives, AnswersAsk, Answers, StopsAsk, Stops, Continues, LeavesSome}
+use Rattle.rx_serve.specs.Answered.{answered_at, commit_by, commit_if, commit_at, Commits, Gives, AnswersAsk, Answers, StopsAsk, Stops, Continues, HoldsForSome}
 use Rattle.rx_serve.specs.Course.{Standing, Serves, EndsFor, Breaks, EndsSo, Halts, Steps}
 use Rattle.rx_serve.specs.declared.ended.Ended.{Ended}
 use Rattle.rx_serve.specs.Incoming.{IsNext}
@@ -114,19 +114,21 @@ reply_at (Pull place batch) q old new before after reply Holds h = (
 )
 
 -- and moments joined
-joined_at : (ask : AskKind) (q : Request) (old : Held) (before : List ℕ) (reply : Option Reply)
+pub joined_at : (ask : AskKind) (q : Request) (old : Held) (before : List ℕ) (reply : Option Reply)
     (new : Held) (after : List ℕ) (Holds : Commits → Type 0)
     → AnswersAsk ask q old before reply new after Holds → Continues before after
 joined_at (Push rows) q old before reply new after Holds h = (h.0 ∷ [], h.1)
 joined_at (Pull place batch) q old before reply new after Holds h =
     ([], h.0 ∙ sym (append-nil before))
 
--- the same after a stop
-some_stop : (ask : AskKind) (q : Request) (old : Held) (before after : List ℕ)
-    (Holds : Commits → Commits → Type 0) → StopsAsk ask q old before after Holds → LeavesSome Holds
-some_stop (Push rows) q old before after Holds h =
-    ⊎_elim (λ none. ([], [], none.1)) (λ one. ([], commit_at old one.0 q (Push rows), one.2)) h
-some_stop (Pull place batch) q old before after Holds h = ([], [], h.1)
+-- and it holds over some commits
+pub some_at : (ask : AskKind) (q : Request) (old : Held) (before : List ℕ) (reply : Option Reply)
+    (new : Held) (after : List ℕ) (Holds : Commits → Type 0)
+    → AnswersAsk ask q old before reply new after Holds → HoldsForSome Holds
+some_at (Push rows) q old before reply new after Holds h =
+    (commit_at old h.0 q (Push rows), h.2.holds)
+some_at (Pull place batch) q old before reply new after Holds h =
+    (commit_at old 0 q (Pull place batch), h.1.holds)
 
 one_more : (k : ℕ) → 1 + k ≡ suc k
 one_more k = omega arith

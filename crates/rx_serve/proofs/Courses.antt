@@ -14,6 +14,13 @@ use Rattle.rx_serve.specs.declared.ended.Why.TheVariants as why
 pub since : (old new more : List ℕ) → new ≡ old ++ more → joined_since old new ≡ more
 since old new more is = ap (drop (length old)) is ∙ drop-append_seam old more
 
+-- what joined, as it is told at the end
+pub all_since : (old new : List ℕ) → Continues old new → new ≡ old ++ joined_since old new
+all_since old new h = h.1 ∙ ap (λ v. old ++ v) (sym (since old new h.0 h.1))
+
+pub none_since : (old : List ℕ) → old ≡ old ++ joined_since old old
+none_since old = all_since old old ([], sym (append-nil old))
+
 -- nothing was served yet
 no_replies : (next : Served) → next ≡ after_replies 0 [] [] next
 no_replies next =
@@ -64,6 +71,14 @@ continues_more a b c first second = (
   first.0 ++ second.0,
   second.1 ∙ ap (λ v. v ++ second.0) first.1 ∙ append_assoc a first.0 second.0,
 )
+
+-- what was sent as it ended
+pub sent_at_end : (w : Why) (n : ℕ) (Holds : Commits → Type 0) (a b : Standing)
+    → EndsSo w n Holds a b → Continues a.sent b.sent
+sent_at_end why.Wire n Holds a b h = (h.joins.bytes, h.joins.sent)
+sent_at_end why.Peer n Holds a b h = (h.1.joins.bytes, h.1.joins.sent)
+sent_at_end why.Request n Holds a b h = (h.1.joins.bytes, h.1.joins.sent)
+sent_at_end why.Clock n Holds a b h = (h.1.joins.bytes, h.1.joins.sent)
 
 replies_more : (i j : ℕ) (xs ys : Commits) (bs cs : List ℕ) (next : Served)
     → after_replies i xs bs (after_replies j ys cs next)

@@ -4,5 +4,6 @@ pub mod Fronts
 pub mod Made
 pub mod Opened
 pub mod Playing
+pub mod Stops
 mod Counting
 mod Seen

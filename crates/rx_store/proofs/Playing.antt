@@ -10,7 +10,7 @@ use Rattle.rx_journal.specs.declared.open.OpenFault.{OpenFault}
 use Rattle.rx_journal.specs.declared.open.OpenFault.TheVariants as opening
 use Rattle.rx_journal.specs.declared.windows.Windows.{Windows}
 use Rattle.rx_outside.specs.declared.stop.Stop.{Stop}
-use Rattle.rx_outside.specs.declared.stop.Stop.TheVariants.{NotJournal}
+use Rattle.rx_outside.specs.declared.stop.Stop.TheVariants.{Disk, Full, NotJournal}
 use Rattle.rx_collection.specs.Held.{Held}
 use Rattle.rx_document.specs.declared.place.Place.{Place}
 use Rattle.rx_document.specs.declared.stored.Stored.{Stored}
@@ -158,3 +158,24 @@ pub stop_is : {T U : Type 0} (fault : OpenFault) (stop : Stop) → stop ≡ of_o
     → IsErrOf {T = T} (Err stop) NotJournal → IsErrOf {T = U} (Err fault) opening.NotJournal
 stop_is {T} {U} fault stop same is =
     fault_is {T = T} {U = U} fault (subst (λ (s : Stop). IsErrOf {T = T} (Err s) NotJournal) same is)
+
+-- the disk's fault alone stops as the disk's, and none as a full journal
+pub disk_is : {T U : Type 0} (fault : OpenFault) (stop : Stop) → stop ≡ of_open fault
+    → IsErrOf {T = T} (Err stop) Disk → IsErrOf {T = U} (Err fault) opening.Disk
+disk_is {T} {U} fault stop same is = go fault (subst (λ (s : Stop). IsErrOf {T = T} (Err s) Disk) same is)
+  where
+    go : (fault : OpenFault) → IsErrOf {T = T} (Err (of_open fault)) Disk
+        → IsErrOf {T = U} (Err fault) opening.Disk
+    go opening.Disk is = refl
+    go opening.Memory is = absurd (cc)
+    go opening.NotJournal is = absurd (cc)
+
+pub not_full : {T : Type 0} (fault : OpenFault) (stop : Stop) → stop ≡ of_open fault → (would most : ℕ)
+    → IsErrOf {T = T} (Err stop) (Full would most) → ⊥
+not_full {T} fault stop same would most is =
+    go fault (subst (λ (s : Stop). IsErrOf {T = T} (Err s) (Full would most)) same is)
+  where
+    go : (fault : OpenFault) → IsErrOf {T = T} (Err (of_open fault)) (Full would most) → ⊥
+    go opening.Disk is = absurd (cc)
+    go opening.Memory is = absurd (cc)
+    go opening.NotJournal is = absurd (cc)

@@ -1,4 +1,5 @@
 use Rattle.std.proofs.Common.{◌≡◌, ◌∙◌, ◌+◌, [], ◌∷◌, ◌++◌, length, None, inl, refl, sym, append-nil, arith, length-append}
+use Rattle.rx_outside.proofs.Counts.{rises_later}
 use Rattle.rx_serve.specs.Answered.{Commits}
 use Rattle.rx_host.specs.Engine.{collection_of}
 use Rattle.rx_host.specs.Laws.{gives_on}
@@ -108,6 +109,20 @@ returns-in-Err-clause-left g c =
       stopped_on g.D.Disk c.args.disk.now c.connections.disk c.serve_next.new.disk c.args.first
           c.connections.engine inv.name inv.limit inv.kept.0 inv.kept.1 left.2 left.0 left.1 left.4,
     )
+
+-- a search for these takes long
+
+pub returns-in-Err-clause-door : goal.returns-in-Err-clause-door
+returns-in-Err-clause-door g c = λ is.
+    rises_later _ _ _ c.connections.invariant.door_count (c.in-Err.ensures.door is)
+
+pub returns-in-Err-clause-sink : goal.returns-in-Err-clause-sink
+returns-in-Err-clause-sink g c = λ is.
+    rises_later _ _ _ c.connections.invariant.sink_count (c.in-Err.ensures.sink is)
+
+pub returns-in-Err-clause-disk_only : goal.returns-in-Err-clause-disk_only
+returns-in-Err-clause-disk_only g c = λ is.
+    rises_later _ _ _ c.connections.invariant.disk_count (c.in-Err.ensures.disk_only is)
 
 pub connections-preserved : goal.connections-preserved
 connections-preserved g c =

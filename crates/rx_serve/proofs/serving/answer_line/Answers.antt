@@ -1,7 +1,8 @@
-use Rattle.std.proofs.Common.{rules, ◌≡◌, ℕ, List, true, Err, refl}
+use Rattle.std.proofs.Common.{rules, ◌≡◌, ℕ, List, [], true, Ok, Err, refl}
+use Rattle.std.proofs.lemmas.Result.{IfOk-weaker}
 use Rattle.rx_value.proofs.Outcomes.{on_err}
 use Rattle.rx_wire.specs.Spelling.{request_of}
-use Rattle.rx_serve.specs.Answered.{Commits}
+use Rattle.rx_serve.specs.Answered.{Commits, LeavesSome}
 use Rattle.rx_serve.specs.Course.{Halts}
 use Rattle.rx_serve.specs.Lines.{is_within}
 use Rattle.rx_serve.proofs.Answering.{asked, behind, ends_told, halts_none, refused_line}
@@ -29,3 +30,23 @@ returns-in_err-refuse-in-Err-clause-halts g c = λ told.
     halts_none _ _ Holds (c.in_err-refuse-in-Err.ensures.none_sent told) refl
     (g.met.A.Answer.holds_of_none c.args.answer.now c.requires.going) in
     on_err _ P halts
+
+pub returns-in-Ok-clause-steps : goal.returns-in-Ok-clause-steps
+returns-in-Ok-clause-steps g c = λ told.
+    let old = g.A.Answer.collection c.args.answer.now in
+    let at : request_of old.schema c.args.line.now ≡ Ok c.in-Ok.request = search rules in
+    IfOk-weaker c.answer_request.result _ _
+    (λ ended steps within rest. steps c.args.line.now within at rest)
+    (c.answer_request.ensures.steps told)
+
+-- nothing was done where there is no request
+
+pub returns-in_ok-refuse-in-Err-clause-keeps : goal.returns-in_ok-refuse-in-Err-clause-keeps
+returns-in_ok-refuse-in-Err-clause-keeps g c =
+    ([], g.met.A.Answer.holds_of_none c.args.answer.now c.requires.going)
+
+pub returns-in_err-refuse-in-Err-clause-leaves : goal.returns-in_err-refuse-in-Err-clause-leaves
+returns-in_err-refuse-in-Err-clause-leaves g c =
+    let Left : Type 0 = LeavesSome (g.A.Answer.holds c.args.answer.now c.args.answer.now) in
+    let left : Left = ([], [], g.met.A.Answer.holds_of_none c.args.answer.now c.requires.going) in
+    on_err _ Left left

@@ -1,11 +1,11 @@
 use Rattle.std.proofs.Common.{rules, ◌≡◌, ◌∙◌, ℕ, List, [], ◌∷◌, ◌++◌, true, Ok, refl, sym, ap}
 use Rattle.rx_value.proofs.Outcomes.{on_err}
 use Rattle.rx_wire.specs.Spelling.{request_of}
-use Rattle.rx_serve.specs.Answered.{Commits}
+use Rattle.rx_serve.specs.Answered.{Commits, HoldsForSome, LeavesSome}
 use Rattle.rx_serve.specs.Course.{Halts}
 use Rattle.rx_serve.specs.Lines.{is_within}
 use Rattle.rx_wire.specs.Writing.{reply_text}
-use Rattle.rx_serve.proofs.Answering.{asked, behind, ends_by_clock, serves_one, breaks_after_one, halts_answered, halts_stopped}
+use Rattle.rx_serve.proofs.Answering.{asked, behind, ends_by_clock, serves_one, breaks_after_one, halts_answered, halts_stopped, joined_at, some_at}
 use Rattle.rx_serve.proofs.serving.answer_request.Goals as goal
 
 pub returns-in_default-clause-steps : goal.returns-in_default-clause-steps
@@ -86,3 +86,49 @@ returns-in_err-send_line-clause-halts g c = λ told.
     c.in-Some.reply c.in_ok-reply.field-0 c.in-Some.is c.in_ok-reply.ensures.answers sent sent'
     Holds (λ commits holds. holds) (c.in_err-send_line.ensures.none told) in
     on_err _ P halts
+
+-- the answer alone says which moments and commits there are
+
+pub returns-in_default-clause-joins : goal.returns-in_default-clause-joins
+returns-in_default-clause-joins g c =
+    joined_at c.args.request.now.ask _ _ _ _ _ _ _ c.in_ok-reply.ensures.answers
+
+pub returns-in_err-text-clause-joins : goal.returns-in_err-text-clause-joins
+returns-in_err-text-clause-joins g c =
+    joined_at c.args.request.now.ask _ _ _ _ _ _ _ c.in_ok-reply.ensures.answers
+
+pub returns-in_err-send_line-clause-joins : goal.returns-in_err-send_line-clause-joins
+returns-in_err-send_line-clause-joins g c =
+    joined_at c.args.request.now.ask _ _ _ _ _ _ _ c.in_ok-reply.ensures.answers
+
+pub returns-then-branch-clause-joins : goal.returns-then-branch-clause-joins
+returns-then-branch-clause-joins g c =
+    joined_at c.args.request.now.ask _ _ _ _ _ _ _ c.in_ok-reply.ensures.answers
+
+pub returns-clause-joins : goal.returns-clause-joins
+returns-clause-joins g c =
+    joined_at c.args.request.now.ask _ _ _ _ _ _ _ c.in_ok-reply.ensures.answers
+
+pub returns-then-branch-clause-keeps : goal.returns-then-branch-clause-keeps
+returns-then-branch-clause-keeps g c =
+    some_at c.args.request.now.ask _ _ _ _ _ _ _ c.in_ok-reply.ensures.answers
+
+pub returns-clause-keeps : goal.returns-clause-keeps
+returns-clause-keeps g c =
+    some_at c.args.request.now.ask _ _ _ _ _ _ _ c.in_ok-reply.ensures.answers
+
+pub returns-in_err-text-clause-leaves : goal.returns-in_err-text-clause-leaves
+returns-in_err-text-clause-leaves g c =
+    let Holds : Commits → Commits → Type 0 = g.A.Answer.holds c.args.answer.now c.answer.new.self in
+    let some : HoldsForSome (λ commits. Holds commits []) =
+    some_at c.args.request.now.ask _ _ _ _ _ _ _ c.in_ok-reply.ensures.answers in
+    let left : LeavesSome Holds = (some.0, [], some.1) in
+    on_err _ (LeavesSome Holds) left
+
+pub returns-in_err-send_line-clause-leaves : goal.returns-in_err-send_line-clause-leaves
+returns-in_err-send_line-clause-leaves g c =
+    let Holds : Commits → Commits → Type 0 = g.A.Answer.holds c.args.answer.now c.answer.new.self in
+    let some : HoldsForSome (λ commits. Holds commits []) =
+    some_at c.args.request.now.ask _ _ _ _ _ _ _ c.in_ok-reply.ensures.answers in
+    let left : LeavesSome Holds = (some.0, [], some.1) in
+    on_err _ (LeavesSome Holds) left

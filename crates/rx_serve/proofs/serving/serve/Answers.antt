@@ -1,8 +1,8 @@
-use Rattle.std.proofs.Common.{rules, ◌≡◌, ◌≤◌, ◌<◌, []}
+use Rattle.std.proofs.Common.{rules, ◌≡◌, ◌∙◌, ◌≤◌, ◌<◌, []}
 use Rattle.rx_value.proofs.Outcomes.{on_err}
 use Rattle.rx_serve.specs.Answered.{Commits, LeavesSome}
 use Rattle.rx_serve.specs.Served.{most_requests}
-use Rattle.rx_serve.proofs.Courses.{Join, serves_begun, serves_more, continues_more, holds_more, leaves_more, ended_so, ended_full, stopped, stopped_first}
+use Rattle.rx_serve.proofs.Courses.{Join, serves_begun, serves_more, all_since, none_since, sent_at_end, continues_more, holds_more, leaves_more, ended_so, ended_full, stopped, stopped_first}
 use Rattle.rx_serve.proofs.serving.serve.Goals as goal
 
 pub returns-in_err-incoming-clause-stopped : goal.returns-in_err-incoming-clause-stopped
@@ -95,3 +95,39 @@ requests-preserved g c =
 pub returns-clause-served : goal.returns-clause-served
 returns-clause-served g c = λ told.
     ended_full c.requests.requests (search rules) _ _ _ (c.requests.invariant.serves told)
+
+-- the moments and the bytes sent, step by step
+
+pub returns-in_err-incoming-clause-moments : goal.returns-in_err-incoming-clause-moments
+returns-in_err-incoming-clause-moments g c = none_since (g.A.Answer.moments c.args.answer.now)
+
+pub returns-in_err-incoming-clause-sent : goal.returns-in_err-incoming-clause-sent
+returns-in_err-incoming-clause-sent g c = λ told. none_since (g.W.Wire.sent c.args.wire.now)
+
+pub returns-in_err-ended-clause-moments : goal.returns-in_err-ended-clause-moments
+returns-in_err-ended-clause-moments g c =
+    all_since _ _ (continues_more _ _ _ c.requests.invariant.joins c.serve_next.ensures.joins)
+
+pub returns-in-Some-clause-moments : goal.returns-in-Some-clause-moments
+returns-in-Some-clause-moments g c =
+    all_since _ _ (continues_more _ _ _ c.requests.invariant.joins c.serve_next.ensures.joins)
+
+pub returns-clause-moments : goal.returns-clause-moments
+returns-clause-moments g c = all_since _ _ c.requests.invariant.joins
+
+pub returns-clause-sent : goal.returns-clause-sent
+returns-clause-sent g c = λ told.
+    let joins = (c.requests.invariant.serves told).joins in
+    all_since _ _ (joins.bytes, joins.sent)
+
+pub returns-in_err-ended-clause-sent : goal.returns-in_err-ended-clause-sent
+returns-in_err-ended-clause-sent g c = λ told.
+    let joins = (c.requests.invariant.serves told).joins in
+    all_since _ _ (joins.bytes, (c.in_err-ended.ensures.halts told).sent ∙ joins.sent)
+
+pub returns-in-Some-clause-sent : goal.returns-in-Some-clause-sent
+returns-in-Some-clause-sent g c = λ told.
+    let joins = (c.requests.invariant.serves told).joins in
+    all_since _ _ (continues_more _ _ _ (joins.bytes, joins.sent)
+    (sent_at_end c.in-Some.ended.why c.in-Some.ended.requests _ _ _
+    (rw c.in-Some.is at c.in_ok-ended.ensures.steps told)))

@@ -9,12 +9,14 @@ use Rattle.rx_store.specs.Safe.{IsCrashSafe}
 use Rattle.rx_store.proofs.Crashes.{ran_out}
 use Rattle.rx_store.proofs.Fronts.{end_with, grows_legally, not_added}
 use Rattle.rx_store.proofs.Growing.{stays}
+use Rattle.rx_store.proofs.Stops.{memory_stop}
 use Rattle.rx_store.proofs.keeping.keep.Goals as goal
 
 pub returns-in_err-body-clause-safe : goal.returns-in_err-body-clause-safe
 returns-in_err-body-clause-safe g c told bodies w holds is sound =
     ran_out g.D.Disk c.args.disk.now c.args.disk.now bodies (content_bytes (content c.args.entry.now) ∷ [])
-    c.args.journal.limit _ c.from_residual.result (search rules)
+    c.args.journal.limit _ c.from_residual.result
+    (memory_stop c.from_residual.result c.from_residual.ensures.1)
     (λ alike. stays g.D.Disk c.args.disk.now c.args.journal bodies _ w holds
     (λ left e. g.met.D.Disk.only_now c.args.disk.now left told e))
 

@@ -1,8 +1,9 @@
-use Rattle.std.proofs.Common.{◌∙◌, List, ℕ, sym, subst, true≢false}
-use Rattle.rx_journal.specs.Windows.{LendAll, WillLend}
+use Rattle.std.proofs.Common.{◌∙◌, List, ℕ, arith, sym, subst, true≢false}
+use Rattle.rx_journal.specs.Windows.{WillLend}
 use Rattle.rx_world.specs.Holders.{world_in}
 use Rattle.rx_store.proofs.Seen.{is_legal, is_shown, is_sound}
 use Rattle.rx_store.proofs.Playing.{read_on}
+use Rattle.rx_store.proofs.Stops.{ok_cause, refused_cause}
 use Rattle.rx_store.proofs.looking.look.Goals as goal
 
 pub returns-then-not-sound-clause-not_journal : goal.returns-then-not-sound-clause-not_journal
@@ -49,3 +50,12 @@ pub returns-clause-untouched : goal.returns-clause-untouched
 returns-clause-untouched g c told =
     read_on g.D.Disk c.args.disk.now c.look.new.disk c.replay.new.disk
     (c.in-Ok.ensures.untouched told) (c.replay.ensures.untouched told)
+
+-- a search for these takes long
+pub returns-then-not-sound-clause-cause : goal.returns-then-not-sound-clause-cause
+returns-then-not-sound-clause-cause g c =
+    refused_cause _ _ (omega (arith, c.look.ensures.faults, c.replay.ensures.faults))
+
+pub returns-clause-cause : goal.returns-clause-cause
+returns-clause-cause g c =
+    ok_cause _ _ (omega (arith, c.look.ensures.faults, c.replay.ensures.faults)) _

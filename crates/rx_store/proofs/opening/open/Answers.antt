@@ -1,8 +1,9 @@
-use Rattle.std.proofs.Common.{rules, sym, ◌∙◌, true≢false}
+use Rattle.std.proofs.Common.{arith, sym, ◌∙◌, true≢false}
 use Rattle.rx_world.specs.Holders.{world_in}
 use Rattle.rx_world.specs.Replay.{replay}
 use Rattle.rx_store.proofs.Opened.{holds_these, illegal_long, is_legal, is_sound, not_opened, opened_safely, read_no_worse, same_world, some_is_not_none, stopped_safely, untouched, untouched_by}
 use Rattle.rx_store.proofs.Playing.{read_on}
+use Rattle.rx_store.proofs.Stops.{handed_on, ok_cause, refused_cause}
 use Rattle.rx_store.proofs.opening.open.Goals as goal
 
 pub returns-in-Err-clause-safe : goal.returns-in-Err-clause-safe
@@ -24,7 +25,8 @@ returns-in_err-replayed-clause-safe g c told bodies w lawful =
     (read_no_worse g.D.Disk c.args.disk.now c.open.new.disk c.replay.new.disk (c.open.ensures.moments told)
     (c.replay.ensures.untouched told)
     (λ t left le now. g.met.D.Disk.counts_now c.open.new.disk t left told le now))
-    c.args.limit _ c.in_err-replayed.field-0.0 c.from_residual.result (search rules)
+    c.args.limit _ c.in_err-replayed.field-0.0 c.from_residual.result
+    (handed_on c.from_residual.result c.in_err-replayed.field-0.0 c.from_residual.ensures.1)
     c.in_err-replayed.ensures.no_full
     (λ e. some_is_not_none (replay bodies) w lawful.plays
     (c.in_err-replayed.ensures.not_journal told e bodies (begin.all.to_come bodies lawful.stands lawful.short)))
@@ -100,3 +102,12 @@ returns-clause-illegal g c told illegal =
     (is_legal g.D.Disk c.args.disk.now c.open.new.disk c.replay.new.disk c.in-Ok.windows begin
     (c.replay.ensures.untouched told).same c.done-journal.result r.0 v (r.1 c.done-journal.result c.done-journal.ensures.end) r.2
     (c.sound.ensures.0 c.if-not-sound.false)))
+
+-- a search for these takes long
+pub returns-then-not-sound-clause-cause : goal.returns-then-not-sound-clause-cause
+returns-then-not-sound-clause-cause g c =
+    refused_cause _ _ (omega (arith, c.open.ensures.faults, c.replay.ensures.faults))
+
+pub returns-clause-cause : goal.returns-clause-cause
+returns-clause-cause g c =
+    ok_cause _ _ (omega (arith, c.open.ensures.faults, c.replay.ensures.faults)) _

@@ -1,13 +1,15 @@
 use Rattle.std.proofs.Common.{ℕ, List, Option, None, Some, Ok, Result, refl, sym, ◌∙◌, ap, subst, arith, rules}
+use Rattle.std.proofs.lemmas.Result.{IfOk-from_err}
 use Rattle.std.specs.Borrow.{Bor}
 use Rattle.rx_frame.specs.Gate.{IsClosed, NextIs}
 use Rattle.rx_journal.specs.Windows.{Move, WillLend, left}
 use Rattle.rx_journal.specs.declared.open.OpenFault.{OpenFault}
 use Rattle.rx_journal.proofs.Moving.{closed_left}
+use Rattle.rx_outside.proofs.Counts.{rises_later}
 use Rattle.rx_world.specs.Holders.{world_in}
 use Rattle.rx_world.specs.World.{World}
 use Rattle.rx_store.proofs.Counting.{read_all, read_none, read_one}
-use Rattle.rx_store.proofs.Playing.{Lends, begun, goes_on, none_made, not_read, not_yet, played_none, played_one, read_on, refused, stop_is}
+use Rattle.rx_store.proofs.Playing.{Lends, begun, disk_is, goes_on, none_made, not_full, not_read, not_yet, played_none, played_one, read_on, refused, stop_is}
 use Rattle.rx_store.proofs.replaying.replay.Goals as goal
 
 pub loop-body-init : goal.loop-body-init
@@ -135,3 +137,21 @@ pub returns-in-Err-clause-untouched : goal.returns-in-Err-clause-untouched
 returns-in-Err-clause-untouched g c = λ told.
     read_on g.D.Disk c.args.disk.now c.loop-body.disk c.next.new.disk (c.loop-body.invariant.untouched told)
     (c.in-Err.ensures.untouched told)
+
+-- a search for these takes long
+
+pub returns-in-Err-clause-no_full : goal.returns-in-Err-clause-no_full
+returns-in-Err-clause-no_full g c = not_full c.in-Err.fault c.of_open.result c.of_open.ensures
+
+pub returns-in-Err-clause-disk_only : goal.returns-in-Err-clause-disk_only
+returns-in-Err-clause-disk_only g c = λ is.
+    rises_later _ _ _ c.loop-body.invariant.faults
+    (c.in-Err.ensures.disk_only (disk_is c.in-Err.fault c.of_open.result c.of_open.ensures is))
+
+pub returns-in_err-world-clause-ok : goal.returns-in_err-world-clause-ok
+returns-in_err-world-clause-ok g c = λ told lent.
+    IfOk-from_err c.from_residual.result _ c.from_residual.ensures.0
+
+pub returns-in_err-world-clause-counted : goal.returns-in_err-world-clause-counted
+returns-in_err-world-clause-counted g c = λ told.
+    IfOk-from_err c.from_residual.result _ c.from_residual.ensures.0

@@ -1,4 +1,5 @@
 use Rattle.std.proofs.Common.{◌≡◌, true, Ok, sym, ◌∙◌, ap, arith}
+use Rattle.std.proofs.lemmas.Result.{IfOk-from_err}
 use Rattle.rx_record.specs.Content.{Content}
 use Rattle.rx_record.specs.Shown.{content, content_in}
 use Rattle.rx_world.specs.Holders.{world_in}
@@ -24,3 +25,16 @@ returns-clause-epoch g c =
       epoch_next (content c.in_ok-entry.entry) before
           (ap (λ (x : Content). legal x before) c.in_ok-entry.ensures ∙ is),
     )
+
+-- no world was made; a search for these takes long
+pub returns-in_err-entry-clause-ok : goal.returns-in_err-entry-clause-ok
+returns-in_err-entry-clause-ok g c =
+    IfOk-from_err c.from_residual-in_err-entry.result _ c.from_residual-in_err-entry.ensures.0
+
+pub returns-in_err-entry-clause-made : goal.returns-in_err-entry-clause-made
+returns-in_err-entry-clause-made g c =
+    IfOk-from_err c.from_residual-in_err-entry.result _ c.from_residual-in_err-entry.ensures.0
+
+pub returns-in_err-entry-clause-epoch : goal.returns-in_err-entry-clause-epoch
+returns-in_err-entry-clause-epoch g c =
+    IfOk-from_err c.from_residual-in_err-entry.result _ c.from_residual-in_err-entry.ensures.0

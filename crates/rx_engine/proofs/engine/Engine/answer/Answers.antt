@@ -4,7 +4,7 @@ use Rattle.rx_store.proofs.Crashes.{answered, ran_out, same_stop}
 use Rattle.rx_engine.specs.Engine.{limit_of}
 use Rattle.rx_engine.specs.Meaning.{lines_of}
 use Rattle.rx_engine.proofs.Meanings.{alone}
-use Rattle.rx_engine.proofs.Stops.{memory_stop}
+use Rattle.rx_store.proofs.Stops.{memory_stop}
 use Rattle.rx_engine.proofs.engine.Engine.answer.Goals as goal
 
 pub returns-in_err-engine-clause-safe : goal.returns-in_err-engine-clause-safe

@@ -5,7 +5,7 @@ use Rattle.rx_engine.specs.declared.engine.Engine.{Engine}
 use Rattle.rx_engine.specs.declared.output.Output.{Output}
 use Rattle.rx_engine.proofs.Meanings.{turned_so}
 use Rattle.rx_engine.proofs.Remotely.{done_so, ran_out_then, stops_so}
-use Rattle.rx_engine.proofs.Stops.{done_cause, memory_cause, memory_stop}
+use Rattle.rx_store.proofs.Stops.{done_cause, memory_cause, memory_stop}
 use Rattle.rx_engine.proofs.engine.Engine.answer_call.Goals as goal
 
 pub returns-in_err-made-clause-turned : goal.returns-in_err-made-clause-turned

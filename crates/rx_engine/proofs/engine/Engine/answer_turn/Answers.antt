@@ -8,7 +8,7 @@ use Rattle.rx_engine.specs.Shown.{turn_of}
 use Rattle.rx_engine.specs.Turning.{turned}
 use Rattle.rx_engine.specs.declared.engine.Engine.{Engine}
 use Rattle.rx_engine.proofs.Meanings.{turned_so}
-use Rattle.rx_engine.proofs.Stops.{done_cause, memory_cause, memory_stop}
+use Rattle.rx_store.proofs.Stops.{done_cause, memory_cause, memory_stop}
 use Rattle.rx_engine.proofs.engine.Engine.answer_turn.Goals as goal
 
 pub returns-in_err-made-clause-safe : goal.returns-in_err-made-clause-safe

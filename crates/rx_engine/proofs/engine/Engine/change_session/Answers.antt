@@ -13,7 +13,7 @@ use Rattle.rx_engine.specs.Meaning.{bodies_of, records_of}
 use Rattle.rx_world.specs.Made.{IsMadeWorld}
 use Rattle.rx_world.specs.Sound.{IsSoundWorld}
 use Rattle.rx_engine.proofs.Keeping.{has_order, made_then, sound_then}
-use Rattle.rx_engine.proofs.Stops.{done_cause, handed_on, memory_stop, same_cause}
+use Rattle.rx_store.proofs.Stops.{done_cause, handed_on, memory_stop, same_cause}
 use Rattle.rx_engine.proofs.Marking.{marked_doing}
 use Rattle.rx_engine.proofs.Remembering.{remembered_doing}
 use Rattle.rx_engine.proofs.engine.Engine.change_session.Goals as goal

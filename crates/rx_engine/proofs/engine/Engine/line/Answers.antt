@@ -15,7 +15,7 @@ use Rattle.rx_engine.proofs.CanTurns.{can_call, can_turn}
 use Rattle.rx_engine.proofs.Hearing.{plays_call, plays_none, plays_out_of_memory, shown_printed, shown_turn}
 use Rattle.rx_engine.proofs.Meanings.{answers_so, bounded_so, busy_so, call_is, calling_so, left_so, level_so, may_do, no_bound_so, no_level_so, no_master_so, no_other_so, no_turn_so, not_refused, of_each, printed_is, records_so, refused_so, some_asked, some_called, turn_is, turn_so, unbounded_so, unharmed_so}
 use Rattle.rx_engine.proofs.Outcomes.{lawful_outcome}
-use Rattle.rx_engine.proofs.Stops.{memory_stop}
+use Rattle.rx_store.proofs.Stops.{memory_stop}
 use Rattle.rx_engine.specs.declared.engine.Engine.{Engine}
 use Rattle.rx_engine.specs.declared.output.Output.{Output}
 use Rattle.rx_engine.proofs.engine.Engine.line.Goals as goal

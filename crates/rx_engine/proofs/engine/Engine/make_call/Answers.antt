@@ -18,7 +18,7 @@ use Rattle.rx_engine.specs.declared.changing.AfterTurn.{AfterTurn}
 use Rattle.rx_engine.specs.declared.turning.Turned.{Turned as Made}
 use Rattle.rx_engine.proofs.AfterCalls.{call_here, made_called, may_call, may_call_here, others_called, remembered_called, sound_called}
 use Rattle.rx_engine.proofs.Remotely.{done_so, ran_out_then, stops_so}
-use Rattle.rx_engine.proofs.Stops.{done_cause, handed_on, memory_cause, memory_stop, same_cause}
+use Rattle.rx_store.proofs.Stops.{done_cause, handed_on, memory_cause, memory_stop, same_cause}
 use Rattle.rx_engine.proofs.engine.Engine.make_call.Goals as goal
 
 pub call_by_name-requires-clause-at : goal.call_by_name-requires-clause-at

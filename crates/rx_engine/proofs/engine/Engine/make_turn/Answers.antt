@@ -17,7 +17,7 @@ use Rattle.rx_engine.specs.Shown.{turn_of}
 use Rattle.rx_engine.specs.SoundSession.{SessionWithAsks}
 use Rattle.rx_engine.specs.Turning.{turned}
 use Rattle.rx_engine.proofs.AfterTurns.{level_then, made_here, made_then, may, may_here, others_then, remembered_then, safe_here, sound_then}
-use Rattle.rx_engine.proofs.Stops.{done_cause, handed_on, memory_cause, memory_stop, same_cause}
+use Rattle.rx_store.proofs.Stops.{done_cause, handed_on, memory_cause, memory_stop, same_cause}
 use Rattle.rx_engine.proofs.engine.Engine.make_turn.Goals as goal
 
 pub turn_by_name-requires-clause-at : goal.turn_by_name-requires-clause-at

@@ -19,7 +19,7 @@ use Rattle.rx_engine.specs.Remembered.{AreRemembered}
 use Rattle.rx_engine.specs.SoundSession.{SessionWithAsks}
 use Rattle.rx_engine.proofs.Marking.{none_marked}
 use Rattle.rx_engine.proofs.Opened.{by_number}
-use Rattle.rx_engine.proofs.Stops.{handed_on, memory_stop}
+use Rattle.rx_store.proofs.Stops.{handed_on, memory_stop}
 use Rattle.rx_engine.proofs.engine.Engine.reopen.Goals as goal
 
 pub returns-in_err-journal-clause-safe : goal.returns-in_err-journal-clause-safe

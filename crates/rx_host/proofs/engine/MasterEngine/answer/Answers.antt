@@ -9,6 +9,7 @@ use Rattle.rx_serve.specs.Answered.{commit_at}
 use Rattle.rx_store.specs.Safe.{IsCrashSafe}
 use Rattle.rx_sync.specs.Laws.{MayCome}
 use Rattle.rx_store.proofs.Crashes.{answered, idle, ran_out, same_stop}
+use Rattle.rx_store.proofs.Stops.{handed_on}
 use Rattle.rx_store.proofs.Growing.{stays}
 use Rattle.rx_wire.specs.declared.message.Reply.{Reply}
 use Rattle.rx_world.proofs.Sounds.{IsNoExchange, sound_step}
@@ -76,7 +77,8 @@ returns-in_err-engine-in-Some-clause-safe g c told bodies at =
     ∙ ap (λ (n : List ℕ). bodies_of n commits) called in
     same_stop g.D.Disk c.args.disk.now c.write.new.disk bodies (bodies_of (name_of m) commits)
     (limit_of m) (IsAt g.D.Disk c.write.new.disk) _ c.in_err-engine-in-Some.field-0.0
-    c.from_residual.result (search rules)
+    c.from_residual.result
+    (handed_on c.from_residual.result c.in_err-engine-in-Some.field-0.0 c.from_residual.ensures.1)
     (subst (λ (more : List (List ℕ)). IsCrashSafe g.D.Disk c.args.disk.now c.write.new.disk bodies
     more (limit_of m) (IsAt g.D.Disk c.write.new.disk) (Err c.in_err-engine-in-Some.field-0.0))
     due (c.in_err-engine-in-Some.ensures.safe told bodies at))

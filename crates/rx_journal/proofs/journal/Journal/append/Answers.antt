@@ -1,9 +1,16 @@
 use Rattle.std.proofs.Common.{◌≤◌, ◌∙◌, refl, arith}
+use Rattle.rx_frame.proofs.Records.{end_within}
 use Rattle.rx_journal.specs.Ready.{grown_end}
 use Rattle.rx_journal.proofs.Append.{within_first, within_second, added}
 use Rattle.rx_journal.proofs.Growing.{stays}
 use Rattle.rx_journal.proofs.Keeping.{keeps_so_far, keeps_within_first, keeps_within_second}
 use Rattle.rx_journal.proofs.journal.Journal.append.Goals as goal
+
+-- a search for this takes long
+pub write_durably-requires-clause-within : goal.write_durably-requires-clause-within
+write_durably-requires-clause-within g c = λ told.
+    let r = c.requires told in
+    omega (arith, r.1.ends, end_within (g.D.Disk.content c.args.disk.now) r.0 r.1.whole)
 
 pub returns-then-self-would-clause-moments : goal.returns-then-self-would-clause-moments
 returns-then-self-would-clause-moments g c = λ told bodies ready.

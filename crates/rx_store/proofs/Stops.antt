@@ -1,11 +1,11 @@
--- Stops, whatever else might have been answered.
-use Rattle.std.proofs.Common.{◌≡◌, ◌∙◌, ap, sym, subst, ℕ, Result, Ok, Err}
+-- Stops that are handed on, and whether the disk is their cause.
+use Rattle.std.proofs.Common.{◌≡◌, ◌≤◌, ◌∙◌, ap, sym, subst, ℕ, Result, Ok, Err}
 use Rattle.std.specs.Result.{IsErrAnd}
 use Rattle.std.proofs.lemmas.Result.{err_from_is_err_and}
 use Rattle.rx_outside.specs.declared.stop.Stop.{Stop}
-use Rattle.rx_outside.specs.declared.stop.Stop.TheVariants.{Disk, Memory}
-use Rattle.rx_store.proofs.Crashes.{other_stop}
+use Rattle.rx_outside.specs.declared.stop.Stop.TheVariants.{Disk, Memory, NotJournal}
 use Rattle.rx_store.specs.Safe.{HasDiskCause}
+use Rattle.rx_store.proofs.Crashes.{other_stop}
 
 -- a fault that is handed on
 pub handed_on : {A E : Type 0} (r : Result A E) (e : E) → IsErrAnd r (λ x. x ≡ e) → r ≡ Err e
@@ -26,12 +26,19 @@ same_cause {A} {B} before now stop r is cause =
     } in
     subst (λ (r : Result B Stop). HasDiskCause before now r) (sym is) moved
 
--- what was answered is no stop
+-- the disk is no cause of what was answered, nor of a file that is no journal
+module _ {A : Type 0} (before now : ℕ) (later : before ≤ now) where
+  pub ok_cause : (x : A) → HasDiskCause {A = A} before now (Ok x)
+  ok_cause x = record { later = later; failed = λ is. absurd (cc) }
+
+  pub refused_cause : HasDiskCause {A = A} before now (Err NotJournal)
+  refused_cause = record { later = later; failed = λ is. absurd (cc) }
+
 pub done_cause : {A B : Type 0} (before now : ℕ) (x : A) (y : B) → HasDiskCause before now (Ok x)
     → HasDiskCause before now (Ok y)
-done_cause before now x y cause = record { later = cause.later; failed = λ is. absurd (cc) }
+done_cause before now x y cause = ok_cause before now cause.later y
 
--- nor is a want of memory behind it one by the disk
+-- nor of a want of memory behind it
 pub memory_cause : {A B : Type 0} (before now : ℕ) (x : A) (r : Result B Stop) → r ≡ Err Memory
     → HasDiskCause before now (Ok x) → HasDiskCause before now r
 memory_cause {A} {B} before now x r is cause =
