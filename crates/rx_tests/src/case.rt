@@ -18,7 +18,7 @@
 // Without a `$` the words are `run journal`. Bytes are in hex, and texts between apostrophes. The
 // journal that the last run leaves has to open again, unless it was no journal before.
 use crate::run::{MASTER, PEER, RUN, Ran, Setting, run};
-use crate::short::{due_line, journal_bytes, script_line};
+use crate::short::{add_due_line, add_script_line, journal_bytes};
 use std::alloc::{AllocError, Global};
 use std::test::Fail;
 
@@ -66,54 +66,72 @@ struct Case<'a> {
 
 /// Plays one case, with its script in pieces of so many bytes.
 pub fn play(alloc: Global, piece: usize, name: &str, facts: &str) -> Result<(), Fail> {
-    let mut case = Case {
-        name,
-        piece,
-        journal: Vec::new(alloc),
-        words: RUN,
-        script: String::new(alloc),
-        count: 0,
-        due: String::new(alloc),
-        peers: String::new(alloc),
-        masters: String::new(alloc),
-        at_master: false,
-        replies: String::new(alloc),
-        status: 0,
-        after: Vec::new(alloc),
-        ended: 0,
-    };
-    for fact in facts.lines() {
-        case.read(alloc, fact)?;
-    }
-    case.run(alloc)?;
-    case.reopen(alloc)
+    let mut case = Case::new(alloc, piece, name);
+    case.play(alloc, facts)
 }
 
 impl<'a> Case<'a> {
+    fn new(alloc: Global, piece: usize, name: &'a str) -> Case<'a> {
+        Case {
+            name,
+            piece,
+            journal: Vec::new(alloc),
+            words: RUN,
+            script: String::new(alloc),
+            count: 0,
+            due: String::new(alloc),
+            peers: String::new(alloc),
+            masters: String::new(alloc),
+            at_master: false,
+            replies: String::new(alloc),
+            status: 0,
+            after: Vec::new(alloc),
+            ended: 0,
+        }
+    }
+
+    fn play(&mut self, alloc: Global, facts: &'a str) -> Result<(), Fail> {
+        for fact in facts.lines() {
+            self.read(alloc, fact)?;
+        }
+        self.run(alloc)?;
+        self.reopen(alloc)
+    }
+
     fn read(&mut self, alloc: Global, fact: &'a str) -> Result<(), Fail> {
         let (mark, rest) = fact.split_once(' ').unwrap_or((fact, ""));
         match mark {
-            ">" => self.read_script(alloc, rest)?,
-            "<" => self.read_due(alloc, rest)?,
-            "$" => self.read_words(alloc, rest)?,
-            "*" => {
-                self.at_master = false;
-                self.peers.push_str(PEER)?;
-            }
-            "+" => self.read_master(rest)?,
-            "@" => {
-                self.read_sent(rest)?;
-                self.read_sent("\n")?;
-            }
-            "~" => self.read_sent(rest)?,
-            "&" => write!(self.replies, "{rest}\n")?,
-            "!" => self.status = rest.parse()?,
-            "^" => journal_bytes(alloc, rest, &mut self.journal)?,
-            "=" => journal_bytes(alloc, rest, &mut self.after)?,
-            "" => {}
-            _ => return Err(Fail::new(format_args!("{}: what is {fact}", self.name))),
+            ">" => Ok(self.read_script(alloc, rest)?),
+            "<" => Ok(self.read_due(alloc, rest)?),
+            "$" => self.read_words(alloc, rest),
+            "!" => self.read_status(rest),
+            "^" => journal_bytes(alloc, rest, &mut self.journal),
+            "=" => journal_bytes(alloc, rest, &mut self.after),
+            "" => Ok(()),
+            _ => self.read_outside(mark, rest),
         }
+    }
+
+    // A fact of what peers and masters send and are sent.
+    fn read_outside(&mut self, mark: &str, rest: &str) -> Result<(), Fail> {
+        match mark {
+            "*" => Ok(self.read_peer()?),
+            "+" => self.read_master(rest),
+            "@" => self.read_sent_line(rest),
+            "~" => self.read_sent(rest),
+            "&" => Ok(write!(self.replies, "{rest}\n")?),
+            _ => Err(Fail::new(format_args!("{}: what is {mark} {rest}", self.name))),
+        }
+    }
+
+    fn read_status(&mut self, text: &str) -> Result<(), Fail> {
+        self.status = text.parse()?;
         Ok(())
+    }
+
+    fn read_peer(&mut self) -> Result<(), AllocError> {
+        self.at_master = false;
+        self.peers.push_str(PEER)
     }
 
     fn read_master(&mut self, calls: &str) -> Result<(), Fail> {
@@ -124,6 +142,11 @@ impl<'a> Case<'a> {
         self.masters.push_str(MASTER)?;
         write!(self.masters, "{calls}\n")?;
         Ok(())
+    }
+
+    fn read_sent_line(&mut self, text: &str) -> Result<(), Fail> {
+        self.read_sent(text)?;
+        self.read_sent("\n")
     }
 
     fn read_sent(&mut self, text: &str) -> Result<(), Fail> {
@@ -139,17 +162,14 @@ impl<'a> Case<'a> {
 
     fn read_script(&mut self, alloc: Global, line: &str) -> Result<(), AllocError> {
         self.count = self.count.saturating_add(1);
-        self.script.push_str(script_line(alloc, line)?.as_str())?;
-        self.script.push('\n')
+        add_script_line(alloc, line, &mut self.script)
     }
 
     fn read_due(&mut self, alloc: Global, line: &str) -> Result<(), AllocError> {
         if line.contains("\"refused\":") {
             self.status = 1;
         }
-        self.due
-            .push_str(due_line(alloc, line, self.count)?.as_str())?;
-        self.due.push('\n')
+        add_due_line(alloc, line, self.count, &mut self.due)
     }
 
     // Where a run was read before these words, it is made.
@@ -164,20 +184,25 @@ impl<'a> Case<'a> {
     /// Makes the run that was read, and begins another.
     fn run(&mut self, alloc: Global) -> Result<(), Fail> {
         let ran = self.ran(alloc)?;
-        self.compare_output(&ran)?;
-        self.compare_journal(&ran)?;
-        self.journal = ran.disk.bytes().to_vec(alloc)?;
-        self.ended = ran.status;
+        self.compare(&ran)?;
+        self.begin(&ran)
+    }
+
+    // Nothing of the next run is read yet.
+    fn begin(&mut self, last: &Ran) -> Result<(), Fail> {
         self.words = RUN;
-        self.script = String::new(alloc);
+        self.script.clear();
         self.count = 0;
-        self.due = String::new(alloc);
-        self.peers = String::new(alloc);
-        self.masters = String::new(alloc);
+        self.due.clear();
+        self.peers.clear();
+        self.masters.clear();
         self.at_master = false;
-        self.replies = String::new(alloc);
+        self.replies.clear();
         self.status = 0;
-        self.after = Vec::new(alloc);
+        self.after.clear();
+        self.ended = last.status;
+        self.journal.clear();
+        self.journal.extend_from_slice(last.disk.bytes())?;
         Ok(())
     }
 
@@ -192,53 +217,39 @@ impl<'a> Case<'a> {
         run(alloc, &setting, self.words, script, self.journal.as_slice())
     }
 
-    fn compare_output(&self, ran: &Ran) -> Result<(), Fail> {
-        let name = self.name;
-        let mut found = str::from_utf8(ran.output.as_slice())?.lines();
-        for (i, due) in self.due.as_str().lines().enumerate() {
-            let line = found.next().unwrap_or("nothing");
-            if line != due {
-                return Err(Fail::new(format_args!(
-                    "{name}: due {i} from 0 is {due}, found {line}"
-                )));
-            }
+    fn compare(&self, ran: &Ran) -> Result<(), Fail> {
+        compare_lines(self.name, self.due.as_str(), ran.text()?)?;
+        let fault = self.fault_of(ran);
+        if fault.is_empty() {
+            return Ok(());
         }
-        if let Some(line) = found.next() {
-            return Err(Fail::new(format_args!("{name}: nothing is due for {line}")));
-        }
-        if ran.output.as_slice() != self.due.as_str().as_bytes() {
-            return Err(Fail::new(format_args!("{name}: the ends of lines")));
-        }
-        if ran.sent.as_slice() != self.replies.as_str().as_bytes() {
-            return Err(Fail::new(format_args!("{name}: what the peers were sent")));
-        }
-        if ran.status != self.status {
-            return Err(Fail::new(format_args!("{name}: status {}", ran.status)));
-        }
-        Ok(())
+        Err(Fail::new(format_args!(
+            "{}: {fault}, with status {} and a journal of {} bytes, the first {} as due",
+            self.name,
+            ran.status,
+            ran.disk.bytes().len(),
+            same_bytes(ran.disk.bytes(), self.after.as_slice())
+        )))
     }
 
-    // Words that are no command, and what is no journal, leave the bytes alone.
-    fn compare_journal(&self, ran: &Ran) -> Result<(), Fail> {
-        let name = self.name;
-        let found = ran.disk.bytes();
+    // What is wrong besides the lines, or an empty text. Words that are no command, and what is no
+    // journal, leave the bytes alone.
+    fn fault_of(&self, ran: &Ran) -> &'static str {
+        let journal = ran.disk.bytes();
         let kept = ran.status == 2 || ran.status == 7;
-        if kept && found != self.journal.as_slice() {
-            return Err(Fail::new(format_args!("{name}: the journal is changed")));
+        if ran.output.as_slice() != self.due.as_str().as_bytes() {
+            "the ends of lines"
+        } else if ran.sent.as_slice() != self.replies.as_str().as_bytes() {
+            "what the peers were sent"
+        } else if ran.status != self.status {
+            "another status"
+        } else if kept && journal != self.journal.as_slice() {
+            "the journal is changed"
+        } else if !self.after.is_empty() && journal != self.after.as_slice() {
+            "another journal"
+        } else {
+            ""
         }
-        if !self.after.is_empty() && found != self.after.as_slice() {
-            let same = found
-                .iter()
-                .zip(self.after.iter())
-                .take_while(|(a, b)| a == b);
-            return Err(Fail::new(format_args!(
-                "{name}: {} bytes for {}, the first {} as due",
-                found.len(),
-                self.after.len(),
-                same.count()
-            )));
-        }
-        Ok(())
     }
 
     fn reopen(&mut self, alloc: Global) -> Result<(), Fail> {
@@ -247,4 +258,32 @@ impl<'a> Case<'a> {
         }
         self.run(alloc)
     }
+}
+
+// How many bytes are as due.
+fn same_bytes(found: &[u8], due: &[u8]) -> usize {
+    found
+        .iter()
+        .zip(due.iter())
+        .take_while(|(a, b)| a == b)
+        .count()
+}
+
+/// Compares an output with the lines that are due.
+pub fn compare_lines(name: &str, due: &str, output: &str) -> Result<(), Fail> {
+    let same = due
+        .lines()
+        .zip(output.lines())
+        .take_while(|(a, b)| a == b)
+        .count();
+    let line = due.lines().skip(same).next();
+    let found = output.lines().skip(same).next();
+    if line.is_none() && found.is_none() {
+        return Ok(());
+    }
+    Err(Fail::new(format_args!(
+        "{name}: due {same} from 0 is {}, found {}",
+        line.unwrap_or("nothing"),
+        found.unwrap_or("nothing")
+    )))
 }

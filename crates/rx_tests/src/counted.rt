@@ -1,48 +1,59 @@
 // Counts: by hand, and of random queries over random documents, which are the same by each index.
-use crate::case::{PIECE, play};
-use crate::indexed::INDEXES;
+use crate::case::compare_lines;
+use crate::indexed::{INDEXES, play_indexed};
 use crate::random::Random;
-use crate::run::{RUN, Setting, run};
+use crate::run::{Ran, run_made};
 use std::alloc::{AllocError, Global};
 use std::test::Fail;
 
 #[test]
 fn counts_by_hand_are_the_same_by_each_index(rt: HostRuntime) -> Result<(), Fail> {
-    let alloc = rt.alloc();
-    for indexes in INDEXES {
-        let mut facts = format!(in alloc; "> {}\n< made\n", COLLECTION)?
-            .as_str()
-            .replace(alloc, "INDEXES", indexes)?;
-        facts.push_str(FACTS)?;
-        play(alloc, PIECE, indexes, facts.as_str())?;
-    }
-    Ok(())
+    let made = format!(in rt.alloc(); "> {COLLECTION}\n< made\n")?;
+    play_indexed(rt.alloc(), made.as_str(), FACTS)
 }
 
 // Of 1,000 documents whose number is their place, and whose flag is set where it is odd.
 #[test]
 fn a_count_is_that_of_the_keys_between_its_bounds(rt: HostRuntime) -> Result<(), Fail> {
-    let alloc = rt.alloc();
+    let ran = run_made(rt.alloc(), span_script(rt.alloc())?)?;
+    compare_spans(&ran)
+}
+
+fn compare_spans(ran: &Ran) -> Result<(), Fail> {
+    if ran.ends_with(SPAN_REPLIES)? {
+        return Ok(());
+    }
+    Err(Fail::new("other counts"))
+}
+
+fn span_script(alloc: Global) -> Result<String, AllocError> {
     let mut script = COLLECTION.replace(alloc, "INDEXES", r#"["s",["b","n"]]"#)?;
+    add_documents(&mut script)?;
+    script.push_str(SPANS)?;
+    Ok(script)
+}
+
+fn add_documents(script: &mut String) -> Result<(), AllocError> {
     script.push_str("\n{\"do\":\"bulk\",\"in\":\"c\",\"docs\":[")?;
     for i in 0..1_000u64 {
         let comma = if i == 0 { "" } else { "," };
         let is_odd = i % 2 == 1;
-        let doc = format!(in alloc; "{comma}{{\"id\":\"t{i}\",\"b\":{is_odd},\"n\":{i}}}")?;
-        script.push_str(doc.as_str())?;
+        write!(
+            script,
+            "{comma}{{\"id\":\"t{i}\",\"b\":{is_odd},\"n\":{i}}}"
+        )?;
     }
-    script.push_str("]}\n")?;
-    script.push_str(SPANS)?;
-    let ran = run(alloc, &Setting::PLAIN, RUN, script.as_str().as_bytes(), &[])?;
-    let mut last = str::from_utf8(ran.output.as_slice())?.lines().rev();
-    assert_eq!(rt; last.next(), Some(r#"{"count":1,"line":4,"ok":"count"}"#));
-    assert_eq!(rt; last.next(), Some(r#"{"count":5,"line":3,"ok":"count"}"#));
-    Ok(())
+    script.push_str("]}\n")
 }
 
 const SPANS: &str = r#"{"do":"count","in":"c","query":{"selector":{"b":true,"n":{"$gte":990}}}}
 {"do":"count","in":"c","query":{"selector":{"id":"t5"}}}
 "#;
+
+const SPAN_REPLIES: [&str; 2] = [
+    r#"{"count":5,"line":3,"ok":"count"}"#,
+    r#"{"count":1,"line":4,"ok":"count"}"#,
+];
 
 const QUERIES: u64 = 300;
 
@@ -50,35 +61,37 @@ const QUERIES: u64 = 300;
 // is that of the rows that were found.
 #[test]
 fn random_queries_are_answered_the_same_by_each_index(rt: HostRuntime) -> Result<(), Fail> {
-    let alloc = rt.alloc();
-    let lines = random_lines(alloc)?;
-    let mut first = String::new(alloc);
-    for indexes in INDEXES {
-        let mut script = COLLECTION.replace(alloc, "INDEXES", indexes)?;
-        script.push_str(lines.as_str())?;
-        let ran = run(alloc, &Setting::PLAIN, RUN, script.as_str().as_bytes(), &[])?;
-        let output = str::from_utf8(ran.output.as_slice())?;
-        if first.is_empty() {
-            check_counts(output)?;
-            first.push_str(output)?;
-        }
-        compare(indexes, first.as_str(), output)?;
+    let lines = random_lines(rt.alloc())?;
+    let mut first = String::new(rt.alloc());
+    for indexes in INDEXES.iter() {
+        compare_answers(rt.alloc(), indexes, lines.as_str(), &mut first)?;
     }
     Ok(())
 }
 
-fn compare(indexes: &str, first: &str, output: &str) -> Result<(), Fail> {
-    let mut found = output.lines();
-    for due in first.lines() {
-        let line = found.next().unwrap_or("nothing");
-        if line != due {
-            return Err(Fail::new(format_args!("{indexes}: due is {due}, found {line}")));
-        }
+// The first answers are kept for the others.
+fn compare_answers(
+    alloc: Global,
+    indexes: &str,
+    lines: &str,
+    first: &mut String,
+) -> Result<(), Fail> {
+    let ran = answered(alloc, indexes, lines)?;
+    compare_output(indexes, ran.text()?, first)
+}
+
+fn compare_output(indexes: &str, output: &str, first: &mut String) -> Result<(), Fail> {
+    if first.is_empty() {
+        check_counts(output)?;
+        first.push_str(output)?;
     }
-    match found.next() {
-        Some(line) => Err(Fail::new(format_args!("{indexes}: nothing is due for {line}"))),
-        None => Ok(()),
-    }
+    compare_lines(indexes, first.as_str(), output)
+}
+
+fn answered(alloc: Global, indexes: &str, lines: &str) -> Result<Ran, AllocError> {
+    let mut script = COLLECTION.replace(alloc, "INDEXES", indexes)?;
+    script.push_str(lines)?;
+    run_made(alloc, script)
 }
 
 // Each count stands behind the rows that it counts.
@@ -90,39 +103,53 @@ fn check_counts(output: &str) -> Result<(), Fail> {
             rows = line.matches("\"id\":").count();
         }
         if let Some(rest) = line.strip_prefix("{\"count\":") {
-            let (count, _) = rest.split_once(',').unwrap_or((rest, ""));
-            let count: usize = count.parse()?;
-            if count != rows {
-                return Err(Fail::new(format_args!("{line}, of {rows} rows")));
-            }
+            check_count(rest, rows)?;
             counts = counts.saturating_add(1);
         }
     }
-    if counts != QUERIES {
-        return Err(Fail::new(format_args!("{counts} counts")));
+    if counts == QUERIES {
+        return Ok(());
     }
-    Ok(())
+    Err(Fail::new(format_args!("{counts} counts")))
+}
+
+// A line goes on so behind the name of its count.
+fn check_count(rest: &str, rows: usize) -> Result<(), Fail> {
+    let (count, _) = rest.split_once(',').unwrap_or((rest, ""));
+    let count: usize = count.parse()?;
+    if count == rows {
+        return Ok(());
+    }
+    Err(Fail::new(format_args!("{rest}, of {rows} rows")))
 }
 
 // After each few writes a query, which is run and counted.
 fn random_lines(alloc: Global) -> Result<String, AllocError> {
     let mut random = Random::new(36);
-    let mut lines = String::new(alloc);
-    lines.push('\n')?;
+    let mut lines = String::from_str(alloc, "\n")?;
     for _ in 0..QUERIES {
-        for _ in 0..random.below(4) {
-            lines.push_str(write(alloc, &mut random)?.as_str())?;
-        }
-        let query = query(alloc, &mut random)?;
-        for word in ["find", "count"] {
-            let line = format!(in alloc;
-                "{{\"do\":\"{word}\",\"in\":\"c\",\"query\":{}}}\n",
-                query.as_str()
-            )?;
-            lines.push_str(line.as_str())?;
-        }
+        add_writes(&mut random, &mut lines)?;
+        add_query(alloc, &mut random, &mut lines)?;
     }
     Ok(lines)
+}
+
+fn add_writes(random: &mut Random, lines: &mut String) -> Result<(), AllocError> {
+    for _ in 0..random.below(4) {
+        add_write(random, lines)?;
+    }
+    Ok(())
+}
+
+fn add_query(alloc: Global, random: &mut Random, lines: &mut String) -> Result<(), AllocError> {
+    let query = query(alloc, random)?;
+    for word in ["find", "count"] {
+        write!(
+            lines,
+            "{{\"do\":\"{word}\",\"in\":\"c\",\"query\":{query}}}\n"
+        )?;
+    }
+    Ok(())
 }
 
 // Fields of a document besides its key. Each of them may be missing.
@@ -146,15 +173,21 @@ const TEXTS: [&str; 5] = [
 ];
 
 // A line that puts in a document or takes it out. Some are refused.
-fn write(alloc: Global, random: &mut Random) -> Result<String, AllocError> {
+fn add_write(random: &mut Random, lines: &mut String) -> Result<(), AllocError> {
     let key = random.below(40);
     if random.below(4) == 0 {
-        return format!(in alloc; "{{\"do\":\"remove\",\"in\":\"c\",\"key\":\"k{key}\"}}\n");
+        return write!(
+            lines,
+            "{{\"do\":\"remove\",\"in\":\"c\",\"key\":\"k{key}\"}}\n"
+        );
     }
     let b = random.one_of(&FLAGS);
     let n = random.one_of(&NUMBERS);
     let s = random.one_of(&TEXTS);
-    format!(in alloc; "{{\"do\":\"upsert\",\"in\":\"c\",\"doc\":{{\"id\":\"k{key}\"{b}{n}{s}}}}}\n")
+    write!(
+        lines,
+        "{{\"do\":\"upsert\",\"in\":\"c\",\"doc\":{{\"id\":\"k{key}\"{b}{n}{s}}}}}\n"
+    )
 }
 
 // What a selector asks of a field, with V and W for operands.
@@ -201,27 +234,22 @@ const WINDOWS: [&str; 8] = [
 
 fn query(alloc: Global, random: &mut Random) -> Result<String, AllocError> {
     let mut members = String::new(alloc);
-    add_member(alloc, random, "b", &["true", "false"], &mut members)?;
-    add_member(alloc, random, "n", &["-1", "0", "1", "5"], &mut members)?;
-    add_member(
-        alloc,
-        random,
-        "s",
-        &["\"\"", "\"x\"", "\"xy\"", "\"z\""],
-        &mut members,
-    )?;
-    if random.below(3) == 0 {
-        add_member(
-            alloc,
-            random,
-            "id",
-            &["\"k1\"", "\"k15\"", "\"k3\""],
-            &mut members,
-        )?;
-    }
+    add_members(alloc, random, &mut members)?;
     let sort = random.one_of(&SORTS);
     let window = random.one_of(&WINDOWS);
-    format!(in alloc; "{{\"selector\":{{{}}}{sort}{window}}}", members.as_str())
+    format!(in alloc; "{{\"selector\":{{{members}}}{sort}{window}}}")
+}
+
+fn add_members(alloc: Global, random: &mut Random, members: &mut String) -> Result<(), AllocError> {
+    add_member(alloc, random, "b", &["true", "false"], members)?;
+    add_member(alloc, random, "n", &["-1", "0", "1", "5"], members)?;
+    let texts = ["\"\"", "\"x\"", "\"xy\"", "\"z\""];
+    add_member(alloc, random, "s", &texts, members)?;
+    if random.below(3) != 0 {
+        return Ok(());
+    }
+    let keys = ["\"k1\"", "\"k15\"", "\"k3\""];
+    add_member(alloc, random, "id", &keys, members)
 }
 
 // Asks something of the field, or nothing.
@@ -235,12 +263,15 @@ fn add_member(
     if random.below(2) == 0 {
         return Ok(());
     }
+    let asked = asked(alloc, random, operands)?;
+    let comma = if members.is_empty() { "" } else { "," };
+    write!(members, "{comma}\"{field}\":{asked}")
+}
+
+fn asked(alloc: Global, random: &mut Random, operands: &[&str]) -> Result<String, AllocError> {
     let form = random.one_of(&FORMS);
     let form = form.replace(alloc, "V", random.one_of(operands))?;
-    let form = form.as_str().replace(alloc, "W", random.one_of(operands))?;
-    let comma = if members.is_empty() { "" } else { "," };
-    let member = format!(in alloc; "{comma}\"{field}\":{}", form.as_str())?;
-    members.push_str(member.as_str())
+    form.as_str().replace(alloc, "W", random.one_of(operands))
 }
 
 // A collection with indexes to be named.

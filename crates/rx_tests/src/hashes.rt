@@ -16,7 +16,9 @@ const HASH: &str = "d3965597d0b8e1c41da9b2dc759684814b6376a695e3324ffc338dfea45c
 fn a_schema_has_the_hash_of_its_canonical_text(rt: HostRuntime) -> Result<(), Fail> {
     let json = Json::from_str(rt.alloc(), SCHEMA)?;
     let schema = Schema::read(rt.alloc(), &json)?;
-    assert_eq!(rt; schema.canonical().as_str(), CANONICAL);
-    assert_eq!(rt; schema.hash().as_str(), HASH);
-    Ok(())
+    let (canonical, hash) = (schema.canonical().as_str(), schema.hash().as_str());
+    if canonical == CANONICAL && hash == HASH {
+        return Ok(());
+    }
+    Err(Fail::new(format_args!("{hash} of {canonical}")))
 }

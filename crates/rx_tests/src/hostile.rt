@@ -333,7 +333,7 @@ const TO_A_PUSH: [(&str, &str); 14] = [
     ("foreign", r#"{"conflicts":[],"epoch":1,"n":2}"#),
 ];
 
-// The case that a template becomes by these facts.
+// Plays the case that a template becomes by these facts.
 fn play_hostile(
     alloc: Global,
     template: &str,
@@ -341,9 +341,33 @@ fn play_hostile(
     facts: &str,
     why: &str,
 ) -> Result<(), Fail> {
-    let lost = template.replace(alloc, "WHY", why)?;
-    let case = lost.as_str().replace(alloc, "FACTS", facts)?;
+    let case = case_of(alloc, template, facts, why)?;
     play(alloc, PIECE, name, case.as_str())
+}
+
+fn case_of(alloc: Global, template: &str, facts: &str, why: &str) -> Result<String, AllocError> {
+    let lost = template.replace(alloc, "WHY", why)?;
+    lost.as_str().replace(alloc, "FACTS", facts)
+}
+
+// Plays the template over each of these lines.
+fn play_replies(alloc: Global, template: &str, replies: &[(&str, &str)]) -> Result<(), Fail> {
+    for (why, line) in replies {
+        let facts = sent_line(alloc, line)?;
+        play_hostile(alloc, template, line, facts.as_str(), why)?;
+    }
+    Ok(())
+}
+
+// Plays what is no reply to a pull, and none to a push.
+fn play_no_reply(alloc: Global, name: &str, facts: &str) -> Result<(), Fail> {
+    play_hostile(alloc, PULLED, name, facts, "reply")?;
+    play_hostile(alloc, PUSHED, name, facts, "reply")
+}
+
+fn play_no_reply_line(alloc: Global, name: &str, line: &str) -> Result<(), Fail> {
+    let facts = sent_line(alloc, line)?;
+    play_no_reply(alloc, name, facts.as_str())
 }
 
 fn sent_line(alloc: Global, line: &str) -> Result<String, AllocError> {
@@ -352,7 +376,7 @@ fn sent_line(alloc: Global, line: &str) -> Result<String, AllocError> {
 
 #[test]
 fn a_first_pull_is_lost_by_what_was_heard(rt: HostRuntime) -> Result<(), Fail> {
-    for (name, facts, why) in TO_THE_FIRST_PULL {
+    for (name, facts, why) in TO_THE_FIRST_PULL.iter() {
         play_hostile(rt.alloc(), FRESH, name, facts, why)?;
     }
     Ok(())
@@ -360,73 +384,56 @@ fn a_first_pull_is_lost_by_what_was_heard(rt: HostRuntime) -> Result<(), Fail> {
 
 #[test]
 fn a_pull_goes_on_after_any_reply(rt: HostRuntime) -> Result<(), Fail> {
-    for (why, line) in TO_A_PULL {
-        let facts = sent_line(rt.alloc(), line)?;
-        play_hostile(rt.alloc(), PULLED, line, facts.as_str(), why)?;
-    }
-    Ok(())
+    play_replies(rt.alloc(), PULLED, &TO_A_PULL)
 }
 
 #[test]
 fn a_push_goes_on_after_any_reply(rt: HostRuntime) -> Result<(), Fail> {
-    for (why, line) in TO_A_PUSH {
-        let facts = sent_line(rt.alloc(), line)?;
-        play_hostile(rt.alloc(), PUSHED, line, facts.as_str(), why)?;
-    }
-    Ok(())
+    play_replies(rt.alloc(), PUSHED, &TO_A_PUSH)
 }
 
-// Peers that end before their line does: at once, within it, after a megabyte of it.
+// What peers send that end before their line does: at once, and within it.
+const WITHOUT_AN_END: [(&str, &str); 3] = [
+    ("at once", "+"),
+    ("within a line", "+\n~ {\"docs\":[],\"epoch\":1"),
+    (
+        "before a line feed",
+        "+\n~ {\"docs\":[],\"epoch\":1,\"n\":2,\"place\":{\"id\":\"b\",\"lwt\":5}}",
+    ),
+];
+
 #[test]
 fn a_turn_goes_on_after_a_line_without_an_end(rt: HostRuntime) -> Result<(), Fail> {
-    let megabyte = repeated(rt.alloc(), "a", 1_048_576)?;
-    let long = format!(in rt.alloc(); "+\n~ {megabyte}")?;
-    for (name, facts) in [
-        ("at once", "+"),
-        ("within a line", "+\n~ {\"docs\":[],\"epoch\":1"),
-        (
-            "before a line feed",
-            "+\n~ {\"docs\":[],\"epoch\":1,\"n\":2,\"place\":{\"id\":\"b\",\"lwt\":5}}",
-        ),
-        ("after a megabyte", long.as_str()),
-    ] {
-        play_hostile(rt.alloc(), PULLED, name, facts, "reply")?;
-        play_hostile(rt.alloc(), PUSHED, name, facts, "reply")?;
+    for (name, facts) in WITHOUT_AN_END.iter() {
+        play_no_reply(rt.alloc(), name, facts)?;
     }
-    Ok(())
+    let megabyte = "a".repeat(rt.alloc(), MEGABYTE)?;
+    let facts = format!(in rt.alloc(); "+\n~ {megabyte}")?;
+    play_no_reply(rt.alloc(), "after a megabyte", facts.as_str())
 }
 
-fn repeated(alloc: Global, text: &str, count: u64) -> Result<String, AllocError> {
-    let mut all = String::new(alloc);
-    for _ in 0..count {
-        all.push_str(text)?;
-    }
-    Ok(all)
-}
+const MEGABYTE: usize = 1_048_576;
 
 // Lines that are long or deep: a megabyte, a hundred thousand lists in one another, and one document
 // more than a reply may have.
 #[test]
 fn a_turn_goes_on_after_a_line_out_of_all_bounds(rt: HostRuntime) -> Result<(), Fail> {
     let alloc = rt.alloc();
-    let megabyte = repeated(alloc, "a", 1_048_576)?;
-    let deep = repeated(alloc, "[", 100_000)?;
-    for line in [
-        megabyte.as_str(),
-        deep.as_str(),
-        many_documents(alloc)?.as_str(),
-    ] {
-        let facts = sent_line(alloc, line)?;
-        play_hostile(alloc, PULLED, "out of all bounds", facts.as_str(), "reply")?;
-        play_hostile(alloc, PUSHED, "out of all bounds", facts.as_str(), "reply")?;
-    }
-    Ok(())
+    play_repeated(alloc, "a", MEGABYTE)?;
+    play_repeated(alloc, "[", 100_000)?;
+    let line = many_documents(alloc)?;
+    play_no_reply_line(alloc, "too many documents", line.as_str())
+}
+
+fn play_repeated(alloc: Global, text: &str, count: usize) -> Result<(), Fail> {
+    let line = text.repeat(alloc, count)?;
+    play_no_reply_line(alloc, "out of all bounds", line.as_str())
 }
 
 fn many_documents(alloc: Global) -> Result<String, AllocError> {
     let mut line = String::from_str(alloc, "{\"docs\":[{\"_deleted\":false,\"id\":\"d100\"}")?;
     for key in 101..201u64 {
-        line.push_str(format!(in alloc; ",{{\"_deleted\":false,\"id\":\"d{key}\"}}")?.as_str())?;
+        write!(line, ",{{\"_deleted\":false,\"id\":\"d{key}\"}}")?;
     }
     line.push_str("],\"epoch\":1,\"n\":2,\"place\":{\"id\":\"d200\",\"lwt\":6}}")?;
     Ok(line)
@@ -437,21 +444,7 @@ fn a_turn_goes_on_after_bytes_at_random(rt: HostRuntime) -> Result<(), Fail> {
     let mut random = Random::new(104_729);
     for _ in 0..16 {
         let line = random_line(rt.alloc(), &mut random)?;
-        let facts = sent_line(rt.alloc(), line.as_str())?;
-        play_hostile(
-            rt.alloc(),
-            PULLED,
-            "bytes at random",
-            facts.as_str(),
-            "reply",
-        )?;
-        play_hostile(
-            rt.alloc(),
-            PUSHED,
-            "bytes at random",
-            facts.as_str(),
-            "reply",
-        )?;
+        play_no_reply_line(rt.alloc(), "bytes at random", line.as_str())?;
     }
     Ok(())
 }

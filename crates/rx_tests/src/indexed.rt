@@ -1,7 +1,8 @@
 // Indexes: results are the same by each of them, and a run looks at no more than stands between
 // its plan's bounds.
 use crate::case::{PIECE, play};
-use crate::run::{RUN, Setting, run};
+use crate::run::{Ran, run_made};
+use crate::short::end_bulk;
 use std::alloc::{AllocError, Global};
 use std::test::Fail;
 
@@ -19,13 +20,21 @@ pub const INDEXES: [&str; 8] = [
 
 #[test]
 fn results_are_the_same_by_each_index(rt: HostRuntime) -> Result<(), Fail> {
-    let alloc = rt.alloc();
-    for indexes in INDEXES {
-        let mut facts = COLLECTION.replace(alloc, "INDEXES", indexes)?;
-        facts.push_str(FACTS)?;
-        play(alloc, PIECE, indexes, facts.as_str())?;
+    play_indexed(rt.alloc(), COLLECTION, FACTS)
+}
+
+/// Plays the facts behind the collection, with each of the indexes.
+pub fn play_indexed(alloc: Global, collection: &str, facts: &str) -> Result<(), Fail> {
+    for indexes in INDEXES.iter() {
+        let made = collection.replace(alloc, "INDEXES", indexes)?;
+        play_behind(alloc, indexes, made, facts)?;
     }
     Ok(())
+}
+
+fn play_behind(alloc: Global, name: &str, mut made: String, facts: &str) -> Result<(), Fail> {
+    made.push_str(facts)?;
+    play(alloc, PIECE, name, made.as_str())
 }
 
 // Rows of a walk that isn't in the query's order: how many are skipped, and how many are left.
@@ -42,17 +51,15 @@ const WINDOWS: [(u64, u64); 8] = [
 
 #[test]
 fn a_window_is_cut_from_rows_in_another_order(rt: HostRuntime) -> Result<(), Fail> {
-    let alloc = rt.alloc();
-    for indexes in INDEXES {
-        let mut facts = COLLECTION.replace(alloc, "INDEXES", indexes)?;
-        add_shuffled(alloc, &mut facts)?;
-        for (skip, limit) in WINDOWS {
-            let query = format!(in alloc;
-                "{{\"sort\":[{{\"n\":\"desc\"}}],\"skip\":{skip},\"limit\":{limit}}}"
-            )?;
-            add_window(alloc, query.as_str(), skip, limit, &mut facts)?;
-        }
-        play(alloc, PIECE, indexes, facts.as_str())?;
+    let mut facts = String::new(rt.alloc());
+    add_shuffled(rt.alloc(), &mut facts)?;
+    add_windows(&mut facts)?;
+    play_indexed(rt.alloc(), COLLECTION, facts.as_str())
+}
+
+fn add_windows(facts: &mut String) -> Result<(), AllocError> {
+    for (skip, limit) in WINDOWS.iter() {
+        add_window(*skip, *limit, facts)?;
     }
     Ok(())
 }
@@ -61,94 +68,82 @@ const SHUFFLED_DOCUMENTS: u64 = 200;
 
 // Adds the query and its rows. The document i has the number 37 * i modulo 200, so that of the
 // number n is 173 * n modulo 200.
-fn add_window(
-    alloc: Global,
-    query: &str,
-    skip: u64,
-    limit: u64,
-    facts: &mut String,
-) -> Result<(), AllocError> {
-    let line = format!(in alloc;
-        "> {{\"do\":\"find\",\"in\":\"c\",\"query\":{query}}}\n< {{\"line\":L,\"ok\":\"find\",\"rows\":["
+fn add_window(skip: u64, limit: u64, facts: &mut String) -> Result<(), AllocError> {
+    write!(
+        facts,
+        "> {{\"do\":\"find\",\"in\":\"c\",\"query\":{{\"sort\":[{{\"n\":\"desc\"}}],\"skip\":{skip},\"limit\":{limit}}}}}\n"
     )?;
-    facts.push_str(line.as_str())?;
+    facts.push_str("< {\"line\":L,\"ok\":\"find\",\"rows\":[")?;
     let end = SHUFFLED_DOCUMENTS.min(skip.saturating_add(limit));
     for place in skip..end {
         let n = (SHUFFLED_DOCUMENTS - 1).saturating_sub(place);
-        let comma = if place == skip { "" } else { "," };
-        let doc = shuffled(alloc, n.saturating_mul(173) % SHUFFLED_DOCUMENTS)?;
-        facts.push_str(comma)?;
-        facts.push_str(doc.as_str())?;
+        let i = n.saturating_mul(173) % SHUFFLED_DOCUMENTS;
+        add_shuffled_one(place == skip, i, facts)?;
     }
     facts.push_str("]}\n")
 }
 
 // Adds the line that inserts the documents.
 fn add_shuffled(alloc: Global, facts: &mut String) -> Result<(), AllocError> {
-    let mut revisions = String::new(alloc);
     facts.push_str(r#"> {"do":"bulk","in":"c","docs":["#)?;
     for i in 0..SHUFFLED_DOCUMENTS {
-        let comma = if i == 0 { "" } else { "," };
-        facts.push_str(comma)?;
-        facts.push_str(shuffled(alloc, i)?.as_str())?;
-        revisions.push_str(comma)?;
-        revisions.push_str("\"1-c\"")?;
+        add_shuffled_one(i == 0, i, facts)?;
     }
-    facts.push_str("]}\n< {\"line\":L,\"ok\":\"bulk\",\"revs\":[")?;
-    facts.push_str(revisions.as_str())?;
-    facts.push_str("]}\n")
+    end_bulk(alloc, SHUFFLED_DOCUMENTS as usize, facts)
 }
 
-fn shuffled(alloc: Global, i: u64) -> Result<String, AllocError> {
+fn add_shuffled_one(is_first: bool, i: u64, facts: &mut String) -> Result<(), AllocError> {
     let n = i.saturating_mul(37) % SHUFFLED_DOCUMENTS;
-    format!(in alloc; "{{\"id\":\"k{i}\",\"n\":{n}}}")
+    let comma = if is_first { "" } else { "," };
+    write!(facts, "{comma}{{\"id\":\"k{i}\",\"n\":{n}}}")
 }
 
 const DOCUMENTS: u64 = 100_000;
 
 const DOCUMENTS_A_LINE: u64 = 20_000;
 
-const UPSERT: &str = r#"{"do":"upsert","in":"c","doc":{"id":"t0","n":2}}"#;
-
-const COUNT: &str = r#"{"do":"count","in":"c","query":{"selector":{"r":7}}}"#;
+const UPSERT_AND_COUNT: &str = r#"{"do":"upsert","in":"c","doc":{"id":"t0","n":2}}
+{"do":"count","in":"c","query":{"selector":{"r":7}}}
+"#;
 
 // A walk over all documents at each count, or at each change of the observed query, would be
 // 10,000,000,000 comparisons.
 #[test]
 fn upserts_and_counts_do_not_walk_all_documents(rt: HostRuntime) -> Result<(), Fail> {
-    let alloc = rt.alloc();
+    let ran = run_made(rt.alloc(), upserts_and_counts(rt.alloc())?)?;
+    compare_last(&ran)
+}
+
+fn compare_last(ran: &Ran) -> Result<(), Fail> {
+    if ran.status == 0 && ran.ends_with(LAST_REPLIES)? {
+        return Ok(());
+    }
+    Err(Fail::new(format_args!("status {} or other lines", ran.status)))
+}
+
+const LAST_REPLIES: [&str; 2] = [
+    r#"{"line":200006,"ok":"upsert","rev":"100001-c"}"#,
+    r#"{"count":1,"line":200007,"ok":"count"}"#,
+];
+
+fn upserts_and_counts(alloc: Global) -> Result<String, AllocError> {
     let mut script = String::from_str(alloc, RANKED)?;
     for line in 0..DOCUMENTS / DOCUMENTS_A_LINE {
-        add_bulk(alloc, line.saturating_mul(DOCUMENTS_A_LINE), &mut script)?;
+        add_bulk(line.saturating_mul(DOCUMENTS_A_LINE), &mut script)?;
     }
     for _ in 0..DOCUMENTS {
-        for line in [UPSERT, COUNT] {
-            script.push_str(line)?;
-            script.push('\n')?;
-        }
+        script.push_str(UPSERT_AND_COUNT)?;
     }
-    let ran = run(alloc, &Setting::PLAIN, RUN, script.as_str().as_bytes(), &[])?;
-    let mut last = str::from_utf8(ran.output.as_slice())?.lines().rev();
-    assert_eq!(rt;
-        last.next(),
-        Some(r#"{"count":1,"line":200007,"ok":"count"}"#)
-    );
-    assert_eq!(rt;
-        last.next(),
-        Some(r#"{"line":200006,"ok":"upsert","rev":"100001-c"}"#)
-    );
-    assert_eq!(rt; ran.status, 0);
-    Ok(())
+    Ok(script)
 }
 
 // Adds the line of the documents from this number on.
-fn add_bulk(alloc: Global, first: u64, script: &mut String) -> Result<(), AllocError> {
+fn add_bulk(first: u64, script: &mut String) -> Result<(), AllocError> {
     script.push_str(r#"{"do":"bulk","in":"c","docs":["#)?;
     for i in 0..DOCUMENTS_A_LINE {
         let n = first.saturating_add(i);
         let comma = if i == 0 { "" } else { "," };
-        let doc = format!(in alloc; "{comma}{{\"id\":\"t{n}\",\"r\":{n}}}")?;
-        script.push_str(doc.as_str())?;
+        write!(script, "{comma}{{\"id\":\"t{n}\",\"r\":{n}}}")?;
     }
     script.push_str("]}\n")
 }

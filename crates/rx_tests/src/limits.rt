@@ -1,5 +1,6 @@
 // How many collections and observed queries there may be.
 use crate::case::play_all;
+use std::alloc::AllocError;
 use std::test::Fail;
 
 const COLLECTIONS: u64 = 64;
@@ -35,18 +36,26 @@ $ run journal
 #[test]
 fn there_are_64_collections_and_256_queries_at_most(rt: HostRuntime) -> Result<(), Fail> {
     let alloc = rt.alloc();
-    let mut case = String::new(alloc);
-    case.push_str("\n== as many as may be\n")?;
-    for i in 0..COLLECTIONS {
-        let facts = format!(in alloc; "> C(c{i})\n< made\n")?;
-        case.push_str(facts.as_str())?;
-    }
-    for i in 0..QUERIES {
-        let facts = format!(in alloc;
-            "> {{\"do\":\"observe\",\"name\":\"q{i}\",\"in\":\"c0\",\"query\":{{}}}}\n< {{\"line\":L,\"ok\":\"observe\"}}\n< {{\"emit\":\"q{i}\",\"rows\":[]}}\n"
-        )?;
-        case.push_str(facts.as_str())?;
-    }
+    let mut case = String::from_str(alloc, "\n== as many as may be\n")?;
+    add_collections(&mut case)?;
+    add_queries(&mut case)?;
     case.push_str(FULL)?;
     play_all(alloc, case.as_str())
+}
+
+fn add_collections(case: &mut String) -> Result<(), AllocError> {
+    for i in 0..COLLECTIONS {
+        write!(case, "> C(c{i})\n< made\n")?;
+    }
+    Ok(())
+}
+
+fn add_queries(case: &mut String) -> Result<(), AllocError> {
+    for i in 0..QUERIES {
+        write!(
+            case,
+            "> {{\"do\":\"observe\",\"name\":\"q{i}\",\"in\":\"c0\",\"query\":{{}}}}\n< {{\"line\":L,\"ok\":\"observe\"}}\n< {{\"emit\":\"q{i}\",\"rows\":[]}}\n"
+        )?;
+    }
+    Ok(())
 }

@@ -1,5 +1,6 @@
 // Many documents: put in by bulk lines, and read back in the same run and in the next.
 use crate::case::play;
+use crate::short::end_bulk;
 use std::alloc::{AllocError, Global};
 use std::test::Fail;
 
@@ -43,17 +44,11 @@ fn two_hundred_thousand_documents_are_stored_and_read_back(rt: HostRuntime) -> R
 
 // Adds the bulk line with this number, counted from 0, and what it is answered.
 fn add_bulk(alloc: Global, number: u64, facts: &mut String) -> Result<(), AllocError> {
-    let mut revisions = String::new(alloc);
     facts.push_str("> {\"do\":\"bulk\",\"in\":\"c\",\"docs\":[")?;
     for i in 0..DOCUMENTS_A_LINE {
         let n = number.saturating_mul(DOCUMENTS_A_LINE).saturating_add(i);
         let comma = if i == 0 { "" } else { "," };
-        let doc = format!(in alloc; "{comma}{{\"id\":\"k{n}\",\"n\":{n}}}")?;
-        facts.push_str(doc.as_str())?;
-        revisions.push_str(comma)?;
-        revisions.push_str("\"1-c\"")?;
+        write!(facts, "{comma}{{\"id\":\"k{n}\",\"n\":{n}}}")?;
     }
-    facts.push_str("]}\n< {\"line\":L,\"ok\":\"bulk\",\"revs\":[")?;
-    facts.push_str(revisions.as_str())?;
-    facts.push_str("]}\n")
+    end_bulk(alloc, DOCUMENTS_A_LINE as usize, facts)
 }

@@ -1,7 +1,7 @@
 // Plans by hand, by the rules: which index, between which bounds, and whether its keys have the rows
 // in the query's order.
 use rx_index::{Bound, Index};
-use rx_planner::plan;
+use rx_planner::{Plan, plan};
 use rx_query::Query;
 use rx_schema::Schema;
 use rx_value::{RxText, Value};
@@ -65,10 +65,18 @@ fn compare(
 fn planned(alloc: Global, schema: &Schema, indexes: &[Index], query: &str) -> Result<String, Fail> {
     let json = Json::from_str(alloc, query)?;
     let asked = Query::read(alloc, &json, schema.kinds(), schema.primary())?;
+    plan_of(alloc, &asked, indexes)
+}
+
+fn plan_of(alloc: Global, asked: &Query, indexes: &[Index]) -> Result<String, Fail> {
     if indexes.is_empty() {
         return Err(Fail::new("no index"));
     }
-    let plan = plan(alloc, &asked, indexes)?;
+    let plan = plan(alloc, asked, indexes)?;
+    plan_text(alloc, &plan)
+}
+
+fn plan_text(alloc: Global, plan: &Plan) -> Result<String, Fail> {
     let low = shown(alloc, &plan.low)?;
     let high = shown(alloc, &plan.high)?;
     let order = if plan.ordered {
@@ -76,13 +84,7 @@ fn planned(alloc: Global, schema: &Schema, indexes: &[Index], query: &str) -> Re
     } else {
         "in another order"
     };
-    let text = format!(in alloc;
-        "index {} from {} to {}, rows {order}",
-        plan.index,
-        low.as_str(),
-        high.as_str()
-    )?;
-    Ok(text)
+    Ok(format!(in alloc; "index {} from {low} to {high}, rows {order}", plan.index)?)
 }
 
 // Its values, and on which side of them it stands.

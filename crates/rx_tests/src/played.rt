@@ -1,6 +1,6 @@
 // The run whose contract is its transcript, on a script that reaches its end, and on one that doesn't.
 use crate::headline::{Played, play_in_memory};
-use crate::short::{journal_bytes, script_line};
+use crate::short::{add_script_line, journal_bytes};
 use rx_handler::{Handler, HandlerKind, Handlers};
 use rx_value::{RxText, State};
 use std::alloc::{AllocError, Global};
@@ -12,24 +12,28 @@ const DUE: &str = r#"{"line":1,"new":true,"ok":"collection"}
 
 #[test]
 fn a_script_over_an_empty_journal(rt: HostRuntime) -> Result<(), Fail> {
-    let mut journal = Vec::new(rt.alloc());
-    journal_bytes(rt.alloc(), "BASE 00", &mut journal)?;
-    let played = play(
-        rt.alloc(),
-        &["C(c)", "I(d,a,1)"],
-        &Handlers::new(rt.alloc()),
-    )?;
-    assert_eq!(rt; played.status, 1);
-    assert!(rt; played.output.as_slice() == DUE.as_bytes());
-    assert!(rt; played.journal.as_slice() == journal.as_slice());
-    Ok(())
+    let alloc = rt.alloc();
+    let mut journal = Vec::new(alloc);
+    journal_bytes(alloc, "BASE 00", &mut journal)?;
+    let played = play(alloc, &["C(c)", "I(d,a,1)"], &Handlers::new(alloc))?;
+    compare(&played, 1, DUE)?;
+    if played.journal.as_slice() == journal.as_slice() {
+        return Ok(());
+    }
+    Err(Fail::new("another journal"))
+}
+
+fn compare(played: &Played, status: u8, output: &str) -> Result<(), Fail> {
+    if played.status == status && played.output.as_slice() == output.as_bytes() {
+        return Ok(());
+    }
+    Err(Fail::new(format_args!("another output, or status {}", played.status)))
 }
 
 fn play(alloc: Global, lines: &[&str], handlers: &Handlers) -> Result<Played, AllocError> {
     let mut script = String::new(alloc);
     for line in lines {
-        script.push_str(script_line(alloc, line)?.as_str())?;
-        script.push('\n')?;
+        add_script_line(alloc, line, &mut script)?;
     }
     play_in_memory(alloc, script.as_str().as_bytes().to_vec(alloc)?, handlers)
 }
@@ -55,14 +59,17 @@ const BEFORE_THE_TURN: &str = r#"{"line":1,"new":true,"ok":"collection"}
 #[test]
 fn a_handler_that_wants_memory_ends_the_run(rt: HostRuntime) -> Result<(), Fail> {
     let alloc = rt.alloc();
+    let name = RxText::new(alloc, "none")?;
     let call = Box::new(
         alloc,
         |_alloc: Global, _field: &str, _real: &State, _new: &State| { Err(AllocError) },
     )?;
     let mut handlers = Handlers::new(alloc);
-    handlers.add(Handler::new(RxText::new(alloc, "none")?, HandlerKind::Join, call))?;
-    let played = play(alloc, &CONFLICT, &handlers)?;
-    assert_eq!(rt; played.status, 6);
-    assert!(rt; played.output.as_slice() == BEFORE_THE_TURN.as_bytes());
-    Ok(())
+    handlers.add(Handler::new(name, HandlerKind::Join, call))?;
+    play_conflict(alloc, &handlers)
+}
+
+fn play_conflict(alloc: Global, handlers: &Handlers) -> Result<(), Fail> {
+    let played = play(alloc, &CONFLICT, handlers)?;
+    compare(&played, 6, BEFORE_THE_TURN)
 }

@@ -1,7 +1,7 @@
 // The journal of a whole run, cut to each length. It opens where at most 9 bytes are left, or where it
 // ends with a closed gate behind a whole record; else it is no journal, and is left as it is.
 use crate::record_stops::LINES;
-use crate::run::{RUN, Ran, Setting, run};
+use crate::run::{Ran, report, run_plain};
 use crate::stops::play_failing;
 use std::alloc::{AllocError, Global};
 use std::test::Fail;
@@ -22,51 +22,71 @@ const NO_JOURNAL: &str = "{\"stop\":\"not_journal\"}\n";
 #[test]
 fn a_journal_cut_to_any_length_is_reported_or_refused(rt: HostRuntime) -> Result<(), Fail> {
     let whole = play_failing(rt.alloc(), &LINES, 0)?;
-    let bytes = whole.disk.bytes();
-    assert_eq!(rt; bytes.len(), 602);
+    check_all(rt.alloc(), whole.disk.bytes())
+}
+
+fn check_all(alloc: Global, bytes: &[u8]) -> Result<(), Fail> {
     let mut legal = 0u64;
     for length in 0..=bytes.len() {
-        legal = legal.saturating_add(check_reports(rt.alloc(), bytes, length)?);
+        legal = legal.saturating_add(check_reports(alloc, bytes, length)?);
     }
     // Up to 9 bytes with each last one; six gates that three bytes close, and the last, closed before.
-    assert_eq!(rt; legal, 40 + 18 + 4);
-    Ok(())
+    if bytes.len() == 602 && legal == 40 + 18 + 4 {
+        return Ok(());
+    }
+    Err(Fail::new(format_args!("{legal} legal, of {} bytes", bytes.len())))
 }
 
 #[test]
 fn a_journal_cut_to_any_length_opens_or_is_left_alone(rt: HostRuntime) -> Result<(), Fail> {
     let whole = play_failing(rt.alloc(), &LINES, 0)?;
-    let bytes = whole.disk.bytes();
+    check_cuts(rt.alloc(), whole.disk.bytes())
+}
+
+fn check_cuts(alloc: Global, bytes: &[u8]) -> Result<(), Fail> {
     for length in 0..=bytes.len() {
-        let left = cut(rt.alloc(), bytes, length, None)?;
-        check_run(rt.alloc(), left.as_slice(), records(left.as_slice()))?;
+        check_cut(alloc, bytes, length)?;
     }
     Ok(())
+}
+
+fn check_cut(alloc: Global, bytes: &[u8], length: usize) -> Result<(), Fail> {
+    let left = cut(alloc, bytes, length, None)?;
+    check_run(alloc, left.as_slice(), records(left.as_slice()))
 }
 
 #[test]
 fn a_journal_closed_behind_any_record_opens(rt: HostRuntime) -> Result<(), Fail> {
     let whole = play_failing(rt.alloc(), &LINES, 0)?;
-    let mut count = 0usize;
-    for gate in GATES {
-        let length = gate.saturating_add(1);
-        let left = cut(rt.alloc(), whole.disk.bytes(), length, Some(0))?;
-        check_run(rt.alloc(), left.as_slice(), Some(count))?;
-        count = count.saturating_add(1);
+    check_gates(rt.alloc(), whole.disk.bytes())
+}
+
+fn check_gates(alloc: Global, bytes: &[u8]) -> Result<(), Fail> {
+    for (count, gate) in GATES.iter().enumerate() {
+        check_closed(alloc, bytes, gate.saturating_add(1), count)?;
     }
     Ok(())
+}
+
+fn check_closed(alloc: Global, bytes: &[u8], length: usize, count: usize) -> Result<(), Fail> {
+    let left = cut(alloc, bytes, length, Some(0))?;
+    check_run(alloc, left.as_slice(), Some(count))
 }
 
 // How many are legal of the journals of this length, by their last bytes.
 fn check_reports(alloc: Global, bytes: &[u8], length: usize) -> Result<u64, Fail> {
     let mut legal = 0u64;
     for last in LASTS {
-        let left = cut(alloc, bytes, length, last)?;
-        let count = records(left.as_slice());
-        check_report(alloc, left.as_slice(), count)?;
-        legal = legal.saturating_add(u64::from(count.is_some()));
+        legal = legal.saturating_add(u64::from(is_legal(alloc, bytes, length, last)?));
     }
     Ok(legal)
+}
+
+fn is_legal(alloc: Global, bytes: &[u8], length: usize, last: Option<u8>) -> Result<bool, Fail> {
+    let left = cut(alloc, bytes, length, last)?;
+    let count = records(left.as_slice());
+    check_report(alloc, left.as_slice(), count)?;
+    Ok(count.is_some())
 }
 
 fn cut(
@@ -100,45 +120,53 @@ fn records(left: &[u8]) -> Option<usize> {
 
 // What a report says of so many records, or of no journal.
 fn check_report(alloc: Global, left: &[u8], count: Option<usize>) -> Result<(), Fail> {
-    let (due, status) = match count {
-        Some(count) => (last_line(alloc, left.len().max(9), count)?, 0),
-        None => (String::from_str(alloc, NO_JOURNAL)?, 7),
-    };
-    let report = run(alloc, &Setting::PLAIN, "check journal", &[], left)?;
-    let output = str::from_utf8(report.output.as_slice())?;
-    if report.status != status || report.disk.bytes() != left || !output.ends_with(due.as_str()) {
-        return Err(Fail::new(format_args!("{} bytes: {output}", left.len())));
+    let report = report(alloc, left)?;
+    compare_report(alloc, &report, left, count)
+}
+
+fn compare_report(
+    alloc: Global,
+    report: &Ran,
+    left: &[u8],
+    count: Option<usize>,
+) -> Result<(), Fail> {
+    if report.disk.bytes() == left && is_due(alloc, report, left.len(), count)? {
+        return Ok(());
     }
-    Ok(())
+    Err(Fail::new(format_args!("{} bytes: {}", left.len(), report.text()?)))
+}
+
+fn is_due(alloc: Global, report: &Ran, len: usize, count: Option<usize>) -> Result<bool, Fail> {
+    let Some(count) = count else {
+        return Ok(report.status == 7 && report.text()?.ends_with(NO_JOURNAL));
+    };
+    let due = last_line(alloc, len.max(9), count)?;
+    Ok(report.status == 0 && report.text()?.ends_with(due.as_str()))
 }
 
 // An empty script adds the record of its epoch, or leaves what is no journal.
 fn check_run(alloc: Global, left: &[u8], count: Option<usize>) -> Result<(), Fail> {
-    let (due, status) = match count {
-        Some(_) => ("", 0),
-        None => (NO_JOURNAL, 7),
-    };
-    let ran = run(alloc, &Setting::PLAIN, RUN, &[], left)?;
-    if ran.status != status || ran.output.as_slice() != due.as_bytes() {
-        return Err(Fail::new(format_args!("{} bytes: status {}", left.len(), ran.status)));
+    let ran = run_plain(alloc, "", left)?;
+    compare_run(alloc, &ran, left, count)
+}
+
+fn compare_run(alloc: Global, ran: &Ran, left: &[u8], count: Option<usize>) -> Result<(), Fail> {
+    match count {
+        Some(count) if ran.came_to(0, "") => check_epoch(alloc, left, count, ran.disk.bytes()),
+        None if ran.came_to(7, NO_JOURNAL) => left_alone(ran, left),
+        _ => Err(Fail::new(format_args!("{} bytes: status {}", left.len(), ran.status))),
     }
-    let Some(count) = count else {
-        return left_alone(&ran, left);
-    };
-    let report = run(
-        alloc,
-        &Setting::PLAIN,
-        "check journal",
-        &[],
-        ran.disk.bytes(),
-    )?;
+}
+
+// The journal has the record of one epoch more than was left.
+fn check_epoch(alloc: Global, left: &[u8], count: usize, journal: &[u8]) -> Result<(), Fail> {
     let epoch = epoch_of(count).saturating_add(1);
     let end = left.len().max(9).saturating_add(14);
     let line = report_line(alloc, end, epoch, count.saturating_add(1))?;
-    if !str::from_utf8(report.output.as_slice())?.ends_with(line.as_str()) {
-        return Err(Fail::new(format_args!("{} bytes: another record", left.len())));
+    if report(alloc, journal)?.text()?.ends_with(line.as_str()) {
+        return Ok(());
     }
-    Ok(())
+    Err(Fail::new(format_args!("{} bytes: another record", left.len())))
 }
 
 fn left_alone(ran: &Ran, left: &[u8]) -> Result<(), Fail> {

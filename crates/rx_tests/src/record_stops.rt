@@ -1,9 +1,9 @@
 // Each kind of record at the four calls of the disk that append it: the body is written and synced,
 // and then its gate. A call fails, or the run stops within it, and an empty script then ends well on
 // what is left, which has the record where its gate was found open and else none of it.
-use crate::run::{RUN, Ran, Setting, run};
+use crate::run::{Ran, report, run_plain};
 use crate::stops::{CALLS, PICKS, play_failing, replies};
-use std::alloc::Global;
+use std::alloc::{AllocError, Global};
 use std::test::Fail;
 
 /// Lines of which each appends one record, behind that of the first epoch.
@@ -74,21 +74,54 @@ fn try_call(
     call: u64,
     gate: bool,
 ) -> Result<(), Fail> {
-    let failed = play_failing(alloc, lines, call)?;
+    try_fault(alloc, kind, lines, call, gate)?;
     // No call has the number 0.
     let whole = play_failing(alloc, lines, 0)?;
-    let answered = replies(alloc, lines, &failed)?;
-    if answered.saturating_add(1) != lines.len() {
-        return Err(Fail::new(format_args!("{kind}, call {call}: {answered} lines answered")));
+    try_picks(alloc, kind, &whole, call, due(lines, gate))
+}
+
+fn try_fault(
+    alloc: Global,
+    kind: &str,
+    lines: &[(&str, &str)],
+    call: u64,
+    gate: bool,
+) -> Result<(), Fail> {
+    let failed = play_failing(alloc, lines, call)?;
+    compare_failed(alloc, kind, lines, &failed, call)?;
+    try_picks(alloc, kind, &failed, call, due(lines, gate))
+}
+
+fn compare_failed(
+    alloc: Global,
+    kind: &str,
+    lines: &[(&str, &str)],
+    failed: &Ran,
+    call: u64,
+) -> Result<(), Fail> {
+    let answered = replies(alloc, lines, failed)?;
+    if answered.saturating_add(1) == lines.len() {
+        return Ok(());
     }
-    for pick in PICKS {
-        let stands = gate && pick.first() == Some(&1);
-        let due = if stands { lines.len() } else { answered };
-        let after_fault = lines_standing(alloc, &failed, call, pick)?;
-        let after_stop = lines_standing(alloc, &whole, call, pick)?;
-        if after_fault != due || after_stop != due {
+    Err(Fail::new(format_args!("{kind}, call {call}: {answered} lines answered")))
+}
+
+// Of how many lines the records stand, where an open byte isn't found as the gate is when open, and
+// where it is.
+fn due(lines: &[(&str, &str)], gate: bool) -> [usize; 2] {
+    let before = lines.len().saturating_sub(1);
+    [before, if gate { lines.len() } else { before }]
+}
+
+fn try_picks(alloc: Global, kind: &str, ran: &Ran, call: u64, due: [usize; 2]) -> Result<(), Fail> {
+    for pick in PICKS.iter() {
+        let found_open = pick.first() == Some(&1);
+        let due = if found_open { due[1] } else { due[0] };
+        let stand = lines_standing(alloc, ran, call, pick)?;
+        if stand != due {
             return Err(Fail::new(format_args!(
-                "{kind}, call {call}: {after_fault} and {after_stop} lines stand, due {due}"
+                "{kind}, call {call}, status {}: {stand} lines stand, due {due}",
+                ran.status
             )));
         }
     }
@@ -97,26 +130,31 @@ fn try_call(
 
 // Of how many lines the records stand in what a stop left, by the report once an empty script ended.
 fn lines_standing(alloc: Global, ran: &Ran, call: u64, pick: &[u8]) -> Result<usize, Fail> {
-    let left = ran.disk.stopped(call, pick)?;
-    let empty = run(alloc, &Setting::PLAIN, RUN, &[], left.as_slice())?;
-    if empty.status != 0 || !empty.output.is_empty() {
-        return Err(Fail::new(format_args!("an empty script ends with {}", empty.status)));
+    let empty = run_again(alloc, ran, call, pick)?;
+    if empty.came_to(0, "") {
+        return lines_reported(alloc, empty.disk.bytes());
     }
-    let report = run(
-        alloc,
-        &Setting::PLAIN,
-        "check journal",
-        &[],
-        empty.disk.bytes(),
-    )?;
-    let output = str::from_utf8(report.output.as_slice())?;
+    Err(Fail::new(format_args!("an empty script ends with {}", empty.status)))
+}
+
+// An empty script over what a stop within this call left.
+fn run_again(alloc: Global, ran: &Ran, call: u64, pick: &[u8]) -> Result<Ran, AllocError> {
+    let left = ran.disk.stopped(call, pick)?;
+    run_plain(alloc, "", left.as_slice())
+}
+
+fn lines_reported(alloc: Global, journal: &[u8]) -> Result<usize, Fail> {
+    let report = report(alloc, journal)?;
+    lines_told(alloc, report.text()?)
+}
+
+// Of how many lines this report tells. The epochs of both runs have a record too.
+fn lines_told(alloc: Global, report: &str) -> Result<usize, Fail> {
     for count in 0..=LINES.len() {
-        // The epochs of both runs have a record too.
-        let records = count.saturating_add(2);
-        let end = format!(in alloc; ",\"records\":{records}}}\n")?;
-        if output.ends_with(end.as_str()) {
+        let end = format!(in alloc; ",\"records\":{}}}\n", count.saturating_add(2))?;
+        if report.ends_with(end.as_str()) {
             return Ok(count);
         }
     }
-    Err(Fail::new(format_args!("another report: {output}")))
+    Err(Fail::new(format_args!("another report: {report}")))
 }

@@ -1,6 +1,7 @@
 // The commands that write one text: the report on a journal, and the trial.
 use crate::case::play_all;
-use crate::run::{Setting, run};
+use crate::run::{Ran, Setting, run};
+use std::alloc::{AllocError, Global};
 use std::test::Fail;
 
 #[test]
@@ -15,17 +16,29 @@ fn a_generated_script_is_played(rt: HostRuntime) -> Result<(), Fail> {
 
 #[test]
 fn a_large_trial_comes_to_the_same_twice(rt: HostRuntime) -> Result<(), Fail> {
-    let alloc = rt.alloc();
-    let first = run(alloc, &Setting::PLAIN, LARGE, &[], &[])?;
-    let second = run(alloc, &Setting::PLAIN, LARGE, &[], &[])?;
-    let line = str::from_utf8(first.output.as_slice())?;
-    if first.status != 0 || !line.contains(",\"lines\":4006,") || line.lines().count() != 1 {
-        return Err(Fail::new(format_args!("status {}: {line}", first.status)));
+    let first = run_large(rt.alloc())?;
+    check_trials(rt.alloc(), &first)
+}
+
+fn run_large(alloc: Global) -> Result<Ran, AllocError> {
+    run(alloc, &Setting::PLAIN, LARGE, &[], &[])
+}
+
+fn check_trials(alloc: Global, first: &Ran) -> Result<(), Fail> {
+    check_trial(first)?;
+    let second = run_large(alloc)?;
+    if first.output.as_slice() == second.output.as_slice() {
+        return Ok(());
     }
-    if first.output.as_slice() != second.output.as_slice() {
-        return Err(Fail::new("another line on a second journal"));
+    Err(Fail::new("another line on a second journal"))
+}
+
+fn check_trial(ran: &Ran) -> Result<(), Fail> {
+    let line = ran.text()?;
+    if ran.status == 0 && line.contains(",\"lines\":4006,") && line.lines().count() == 1 {
+        return Ok(());
     }
-    Ok(())
+    Err(Fail::new(format_args!("status {}: {line}", ran.status)))
 }
 
 const LARGE: &str = "trial journal 7 4000";

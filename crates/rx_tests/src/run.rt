@@ -12,6 +12,7 @@ use rx_top::rx;
 use rx_value::{RxText, State};
 use rx_words::Words;
 use std::alloc::{AllocError, Global};
+use std::test::Fail;
 
 /// The words of most runs.
 pub const RUN: &str = "run journal";
@@ -61,6 +62,47 @@ pub struct Ran {
     pub disk: MemoryDisk,
 }
 
+impl Ran {
+    /// What was written, which is a text where the program is right.
+    pub fn text(&self) -> Result<&str, Fail> {
+        Ok(str::from_utf8(self.output.as_slice())?)
+    }
+
+    /// Whether the run ended with this status, and wrote this.
+    pub fn came_to(&self, status: u8, output: &str) -> bool {
+        self.status == status && self.output.as_slice() == output.as_bytes()
+    }
+
+    /// A run has to end with this status, and to write this.
+    pub fn compare(&self, status: u8, output: &str) -> Result<(), Fail> {
+        if self.came_to(status, output) {
+            return Ok(());
+        }
+        Err(Fail::new(format_args!("status {} for {status}, or other lines", self.status)))
+    }
+
+    /// Whether these are the last lines of the output.
+    pub fn ends_with(&self, due: [&str; 2]) -> Result<bool, Fail> {
+        let mut last = self.text()?.lines().rev();
+        Ok(last.next() == Some(due[1]) && last.next() == Some(due[0]))
+    }
+}
+
+/// Plays a script in which nothing fails, on a disk that holds these bytes.
+pub fn run_plain(alloc: Global, script: &str, held: &[u8]) -> Result<Ran, AllocError> {
+    run(alloc, &Setting::PLAIN, RUN, script.as_bytes(), held)
+}
+
+/// The same for a script that is of no use afterwards.
+pub fn run_made(alloc: Global, script: String) -> Result<Ran, AllocError> {
+    run_plain(alloc, script.as_str(), &[])
+}
+
+/// The report on a journal of these bytes.
+pub fn report(alloc: Global, held: &[u8]) -> Result<Ran, AllocError> {
+    run(alloc, &Setting::PLAIN, "check journal", &[], held)
+}
+
 /// Plays a script, on a disk that holds these bytes.
 pub fn run(
     alloc: Global,
@@ -70,12 +112,23 @@ pub fn run(
     held: &[u8],
 ) -> Result<Ran, AllocError> {
     let words = split(alloc, words)?;
-    let fails = setting.read_fails.to_vec(alloc)?;
-    let mut source = MemorySource::new(script.to_vec(alloc)?, setting.piece.max(1), fails);
-    run_from(alloc, setting, &words, &mut source, held)
+    run_words(alloc, setting, &words, script, held)
 }
 
-/// The same for any source and any words.
+/// The same for any words.
+pub fn run_words(
+    alloc: Global,
+    setting: &Setting<'_>,
+    words: &Words,
+    script: &[u8],
+    held: &[u8],
+) -> Result<Ran, AllocError> {
+    let fails = setting.read_fails.to_vec(alloc)?;
+    let mut source = MemorySource::new(script.to_vec(alloc)?, setting.piece.max(1), fails);
+    run_from(alloc, setting, words, &mut source, held)
+}
+
+/// The same for any source.
 pub fn run_from<S: Source>(
     alloc: Global,
     setting: &Setting<'_>,
@@ -83,33 +136,55 @@ pub fn run_from<S: Source>(
     source: &mut S,
     held: &[u8],
 ) -> Result<Ran, AllocError> {
-    let mut sink = MemorySink::new(alloc, setting.write_fails.to_vec(alloc)?);
     let fails = setting.disk_fails.to_vec(alloc)?;
-    let mut disk = MemoryDisk::new(alloc, held.to_vec(alloc)?, fails);
-    let wires = wires_of(alloc, setting.peers)?;
-    let mut door = MemoryDoor::new(alloc, wires, Vec::new(alloc));
-    let masters = masters_of(alloc, setting.masters)?;
-    let mut dial = MemoryDial::new(alloc, masters, Vec::new(alloc));
-    let played = play(
-        alloc, words, source, &mut sink, &mut disk, &mut door, &mut dial,
-    );
-    let Ok(status) = played else {
-        return Err(AllocError);
+    let mut ran = Ran {
+        status: 0,
+        output: Vec::new(alloc),
+        sent: Vec::new(alloc),
+        disk: MemoryDisk::new(alloc, held.to_vec(alloc)?, fails),
     };
-    let mut sent = Vec::new(alloc);
-    for wire in door.closed_wires() {
+    play(alloc, setting, words, source, &mut ran)?;
+    Ok(ran)
+}
+
+// Plays on the disk of the run, and keeps what was written.
+fn play<S: Source>(
+    alloc: Global,
+    setting: &Setting<'_>,
+    words: &Words,
+    source: &mut S,
+    ran: &mut Ran,
+) -> Result<(), AllocError> {
+    let mut sink = MemorySink::new(alloc, setting.write_fails.to_vec(alloc)?);
+    play_wired(alloc, setting, words, source, &mut sink, ran)?;
+    ran.output.extend_from_slice(sink.bytes())
+}
+
+// Plays over wires too, and keeps what they were sent.
+fn play_wired<S: Source>(
+    alloc: Global,
+    setting: &Setting<'_>,
+    words: &Words,
+    source: &mut S,
+    sink: &mut MemorySink,
+    ran: &mut Ran,
+) -> Result<(), AllocError> {
+    let mut door = MemoryDoor::new(alloc, wires_of(alloc, setting.peers)?, Vec::new(alloc));
+    let mut dial = MemoryDial::new(alloc, masters_of(alloc, setting.masters)?, Vec::new(alloc));
+    let disk = &mut ran.disk;
+    match play_handled(alloc, words, source, sink, disk, &mut door, &mut dial) {
+        Ok(status) => ran.status = status,
+        Err(_) => return Err(AllocError),
+    }
+    add_sent(door.closed_wires(), &mut ran.sent)?;
+    add_sent(dial.closed_wires(), &mut ran.sent)
+}
+
+fn add_sent(wires: &[MemoryWire], sent: &mut Vec<u8>) -> Result<(), AllocError> {
+    for wire in wires {
         sent.extend_from_slice(wire.sent())?;
     }
-    for wire in dial.closed_wires() {
-        sent.extend_from_slice(wire.sent())?;
-    }
-    let output = sink.bytes().to_vec(alloc)?;
-    Ok(Ran {
-        status,
-        output,
-        sent,
-        disk,
-    })
+    Ok(())
 }
 
 // The wires of peers that send this, in turn. None was used.
@@ -161,8 +236,9 @@ const HANDLERS: [(&str, HandlerKind); 4] = [
     ("join", HandlerKind::Join),
 ];
 
-// The run with the handlers that the program has.
-fn play<S: Source>(
+// The run with the handlers that the program has. They are made where they are used: what makes a
+// closure and gives it away would hide what it does.
+fn play_handled<S: Source>(
     alloc: Global,
     words: &Words,
     source: &mut S,
@@ -172,7 +248,9 @@ fn play<S: Source>(
     dial: &mut MemoryDial,
 ) -> Result<u8, HandlerFault> {
     let mut handlers = Handlers::new(alloc);
-    for (name, kind) in HANDLERS {
+    for (name, kind) in HANDLERS.iter() {
+        let name = RxText::new(alloc, name)?;
+        let kind = *kind;
         let call = Box::new(
             alloc,
             move |alloc: Global, field: &str, real: &State, new: &State|
@@ -180,7 +258,7 @@ fn play<S: Source>(
             { resolved(alloc, kind, field, real, new) },
         );
         match call {
-            Ok(call) => handlers.add(Handler::new(RxText::new(alloc, name)?, kind, call))?,
+            Ok(call) => handlers.add(Handler::new(name, kind, call))?,
             Err(refused) => return Err(AllocError::from(refused).into()),
         }
     }

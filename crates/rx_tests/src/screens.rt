@@ -1,8 +1,8 @@
 // A random script over eight observed queries of all kinds. After each write each query is asked
 // again by a `find` line, whose rows have to be those that its last emission showed.
 use crate::random::Random;
-use crate::run::{RUN, Setting, run};
-use crate::short::script_line;
+use crate::run::run_made;
+use crate::short::add_script_line;
 use std::alloc::{AllocError, Global};
 use std::test::Fail;
 
@@ -23,70 +23,79 @@ const QUERIES: [&str; 8] = [
 #[test]
 fn emitted_rows_are_what_find_gives(rt: HostRuntime) -> Result<(), Fail> {
     let alloc = rt.alloc();
-    let script = random_script(alloc)?;
-    let bytes = script.as_str().as_bytes();
-    let ran = run(alloc, &Setting::PLAIN, RUN, bytes, &[])?;
-    let output = str::from_utf8(ran.output.as_slice())?;
+    let ran = run_made(alloc, random_script(alloc)?)?;
+    compare_screens(alloc, ran.text()?)
+}
+
+fn compare_screens(alloc: Global, output: &str) -> Result<(), Fail> {
     let mut screens = Screens::new(alloc)?;
-    for line in output.lines() {
-        screens.read(alloc, line)?;
-    }
-    if screens.asked != WRITES * 8 {
-        return Err(Fail::new(format_args!("{} find lines", screens.asked)));
-    }
-    if screens.emitted < WRITES {
-        return Err(Fail::new(format_args!("{} emissions", screens.emitted)));
-    }
-    Ok(())
+    screens.read_all(alloc, output)
 }
 
 fn random_script(alloc: Global) -> Result<String, AllocError> {
     let mut script = String::new(alloc);
-    script.push_str(script_line(alloc, r#"{"do":"collection","name":"c","schema":S2}"#)?.as_str())?;
-    script.push('\n')?;
-    for (i, query) in QUERIES.iter().enumerate() {
-        let line = format!(in alloc;
-            "{{\"do\":\"observe\",\"name\":\"q{i}\",\"in\":\"c\",\"query\":{query}}}\n"
-        )?;
-        script.push_str(line.as_str())?;
-    }
+    add_script_line(
+        alloc,
+        r#"{"do":"collection","name":"c","schema":S2}"#,
+        &mut script,
+    )?;
+    add_observes(&mut script)?;
     let mut random = Random::new(7);
     for _ in 0..WRITES {
-        add_write(alloc, &mut random, &mut script)?;
-        add_finds(alloc, &mut script)?;
+        add_write(&mut random, &mut script)?;
+        add_finds(&mut script)?;
     }
     Ok(script)
 }
 
-// A line that puts in, changes, or takes out one of twelve documents. Some are refused.
-fn add_write(alloc: Global, random: &mut Random, script: &mut String) -> Result<(), AllocError> {
-    let key = random.below(12);
-    let n = random.below(6);
-    let line = match random.below(8) {
-        0 | 1 => format!(in alloc; "{{\"do\":\"remove\",\"in\":\"c\",\"key\":\"k{key}\"}}\n")?,
-        2 => format!(in alloc;
-            "{{\"do\":\"upsert\",\"in\":\"c\",\"doc\":{{\"id\":\"k{key}\"}}}}\n"
-        )?,
-        3 => format!(in alloc;
-            "{{\"do\":\"patch\",\"in\":\"c\",\"key\":\"k{key}\",\"set\":{{\"n\":{n}}}}}\n"
-        )?,
-        4 => format!(in alloc;
-            "{{\"do\":\"upsert\",\"in\":\"c\",\"doc\":{{\"id\":\"k{key}\",\"n\":{n},\"t\":\"t{n}\"}}}}\n"
-        )?,
-        5 => format!(in alloc;
-            "{{\"do\":\"bulk\",\"in\":\"c\",\"docs\":[{{\"id\":\"k{key}\",\"n\":{n}}},{{\"id\":\"z{key}\"}}]}}\n"
-        )?,
-        _ => format!(in alloc;
-            "{{\"do\":\"upsert\",\"in\":\"c\",\"doc\":{{\"id\":\"k{key}\",\"n\":{n}}}}}\n"
-        )?,
-    };
-    script.push_str(line.as_str())
+fn add_observes(script: &mut String) -> Result<(), AllocError> {
+    for (i, query) in QUERIES.iter().enumerate() {
+        write!(
+            script,
+            "{{\"do\":\"observe\",\"name\":\"q{i}\",\"in\":\"c\",\"query\":{query}}}\n"
+        )?;
+    }
+    Ok(())
 }
 
-fn add_finds(alloc: Global, script: &mut String) -> Result<(), AllocError> {
-    for query in QUERIES {
-        let line = format!(in alloc; "{{\"do\":\"find\",\"in\":\"c\",\"query\":{query}}}\n")?;
-        script.push_str(line.as_str())?;
+// A line that puts in, changes, or takes out one of twelve documents. Some are refused.
+fn add_write(random: &mut Random, script: &mut String) -> Result<(), AllocError> {
+    let key = random.below(12);
+    let n = random.below(6);
+    match random.below(8) {
+        0 | 1 => write!(
+            script,
+            "{{\"do\":\"remove\",\"in\":\"c\",\"key\":\"k{key}\"}}\n"
+        ),
+        2 => write!(
+            script,
+            "{{\"do\":\"upsert\",\"in\":\"c\",\"doc\":{{\"id\":\"k{key}\"}}}}\n"
+        ),
+        3 => write!(
+            script,
+            "{{\"do\":\"patch\",\"in\":\"c\",\"key\":\"k{key}\",\"set\":{{\"n\":{n}}}}}\n"
+        ),
+        4 => write!(
+            script,
+            "{{\"do\":\"upsert\",\"in\":\"c\",\"doc\":{{\"id\":\"k{key}\",\"n\":{n},\"t\":\"t{n}\"}}}}\n"
+        ),
+        5 => write!(
+            script,
+            "{{\"do\":\"bulk\",\"in\":\"c\",\"docs\":[{{\"id\":\"k{key}\",\"n\":{n}}},{{\"id\":\"z{key}\"}}]}}\n"
+        ),
+        _ => write!(
+            script,
+            "{{\"do\":\"upsert\",\"in\":\"c\",\"doc\":{{\"id\":\"k{key}\",\"n\":{n}}}}}\n"
+        ),
+    }
+}
+
+fn add_finds(script: &mut String) -> Result<(), AllocError> {
+    for query in QUERIES.iter() {
+        write!(
+            script,
+            "{{\"do\":\"find\",\"in\":\"c\",\"query\":{query}}}\n"
+        )?;
     }
     Ok(())
 }
@@ -112,15 +121,33 @@ impl Screens {
         })
     }
 
+    fn read_all(&mut self, alloc: Global, output: &str) -> Result<(), Fail> {
+        for line in output.lines() {
+            self.read(alloc, line)?;
+        }
+        if self.asked == WRITES * 8 && self.emitted >= WRITES {
+            return Ok(());
+        }
+        Err(Fail::new(format_args!("{} find lines, {} emissions", self.asked, self.emitted)))
+    }
+
     fn read(&mut self, alloc: Global, line: &str) -> Result<(), Fail> {
         let Some((head, rows)) = line.split_once("\"rows\":") else {
             return Ok(());
         };
-        if let Some(rest) = head.strip_prefix("{\"emit\":\"q") {
-            let number = rest.strip_suffix("\",").unwrap_or(rest).parse()?;
-            self.emitted = self.emitted.saturating_add(1);
-            return self.show(alloc, number, rows);
+        match head.strip_prefix("{\"emit\":\"q") {
+            Some(rest) => self.read_emitted(alloc, rest, rows),
+            None => self.read_found(rows),
         }
+    }
+
+    fn read_emitted(&mut self, alloc: Global, rest: &str, rows: &str) -> Result<(), Fail> {
+        let number = rest.strip_suffix("\",").unwrap_or(rest).parse()?;
+        self.emitted = self.emitted.saturating_add(1);
+        self.show(alloc, number, rows)
+    }
+
+    fn read_found(&mut self, rows: &str) -> Result<(), Fail> {
         let number = (self.asked % 8) as usize;
         self.asked = self.asked.saturating_add(1);
         match self.shown.get(number) {

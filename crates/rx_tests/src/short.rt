@@ -17,21 +17,35 @@ pub const LEAST: &str =
 /// The line of a script for which a short one stands: `C(c)` makes the collection c of `S1`, and
 /// `I(c,a,1)` inserts a document with the key a and the number 1 in it. Elsewhere the names of the
 /// schemas and of the members above stand for their texts.
-pub fn script_line(alloc: Global, line: &str) -> Result<String, AllocError> {
+fn script_line(alloc: Global, line: &str) -> Result<String, AllocError> {
     if let Some(name) = within(line, "C(") {
         return format!(in alloc; "{{\"do\":\"collection\",\"name\":\"{name}\",\"schema\":{S1}}}");
     }
-    if let Some((coll, rest)) = within(line, "I(").and_then(|list| list.split_once(',')) {
-        let (key, n) = rest.split_once(',').unwrap_or((rest, "0"));
-        return format!(in alloc;
-            "{{\"do\":\"insert\",\"in\":\"{coll}\",\"doc\":{{\"id\":\"{key}\",\"n\":{n}}}}}"
-        );
+    match within(line, "I(") {
+        Some(list) => insert_line(alloc, list),
+        None => long_line(alloc, line),
     }
-    let mut long = line.replace(alloc, "LEAST", LEAST)?;
-    for (short, schema) in [("S1", S1), ("S2", S2)] {
-        long = long.as_str().replace(alloc, short, schema)?;
-    }
-    Ok(long)
+}
+
+// The line that inserts what this list tells: a collection, a key and a number.
+fn insert_line(alloc: Global, list: &str) -> Result<String, AllocError> {
+    let (coll, rest) = list.split_once(',').unwrap_or((list, ""));
+    let (key, n) = rest.split_once(',').unwrap_or((rest, "0"));
+    format!(in alloc;
+        "{{\"do\":\"insert\",\"in\":\"{coll}\",\"doc\":{{\"id\":\"{key}\",\"n\":{n}}}}}"
+    )
+}
+
+fn long_line(alloc: Global, line: &str) -> Result<String, AllocError> {
+    let long = line.replace(alloc, "LEAST", LEAST)?;
+    let long = long.as_str().replace(alloc, "S1", S1)?;
+    long.as_str().replace(alloc, "S2", S2)
+}
+
+/// Adds that line with its end.
+pub fn add_script_line(alloc: Global, line: &str, script: &mut String) -> Result<(), AllocError> {
+    script.push_str(script_line(alloc, line)?.as_str())?;
+    script.push('\n')
 }
 
 fn within<'a>(line: &'a str, open: &str) -> Option<&'a str> {
@@ -40,15 +54,30 @@ fn within<'a>(line: &'a str, open: &str) -> Option<&'a str> {
 
 /// The line that is due after the line of a script with this number: `made` answers a new
 /// collection, and `insert 1-c` an insert by its revision.
-pub fn due_line(alloc: Global, line: &str, number: u64) -> Result<String, AllocError> {
+fn due_line(alloc: Global, line: &str, number: u64) -> Result<String, AllocError> {
     if line == "made" {
         return format!(in alloc; "{{\"line\":{number},\"new\":true,\"ok\":\"collection\"}}");
     }
     if let Some(rev) = line.strip_prefix("insert ") {
         return format!(in alloc; "{{\"line\":{number},\"ok\":\"insert\",\"rev\":\"{rev}\"}}");
     }
+    numbered(alloc, line, number)
+}
+
+fn numbered(alloc: Global, line: &str, number: u64) -> Result<String, AllocError> {
     let member = format!(in alloc; "\"line\":{number}")?;
     line.replace(alloc, "\"line\":L", member.as_str())
+}
+
+/// Adds that line with its end.
+pub fn add_due_line(
+    alloc: Global,
+    line: &str,
+    number: u64,
+    due: &mut String,
+) -> Result<(), AllocError> {
+    due.push_str(due_line(alloc, line, number)?.as_str())?;
+    due.push('\n')
 }
 
 const BASE: &str =
@@ -59,13 +88,26 @@ const BASE: &str =
 pub fn journal_bytes(alloc: Global, text: &str, bytes: &mut Vec<u8>) -> Result<(), Fail> {
     let text = text.replace(alloc, "BASE", BASE)?;
     for word in text.as_str().split_whitespace() {
-        match word
-            .strip_prefix('\'')
-            .and_then(|rest| rest.strip_suffix('\''))
-        {
-            Some(plain) => bytes.extend_from_slice(plain.as_bytes())?,
-            None => bytes.extend_from_slice(hex::decode(alloc, word)?.as_slice())?,
-        }
+        add_word(alloc, word, bytes)?;
     }
     Ok(())
+}
+
+fn add_word(alloc: Global, word: &str, bytes: &mut Vec<u8>) -> Result<(), Fail> {
+    let plain = word
+        .strip_prefix('\'')
+        .and_then(|rest| rest.strip_suffix('\''));
+    match plain {
+        Some(plain) => bytes.extend_from_slice(plain.as_bytes())?,
+        None => bytes.extend_from_slice(hex::decode(alloc, word)?.as_slice())?,
+    }
+    Ok(())
+}
+
+/// Ends a bulk line of so many documents that are new to the collection c, with what it is answered.
+pub fn end_bulk(alloc: Global, count: usize, facts: &mut String) -> Result<(), AllocError> {
+    let others = ",\"1-c\"".repeat(alloc, count.saturating_sub(1))?;
+    facts.push_str("]}\n< {\"line\":L,\"ok\":\"bulk\",\"revs\":[\"1-c\"")?;
+    facts.push_str(others.as_str())?;
+    facts.push_str("]}\n")
 }

@@ -1,6 +1,6 @@
 // A disk that fails at each of its calls, and stops within each.
-use crate::run::{RUN, Ran, Setting, run};
-use crate::short::{due_line, script_line};
+use crate::run::{RUN, Ran, Setting, run, run_plain};
+use crate::short::{add_due_line, add_script_line};
 use std::alloc::{AllocError, Global};
 use std::test::Fail;
 
@@ -46,8 +46,7 @@ pub const PICKS: [&[u8]; 3] = [&[], &[1; 800], &[255; 800]];
 fn play(alloc: Global, lines: &[(&str, &str)], setting: &Setting<'_>) -> Result<Ran, AllocError> {
     let mut script = String::new(alloc);
     for (line, _) in lines {
-        script.push_str(script_line(alloc, line)?.as_str())?;
-        script.push('\n')?;
+        add_script_line(alloc, line, &mut script)?;
     }
     run(alloc, setting, RUN, script.as_str().as_bytes(), &[])
 }
@@ -64,20 +63,20 @@ pub fn play_failing(alloc: Global, lines: &[(&str, &str)], call: u64) -> Result<
 /// How many of the replies stand in an output, which then is whole or stops by the disk.
 pub fn replies(alloc: Global, lines: &[(&str, &str)], ran: &Ran) -> Result<usize, Fail> {
     let mut due = String::new(alloc);
-    let mut number = 0u64;
     for (count, (_, reply)) in lines.iter().enumerate() {
-        let stopped = format!(in alloc; "{due}{{\"stop\":\"disk\"}}\n")?;
-        if ran.status == 3 && ran.output.as_slice() == stopped.as_str().as_bytes() {
+        if ran.status == 3 && stops_behind(due.as_str(), ran.text()?) {
             return Ok(count);
         }
-        number = number.saturating_add(1);
-        due.push_str(due_line(alloc, reply, number)?.as_str())?;
-        due.push('\n')?;
+        add_due_line(alloc, reply, (count as u64).saturating_add(1), &mut due)?;
     }
-    if ran.status == 0 && ran.output.as_slice() == due.as_str().as_bytes() {
+    if ran.came_to(0, due.as_str()) {
         return Ok(lines.len());
     }
     Err(Fail::new(format_args!("status {} with other lines", ran.status)))
+}
+
+fn stops_behind(due: &str, output: &str) -> bool {
+    output.strip_prefix(due) == Some("{\"stop\":\"disk\"}\n")
 }
 
 // What is answered where a document isn't held, and where the collection isn't.
@@ -91,26 +90,34 @@ fn finds(alloc: Global, count: usize, missing: &str) -> Result<String, AllocErro
     let mut number = 0u64;
     for (place, reply) in HELD.iter().enumerate() {
         number = number.saturating_add(1);
-        let line = due_line(alloc, if place < count { *reply } else { missing }, number)?;
-        due.push_str(line.as_str())?;
-        due.push('\n')?;
+        let line = if place < count { *reply } else { missing };
+        add_due_line(alloc, line, number, &mut due)?;
     }
     Ok(due)
 }
 
 // How many documents a second run over these bytes finds, from the first on. There are no others.
 fn held(alloc: Global, journal: &[u8]) -> Result<usize, Fail> {
-    let looked = run(alloc, &Setting::PLAIN, RUN, LOOKS.as_bytes(), journal)?;
-    let output = looked.output.as_slice();
-    if output == finds(alloc, 0, NO_COLLECTION)?.as_str().as_bytes() {
+    let looked = run_plain(alloc, LOOKS, journal)?;
+    found(alloc, looked.text()?)
+}
+
+// How many documents this output tells of.
+fn found(alloc: Global, output: &str) -> Result<usize, Fail> {
+    if is_found(alloc, output, 0, NO_COLLECTION)? {
         return Ok(0);
     }
     for count in 0..=HELD.len() {
-        if output == finds(alloc, count, NO_DOCUMENT)?.as_str().as_bytes() {
+        if is_found(alloc, output, count, NO_DOCUMENT)? {
             return Ok(count);
         }
     }
-    Err(Fail::new(format_args!("status {} with other lines", looked.status)))
+    Err(Fail::new(format_args!("other lines: {output}")))
+}
+
+fn is_found(alloc: Global, output: &str, count: usize, missing: &str) -> Result<bool, AllocError> {
+    let due = finds(alloc, count, missing)?;
+    Ok(due.as_str() == output)
 }
 
 // Each call of the disk fails in turn, until a run needs no more of them.
@@ -118,13 +125,22 @@ fn held(alloc: Global, journal: &[u8]) -> Result<usize, Fail> {
 fn a_failing_disk_ends_the_run(rt: HostRuntime) -> Result<(), Fail> {
     let mut before = 0;
     for failing in 1..CALLS {
-        let ran = play_failing(rt.alloc(), &LINES, failing)?;
-        let count = replies(rt.alloc(), &LINES, &ran)?;
-        assert!(rt; before <= count, "{failing}");
+        let count = answered(rt.alloc(), failing)?;
+        if count < before {
+            return Err(Fail::new(format_args!("{failing}: {count} after {before}")));
+        }
         before = count;
     }
-    assert_eq!(rt; before, LINES.len());
-    Ok(())
+    if before == LINES.len() {
+        return Ok(());
+    }
+    Err(Fail::new(format_args!("{before} lines answered at most")))
+}
+
+// How many lines are answered where this call fails.
+fn answered(alloc: Global, failing: u64) -> Result<usize, Fail> {
+    let ran = play_failing(alloc, &LINES, failing)?;
+    replies(alloc, &LINES, &ran)
 }
 
 // Up to the call that fails the runs are the same, so each stop of a run in which none does is
@@ -134,37 +150,62 @@ fn a_failing_disk_ends_the_run(rt: HostRuntime) -> Result<(), Fail> {
 fn what_a_stop_within_any_call_leaves_opens_again(rt: HostRuntime) -> Result<(), Fail> {
     // With 0 no call fails.
     for failing in 0..CALLS {
-        let ran = play_failing(rt.alloc(), &LINES, failing)?;
         let end = if failing == 0 { CALLS } else { failing + 2 };
-        for stop in failing..end {
-            for pick in PICKS {
-                let left = ran.disk.stopped(stop, pick)?;
-                let count = held(rt.alloc(), left.as_slice())?;
-                assert!(rt;
-                    HELD_AFTER.contains(&count),
-                    "call {failing} fails, stop within {stop}: {count}"
-                );
-            }
+        try_stops(rt.alloc(), failing, end)?;
+    }
+    Ok(())
+}
+
+// Stops from the call that fails on.
+fn try_stops(alloc: Global, failing: u64, end: u64) -> Result<(), Fail> {
+    let ran = play_failing(alloc, &LINES, failing)?;
+    for stop in failing..end {
+        try_stop(alloc, &ran, failing, stop)?;
+    }
+    Ok(())
+}
+
+fn try_stop(alloc: Global, ran: &Ran, failing: u64, stop: u64) -> Result<(), Fail> {
+    for pick in PICKS.iter() {
+        let count = held_after(alloc, ran, stop, pick)?;
+        if !HELD_AFTER.contains(&count) {
+            return Err(Fail::new(format_args!(
+                "call {failing} fails, stop within {stop}: {count}"
+            )));
         }
     }
     Ok(())
 }
 
+// How many documents are held in what a stop left.
+fn held_after(alloc: Global, ran: &Ran, stop: u64, pick: &[u8]) -> Result<usize, Fail> {
+    held(alloc, ran.disk.stopped(stop, pick)?.as_slice())
+}
+
 #[test]
 fn each_answered_write_is_held_after_the_stop(rt: HostRuntime) -> Result<(), Fail> {
     for failing in 0..CALLS {
-        let ran = play_failing(rt.alloc(), &LINES, failing)?;
-        let answered = replies(rt.alloc(), &LINES, &ran)?;
-        for pick in PICKS {
-            let left = ran.disk.stopped(CALLS, pick)?;
-            let count = held(rt.alloc(), left.as_slice())?;
-            let due = HELD_AFTER
-                .iter()
-                .skip(answered)
-                .next()
-                .copied()
-                .unwrap_or(0);
-            assert!(rt; due <= count, "call {failing} fails: {count} for {due}");
+        try_answered(rt.alloc(), failing)?;
+    }
+    Ok(())
+}
+
+fn try_answered(alloc: Global, failing: u64) -> Result<(), Fail> {
+    let ran = play_failing(alloc, &LINES, failing)?;
+    compare_answered(alloc, &ran, failing)
+}
+
+fn compare_answered(alloc: Global, ran: &Ran, failing: u64) -> Result<(), Fail> {
+    let answered = replies(alloc, &LINES, ran)?;
+    let due = HELD_AFTER.get(answered).copied().unwrap_or(0);
+    compare_picks(alloc, ran, failing, due)
+}
+
+fn compare_picks(alloc: Global, ran: &Ran, failing: u64, due: usize) -> Result<(), Fail> {
+    for pick in PICKS.iter() {
+        let count = held_after(alloc, ran, CALLS, pick)?;
+        if count < due {
+            return Err(Fail::new(format_args!("call {failing} fails: {count} for {due}")));
         }
     }
     Ok(())
@@ -175,13 +216,29 @@ fn each_answered_write_is_held_after_the_stop(rt: HostRuntime) -> Result<(), Fai
 #[test]
 fn a_run_goes_on_after_a_sink_that_failed(rt: HostRuntime) -> Result<(), Fail> {
     for (line, due) in (1..6u64).zip(HELD_AFTER.iter().skip(1)) {
-        let setting = Setting {
-            write_fails: &[line],
-            ..Setting::PLAIN
-        };
-        let ran = play(rt.alloc(), &LINES, &setting)?;
-        assert_eq!(rt; ran.status, 5);
-        assert_eq!(rt; held(rt.alloc(), ran.disk.bytes())?, *due);
+        try_sink(rt.alloc(), line, *due)?;
     }
     Ok(())
+}
+
+fn try_sink(alloc: Global, line: u64, due: usize) -> Result<(), Fail> {
+    let ran = play_refused(alloc, line)?;
+    compare_held(alloc, &ran, due)
+}
+
+// The run whose sink fails at the reply to this line.
+fn play_refused(alloc: Global, line: u64) -> Result<Ran, AllocError> {
+    let setting = Setting {
+        write_fails: &[line],
+        ..Setting::PLAIN
+    };
+    play(alloc, &LINES, &setting)
+}
+
+fn compare_held(alloc: Global, ran: &Ran, due: usize) -> Result<(), Fail> {
+    let count = held(alloc, ran.disk.bytes())?;
+    if ran.status == 5 && count == due {
+        return Ok(());
+    }
+    Err(Fail::new(format_args!("status {}, {count} held, due {due}", ran.status)))
 }

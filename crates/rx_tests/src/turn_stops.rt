@@ -1,8 +1,8 @@
 // A turn on a disk that fails at each of its calls, and stops within each: the next run's turn goes on
 // from what stands, and is quiet.
 use crate::record_stops::{STEPS, calls_of};
-use crate::run::{RUN, Ran, Setting, run};
-use crate::short::script_line;
+use crate::run::{Ran, run_made, run_plain};
+use crate::short::add_script_line;
 use crate::stops::{CALLS, PICKS, play_failing, replies};
 use std::alloc::{AllocError, Global};
 use std::test::Fail;
@@ -66,10 +66,7 @@ fn a_turn_goes_on_after_any_stop(rt: HostRuntime) -> Result<(), Fail> {
         last = last.saturating_sub(4);
     }
     let whole = play_failing(rt.alloc(), &LINES, 0)?;
-    for pick in PICKS {
-        try_stop(rt.alloc(), &whole, CALLS, pick, 3)?;
-    }
-    Ok(())
+    try_picks(rt.alloc(), &whole, CALLS, [3, 3])
 }
 
 // The record that is appended up to this call, behind so many others of the turn.
@@ -83,22 +80,32 @@ fn try_record(alloc: Global, last: u64, before: usize) -> Result<(), Fail> {
 // The call fails and the run stops within it or behind it, or the call doesn't fail and the run stops
 // within it. The record stands where its gate is found open.
 fn try_call(alloc: Global, call: u64, before: usize, gate: bool) -> Result<(), Fail> {
-    let failed = play_failing(alloc, &LINES, call)?;
+    let open = before.saturating_add(usize::from(gate));
+    try_fault(alloc, call, [before, open])?;
     let whole = play_failing(alloc, &LINES, 0)?;
-    let answered = replies(alloc, &LINES, &failed)?;
+    try_picks(alloc, &whole, call, [before, open])
+}
+
+fn try_fault(alloc: Global, call: u64, due: [usize; 2]) -> Result<(), Fail> {
+    let failed = play_failing(alloc, &LINES, call)?;
+    compare_failed(alloc, &failed, call, due)
+}
+
+fn compare_failed(alloc: Global, failed: &Ran, call: u64, due: [usize; 2]) -> Result<(), Fail> {
+    let answered = replies(alloc, &LINES, failed)?;
     if answered != INSERTED {
         return Err(Fail::new(format_args!("call {call} fails: {answered} lines answered")));
     }
-    for pick in PICKS {
-        let stands = gate && pick.first() == Some(&1);
-        let due = if stands {
-            before.saturating_add(1)
-        } else {
-            before
-        };
-        try_stop(alloc, &failed, call, pick, due)?;
-        try_stop(alloc, &failed, call.saturating_add(1), pick, due)?;
-        try_stop(alloc, &whole, call, pick, due)?;
+    try_picks(alloc, failed, call, due)?;
+    try_picks(alloc, failed, call.saturating_add(1), due)
+}
+
+// What is due stands where a gate that may be either isn't found open, and where it is.
+fn try_picks(alloc: Global, ran: &Ran, call: u64, due: [usize; 2]) -> Result<(), Fail> {
+    for pick in PICKS.iter() {
+        let found_open = pick.first() == Some(&1);
+        let due = if found_open { due[1] } else { due[0] };
+        try_stop(alloc, ran, call, pick, due)?;
     }
     Ok(())
 }
@@ -118,33 +125,54 @@ fn try_stop(alloc: Global, ran: &Ran, call: u64, pick: &[u8], due: usize) -> Res
 
 // How many of the turn's records stood in a journal, by what the next turn does with it.
 fn records_before(alloc: Global, journal: &[u8]) -> Result<usize, Fail> {
-    let next = run(alloc, &Setting::PLAIN, RUN, NEXT.as_bytes(), journal)?;
-    for (count, turn) in TURNS.iter().enumerate() {
-        let due = format!(in alloc; "{turn}{DIGESTS}")?;
-        if next.status == 0 && next.output.as_slice() == due.as_str().as_bytes() {
-            return Ok(count);
-        }
+    let next = run_plain(alloc, NEXT, journal)?;
+    records_told(&next)
+}
+
+fn records_told(next: &Ran) -> Result<usize, Fail> {
+    match turn_told(next.text()?) {
+        Some(count) if next.status == 0 => Ok(count),
+        _ => Err(Fail::new(format_args!("status {} with other lines", next.status))),
     }
-    Err(Fail::new(format_args!("status {} with other lines", next.status)))
+}
+
+fn turn_told(output: &str) -> Option<usize> {
+    TURNS
+        .iter()
+        .position(|turn| output.strip_prefix(*turn) == Some(DIGESTS))
 }
 
 // A hundred documents that differ on both sides, in batches of ten: each is pushed twice, and pulled.
 #[test]
 fn a_hundred_conflicts_take_31_exchanges(rt: HostRuntime) -> Result<(), Fail> {
     let alloc = rt.alloc();
-    let script = conflicts(alloc)?;
-    let ran = run(alloc, &Setting::PLAIN, RUN, script.as_str().as_bytes(), &[])?;
-    let output = str::from_utf8(ran.output.as_slice())?;
-    assert_eq!(rt; ran.status, 0);
-    for (text, due) in [
-        (r#""conflicts":["k"#, 10),
-        (r#""conflicts":[]"#, 10),
-        (r#""sent":"push""#, 20),
-        (r#""rows":["k"#, 30),
-        (r#""rows":[],"sent":"pull""#, 1),
-        (r#"{"end":"quiet","exchanges":31,"line":6,"ok":"turn"}"#, 1),
-    ] {
-        assert_eq!(rt; output.matches(text).count(), due, "{text}");
+    let ran = run_made(alloc, conflicts(alloc)?)?;
+    compare_conflicts(&ran)
+}
+
+fn compare_conflicts(ran: &Ran) -> Result<(), Fail> {
+    if ran.status == 0 {
+        return compare_counts(ran.text()?);
+    }
+    Err(Fail::new(format_args!("status {}", ran.status)))
+}
+
+// How often texts stand in its output.
+const COUNTS: [(&str, usize); 6] = [
+    (r#""conflicts":["k"#, 10),
+    (r#""conflicts":[]"#, 10),
+    (r#""sent":"push""#, 20),
+    (r#""rows":["k"#, 30),
+    (r#""rows":[],"sent":"pull""#, 1),
+    (r#"{"end":"quiet","exchanges":31,"line":6,"ok":"turn"}"#, 1),
+];
+
+fn compare_counts(output: &str) -> Result<(), Fail> {
+    for (text, due) in COUNTS.iter() {
+        let count = output.matches(*text).count();
+        if count != *due {
+            return Err(Fail::new(format_args!("{count} times {text}, due {due}")));
+        }
     }
     Ok(())
 }
@@ -154,23 +182,25 @@ const FORK_WINS: &str =
 
 fn conflicts(alloc: Global) -> Result<String, AllocError> {
     let mut script = String::new(alloc);
-    for line in ["C(m)", "C(f)", FORK_WINS] {
-        script.push_str(script_line(alloc, line)?.as_str())?;
-        script.push('\n')?;
-    }
-    script.push_str(bulk(alloc, "m", 1)?.as_str())?;
-    script.push_str(bulk(alloc, "f", 2)?.as_str())?;
-    script.push_str("{\"do\":\"turn\",\"name\":\"r\",\"batch\":10,\"budget\":301}\n")?;
+    add_conflicts(alloc, &mut script)?;
     Ok(script)
 }
 
-// A hundred documents with this number.
-fn bulk(alloc: Global, side: &str, n: u64) -> Result<String, AllocError> {
-    let mut line = format!(in alloc; "{{\"do\":\"bulk\",\"in\":\"{side}\",\"docs\":[")?;
+fn add_conflicts(alloc: Global, script: &mut String) -> Result<(), AllocError> {
+    for line in ["C(m)", "C(f)", FORK_WINS] {
+        add_script_line(alloc, line, script)?;
+    }
+    add_bulk("m", 1, script)?;
+    add_bulk("f", 2, script)?;
+    script.push_str("{\"do\":\"turn\",\"name\":\"r\",\"batch\":10,\"budget\":301}\n")
+}
+
+// Adds the line of a hundred documents with this number.
+fn add_bulk(side: &str, n: u64, script: &mut String) -> Result<(), AllocError> {
+    write!(script, "{{\"do\":\"bulk\",\"in\":\"{side}\",\"docs\":[")?;
     for key in 0..100u64 {
         let comma = if key == 0 { "" } else { "," };
-        line.push_str(format!(in alloc; "{comma}{{\"id\":\"k{key}\",\"n\":{n}}}")?.as_str())?;
+        write!(script, "{comma}{{\"id\":\"k{key}\",\"n\":{n}}}")?;
     }
-    line.push_str("]}\n")?;
-    Ok(line)
+    script.push_str("]}\n")
 }

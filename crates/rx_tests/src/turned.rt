@@ -2,7 +2,7 @@
 // that ends quiet, both have the same documents, and no write of the fork is ever lost.
 use crate::audit::follow;
 use crate::random::Random;
-use crate::run::{RUN, Setting, run};
+use crate::run::run_plain;
 use crate::short::S2;
 use std::alloc::{AllocError, Global};
 use std::test::Fail;
@@ -32,11 +32,18 @@ fn turns_with_join_lose_no_write(rt: HostRuntime) -> Result<(), Fail> {
 
 fn try_handler(alloc: Global, seed: u64, handler: &str) -> Result<(), Fail> {
     let script = random_script(alloc, &mut Random::new(seed), handler)?;
-    let ran = run(alloc, &Setting::PLAIN, RUN, script.as_str().as_bytes(), &[])?;
-    let output = str::from_utf8(ran.output.as_slice())?;
+    try_script(alloc, handler, script.as_str())
+}
+
+fn try_script(alloc: Global, handler: &str, script: &str) -> Result<(), Fail> {
+    let ran = run_plain(alloc, script, &[])?;
+    check(alloc, handler, script, ran.text()?)
+}
+
+fn check(alloc: Global, handler: &str, script: &str, output: &str) -> Result<(), Fail> {
     check_ends(handler, output)?;
     check_digests(handler, output)?;
-    check_writes(alloc, handler, script.as_str(), output)
+    check_writes(alloc, handler, script, output)
 }
 
 // Turns end in each way that a link and a budget bring about.
@@ -94,12 +101,16 @@ fn check_writes(alloc: Global, handler: &str, script: &str, output: &str) -> Res
 fn random_script(alloc: Global, random: &mut Random, handler: &str) -> Result<String, AllocError> {
     let begin = BEGIN.replace(alloc, "SCHEMA", S2)?;
     let mut script = begin.as_str().replace(alloc, "HANDLER", handler)?;
+    add_lines(random, &mut script)?;
+    Ok(script)
+}
+
+fn add_lines(random: &mut Random, script: &mut String) -> Result<(), AllocError> {
     for _ in 0..LINES {
-        script.push_str(random_line(alloc, random)?.as_str())?;
+        add_line(random, script)?;
     }
     script.push_str("{\"do\":\"turn\",\"name\":\"r\",\"budget\":100000}\n")?;
-    script.push_str(SIDES)?;
-    Ok(script)
+    script.push_str(SIDES)
 }
 
 const BEGIN: &str = r#"{"do":"collection","name":"m","schema":SCHEMA}
@@ -117,29 +128,43 @@ const NUMBERS: [&str; 4] = ["", ",\"n\":0", ",\"n\":1", ",\"n\":2"];
 
 const TEXTS: [&str; 3] = ["", ",\"t\":\"x\"", ",\"t\":\"y\""];
 
-fn random_line(alloc: Global, random: &mut Random) -> Result<String, AllocError> {
+fn add_line(random: &mut Random, script: &mut String) -> Result<(), AllocError> {
     let side = random.one_of(&["f", "f", "m"]);
     let key = random.below(20);
     match random.below(64) {
-        0..=31 => {
-            let what = random.one_of(&["insert", "upsert", "upsert", "upsert"]);
-            let n = random.one_of(&NUMBERS);
-            let t = random.one_of(&TEXTS);
-            format!(in alloc;
-                "{{\"do\":\"{what}\",\"in\":\"{side}\",\"doc\":{{\"id\":\"k{key}\"{n}{t}}}}}\n"
-            )
-        }
-        32..=39 => format!(in alloc;
+        0..=31 => add_document(random, side, key, script),
+        32..=39 => write!(
+            script,
             "{{\"do\":\"remove\",\"in\":\"{side}\",\"key\":\"k{key}\"}}\n"
         ),
-        40..=43 => format!(in alloc;
+        40..=43 => write!(
+            script,
             "{{\"do\":\"patch\",\"in\":\"{side}\",\"key\":\"k{key}\",\"set\":{{\"n\":{}}}}}\n",
             random.below(3)
         ),
-        44..=47 => format!(in alloc; "{{\"do\":\"tick\",\"at\":{}}}\n", random.below(1_000_000)),
-        48 => String::from_str(alloc, "{\"do\":\"restart\"}\n"),
-        _ => random_turn(alloc, random),
+        44..=47 => write!(
+            script,
+            "{{\"do\":\"tick\",\"at\":{}}}\n",
+            random.below(1_000_000)
+        ),
+        48 => script.push_str("{\"do\":\"restart\"}\n"),
+        _ => add_turn(random, script),
     }
+}
+
+fn add_document(
+    random: &mut Random,
+    side: &str,
+    key: u64,
+    script: &mut String,
+) -> Result<(), AllocError> {
+    let what = random.one_of(&["insert", "upsert", "upsert", "upsert"]);
+    let n = random.one_of(&NUMBERS);
+    let t = random.one_of(&TEXTS);
+    write!(
+        script,
+        "{{\"do\":\"{what}\",\"in\":\"{side}\",\"doc\":{{\"id\":\"k{key}\"{n}{t}}}}}\n"
+    )
 }
 
 const HAPPENINGS: [&str; 9] = [
@@ -154,12 +179,14 @@ const HAPPENINGS: [&str; 9] = [
     r#"{"late":16}"#,
 ];
 
-fn random_turn(alloc: Global, random: &mut Random) -> Result<String, AllocError> {
+fn add_turn(random: &mut Random, script: &mut String) -> Result<(), AllocError> {
     let batch = random.below(5).saturating_add(1);
     let budget = random.one_of(&["3", "10", "1000"]);
     let first = random.one_of(&HAPPENINGS);
     let second = random.one_of(&HAPPENINGS);
-    format!(in alloc;
-        "{{\"do\":\"turn\",\"name\":\"r\",\"batch\":{batch},\"budget\":{budget},\"link\":[{first},{second}]}}\n{SIDES}"
-    )
+    write!(
+        script,
+        "{{\"do\":\"turn\",\"name\":\"r\",\"batch\":{batch},\"budget\":{budget},\"link\":[{first},{second}]}}\n"
+    )?;
+    script.push_str(SIDES)
 }

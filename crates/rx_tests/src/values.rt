@@ -1,8 +1,9 @@
 // Values: texts of either kind, fields and states as JSON texts, and copies.
 use rx_value::{
-    MARK, RxText, State, fields_text, read_fields, read_fields_beside, text, write_fields,
+    Fields, MARK, RxText, State, fields_text, read_fields, read_fields_beside, text, write_fields,
 };
 use serde_json::Value as Json;
+use std::alloc::{AllocError, Global};
 use std::test::Fail;
 
 // Of 0, 14, 15 and 40 bytes; with letters of two to four bytes at the edge.
@@ -17,17 +18,33 @@ const TEXTS: [&str; 6] = [
 
 #[test]
 fn a_text_keeps_its_bytes(rt: HostRuntime) -> Result<(), Fail> {
-    let alloc = rt.alloc();
-    for (i, expected) in TEXTS.iter().enumerate() {
-        let made = RxText::new(alloc, *expected)?;
-        let given = RxText::from_string(alloc, String::from_str(alloc, *expected)?)?;
-        let copied = made.copy(alloc)?;
-        drop(made);
-        assert_eq!(&rt; copied.as_str(), *expected);
-        assert!(&rt; given == copied);
-        for (j, other) in TEXTS.iter().enumerate() {
-            let another = RxText::new(alloc, *other)?;
-            assert!(&rt; (another == copied) == (i == j));
+    for (place, text) in TEXTS.iter().enumerate() {
+        try_text(rt.alloc(), place, text)?;
+    }
+    Ok(())
+}
+
+fn try_text(alloc: Global, place: usize, text: &str) -> Result<(), Fail> {
+    let copied = copied(alloc, text)?;
+    let given = RxText::from_string(alloc, String::from_str(alloc, text)?)?;
+    if copied.as_str() != text || given != copied {
+        return Err(Fail::new(format_args!("{text} is kept as {}", copied.as_str())));
+    }
+    compare_others(alloc, place, &copied)
+}
+
+// A copy of a text that is gone.
+fn copied(alloc: Global, text: &str) -> Result<RxText, AllocError> {
+    let made = RxText::new(alloc, text)?;
+    made.copy(alloc)
+}
+
+// It is the text at its place, and no other.
+fn compare_others(alloc: Global, place: usize, copied: &RxText) -> Result<(), Fail> {
+    for (beside, text) in TEXTS.iter().enumerate() {
+        let other = RxText::new(alloc, text)?;
+        if (other == *copied) != (place == beside) {
+            return Err(Fail::new(format_args!("the texts {place} and {beside}")));
         }
     }
     Ok(())
@@ -55,29 +72,62 @@ const OBJECTS: [(&str, &str, &str); 4] = [
 
 #[test]
 fn fields_and_states_are_texts_and_read_back(rt: HostRuntime) -> Result<(), Fail> {
-    let alloc = rt.alloc();
-    for (object, of_fields, of_state) in OBJECTS {
-        let fields = read_fields(alloc, &Json::from_str(alloc, object)?)?;
-        assert_eq!(&rt; fields_text(alloc, &fields)?.as_str(), of_fields);
-        let mut line = String::from_str(alloc, "[")?;
-        write_fields(&mut line, &fields)?;
-        write_fields(&mut line, &fields)?;
-        let mut twice = String::from_str(alloc, "[")?;
-        twice.push_str(of_fields)?;
-        twice.push_str(of_fields)?;
-        assert_eq!(&rt; line.as_str(), twice.as_str());
-        let state = State {
-            key: RxText::new(alloc, "k")?,
-            fields,
-            deleted: false,
-        };
-        let copied = state.copy(alloc)?;
-        assert!(&rt; copied == state);
-        let shown = text(alloc, &copied)?;
-        assert_eq!(&rt; shown.as_str(), of_state);
-        let json = Json::from_str(alloc, shown.as_str())?;
-        let again = read_fields_beside(alloc, &json, MARK)?;
-        assert!(&rt; again == state.fields);
+    for (object, of_fields, of_state) in OBJECTS.iter() {
+        try_fields(rt.alloc(), object, of_fields)?;
+        try_state(rt.alloc(), object, of_state)?;
     }
     Ok(())
+}
+
+fn read(alloc: Global, object: &str) -> Result<Fields, Fail> {
+    Ok(read_fields(alloc, &Json::from_str(alloc, object)?)?)
+}
+
+fn try_fields(alloc: Global, object: &str, due: &str) -> Result<(), Fail> {
+    let fields = read(alloc, object)?;
+    if fields_text(alloc, &fields)?.as_str() == due && is_added(alloc, &fields, due)? {
+        return Ok(());
+    }
+    Err(Fail::new(format_args!("the fields of {object}")))
+}
+
+// Whether the text of the fields is added to what stands in a line.
+fn is_added(alloc: Global, fields: &Fields, due: &str) -> Result<bool, AllocError> {
+    let mut line = String::from_str(alloc, "[")?;
+    write_fields(&mut line, fields)?;
+    write_fields(&mut line, fields)?;
+    let rest = line.as_str().strip_prefix('[').unwrap_or("");
+    Ok(rest.strip_prefix(due) == Some(due))
+}
+
+fn try_state(alloc: Global, object: &str, due: &str) -> Result<(), Fail> {
+    let state = State {
+        key: RxText::new(alloc, "k")?,
+        fields: read(alloc, object)?,
+        deleted: false,
+    };
+    compare_state(alloc, &state, due)
+}
+
+fn compare_state(alloc: Global, state: &State, due: &str) -> Result<(), Fail> {
+    let shown = text_of_copy(alloc, state)?;
+    if shown.as_str() == due && reads_back(alloc, due, &state.fields)? {
+        return Ok(());
+    }
+    Err(Fail::new(format_args!("a state is shown as {}, due {due}", shown.as_str())))
+}
+
+// The text of the state's copy, which is the same.
+fn text_of_copy(alloc: Global, state: &State) -> Result<RxText, Fail> {
+    let copied = state.copy(alloc)?;
+    if copied == *state {
+        return Ok(text(alloc, &copied)?);
+    }
+    Err(Fail::new("another copy"))
+}
+
+// Whether a state's text has these fields beside the mark.
+fn reads_back(alloc: Global, shown: &str, fields: &Fields) -> Result<bool, Fail> {
+    let json = Json::from_str(alloc, shown)?;
+    Ok(read_fields_beside(alloc, &json, MARK)? == *fields)
 }

@@ -1,9 +1,9 @@
 // Journals that are read window by window, beside the plain reading of the whole file.
-use crate::run::{RUN, Setting, run};
+use crate::run::{Ran, run_made, run_plain};
 use rx_disk::MemoryDisk;
-use rx_frame::{CLOSED_GATE, HEADER, OPEN_GATE};
+use rx_frame::{CLOSED_GATE, Frames, HEADER, OPEN_GATE};
 use rx_journal::{Journal, OpenFault, Windows};
-use std::alloc::Global;
+use std::alloc::{AllocError, Global};
 use std::test::Fail;
 
 // Behind the header, the gate and the length, a body of so many bytes ends where a first window
@@ -39,23 +39,28 @@ fn disk_of(alloc: Global, file: &[u8]) -> Result<MemoryDisk, Fail> {
     Ok(MemoryDisk::new(alloc, file.to_vec(alloc)?, Vec::new(alloc)))
 }
 
-// The bodies that windows lend, each behind its length; none of a file that is no journal.
-fn lent_by_windows(alloc: Global, file: &[u8]) -> Result<Option<Vec<u8>>, Fail> {
+// Adds a body that was lent, behind its length.
+fn add_lent(all: &mut Vec<u8>, body: &[u8]) -> Result<(), AllocError> {
+    all.extend_from_slice(&(body.len() as u64).to_be_bytes())?;
+    all.extend_from_slice(body)
+}
+
+// Adds the bodies that windows lend, and tells whether the file is a journal.
+fn add_by_windows(alloc: Global, file: &[u8], all: &mut Vec<u8>) -> Result<bool, Fail> {
     let mut disk = disk_of(alloc, file)?;
-    let mut windows = match Windows::look(alloc, &mut disk) {
-        Ok(windows) => windows,
-        Err(OpenFault::NotJournal) => return Ok(None),
-        Err(fault) => return Err(fault.into()),
-    };
-    let mut all = Vec::new(alloc);
+    match Windows::look(alloc, &mut disk) {
+        Ok(mut windows) => add_all(&mut windows, &mut disk, all),
+        Err(OpenFault::NotJournal) => Ok(false),
+        Err(fault) => Err(fault.into()),
+    }
+}
+
+fn add_all(windows: &mut Windows, disk: &mut MemoryDisk, all: &mut Vec<u8>) -> Result<bool, Fail> {
     for _ in 0..100 {
-        match windows.next(&mut disk) {
-            Ok(Some(body)) => {
-                all.extend_from_slice(&(body.len() as u64).to_be_bytes())?;
-                all.extend_from_slice(body)?;
-            }
-            Ok(None) => return Ok(Some(all)),
-            Err(OpenFault::NotJournal) => return Ok(None),
+        match windows.next(disk) {
+            Ok(Some(body)) => add_lent(all, body)?,
+            Ok(None) => return Ok(true),
+            Err(OpenFault::NotJournal) => return Ok(false),
             Err(fault) => return Err(fault.into()),
         }
     }
@@ -63,25 +68,41 @@ fn lent_by_windows(alloc: Global, file: &[u8]) -> Result<Option<Vec<u8>>, Fail> 
 }
 
 // The same by a reading of the whole file.
-fn lent_by_image(alloc: Global, file: &[u8]) -> Result<Option<Vec<u8>>, Fail> {
+fn add_by_image(alloc: Global, file: &[u8], all: &mut Vec<u8>) -> Result<bool, Fail> {
     let mut disk = disk_of(alloc, file)?;
-    let image = match Journal::look(alloc, &mut disk) {
-        Ok(image) => image,
-        Err(OpenFault::NotJournal) => return Ok(None),
-        Err(fault) => return Err(fault.into()),
-    };
-    let mut all = Vec::new(alloc);
-    let mut frames = image.records();
+    match Journal::look(alloc, &mut disk) {
+        Ok(image) => add_records(image.records(), all),
+        Err(OpenFault::NotJournal) => Ok(false),
+        Err(fault) => Err(fault.into()),
+    }
+}
+
+fn add_records(mut frames: Frames<'_>, all: &mut Vec<u8>) -> Result<bool, Fail> {
     for _ in 0..100 {
         match frames.next() {
-            Some(body) => {
-                all.extend_from_slice(&(body.len() as u64).to_be_bytes())?;
-                all.extend_from_slice(body)?;
-            }
-            None => return Ok(Some(all)),
+            Some(body) => add_lent(all, body)?,
+            None => return Ok(true),
         }
     }
     Err(Fail::new("more bodies than were written"))
+}
+
+// Whether windows lend these bodies, each behind its length; none where the file is no journal.
+fn lent_by_windows(alloc: Global, file: &[u8], due: Option<&[u8]>) -> Result<bool, Fail> {
+    let mut all = Vec::new(alloc);
+    let is_journal = add_by_windows(alloc, file, &mut all)?;
+    Ok(due == is_journal.then_some(all.as_slice()))
+}
+
+fn lent_by_image(alloc: Global, file: &[u8], due: Option<&[u8]>) -> Result<bool, Fail> {
+    let mut all = Vec::new(alloc);
+    let is_journal = add_by_image(alloc, file, &mut all)?;
+    Ok(due == is_journal.then_some(all.as_slice()))
+}
+
+// Whether both lend these.
+fn lent(alloc: Global, file: &[u8], due: Option<&[u8]>) -> Result<bool, Fail> {
+    Ok(lent_by_windows(alloc, file, due)? && lent_by_image(alloc, file, due)?)
 }
 
 // What a file of these bodies lends.
@@ -94,51 +115,52 @@ fn due_of(alloc: Global, lens: &[usize]) -> Result<Vec<u8>, Fail> {
     Ok(all)
 }
 
+// Of how many bytes the bodies of a file are.
+const LENGTHS: [&[usize]; 10] = [
+    &[],
+    &[0],
+    &[0, 0, 9],
+    &[EXACT - 1, 7],
+    &[EXACT, 7],
+    &[EXACT + 1, 7],
+    &[EXACT, EXACT, 0],
+    &[40_000, 40_000, 40_000],
+    &[3, 65_531, 65_536, 65_537, 1],
+    &[200_000, 0, 131_072, 5],
+];
+
 #[test]
 fn bodies_end_at_any_place_of_a_window(rt: HostRuntime) -> Result<(), Fail> {
-    let alloc = rt.alloc();
-    for lens in [
-        [].as_slice(),
-        &[0],
-        &[0, 0, 9],
-        &[EXACT - 1, 7],
-        &[EXACT, 7],
-        &[EXACT + 1, 7],
-        &[EXACT, EXACT, 0],
-        &[40_000, 40_000, 40_000],
-        &[3, 65_531, 65_536, 65_537, 1],
-        &[200_000, 0, 131_072, 5],
-    ] {
-        let file = file_of(alloc, lens)?;
-        let due = Some(due_of(alloc, lens)?);
-        assert!(rt;
-            lent_by_windows(alloc, &file)? == due,
-            "bodies of {lens:?} bytes"
-        );
-        assert!(rt;
-            lent_by_image(alloc, &file)? == due,
-            "bodies of {lens:?} bytes"
-        );
+    for lens in LENGTHS.iter() {
+        try_bodies(rt.alloc(), lens)?;
     }
     Ok(())
 }
 
+fn try_bodies(alloc: Global, lens: &[usize]) -> Result<(), Fail> {
+    let file = file_of(alloc, lens)?;
+    let due = due_of(alloc, lens)?;
+    if lent(alloc, &file, Some(due.as_slice()))? {
+        return Ok(());
+    }
+    Err(Fail::new(format_args!("bodies of {lens:?} bytes")))
+}
+
 #[test]
 fn a_file_that_is_cut_is_no_journal(rt: HostRuntime) -> Result<(), Fail> {
-    let alloc = rt.alloc();
     for first in [3, EXACT - 10, EXACT, 100_000] {
-        // The last record takes 25 bytes, and the closed gate one.
-        let file = file_of(alloc, &[first, 20])?;
-        for cut in 1..=26 {
-            let left = file.get(..file.len().saturating_sub(cut)).unwrap_or(&[]);
-            assert!(rt;
-                lent_by_windows(alloc, left)?.is_none(),
-                "{first} bytes, cut by {cut}"
-            );
-            assert!(rt;
-                lent_by_image(alloc, left)?.is_none(),
-                "{first} bytes, cut by {cut}"
-            );
+        try_cuts(rt.alloc(), first)?;
+    }
+    Ok(())
+}
+
+// The last record takes 25 bytes, and the closed gate one.
+fn try_cuts(alloc: Global, first: usize) -> Result<(), Fail> {
+    let file = file_of(alloc, &[first, 20])?;
+    for cut in 1..=26 {
+        let left = file.get(..file.len().saturating_sub(cut)).unwrap_or(&[]);
+        if !lent(alloc, left, None)? {
+            return Err(Fail::new(format_args!("{first} bytes, cut by {cut}")));
         }
     }
     Ok(())
@@ -146,79 +168,128 @@ fn a_file_that_is_cut_is_no_journal(rt: HostRuntime) -> Result<(), Fail> {
 
 #[test]
 fn a_length_that_lies_is_refused(rt: HostRuntime) -> Result<(), Fail> {
-    let alloc = rt.alloc();
     for size in [[255; 4], [255, 255, 255, 237], [0, 1, 0, 0], [0, 0, 0, 6]] {
-        let mut file = file_of(alloc, &[4])?;
-        let _ = file.pop();
-        file.push(OPEN_GATE)?;
-        file.extend_from_slice(&size)?;
-        file.extend_from_slice(&[7; 5])?;
-        assert!(rt; lent_by_windows(alloc, &file)?.is_none(), "{size:?}");
-        assert!(rt; lent_by_image(alloc, &file)?.is_none(), "{size:?}");
+        try_length(rt.alloc(), &size)?;
     }
     Ok(())
 }
 
+fn try_length(alloc: Global, size: &[u8]) -> Result<(), Fail> {
+    let mut file = file_of(alloc, &[4])?;
+    let _ = file.pop();
+    add_lying(&mut file, size)?;
+    if lent(alloc, &file, None)? {
+        return Ok(());
+    }
+    Err(Fail::new(format_args!("{size:?}")))
+}
+
+// Adds a record of this length that has five bytes.
+fn add_lying(file: &mut Vec<u8>, size: &[u8]) -> Result<(), AllocError> {
+    file.push(OPEN_GATE)?;
+    file.extend_from_slice(size)?;
+    file.extend_from_slice(&[7; 5])
+}
+
+const SHORT: [&[u8]; 6] = [
+    b"",
+    b"RXJOURN1",
+    b"RXJOURN1\0",
+    b"RXJOURN1\x01",
+    b"anything!",
+    b"RXJOURN1\x05bytes",
+];
+
 #[test]
 fn short_files_and_bytes_behind_the_gate(rt: HostRuntime) -> Result<(), Fail> {
     let alloc = rt.alloc();
-    let none = Some(Vec::new(alloc));
-    for file in [
-        b"".as_slice(),
-        b"RXJOURN1",
-        b"RXJOURN1\0",
-        b"RXJOURN1\x01",
-        b"anything!",
-        b"RXJOURN1\x05bytes",
-    ] {
-        assert!(rt; lent_by_windows(alloc, file)? == none);
-        assert!(rt; lent_by_image(alloc, file)? == none);
+    for file in SHORT.iter() {
+        try_short(alloc, file)?;
     }
-    assert!(rt; lent_by_windows(alloc, b"RXJOURN2\0 ")?.is_none());
-    assert!(rt; lent_by_windows(alloc, b"RXJOURN1\x01 ")?.is_none());
-    Ok(())
+    if lent_by_windows(alloc, b"RXJOURN2\0 ", None)?
+        && lent_by_windows(alloc, b"RXJOURN1\x01 ", None)?
+    {
+        return Ok(());
+    }
+    Err(Fail::new("bytes behind the gate"))
+}
+
+// A short file lends no body.
+fn try_short(alloc: Global, file: &[u8]) -> Result<(), Fail> {
+    if lent(alloc, file, Some(&[]))? {
+        return Ok(());
+    }
+    Err(Fail::new(format_args!("{file:?}")))
 }
 
 #[test]
 fn none_comes_again_at_the_end(rt: HostRuntime) -> Result<(), Fail> {
     let alloc = rt.alloc();
-    let mut disk = disk_of(alloc, file_of(alloc, &[EXACT, 2])?.as_slice())?;
+    let file = file_of(alloc, &[EXACT, 2])?;
+    let mut disk = MemoryDisk::new(alloc, file, Vec::new(alloc));
     let mut windows = Windows::open(alloc, &mut disk, 100_000)?;
-    assert!(rt; windows.next(&mut disk)?.is_some());
-    assert_eq!(rt; windows.next(&mut disk)?, Some([0, 1].as_slice()));
-    assert!(rt; windows.next(&mut disk)?.is_none());
-    assert!(rt; windows.next(&mut disk)?.is_none());
-    Ok(())
+    compare_two(&mut windows, &mut disk)
+}
+
+fn compare_two(windows: &mut Windows, disk: &mut MemoryDisk) -> Result<(), Fail> {
+    if two_come(windows, disk)? && none_comes_twice(windows, disk)? {
+        return Ok(());
+    }
+    Err(Fail::new("other bodies"))
+}
+
+// Whether two bodies come, the second one of two bytes.
+fn two_come(windows: &mut Windows, disk: &mut MemoryDisk) -> Result<bool, OpenFault> {
+    Ok(windows.next(disk)?.is_some() && windows.next(disk)? == Some([0, 1].as_slice()))
+}
+
+fn none_comes_twice(windows: &mut Windows, disk: &mut MemoryDisk) -> Result<bool, OpenFault> {
+    Ok(windows.next(disk)?.is_none() && windows.next(disk)?.is_none())
 }
 
 #[test]
 fn a_long_text_is_there_in_the_next_run(rt: HostRuntime) -> Result<(), Fail> {
     let alloc = rt.alloc();
-    let mut text = String::new(alloc);
-    for _ in 0..10_000 {
-        text.push_str("xxxxxxxxxx")?;
+    let text = "x".repeat(alloc, 100_000)?;
+    let first = insert_text(alloc, text.as_str())?;
+    compare_next(alloc, text.as_str(), &first)
+}
+
+fn compare_next(alloc: Global, text: &str, first: &Ran) -> Result<(), Fail> {
+    if first.status != 0 {
+        return Err(Fail::new("the text is not inserted"));
     }
+    find_text(alloc, text, first.disk.bytes())?;
+    refuse_cut(alloc, first.disk.bytes())
+}
+
+fn insert_text(alloc: Global, text: &str) -> Result<Ran, AllocError> {
     let script = format!(in alloc;
         "{MAKE}\n{{\"do\":\"insert\",\"in\":\"c\",\"doc\":{{\"id\":\"a\",\"t\":\"{text}\"}}}}\n"
     )?;
-    let first = run(alloc, &Setting::PLAIN, RUN, script.as_bytes(), &[])?;
-    assert_eq!(rt; first.status, 0);
+    run_made(alloc, script)
+}
 
-    let journal = first.disk.bytes();
-    let again = run(alloc, &Setting::PLAIN, RUN, GET.as_bytes(), journal)?;
-    assert_eq!(rt; again.status, 0);
+fn find_text(alloc: Global, text: &str, journal: &[u8]) -> Result<(), Fail> {
     let due = format!(in alloc;
         "{{\"doc\":{{\"id\":\"a\",\"t\":\"{text}\"}},\"line\":1,\"lwt\":1,\"ok\":\"get\",\"rev\":\"1-c\"}}\n"
     )?;
-    assert!(rt; again.output.as_slice() == due.as_bytes());
+    if run_plain(alloc, GET, journal)?.came_to(0, due.as_str()) {
+        return Ok(());
+    }
+    Err(Fail::new("the text is not there"))
+}
 
+// A journal without its last byte is no journal, and is left alone.
+fn refuse_cut(alloc: Global, journal: &[u8]) -> Result<(), Fail> {
     let cut = journal
         .get(..journal.len().saturating_sub(1))
         .unwrap_or(&[]);
-    let refused = run(alloc, &Setting::PLAIN, RUN, GET.as_bytes(), cut)?;
-    assert_eq!(rt; refused.status, 7);
-    assert_eq!(rt; refused.disk.bytes(), cut);
-    Ok(())
+    let refused = run_plain(alloc, GET, cut)?;
+    if refused.status == 7 && refused.disk.bytes() == cut {
+        return Ok(());
+    }
+    Err(Fail::new(format_args!("status {} of a cut journal", refused.status)))
 }
 
 const MAKE: &str =

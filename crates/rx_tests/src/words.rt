@@ -1,9 +1,9 @@
 // The words of a command.
 use crate::case::play_all;
-use crate::run::{Setting, run_from};
-use rx_outside::MemorySource;
+use crate::run::{Ran, Setting, run_words, split};
 use rx_value::RxText;
 use rx_words::Words;
+use std::alloc::{AllocError, Global};
 use std::test::Fail;
 
 #[test]
@@ -14,22 +14,31 @@ fn a_command_is_exactly_its_words(rt: HostRuntime) -> Result<(), Fail> {
 // A word without a byte, which no text of words has.
 #[test]
 fn a_path_is_not_empty(rt: HostRuntime) -> Result<(), Fail> {
-    let mut words = Vec::new(rt.alloc());
-    words.push(RxText::new(rt.alloc(), "run")?)?;
-    words.push(RxText::new(rt.alloc(), "")?)?;
-    let nothing = Vec::new(rt.alloc());
-    let mut source = MemorySource::new(b"{}".to_vec(rt.alloc())?, 1, nothing);
-    let ran = run_from(
-        rt.alloc(),
-        &Setting::PLAIN,
-        &Words { words },
-        &mut source,
-        &[],
-    )?;
-    assert_eq!(rt; ran.status, 2);
-    assert!(rt; ran.output.as_slice() == b"{\"stop\":\"usage\"}\n".as_slice());
-    assert!(rt; ran.disk.bytes().is_empty());
-    Ok(())
+    let ran = run_without_path(rt.alloc())?;
+    compare(&ran)
+}
+
+fn compare(ran: &Ran) -> Result<(), Fail> {
+    if ran.came_to(2, "{\"stop\":\"usage\"}\n") && ran.disk.bytes().is_empty() {
+        return Ok(());
+    }
+    Err(Fail::new(format_args!("status {}", ran.status)))
+}
+
+fn run_without_path(alloc: Global) -> Result<Ran, AllocError> {
+    let words = words_without_path(alloc)?;
+    let setting = Setting {
+        piece: 1,
+        ..Setting::PLAIN
+    };
+    run_words(alloc, &setting, &words, b"{}", &[])
+}
+
+fn words_without_path(alloc: Global) -> Result<Words, AllocError> {
+    let empty = RxText::new(alloc, "")?;
+    let mut words = split(alloc, "run")?;
+    words.words.push(empty)?;
+    Ok(words)
 }
 
 const COMMANDS: &str = r#"
