@@ -1,12 +1,5 @@
 // How the client behaves, whatever its transport. Each takes what it needs and throws where it is not so; they run in Node and in a page.
-
-const schema = {
-  version: 0,
-  primaryKey: 'id',
-  type: 'object',
-  properties: { id: { type: 'string', maxLength: 20 }, n: { type: 'integer' } },
-  required: ['id'],
-};
+import { schema } from './schema.mjs';
 
 function same(found, wanted, what) {
   if (JSON.stringify(found) !== JSON.stringify(wanted)) {

@@ -1,12 +1,10 @@
 #!/usr/bin/env python3
 """Random turns of a fork and its master over the built program, beside a model of docs/SCRIPT.md.
 
-    bench/turns.py [PROGRAM] [SEEDS] [LINES]
-
-For each seed, 8 of them where the number is left out, a script of 4,000 lines over two collections
-and a replication between them: writes on both sides, the moment, restarts, and turns of any batch
-and budget over a link that loses, repeats and delays; in four runs, one after another on the same
-journal. The seeds take the handlers in turn. Three things are tried of what the program answers:
+For each of eight seeds a script of 4,000 lines over two collections and a replication between them:
+writes on both sides, the moment, restarts, and turns of any batch and budget over a link that loses,
+repeats and delays; in four runs, one after another on the same journal. The seeds take the handlers in
+turn. Three things are tried of what the program answers:
 
 - it is the model's answer, byte for byte: replies, exchanges, emissions, and after each turn all
   states of both sides in the order of their places;
@@ -14,24 +12,18 @@ journal. The seeds take the handlers in turn. Three things are tried of what the
 - no acknowledged write of the fork is gone: before a pull goes over its key, and before a turn ends
   quiet, a push of it was answered, or the fork wrote the key again, or it was no edit, since the
   master had that state as far as the fork knew.
-
-One line a seed, and status 1 where something is wrong.
 """
 import json
 import os
 import random
-import subprocess
-import sys
-import tempfile
 from collections import Counter
 
-from measuring import compact, program
 from model import MAX_TIME, QUERY, Model
+from shared import HANDLERS, Wrong, add, command, compact, insist, main, text
 
-SEEDS = int(sys.argv[2]) if len(sys.argv) > 2 else 8
-LINES = int(sys.argv[3]) if len(sys.argv) > 3 else 4_000
+SEEDS = range(1, 9)
+LINES = 4_000
 RUNS = 4
-SECONDS = 600
 KEYS = [f"k{n}" for n in range(20)]
 SCHEMA = {
     "version": 0, "primaryKey": "id", "type": "object", "required": ["id"],
@@ -40,12 +32,6 @@ SCHEMA = {
         "b": {"type": "boolean"}, "n": {"type": "integer"}, "t": {"type": "string"},
     },
 }
-HANDLERS = [{"handler": "master_wins"}, {"handler": "fork_wins"},
-            {"handler": "greater", "field": "n"}, {"handler": "join"}]
-
-
-class Wrong(Exception):
-    """What was seen instead."""
 
 
 # ---- scripts
@@ -169,12 +155,9 @@ class Audit:
 
 def answers(journal, lines):
     """What the program writes."""
-    text = "".join(compact(line) + "\n" for line in lines)
-    done = subprocess.run([program(), "run", journal], input=text.encode(), stdout=subprocess.PIPE,
-                          timeout=SECONDS, check=False)
-    if done.returncode > 1:
-        raise Wrong(f"the run ended with {done.returncode}: {done.stdout[-200:]}")
-    return done.stdout.decode().splitlines()
+    status, written = command("run", journal, script=text(map(compact, lines)))
+    insist(status <= 1, f"the run ended with {status}: {written[-200:]}")
+    return written.decode().splitlines()
 
 
 def play(model, audit, lines, found):
@@ -194,27 +177,19 @@ def play(model, audit, lines, found):
         raise Wrong(f"nothing is due for {found[place]}")
 
 
-def try_seed(seed, folder):
-    numbers, how = random.Random(seed), HANDLERS[seed % len(HANDLERS)]
-    model, audit, journal = Model(how), Audit(), os.path.join(folder, f"journal{seed}")
+def try_seed(seed, how, folder):
+    numbers, model, audit = random.Random(seed), Model(how), Audit()
     for lines in scripts(numbers, how):
         model.open()
-        play(model, audit, lines, answers(journal, lines))
+        play(model, audit, lines, answers(os.path.join(folder, "journal"), lines))
     ends = ", ".join(f"{count:,} {end}" for end, count in sorted(audit.ends.items()))
     return f"{audit.exchanges:,} exchanges, {audit.conflicts:,} conflicts; turns: {ends}"
 
 
-def main():
-    wrong = 0
-    with tempfile.TemporaryDirectory(dir="/dev/shm") as folder:
-        for seed in range(1, SEEDS + 1):
-            name = HANDLERS[seed % len(HANDLERS)]["handler"]
-            try:
-                print(f"seed {seed}, {name}: {try_seed(seed, folder)}", flush=True)
-            except (Wrong, subprocess.TimeoutExpired) as fault:
-                print(f"WRONG seed {seed}, {name}: {fault}", flush=True)
-                wrong += 1
-    sys.exit(1 if wrong else 0)
+for number in SEEDS:
+    handler = HANDLERS[number % len(HANDLERS)]
+    add(f"seed {number}, {handler['handler']}",
+        lambda folder, seed=number, how=handler: try_seed(seed, how, folder), seconds=900, in_memory=True)
 
-
-main()
+if __name__ == "__main__":
+    main()

@@ -1,30 +1,19 @@
-// node clients/test/node.mjs PROGRAM: the client over a child process.
+// The client for JavaScript over a child process.
 import { spawn, spawnSync } from 'node:child_process';
-import { cpSync, mkdtempSync, readFileSync, rmSync, writeFileSync } from 'node:fs';
+import { cpSync, readFileSync, writeFileSync } from 'node:fs';
 import { connect, createServer } from 'node:net';
-import { tmpdir } from 'node:os';
-import { join, resolve } from 'node:path';
-import { child, open } from '../js/rx.mjs';
+import { join } from 'node:path';
+import { child, open } from '../../clients/js/rx.mjs';
 import { behaviours } from './behaviours.mjs';
 import { emissionsOf, playScript } from './play.mjs';
-import { examples, quickstart, root, runAll, same } from './shared.mjs';
+import { schema } from './schema.mjs';
+import { examples, journalName, program, quickstart, root, same, tryOne } from './shared.mjs';
 
-const program = resolve(process.argv[2]);
-const folder = mkdtempSync(join(tmpdir(), 'rx-node-'));
-const schema = {
-  version: 0,
-  primaryKey: 'id',
-  type: 'object',
-  properties: { id: { type: 'string', maxLength: 20 }, n: { type: 'integer' } },
-  required: ['id'],
-};
-let journals = 0;
-const journal = () => join(folder, `journal-${++journals}`);
 const tests = {};
 
 for (const { name, after, script, out } of examples()) {
-  tests[`examples/${name}, by the calls`] = async () => {
-    const path = journal(), native = journal();
+  tests[`examples/${name}, by the calls`] = async (folder) => {
+    const path = join(folder, 'journal'), native = join(folder, 'native');
     if (after) {
       const first = examples().find((it) => it.name === after).script;
       for (const it of [path, native]) spawnSync(program, ['run', it], { input: first });
@@ -39,11 +28,14 @@ for (const { name, after, script, out } of examples()) {
 }
 
 for (const [name, test] of Object.entries(behaviours)) {
-  tests[name] = () => test({ open, transport: (...options) => child(program, journal(), ...options) });
+  tests[name] = (folder) => {
+    const transport = (...options) => child(program, join(folder, journalName()), ...options);
+    return test({ open, transport });
+  };
 }
 
-tests['a child that is killed in mid-call'] = async () => {
-  const path = journal();
+tests['a child that is killed in mid-call'] = async (folder) => {
+  const path = join(folder, 'journal');
   let running;
   const db = await open(async (hooks) => (running = await child(program, path)(hooks)));
   const c = await db.collection('c', schema);
@@ -77,8 +69,8 @@ const dialled = (port) => new Promise((go) => {
   wire.on('error', () => setTimeout(() => dialled(port).then(go), 10));
 });
 
-tests['a fork of a master that another process serves'] = async () => {
-  const path = journal(), port = await freePort();
+tests['a fork of a master that another process serves'] = async (folder) => {
+  const path = join(folder, 'master'), port = await freePort();
   const before = await open(child(program, path));
   await (await before.collection('m', schema)).bulk([{ id: 'a', n: 1 }, { id: 'b', n: 1 }]);
   await before.close();
@@ -88,7 +80,7 @@ tests['a fork of a master that another process serves'] = async () => {
   const over = new Promise((go) => served.on('close', go));
   await dialled(port);
 
-  const db = await open(child(program, journal()));
+  const db = await open(child(program, join(folder, 'fork')));
   const fork = await db.collection('f', schema);
   await db.replicate({ name: 'r', fork: 'f', port, handler: 'fork_wins' });
   const heard = [];
@@ -112,10 +104,10 @@ tests['a fork of a master that another process serves'] = async () => {
   await after.close();
 };
 
-tests['a program that does not start, and a file that is no journal'] = async () => {
-  const missing = await open(child(join(folder, 'none'), journal())).catch((it) => it);
+tests['a program that does not start, and a file that is no journal'] = async (folder) => {
+  const path = join(folder, 'journal');
+  const missing = await open(child(join(folder, 'none'), path)).catch((it) => it);
   same(`${missing.name} ${missing.stop}`, 'Stopped start', 'no program');
-  const path = journal();
   writeFileSync(path, 'something else than a journal');
   const db = await open(child(program, path));
   const fault = await db.collection('c', schema).catch((it) => it);
@@ -163,12 +155,12 @@ tests['output that is no answer ends the database'] = async () => {
   same((await db.restart().catch((it) => it)).stop, 'output', 'output');
 };
 
-tests['an observer that throws disturbs no other'] = () => new Promise((done, fail) => {
+tests['an observer that throws disturbs no other'] = (folder) => new Promise((done, fail) => {
   const code = `
     import { open, child } from ${JSON.stringify(join(root, 'clients/js/rx.mjs'))};
     const faults = [];
     process.on('uncaughtException', (it) => faults.push(it.message));
-    const db = await open(child(${JSON.stringify(program)}, ${JSON.stringify(journal())}));
+    const db = await open(child(${JSON.stringify(program)}, ${JSON.stringify(join(folder, 'journal'))}));
     const c = await db.collection('c', ${JSON.stringify(schema)});
     const query = c.observe();
     let heard = 0;
@@ -184,17 +176,14 @@ tests['an observer that throws disturbs no other'] = () => new Promise((done, fa
   else fail(new Error(stdout + stderr));
 });
 
-tests['the quickstart of clients/README.md'] = async () => {
-  const own = mkdtempSync(join(folder, 'quick-'));
-  cpSync(join(root, 'clients/js/rx.mjs'), join(own, 'rx.mjs'));
-  writeFileSync(join(own, 'quickstart.mjs'), quickstart('quickstart.mjs'));
+tests['the quickstart of clients/README.md'] = async (folder) => {
+  cpSync(join(root, 'clients/js/rx.mjs'), join(folder, 'rx.mjs'));
+  writeFileSync(join(folder, 'quickstart.mjs'), quickstart('quickstart.mjs'));
   for (const run of ['first', 'second']) {
-    const { stdout, stderr, status } = spawnSync(process.execPath, ['quickstart.mjs'], { cwd: own, encoding: 'utf8', env: { ...process.env, RX: program } });
+    const { stdout, stderr, status } = spawnSync(process.execPath, ['quickstart.mjs'], { cwd: folder, encoding: 'utf8', env: { ...process.env, RX: program } });
     if (status !== 0) throw new Error(stdout + stderr);
     if (run === 'second') same(stdout.includes('Bake bread'), true, 'the journal kept it');
   }
 };
 
-const passed = await runAll('node', tests);
-rmSync(folder, { recursive: true });
-process.exit(passed ? 0 : 1);
+await tryOne(tests);

@@ -1,8 +1,14 @@
 // What the tests in Node and those in Chromium share.
-import { readFileSync, readdirSync } from 'node:fs';
+import { mkdtempSync, readFileSync, readdirSync, rmSync } from 'node:fs';
+import { tmpdir } from 'node:os';
 import { join } from 'node:path';
 
 export const root = join(import.meta.dirname ?? new URL('.', import.meta.url).pathname, '..', '..');
+export const program = process.env.RX ?? join(root, 'crates/rx/out/rx');
+let journals = 0;
+
+/** A name that no other journal of this test has. */
+export const journalName = () => `journal-${++journals}`;
 
 /** The scripts of examples/, each with the script on whose journal it goes on, or none. */
 export function examples() {
@@ -24,25 +30,23 @@ export function same(found, wanted, what) {
   throw new Error(`${what}, line ${at + 1}:\n  ${mine[at]}\nand not\n  ${due[at]}`);
 }
 
-/** Runs tests by name, in turn, and answers whether all passed. */
-export async function runAll(where, tests) {
-  let failed = 0;
-  for (const [name, test] of Object.entries(tests)) {
-    try {
-      await within(60, test());
-      console.log(`ok    ${where}: ${name}`);
-    } catch (fault) {
-      failed += 1;
-      console.log(`FAILED ${where}: ${name}\n${fault.stack ?? fault}`);
-    }
+/** Tries the test that is this program's word, in a folder of its own, or prints the names of all. */
+export async function tryOne(tests) {
+  const name = process.argv[2];
+  if (name === undefined) {
+    for (const it of Object.keys(tests)) console.log(JSON.stringify({ name: it }));
+    return;
   }
-  return failed === 0;
-}
-
-function within(seconds, work) {
-  let timer;
-  const late = new Promise((_, fail) => { timer = setTimeout(() => fail(new Error(`not done in ${seconds} seconds`)), seconds * 1000); });
-  return Promise.race([work, late]).finally(() => clearTimeout(timer));
+  const folder = mkdtempSync(join(tmpdir(), 'rx-'));
+  let status = 0;
+  try {
+    await tests[name](folder);
+  } catch (fault) {
+    status = 1;
+    console.log(fault.stack ?? fault);
+  }
+  rmSync(folder, { recursive: true, force: true, maxRetries: 5 });
+  process.exit(status);
 }
 
 /** The code of the quickstart that a README shows under a file's name. */

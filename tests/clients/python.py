@@ -1,51 +1,26 @@
-"""python3 clients/test/python.py PROGRAM: the client over a child process, plain and with asyncio."""
+"""The client for Python over a child process, plain and with asyncio."""
 import asyncio
-import faulthandler
+import itertools
 import json
 import os
 import re
 import signal
-import socket
 import subprocess
 import sys
-import tempfile
 import threading
-import time
-import traceback
 
 HERE = os.path.dirname(os.path.abspath(__file__))
-ROOT = os.path.join(HERE, "..", "..")
-sys.path.insert(0, os.path.join(HERE, "..", "python"))
+sys.path.insert(0, os.path.dirname(HERE))
+from shared import ROOT, RX, SCHEMA, Server, case, examples, main, same, told  # noqa: E402
+
+sys.path.insert(0, os.path.join(ROOT, "clients", "python"))
 import rx  # noqa: E402
 
-PROGRAM = os.path.abspath(sys.argv[1])
-SCHEMA = {
-    "version": 0,
-    "primaryKey": "id",
-    "type": "object",
-    "properties": {"id": {"type": "string", "maxLength": 20}, "n": {"type": "integer"}},
-    "required": ["id"],
-}
-FOLDER = tempfile.TemporaryDirectory(prefix="rx-python-")
-tests = []
+NUMBERS = itertools.count(1)
 
 
-def test(call):
-    tests.append(call)
-    return call
-
-
-def journal():
-    journal.count += 1
-    return os.path.join(FOLDER.name, f"journal-{journal.count}")
-
-
-journal.count = 0
-
-
-def same(found, wanted, what=""):
-    if found != wanted:
-        raise AssertionError(f"{what}: {found!r}\nand not\n{wanted!r}")
+def new_journal(folder):
+    return os.path.join(folder, f"journal-{next(NUMBERS)}")
 
 
 def fault(call, *args):
@@ -62,15 +37,6 @@ async def async_fault(call):
     except (rx.Refused, rx.Stopped) as it:
         return it
     raise AssertionError("it was not refused")
-
-
-def examples():
-    folder = os.path.join(ROOT, "examples")
-    for file in sorted(os.listdir(folder)):
-        if file.endswith(".jsonl"):
-            name = file[:-6]
-            with open(os.path.join(folder, file), encoding="utf-8") as script, open(os.path.join(folder, f"{name}.out"), "rb") as out:
-                yield name, script.read(), out.read()
 
 
 class Recorder:
@@ -110,40 +76,39 @@ def play(db, text, observed):
     return getattr(collection, do)(**line)
 
 
-def prepared(name):
+def prepared(folder, before):
     """A new journal, or for the second run of a pair the first one's."""
-    path = journal()
-    if name == "again":
-        first = next(script for it, script, _ in examples() if it == "documents")
-        subprocess.run([PROGRAM, "run", path], input=first.encode(), stdout=subprocess.DEVNULL)
+    path = new_journal(folder)
+    if before:
+        subprocess.run([RX, "run", path], input=before, stdout=subprocess.DEVNULL, check=False)
     return path
 
 
-@test
-def every_example_by_the_calls():
-    for name, script, out in examples():
-        with rx.open(PROGRAM, prepared(name)) as db:
+@case()
+def every_example_by_the_calls(folder):
+    for name, script, before, out in examples():
+        with rx.open(RX, prepared(folder, before)) as db:
             recorder, observed = Recorder(db._lines), {}
-            for text in script.split("\n")[:-1]:
+            for text in script.decode().split("\n")[:-1]:
                 try:
                     play(db, text, observed)
                 except rx.Refused:
                     pass
-        same(recorder.written, script.encode(), f"{name}, written")
+        same(recorder.written, script, f"{name}, written")
         same(recorder.output, out, f"{name}, output")
 
 
-@test
-def every_example_with_asyncio():
-    async def run(name, script, out):
-        async with rx.open_async(PROGRAM, prepared(name)) as db:
+@case()
+def every_example_with_asyncio(folder):
+    async def run(name, script, before, out):
+        async with rx.open_async(RX, prepared(folder, before)) as db:
             recorder, observed = Recorder(db._lines), {}
-            for text in script.split("\n")[:-1]:
+            for text in script.decode().split("\n")[:-1]:
                 try:
                     await play(db, text, observed)
                 except rx.Refused:
                     pass
-        same(recorder.written, script.encode(), f"{name}, written")
+        same(recorder.written, script, f"{name}, written")
         same(recorder.output, out, f"{name}, output")
 
     for it in examples():
@@ -154,9 +119,9 @@ def members(it):
     return it.code, it.word, it.cause, it.subject, it.rev, it.row
 
 
-@test
-def refusals_by_code():
-    with rx.open(PROGRAM, journal()) as db:
+@case()
+def refusals_by_code(folder):
+    with rx.open(RX, new_journal(folder)) as db:
         c = db.collection("c", SCHEMA)
         same((c.new, db.collection("c", SCHEMA).new), (True, False))
         c.insert({"id": "a", "n": 1})
@@ -178,9 +143,9 @@ def refusals_by_code():
         same((db.line(""), c.count(), c.get("a")), ({}, 1, ({"id": "a", "n": 1}, 1, "1-c")))
 
 
-@test
-def emissions_of_what_is_answered_and_then_no_more():
-    with rx.open(PROGRAM, journal()) as db:
+@case()
+def emissions_of_what_is_answered_and_then_no_more(folder):
+    with rx.open(RX, new_journal(folder)) as db:
         c = db.collection("c", SCHEMA)
         with c.observe({"selector": {"n": {"$gte": 2}}}) as query:
             for n in range(1, 4):
@@ -198,9 +163,9 @@ def emissions_of_what_is_answered_and_then_no_more():
     same([len(rows) for rows in last], [3], "closed")
 
 
-@test
-def threads_share_a_database():
-    with rx.open(PROGRAM, journal()) as db:
+@case()
+def threads_share_a_database(folder):
+    with rx.open(RX, new_journal(folder)) as db:
         c = db.collection("c", SCHEMA)
         query, heard = c.observe(), []
         listener = threading.Thread(target=lambda: heard.extend(len(rows) for rows in query))
@@ -220,10 +185,10 @@ def threads_share_a_database():
     same(heard, list(range(401)), "each emission in turn")
 
 
-@test
-def a_result_of_megabytes_while_a_long_line_is_written():
+@case()
+def a_result_of_megabytes_while_a_long_line_is_written(folder):
     schema = {**SCHEMA, "properties": {**SCHEMA["properties"], "t": {"type": "string", "maxLength": 100000}}}
-    with rx.open(PROGRAM, journal()) as db:
+    with rx.open(RX, new_journal(folder)) as db:
         c = db.collection("c", schema)
         query = c.observe()
         for n in range(5):
@@ -231,10 +196,10 @@ def a_result_of_megabytes_while_a_long_line_is_written():
         same([len(rows) for rows in query.pending()], [0, 20, 40, 60, 80, 100])
 
 
-@test
-def a_child_that_is_killed_in_mid_call():
-    path = journal()
-    db = rx.open(PROGRAM, path)
+@case()
+def a_child_that_is_killed_in_mid_call(folder):
+    path = new_journal(folder)
+    db = rx.open(RX, path)
     c = db.collection("c", SCHEMA)
     query, answered, stopped = c.observe({"limit": 1}), [], []
 
@@ -262,14 +227,14 @@ def a_child_that_is_killed_in_mid_call():
         same(it.stop, "killed")
     same(fault(c.count).stop, "killed")
     db.close()
-    with rx.open(PROGRAM, path) as again:
+    with rx.open(RX, path) as again:
         there = {row["id"] for row in again.collection("c").find()}
     same((len(answered) >= 50, set(answered) - there), (True, set()))
 
 
-@test
-def a_full_journal_by_its_name_and_both_numbers():
-    with rx.open(PROGRAM, journal(), "--max-journal", "600") as db:
+@case()
+def a_full_journal_by_its_name_and_both_numbers(folder):
+    with rx.open(RX, new_journal(folder), "--max-journal", "600") as db:
         c = db.collection("c", SCHEMA)
         while True:
             try:
@@ -279,22 +244,22 @@ def a_full_journal_by_its_name_and_both_numbers():
                 break
 
 
-@test
-def a_program_that_does_not_start_and_a_file_that_is_no_journal():
-    same(fault(rx.open, os.path.join(FOLDER.name, "none"), journal()).stop, "start")
-    path = journal()
+@case()
+def a_program_that_does_not_start_and_a_file_that_is_no_journal(folder):
+    same(fault(rx.open, os.path.join(folder, "none"), new_journal(folder)).stop, "start")
+    path = new_journal(folder)
     with open(path, "w") as file:
         file.write("something else than a journal")
-    with rx.open(PROGRAM, path) as db:
+    with rx.open(RX, path) as db:
         stopped = fault(db.collection, "c", SCHEMA)
     same((stopped.stop, stopped.status), ("not_journal", 7))
 
 
-@test
-def asyncio_calls_at_once_iterators_and_a_killed_child():
+@case()
+def asyncio_calls_at_once_iterators_and_a_killed_child(folder):
     async def run():
-        path = journal()
-        async with rx.open_async(PROGRAM, path) as db:
+        path = new_journal(folder)
+        async with rx.open_async(RX, path) as db:
             c = await db.collection("c", SCHEMA)
             revs = await asyncio.gather(*(c.insert({"id": f"k{n}", "n": n}) for n in range(200)))
             same((revs, await c.count()), (["1-c"] * 200, 200))
@@ -316,7 +281,7 @@ def asyncio_calls_at_once_iterators_and_a_killed_child():
             results = await asyncio.gather(*calls, return_exceptions=True)
             kept = [it for it in results if it == "1-c"]
             same((len(kept) > 10, {it.stop for it in results[len(kept):]} <= {"killed"}), (True, True))
-        async with rx.open_async(PROGRAM, path) as db:
+        async with rx.open_async(RX, path) as db:
             there = await (await db.collection("c")).count()
             same(there >= 201 + len(kept), True, "what was answered is there")
 
@@ -326,9 +291,9 @@ def asyncio_calls_at_once_iterators_and_a_killed_child():
     asyncio.run(run())
 
 
-@test
-def a_fork_and_its_master():
-    with rx.open(PROGRAM, journal()) as db:
+@case()
+def a_fork_and_its_master(folder):
+    with rx.open(RX, new_journal(folder)) as db:
         master, fork = db.collection("m", SCHEMA), db.collection("f", SCHEMA)
         db.replicate("r", "f", "m", handler="greater", field="n")
         query = fork.observe({"sort": [{"n": "desc"}], "limit": 1})
@@ -351,10 +316,10 @@ def a_fork_and_its_master():
         same(fault(db.turn, "s").code, 18)
 
 
-@test
-def a_fork_and_its_master_with_asyncio():
+@case()
+def a_fork_and_its_master_with_asyncio(folder):
     async def run():
-        async with rx.open_async(PROGRAM, journal()) as db:
+        async with rx.open_async(RX, new_journal(folder)) as db:
             master = await db.collection("m", SCHEMA)
             fork = await db.collection("f", SCHEMA)
             await db.replicate("r", "f", "m", handler="fork_wins")
@@ -366,77 +331,66 @@ def a_fork_and_its_master_with_asyncio():
     asyncio.run(run())
 
 
-def served(docs):
-    """A server of a collection m with these documents, for a call that waits for it and two turns."""
-    path = journal()
-    with rx.open(PROGRAM, path) as db:
+def served(folder, docs):
+    """A server of a collection m with these documents, for two turns."""
+    with rx.open(RX, os.path.join(folder, "master")) as db:
         db.collection("m", SCHEMA).bulk(docs)
-    with socket.socket() as it:
-        it.bind(("127.0.0.1", 0))
-        port = it.getsockname()[1]
-    child = subprocess.Popen([PROGRAM, "serve", path, "m", str(port), "3"], stdout=subprocess.PIPE)
-    while True:
-        try:
-            socket.create_connection(("127.0.0.1", port)).close()
-            return path, port, child
-        except ConnectionRefusedError:
-            time.sleep(0.01)
+    return Server(folder, 2, name="m", journal="master").wait()
 
 
-def told(turn):
+def shown(turn):
     return turn.end, [(it["sent"], it["rows"]) for it in turn.each]
 
 
-def same_as_served(path, child, requests, digest):
+def same_as_served(server, requests, digest):
     """The server has ended by itself, after so many requests of each connection, and has the same documents."""
-    said = [json.loads(line) for line in child.communicate()[0].splitlines()]
-    same((child.returncode, said), (0, [{"connection": i, "end": "peer", "requests": n} for i, n in enumerate(requests, 1)]))
-    with rx.open(PROGRAM, path) as db:
+    same(server.end(), (0, [told(number, "peer", n) for number, n in enumerate(requests, 1)]))
+    with rx.open(RX, server.journal) as db:
         same(db.collection("m").digest(), digest, "both sides")
 
 
-@test
-def a_fork_of_a_master_that_another_process_serves():
-    path, port, child = served([{"id": "a", "n": 1}, {"id": "b", "n": 1}])
-    with rx.open(PROGRAM, journal()) as db:
+@case()
+def a_fork_of_a_master_that_another_process_serves(folder):
+    server = served(folder, [{"id": "a", "n": 1}, {"id": "b", "n": 1}])
+    with rx.open(RX, new_journal(folder)) as db:
         fork = db.collection("f", SCHEMA)
-        db.replicate("r", "f", port=port, handler="fork_wins")
+        db.replicate("r", "f", port=server.port, handler="fork_wins")
         query = fork.observe({"sort": [{"n": "desc"}], "limit": 1})
-        same(told(db.turn("r")), ("quiet", [("pull", ["a", "b"])]))
+        same(shown(db.turn("r")), ("quiet", [("pull", ["a", "b"])]))
         fork.patch("a", {"n": 5})
         fork.insert({"id": "ä", "n": 7})
         edits = [("push", ["a"]), ("push", ["ä"]), ("pull", ["a"]), ("pull", ["ä"]), ("pull", [])]
-        same(told(db.turn("r", batch=1)), ("quiet", edits))
+        same(shown(db.turn("r", batch=1)), ("quiet", edits))
         same([[row["n"] for row in rows] for rows in query.pending()], [[], [1], [5], [7]])
         digest = fork.digest()
         # The server ends by itself, and then there is nobody.
-        child.wait()
+        server.child.wait()
         lost = {"exchange": 1, "lost": "dial", "sent": "pull"}
         same(db.turn("r"), ("lost", 1, [lost]))
         same(fault(lambda: db.turn("r", link=["ok"])).subject, "link")
-        same(fault(lambda: db.replicate("s", "f", "m", port=port, handler="join")).subject, "port")
-    same_as_served(path, child, [0, 1, 5], digest)
+        same(fault(lambda: db.replicate("s", "f", "m", port=server.port, handler="join")).subject, "port")
+    same_as_served(server, [1, 5], digest)
 
 
-@test
-def a_fork_of_a_served_master_with_asyncio():
-    path, port, child = served([{"id": "a", "n": 1}])
+@case()
+def a_fork_of_a_served_master_with_asyncio(folder):
+    server = served(folder, [{"id": "a", "n": 1}])
 
     async def run():
-        async with rx.open_async(PROGRAM, journal()) as db:
+        async with rx.open_async(RX, new_journal(folder)) as db:
             fork = await db.collection("f", SCHEMA)
-            await db.replicate("r", "f", port=port, handler="greater", field="n")
+            await db.replicate("r", "f", port=server.port, handler="greater", field="n")
             await fork.insert({"id": "a", "n": 2})
             turns = await asyncio.gather(db.turn("r", budget=1), db.turn("r"))
             same(turns[0].each, [{"conflicts": ["a"], "exchange": 1, "rows": ["a"], "sent": "push"}])
-            same([told(it) for it in turns], [("more", [("push", ["a"])]), ("quiet", [("push", ["a"]), ("pull", ["a"])])])
+            same([shown(it) for it in turns], [("more", [("push", ["a"])]), ("quiet", [("push", ["a"]), ("pull", ["a"])])])
             return await fork.digest()
 
-    same_as_served(path, child, [0, 1, 2], asyncio.run(run()))
+    same_as_served(server, [1, 2], asyncio.run(run()))
 
 
-@test
-def replicate_and_turn_over_scripted_lines():
+@case()
+def replicate_and_turn_over_scripted_lines(folder):
     lines = rx._Lines()
     written, replies = b"", []
     answer = lambda reply, fault: replies.append(reply or fault)  # noqa: E731
@@ -450,32 +404,18 @@ def replicate_and_turn_over_scripted_lines():
     same((replies[1]["end"], replies[1]["exchanges"], replies[1]["each"]), ("quiet", 1, [push]))
 
 
-@test
-def the_quickstart_of_the_readme():
+@case()
+def the_quickstart_of_the_readme(folder):
     with open(os.path.join(ROOT, "clients", "README.md"), encoding="utf-8") as file:
         code = re.search(r"`quickstart\.py`.*?\n```\w*\n(.*?)\n```", file.read(), re.S).group(1)
-    own = tempfile.mkdtemp(dir=FOLDER.name)
-    with open(os.path.join(own, "quickstart.py"), "w") as file:
+    with open(os.path.join(folder, "quickstart.py"), "w") as file:
         file.write(code)
-    where = {**os.environ, "RX": PROGRAM, "PYTHONPATH": os.path.join(HERE, "..", "python")}
+    where = {**os.environ, "RX": RX, "PYTHONPATH": os.path.join(ROOT, "clients", "python")}
     for _ in range(2):
-        ran = subprocess.run([sys.executable, "quickstart.py"], cwd=own, env=where, capture_output=True, text=True)
+        ran = subprocess.run([sys.executable, "quickstart.py"], cwd=folder, env=where, capture_output=True, text=True)
         same(ran.returncode, 0, ran.stderr)
     same("Bake bread" in ran.stdout, True, ran.stdout)
 
 
-def main():
-    failed = 0
-    for call in tests:
-        name = call.__name__.replace("_", " ")
-        faulthandler.dump_traceback_later(60, exit=True)  # a test that waits for ever
-        try:
-            call()
-            print(f"ok    python: {name}", flush=True)
-        except Exception:
-            failed += 1
-            print(f"FAILED python: {name}\n{traceback.format_exc()}", flush=True)
-    sys.exit(1 if failed else 0)
-
-
-main()
+if __name__ == "__main__":
+    main()

@@ -1,15 +1,12 @@
 #!/usr/bin/env python3
 """Forks of a master that answers what it likes: what they take, and why they take nothing else.
 
-    bench/hostile.py [PROGRAM] [REPLIES]
-
-`rx run` dials a peer on 127.0.0.1 that knows what each request has to be and what the right reply to it
-is. It sends 100,000 replies where REPLIES is left out: right ones, near misses of them by one edit (a byte
-is another, gone, or there twice; a member is another; another spelling), and replies to other requests. A
-near miss that a fork has to take all the same counts as right. What a fork makes of each, the requests,
-the lines of the exchanges, the emissions and, after each turn, the fork's digest are those of a model of
-docs/SCRIPT.md and docs/WIRE.md, byte for byte. Then there are peers that end, hang, or send without an
-end. One line for each thing that is tried, and status 1 where one went wrong. A peer that hangs is waited
+A fork dials a peer that knows what each request has to be and what the right reply to it is. It sends
+100,000 replies: right ones, near misses of them by one edit (a byte is another, gone, or there twice; a
+member is another; another spelling), and replies to other requests. A near miss that a fork has to take
+all the same counts as right. What a fork makes of each, the requests, the lines of the exchanges, the
+emissions and, after each turn, the fork's digest are those of a model of docs/SCRIPT.md and docs/WIRE.md,
+byte for byte. Then there are peers that end, hang, or send without an end. A peer that hangs is waited
 for as long as the program waits, which is three minutes for one that takes nothing of a long request.
 """
 import collections
@@ -17,26 +14,21 @@ import json
 import os
 import random
 import socket
-import subprocess
-import sys
 import threading
 
 import replies
-from measuring import SEED, compact
 from model import MAX_TIME, QUERY, START, Clock, Collection, Model, Replication, printed
-from real_file import RX, SECONDS, Talk, insist, main
-from real_socket import LONGEST, hash_of, reset, said_line
+from shared import (HANDLERS, LONGEST, SECONDS, SEED, Talk, case, checked, compact, hash_of, insist,
+                    main, peak_of, reset, said_line)
 
-REPLIES = int(sys.argv[2]) if len(sys.argv) > 2 else 100_000
+REPLIES = 100_000
 ROUND = 1_000
 # So many write times stay with the master, whatever it said.
 LATE = 1_000_000
-# A call waits for a minute, and one that moved a part in it is made again.
+# Behind this a call of the program doesn't wait any longer.
 LONGEST_WAIT = 300
 KEYS = [f"k{n}" for n in range(12)]
 HASH = hash_of(replies.SCHEMA)
-HANDLERS = [{"handler": "master_wins"}, {"handler": "fork_wins"},
-            {"handler": "greater", "field": "n"}, {"handler": "join"}]
 
 
 def door():
@@ -266,8 +258,7 @@ class Round:
 
     def play(self, line):
         """Plays a line, and compares each line of the answer."""
-        self.run.child.stdin.write(compact(line).encode() + b"\n")
-        self.run.child.stdin.flush()
+        self.run.send([compact(line)])
         try:
             due = self.fork.play(line)
         except TimeoutError:
@@ -288,10 +279,8 @@ class Round:
 
     def end(self):
         insist(self.run.end() in (0, 1), f"the run ended with {self.run.child.returncode}")
-        done = subprocess.run([RX, "check", self.journal], capture_output=True, timeout=SECONDS, check=False)
         side, pending = self.fork.sides["f"], len(self.fork.replication.pending())
-        texts = [json.loads(line) for line in done.stdout.splitlines()]
-        insist(done.returncode == 0, f"a report: {done.returncode} {done.stdout}")
+        texts = checked(self.journal)
         insist((texts[0]["count"], texts[0]["digest"]) == (len(side.docs), side.digest()), f"a report: {texts}")
         due = {"fork": "f", "pending": pending, "port": self.peer.port(), "replication": "r"}
         insist(texts[1] == due, f"a report: found {texts[1]}, due {due}")
@@ -320,6 +309,7 @@ def play_round(folder, number):
     return it
 
 
+@case("replies at random", seconds=3_600, in_memory=True)
 def replies_at_random(folder):
     seen, kinds, number = collections.Counter(), collections.Counter(), 0
     while sum(kinds.values()) < REPLIES:
@@ -336,6 +326,7 @@ def replies_at_random(folder):
 
 # ---- lists at their limits
 
+@case("lists at their limits")
 def long_lists(folder):
     """A page may have as many documents as were asked for, and no reply has more than a hundred."""
     tried = [(100, 100, None), (101, 100, "reply"), (50, 50, None), (51, 50, "bad_reply"), (0, 1, None)]
@@ -352,7 +343,7 @@ def long_lists(folder):
             else:
                 found = [json.loads(call.run.child.stdout.readline()) for _ in range(2)]
                 insist(len(found[0].get("rows", "")) == count, f"{count} documents for {batch}: {found[0]}")
-        insist(call.ask({"do": "digest", "in": "f"})["count"] == (0 if due else count), "the fork")
+        insist(call.digest()["count"] == (0 if due else count), "the fork")
         call.leave()
     return "a hundred documents are taken, one more is `reply`, and one more than was asked for `bad_reply`"
 
@@ -374,23 +365,25 @@ class Call:
         self.ask({"do": "replicate", "name": "r", "fork": "f", "port": port, "handler": "fork_wins"})
         for n in range(pending):
             self.ask({"do": "insert", "in": "f", "doc": {"id": f"k{n}", "n": 1, "t": "a" * letters}})
-        self.before = self.ask({"do": "digest", "in": "f"})["digest"]
+        self.before = self.digest()["digest"]
 
     def ask(self, line):
         reply = self.run.ask(compact(line))
         insist(reply and "ok" in reply, f"{compact(line)[:60]}: {reply}")
         return reply
 
+    def digest(self):
+        return self.ask({"do": "digest", "in": "f"})
+
     def begin(self, **more):
-        self.run.child.stdin.write(compact({"do": "turn", "name": "r", **more}).encode() + b"\n")
-        self.run.child.stdin.flush()
+        self.run.send([compact({"do": "turn", "name": "r", **more})])
 
     def lost(self):
         """Why the first exchange of the turn was lost, which left the fork as it was."""
         first, last = (json.loads(self.run.child.stdout.readline() or "{}") for _ in range(2))
         insist(("lost" in first, last.get("end"), last.get("exchanges")) == (True, "lost", 1), f"{first} {last}")
         insist(first["sent"] == ("push" if self.made else "pull"), f"{first}")
-        insist(self.ask({"do": "digest", "in": "f"})["digest"] == self.before, f"{first}: the fork was changed")
+        insist(self.digest()["digest"] == self.before, f"{first}: the fork was changed")
         return first["lost"]
 
     def go_on(self):
@@ -407,7 +400,7 @@ class Call:
             replies_left = 2 if self.made else 1
             lines = [json.loads(self.run.child.stdout.readline()) for _ in range(replies_left + 1)]
         insist(lines[-1].get("end") == "quiet", f"the next turn: {lines}")
-        insist(self.ask({"do": "digest", "in": "f"})["digest"] == self.before, "the next turn changed the fork")
+        insist(self.digest()["digest"] == self.before, "the next turn changed the fork")
         self.leave()
 
     def leave(self):
@@ -446,6 +439,7 @@ ENDS = {
 }
 
 
+@case("peers that end", seconds=600)
 def peers_that_end(folder):
     seen = collections.Counter()
     for number in range(40):
@@ -460,6 +454,7 @@ def peers_that_end(folder):
     return ", ".join(f"{end}: {count} {why}" for (end, why), count in sorted(seen.items()))
 
 
+@case("nobody at the port")
 def nobody_there(folder):
     for pending in (0, 1):
         call = Call(folder, f"journal{pending}", pending)
@@ -492,13 +487,13 @@ def flood(call, size, tail):
     insist(why == "reply", why)
 
 
+@case("lines without an end", seconds=600)
 def lines_without_an_end(folder):
     for number, (size, tail) in enumerate([(1 << 20, b""), (1 << 20, b"\n"), (LONGEST, b"\n"),
                                            (LONGEST + 1, b"a")]):
         call = Call(folder, f"journal{number}", pending=number % 2)
         flood(call, size, tail)
-        with open(f"/proc/{call.run.child.pid}/status", encoding="ascii") as status:
-            peak = int(next(line for line in status if line.startswith("VmHWM")).split()[1]) << 10
+        peak = peak_of(call.run.child)
         insist(peak < 2.5 * max(size, 64 << 20), f"a peak of {peak:,} bytes for a line of {size:,}")
         call.go_on()
     return f"`reply` for a megabyte and for one byte too many, the last with a peak of {peak >> 20} MiB"
@@ -513,6 +508,7 @@ def hang_within_a_reply(wire):
     wire.sendall(b'{"docs":[]')
 
 
+@case("peers that hang", seconds=900)
 def peers_that_hang(folder):
     """All at once: one takes no connection in, one none at all, one says nothing, one stops within a
     reply, one takes nothing of a long request."""
@@ -542,15 +538,5 @@ def peers_that_hang(folder):
     return "given up, four by `wire` and the one that isn't connected by `dial`, and the next turn goes on"
 
 
-TRIED = {
-    "replies at random": replies_at_random,
-    "lists at their limits": long_lists,
-    "peers that end": peers_that_end,
-    "nobody at the port": nobody_there,
-    "lines without an end": lines_without_an_end,
-    "peers that hang": peers_that_hang,
-}
-
-
 if __name__ == "__main__":
-    main(TRIED)
+    main()

@@ -1,64 +1,20 @@
 #!/usr/bin/env python3
-"""The built program over a real file and real streams, of which no clause speaks.
+"""The built program over a real file and real streams, of which no clause speaks: what else has the
+journal, what stands in its place, what fails, and a kill at any moment.
 
-    bench/real_file.py [PROGRAM]
-
-One line for each thing that is tried: what was seen, or what went wrong. It ends with 1 where one
-went wrong. An insert counts as acknowledged once its reply was read. All files lie in a temporary
-folder of its own. What it can't show is a power cut: a killed run leaves to the system all that it
-wrote, synced or not.
+An insert counts as acknowledged once its reply was read. What can't be shown here is a power cut: a
+killed run leaves to the system all that it wrote, synced or not.
 """
-import json
 import os
 import random
 import re
 import resource
-import shutil
-import signal
 import subprocess
 import tempfile
 import time
 
-from measuring import SCHEMA, SEED, collection, compact, program
-
-RX = os.path.abspath(program())
-SECONDS = 60
-DISK = {"stop": "disk"}
-
-
-class Wrong(Exception):
-    """What was seen instead."""
-
-
-class Skipped(Exception):
-    """Why it was not tried."""
-
-
-def insist(holds, seen):
-    if not holds:
-        raise Wrong(seen)
-
-
-def insert(key):
-    return compact({"do": "insert", "in": "c", "doc": {"id": key, "n": 1}})
-
-
-def inserts(keys):
-    return [collection(), *(insert(key) for key in keys)]
-
-
-def text(lines):
-    return "".join(line + "\n" for line in lines).encode()
-
-
-def run(journal, lines, prepare=None, command=(RX,), **streams):
-    """The status and the answers of a run to its end, the last one in whole lines alone."""
-    streams = {"stdout": subprocess.PIPE, **streams}
-    if "stdin" not in streams:
-        streams["input"] = text(lines)
-    done = subprocess.run([*command, "run", journal], stderr=subprocess.DEVNULL, timeout=SECONDS,
-                          preexec_fn=prepare, check=False, **streams)
-    return done.returncode, answers(done.stdout or b"")
+from shared import (DISK, RX, SECONDS, SEED, Skipped, Talk, all_there, answers, case, collection,
+                    compact, content, held, insert, inserts, insist, main, room, run, text)
 
 
 def start(journal, lines):
@@ -70,54 +26,13 @@ def start(journal, lines):
                                 stderr=subprocess.DEVNULL)
 
 
-def answers(written):
-    return [json.loads(line) for line in written.split(b"\n")[:-1]]
-
-
 def acknowledged(keys, replies):
     """The keys whose inserts were answered with `ok`, where the first line made the collection."""
     said = {reply["line"] for reply in replies if reply.get("ok") == "insert"}
     return {key for line, key in enumerate(keys, 2) if line in said}
 
 
-def held(journal):
-    """The keys that a further run finds."""
-    status, replies = run(journal, [collection(), compact({"do": "find", "in": "c", "query": {}})])
-    insist(status == 0, f"the next run ended with {status}: {replies[-1:]}")
-    return {row["id"] for row in replies[1]["rows"]}
-
-
-def all_there(journal, keys):
-    lost = keys - held(journal)
-    insist(not lost, f"{len(lost)} of {len(keys)} acknowledged inserts are lost: {sorted(lost)[:3]}")
-
-
-class Talk:
-    """A run that gets one line at a time, and whose replies are read."""
-
-    def __init__(self, journal):
-        self.child = subprocess.Popen([RX, "run", journal], stdin=subprocess.PIPE,
-                                      stdout=subprocess.PIPE, stderr=subprocess.DEVNULL)
-
-    def ask(self, line):
-        """The reply, or None where the run has ended."""
-        try:
-            self.child.stdin.write(text([line]))
-            self.child.stdin.flush()
-        except BrokenPipeError:
-            return None
-        reply = self.child.stdout.readline()
-        return json.loads(reply) if reply.endswith(b"\n") else None
-
-    def end(self):
-        try:
-            self.child.stdin.close()
-        except BrokenPipeError:
-            pass
-        self.child.stdout.close()
-        return self.child.wait(SECONDS)
-
-
+@case("two runs that write by turns")
 def two_runs_by_turns(folder):
     journal = os.path.join(folder, "journal")
     first = Talk(journal)
@@ -137,6 +52,7 @@ def two_runs_by_turns(folder):
     return "the second is refused with 3 and writes nothing; all 50 inserts of the first are there"
 
 
+@case("runs that start at once")
 def runs_at_once(folder):
     """Each race is for a journal that isn't there yet, or is."""
     wrote = 0
@@ -153,6 +69,7 @@ def runs_at_once(folder):
     return f"40 races of 4 runs: {wrote} wrote, the others ended with 3, and all acknowledged is there"
 
 
+@case("closed standard streams")
 def closed_streams(folder):
     """All seven ways to leave standard streams closed, over a journal that is there and a new one."""
     keys = [f"k{key}" for key in range(5)]
@@ -171,15 +88,12 @@ def closed_streams(folder):
             insist(status in due, f"{redirects}: status {status}, not {due}")
             insist(0 in shut or 1 in shut or len(replies) == 2, f"{redirects}: {replies}")
             if os.path.exists(journal):
-                with open(journal, "rb") as file:
-                    insist(file.read(8) == b"RXJOURN1", f"{redirects}: the journal's header is gone")
+                insist(content(journal)[:8] == b"RXJOURN1", f"{redirects}: the journal's header is gone")
             all_there(journal, kept)
     return "input fails with 4, output with 5, and the journal never stands in their place"
 
 
-def needs_strace():
-    if not shutil.which("strace"):
-        raise Skipped("strace is not there")
+def needs_trace():
     if subprocess.run(["strace", "-qq", "-o", os.devnull, "true"], check=False,
                       stderr=subprocess.DEVNULL).returncode:
         raise Skipped("strace may not trace here")
@@ -197,8 +111,9 @@ def trace(folder, journal, lines):
         return [(call[1], call[2], int(call[3])) for call in calls if call]
 
 
+@case("the lock and the folder's sync", needs=["strace"])
 def order_of_calls(folder):
-    needs_strace()
+    needs_trace()
     for journal, parent in ((os.path.join(folder, "journal"), folder), ("near", ".")):
         for keys in (["a", "b"], ["c", "d"]):
             calls = trace(folder, journal, inserts(keys))
@@ -228,8 +143,9 @@ def locked_and_named(calls, parent):
     insist(synced in calls[folders[0]:replies[0]], "the folder was not synced")
 
 
+@case("syncs before replies", needs=["strace"])
 def synced_before_reply(folder):
-    needs_strace()
+    needs_trace()
     journal = os.path.join(folder, "journal")
     calls = trace(folder, journal, inserts([f"k{key}" for key in range(20)]))
     open_writes = 0
@@ -243,6 +159,7 @@ def synced_before_reply(folder):
     return "no reply goes out while a write isn't synced"
 
 
+@case("a full disk")
 def full_disk(folder):
     """The file may grow to each length in turn, so that each write of a run fails once."""
     keys = [f"k{key}" for key in range(8)]
@@ -250,20 +167,16 @@ def full_disk(folder):
     status, _ = run(whole, inserts(keys))
     insist(status == 0, f"the whole run ended with {status}")
     most = os.path.getsize(whole)
-    for room in range(0, most + 1, 3):
-        journal = os.path.join(folder, f"journal{room}")
-
-        def limit(room=room):
-            signal.signal(signal.SIGXFSZ, signal.SIG_IGN)
-            resource.setrlimit(resource.RLIMIT_FSIZE, (room, room))
-
-        status, replies = run(journal, inserts(keys), prepare=limit)
-        insist(status in ({3} if room < most else {0, 3}), f"{room} bytes: status {status}")
-        insist(status == 0 or replies[-1] == DISK, f"{room} bytes: {replies[-1:]}")
+    for size in range(0, most + 1, 3):
+        journal = os.path.join(folder, f"journal{size}")
+        status, replies = run(journal, inserts(keys), prepare=room(size))
+        insist(status in ({3} if size < most else {0, 3}), f"{size} bytes: status {status}")
+        insist(status == 0 or replies[-1] == DISK, f"{size} bytes: {replies[-1:]}")
         all_there(journal, acknowledged(keys, replies))
     return f"at each third length up to {most} bytes: 3, and all acknowledged is there"
 
 
+@case("something else in the journal's place")
 def other_things_in_its_place(folder):
     pipe = os.path.join(folder, "pipe")
     os.mkfifo(pipe)
@@ -275,20 +188,21 @@ def other_things_in_its_place(folder):
     return "a folder, a missing folder, a pipe, devices, a name too long: 3"
 
 
+@case("a file that is no journal")
 def no_journal(folder):
     """A file of more than nine bytes that is no journal is left as it is."""
     other = os.path.join(folder, "other")
     contents = [b"a letter to a friend\n", b"RXJOURN1" + b"\1" * 40, b"RXJOURN2" + bytes(20), bytes(10)]
-    for content in contents:
+    for before in contents:
         with open(other, "wb") as file:
-            file.write(content)
+            file.write(before)
         status, replies = run(other, inserts(["a"]))
-        insist((status, replies) == (7, [{"stop": "not_journal"}]), f"{content}: {status} {replies}")
-        with open(other, "rb") as file:
-            insist(file.read() == content, f"{content} was changed")
+        insist((status, replies) == (7, [{"stop": "not_journal"}]), f"{before}: {status} {replies}")
+        insist(content(other) == before, f"{before} was changed")
     return "7, and it stays as it was"
 
 
+@case("a cap on memory")
 def little_memory(folder):
     """Caps on the address space, from where an empty script runs to where this one does."""
     docs = [[{"id": f"k{bulk}-{key}", "n": key} for key in range(500)] for bulk in range(60)]
@@ -314,6 +228,7 @@ def little_memory(folder):
     return f"{ended[6]} caps: 6, and all acknowledged is there"
 
 
+@case("an output that is full or goes away")
 def output_that_takes_nothing(folder):
     journal = os.path.join(folder, "journal")
     keys = [f"k{key}" for key in range(100)]
@@ -345,7 +260,8 @@ def output_that_takes_nothing(folder):
     return "5 where it is full or goes away, and all acknowledged is there"
 
 
-def killed(folder):
+@case("kill -9 in a loop")
+def killed_in_a_loop(folder):
     """SIGKILL in a loop: after some replies that were read, while more lines are played."""
     journal = os.path.join(folder, "journal")
     moments = random.Random(SEED)
@@ -359,22 +275,21 @@ def killed(folder):
             insist(reply and reply.get("ok") == "insert", f"round {turn}: {reply}")
             kept.add(key)
         more = [f"more{turn}-{key}" for key in range(20)]
-        talk.child.stdin.write(text(map(insert, more)))
-        talk.child.stdin.flush()
+        talk.send(map(insert, more))
         time.sleep(moments.uniform(0, 0.02))
-        talk.child.kill()
-        rest = answers(talk.child.communicate(timeout=SECONDS)[0])
+        rest = answers(talk.kill())
         kept |= set(more[:sum(reply.get("ok") == "insert" for reply in rest)])
         all_there(journal, kept)
     return f"{rounds} times: the next run has all acknowledged inserts, {len(kept):,} in the end"
 
 
+@case("kill -9 in a turn")
 def killed_in_a_turn(folder):
     """SIGKILL while exchanges are made. Numbers rise with each write on either side, and of two that
     conflict the greater is kept: so each key has to have the number that was acknowledged last."""
     journal = os.path.join(folder, "journal")
     moments, kept, rounds, cut = random.Random(SEED), {}, 40, 0
-    begin = [compact({"do": "collection", "name": name, "schema": SCHEMA}) for name in "mf"]
+    begin = [collection(name) for name in "mf"]
     begin.append(compact({"do": "replicate", "name": "r", "fork": "f", "master": "m",
                           "handler": "greater", "field": "n"}))
     turn = {"do": "turn", "name": "r", "batch": 1}
@@ -387,11 +302,9 @@ def killed_in_a_turn(folder):
             reply = talk.ask(compact({"do": "upsert", "in": side, "doc": {"id": key, "n": number}}))
             insist(reply and reply.get("ok") == "upsert", f"round {round_}: {reply}")
             kept[key] = number
-        talk.child.stdin.write(text([compact(turn)]))
-        talk.child.stdin.flush()
+        talk.send([compact(turn)])
         time.sleep(moments.uniform(0, 0.02))
-        talk.child.kill()
-        cut += not answers(talk.child.communicate(timeout=SECONDS)[0])
+        cut += not answers(talk.kill())
     found = [compact({"do": "find", "in": side, "query": {}}) for side in "mf"]
     status, replies = run(journal, [compact(turn), *found])
     insist(status == 0, f"the next run ended with {status}")
@@ -403,35 +316,5 @@ def killed_in_a_turn(folder):
     return f"{rounds} times, {cut} before the turn's answer: the next is quiet, and no update is lost"
 
 
-TRIED = {
-    "two runs that write by turns": two_runs_by_turns,
-    "runs that start at once": runs_at_once,
-    "closed standard streams": closed_streams,
-    "the lock and the folder's sync": order_of_calls,
-    "syncs before replies": synced_before_reply,
-    "a full disk": full_disk,
-    "something else in the journal's place": other_things_in_its_place,
-    "a file that is no journal": no_journal,
-    "a cap on memory": little_memory,
-    "an output that is full or goes away": output_that_takes_nothing,
-    "kill -9 in a loop": killed,
-    "kill -9 in a turn": killed_in_a_turn,
-}
-
-
-def main(tried):
-    wrong = 0
-    for name, try_it in tried.items():
-        with tempfile.TemporaryDirectory() as folder:
-            try:
-                print(f"ok       {name}: {try_it(os.path.realpath(folder))}", flush=True)
-            except Skipped as why:
-                print(f"skipped  {name}: {why}", flush=True)
-            except (Wrong, subprocess.TimeoutExpired) as seen:
-                wrong += 1
-                print(f"WRONG    {name}: {seen}", flush=True)
-    raise SystemExit(1 if wrong else 0)
-
-
 if __name__ == "__main__":
-    main(TRIED)
+    main()

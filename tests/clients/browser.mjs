@@ -1,17 +1,15 @@
-// node clients/test/browser.mjs PROGRAM [PICTURES]: the client over WebAssembly in Chromium, and the page of todos.
-// It wants wasm/out, as wasm/build.sh makes it. Pictures of the page go to the folder PICTURES, if it is given.
+// The client over WebAssembly in Chromium, and the page of todos. It wants wasm/out, as wasm/build.sh makes it.
+// Pictures of the page go to the folder that PICTURES names, if there is one in the environment.
 import { spawnSync } from 'node:child_process';
-import { cpSync, mkdirSync, mkdtempSync, readFileSync, rmSync, writeFileSync } from 'node:fs';
-import { tmpdir } from 'node:os';
-import { join, resolve } from 'node:path';
+import { cpSync, mkdirSync, mkdtempSync, readFileSync, writeFileSync } from 'node:fs';
+import { join } from 'node:path';
 import { behaviours } from './behaviours.mjs';
 import { launch, serve } from './chromium.mjs';
 import { emissionsOf } from './play.mjs';
-import { examples, quickstart, root, runAll, same } from './shared.mjs';
+import { schema } from './schema.mjs';
+import { examples, journalName, program, quickstart, root, same, tryOne } from './shared.mjs';
 
-const program = resolve(process.argv[2]);
-const pictures = process.argv[3];
-const folder = mkdtempSync(join(tmpdir(), 'rx-browser-'));
+const pictures = process.env.PICTURES;
 // A worker that counts what is written to its file, and what the page is told before all of that is synced.
 const counting = `
   const handle = FileSystemSyncAccessHandle.prototype, { write, flush } = handle, post = self.postMessage;
@@ -23,21 +21,33 @@ const counting = `
     if ('ended' in Object(it)) post.call(self, JSON.stringify({ emit: 'counted', rows: [{ early, bytes }] }) + '\\n');
     post.call(self, it);
   };`;
-const served = await serve(root, {
+const counted = () => ({
   '/wasm/counting.mjs': counting,
   '/wasm/counted/rx.wasm': readFileSync(join(root, 'wasm/out/rx.wasm')),
   '/wasm/counted/host.mjs': "import '/wasm/counting.mjs'; import '/wasm/out/host.mjs';",
 });
-let chromium = await launch(join(folder, 'profile'));
 const tests = {};
-let journals = 0;
-const journal = () => `journal-${++journals}`;
+let served, chromium;
 const empty = () => chromium.page(`${served.origin}/empty`);
+
+// Adds a test that has the files of this repository served, and a Chromium.
+function test(name, work) {
+  tests[name] = async (folder) => {
+    served = await serve(root, counted());
+    chromium = await launch(join(folder, 'profile'));
+    try {
+      await work(folder);
+    } finally {
+      await chromium.close();
+      served.close();
+    }
+  };
+}
 
 // These run in the page.
 const playInPage = async (name, script, folder = '/wasm/out') => {
   const { open, wasm } = await import('/clients/js/rx.mjs');
-  const { playScript } = await import('/clients/test/play.mjs');
+  const { playScript } = await import('/tests/clients/play.mjs');
   return playScript(open, wasm(folder, name), script);
 };
 const readInPage = async (name) => {
@@ -47,14 +57,14 @@ const readInPage = async (name) => {
 };
 const behaveInPage = async (name) => {
   const { open, wasm } = await import('/clients/js/rx.mjs');
-  const { behaviours } = await import('/clients/test/behaviours.mjs');
+  const { behaviours } = await import('/tests/clients/behaviours.mjs');
   let count = 0;
   await behaviours[name]({ open, transport: (...options) => wasm('/wasm/out', `${name.slice(0, 20)}${++count}`, ...options) });
 };
 
 for (const { name, after, script, out } of examples()) {
-  tests[`examples/${name}, by the calls, and its journal`] = async () => {
-    const page = await empty(), file = journal(), native = join(folder, file), copied = join(folder, `${file}-copy`);
+  test(`examples/${name}, by the calls, and its journal`, async (folder) => {
+    const page = await empty(), file = journalName(), native = join(folder, file), copied = join(folder, `${file}-copy`);
     if (after) {
       const first = examples().find((it) => it.name === after).script;
       spawnSync(program, ['run', native], { input: first });
@@ -74,24 +84,17 @@ for (const { name, after, script, out } of examples()) {
     same(here, there, 'the native program on it');
     same(/^\{"count":[1-9]/.test(here), true, here);
     await page.close();
-  };
+  });
 }
 
 for (const name of Object.keys(behaviours)) {
-  tests[name] = async () => {
+  test(name, async () => {
     const page = await empty();
     await page.run(behaveInPage, name);
     await page.close();
-  };
+  });
 }
 
-const schema = {
-  version: 0,
-  primaryKey: 'id',
-  type: 'object',
-  properties: { id: { type: 'string', maxLength: 20 }, n: { type: 'integer' } },
-  required: ['id'],
-};
 const writeInPage = async (name, schema) => {
   const { open, wasm } = await import('/clients/js/rx.mjs');
   const db = await open(wasm('/wasm/out', name));
@@ -110,8 +113,8 @@ const fronts = (keys, answered) => {
   same(keys.length >= answered && keys.every((key, n) => key === `k${n}`), true, `${answered} answered, ${keys.length} kept`);
 };
 
-tests['a page that is closed in the middle, and opened again'] = async () => {
-  const file = journal(), first = await empty();
+test('a page that is closed in the middle, and opened again', async (folder) => {
+  const file = journalName(), first = await empty();
   await first.run(writeInPage, file, schema);
   await first.until('answered > 50');
   const answered = await first.evaluate('answered');
@@ -119,10 +122,10 @@ tests['a page that is closed in the middle, and opened again'] = async () => {
   const second = await empty();
   fronts(await second.run(keysInPage, file), answered);
   await second.close();
-};
+});
 
-tests['Chromium killed in the middle, and started again'] = async () => {
-  const file = journal(), first = await empty();
+test('Chromium killed in the middle, and started again', async (folder) => {
+  const file = journalName(), first = await empty();
   await first.run(writeInPage, file, schema);
   await first.until('answered > 50');
   const answered = await first.evaluate('answered');
@@ -131,10 +134,10 @@ tests['Chromium killed in the middle, and started again'] = async () => {
   const second = await empty();
   fronts(await second.run(keysInPage, file), answered);
   await second.close();
-};
+});
 
-tests['no room is left: the program ends by disk, and what was answered is there'] = async () => {
-  const file = journal(), page = await empty();
+test('no room is left: the program ends by disk, and what was answered is there', async (folder) => {
+  const file = journalName(), page = await empty();
   await page.on('Storage.overrideQuotaForOrigin', { origin: served.origin, quotaSize: 3000000 });
   const [answered, stopped] = await page.run(async (name, schema) => {
     const { open, wasm } = await import('/clients/js/rx.mjs');
@@ -151,10 +154,10 @@ tests['no room is left: the program ends by disk, and what was answered is there
   fronts(await page.run(keysInPage, file), answered);
   same(answered > 5 && answered < 35, true, `${answered} documents of 100,000 bytes`);
   await page.close();
-};
+});
 
-tests['a journal that another page has, and a folder without the program'] = async () => {
-  const file = journal(), first = await empty(), second = await empty();
+test('a journal that another page has, and a folder without the program', async (folder) => {
+  const file = journalName(), first = await empty(), second = await empty();
   await first.run(writeInPage, file, schema);
   const stopped = await second.run(async (name) => {
     const { open, wasm } = await import('/clients/js/rx.mjs');
@@ -164,10 +167,10 @@ tests['a journal that another page has, and a folder without the program'] = asy
   same(stopped.join(), 'Stopped start true,Stopped start false', 'the second page');
   await first.close();
   await second.close();
-};
+});
 
-tests['each answer comes after its sync, and the journal is appended to'] = async () => {
-  const page = await empty(), file = journal(), count = 200;
+test('each answer comes after its sync, and the journal is appended to', async (folder) => {
+  const page = await empty(), file = journalName(), count = 200;
   const inserts = Array.from({ length: count }, (_, n) => ({ do: 'insert', in: 'c', doc: { id: `k${n}`, n } }));
   const script = [{ do: 'collection', name: 'c', schema }, ...inserts].map((it) => `${JSON.stringify(it)}\n`).join('');
   const { output } = await page.run(playInPage, file, script, '/wasm/counted');
@@ -176,21 +179,21 @@ tests['each answer comes after its sync, and the journal is appended to'] = asyn
   // Of the journal's bytes only the gates, one for each of 202 records, are written a second time.
   same(`${early} early, ${bytes} written`, `0 early, ${length + count + 2} written`, 'the writes');
   await page.close();
-};
+});
 
-tests['20,000 documents: output and journal are the native ones'] = async () => {
+test('20,000 documents: output and journal are the native ones', async (folder) => {
   const lines = [{ do: 'collection', name: 'c', schema }];
   for (let n = 0; n < 20000; n += 1000) {
     lines.push({ do: 'bulk', in: 'c', docs: Array.from({ length: 1000 }, (_, i) => ({ id: `k${(n + i) * 7919 % 20000}`, n: i })) });
   }
   lines.push({ do: 'find', in: 'c', query: { selector: { n: { $mod: [97, 5] } }, sort: [{ n: 'desc' }], skip: 10, limit: 100 } });
   const script = lines.map((it) => `${JSON.stringify(it)}\n`).join('');
-  const page = await empty(), file = journal(), native = join(folder, file);
+  const page = await empty(), file = journalName(), native = join(folder, file);
   const { output } = await page.run(playInPage, file, script);
   same(output, spawnSync(program, ['run', native], { input: script, encoding: 'utf8', maxBuffer: 1 << 26 }).stdout, 'output');
   same(Buffer.from(await page.run(readInPage, file)).equals(readFileSync(native)), true, 'the journal');
   await page.close();
-};
+});
 
 async function take(page, name) {
   if (!pictures) return;
@@ -198,7 +201,7 @@ async function take(page, name) {
   writeFileSync(join(pictures, `${name}.png`), await page.picture());
 }
 
-tests['the page of todos, by keyboard, kept over a reload'] = async () => {
+test('the page of todos, by keyboard, kept over a reload', async (folder) => {
   const page = await chromium.page(`${served.origin}/clients/web/`);
   await page.until(`document.querySelectorAll('#phone .todos li').length === 3 && document.querySelectorAll('#laptop .todos li').length === 2`);
   const titles = (page) => page.run(() => Array.from(document.querySelectorAll('#phone .todos li'), (it) => {
@@ -253,9 +256,9 @@ tests['the page of todos, by keyboard, kept over a reload'] = async () => {
   await again.until(`document.querySelectorAll('#phone .todos li').length === 11`);
   await take(again, 'narrow-long');
   await again.close();
-};
+});
 
-tests['the page of todos, edited apart and synced: a conflict shows its answer'] = async () => {
+test('the page of todos, edited apart and synced: a conflict shows its answer', async (folder) => {
   const site = await serve(root); // an origin of its own, where nothing is stored
   const page = await chromium.page(`${site.origin}/clients/web/`);
   const synced = async (status) => {
@@ -293,9 +296,9 @@ tests['the page of todos, edited apart and synced: a conflict shows its answer']
   await take(page, 'conflict');
   await page.close();
   site.close();
-};
+});
 
-tests['the quickstart page of clients/README.md'] = async () => {
+test('the quickstart page of clients/README.md', async (folder) => {
   const own = mkdtempSync(join(folder, 'quick-'));
   cpSync(join(root, 'clients/js/rx.mjs'), join(own, 'rx.mjs'));
   cpSync(join(root, 'wasm/out'), join(own, 'out'), { recursive: true });
@@ -313,10 +316,6 @@ tests['the quickstart page of clients/README.md'] = async () => {
   await again.until(`document.querySelector('ul').textContent === 'Bake breadBuy milk'`);
   await again.close();
   site.close();
-};
+});
 
-const passed = await runAll('chromium', tests);
-await chromium.close();
-served.close();
-rmSync(folder, { recursive: true, force: true, maxRetries: 5 });
-process.exit(passed ? 0 : 1);
+await tryOne(tests);

@@ -1,102 +1,21 @@
 #!/usr/bin/env python3
 """The built program over real sockets, as a master with peers that no clause speaks of, and killed in turns.
 
-    bench/real_socket.py [PROGRAM]
-
-One line for each thing that is tried: what was seen, or what went wrong. It ends with 1 where one
-went wrong. All files lie in a temporary folder of its own, and all sockets on 127.0.0.1. A peer that
-says nothing is waited for as long as the program waits, a minute to three.
+All sockets are on 127.0.0.1. A peer that says nothing is waited for as long as the program waits, a
+minute to three.
 """
 import json
 import os
 import random
-import resource
-import signal
 import socket
-import struct
-import subprocess
-import sys
 import time
 
-from measuring import HERE, SCHEMA, SEED, collection, compact
-from real_file import RX, SECONDS, Talk, answers, held, insist, insert, main, run, text
-
-sys.path.insert(0, os.path.join(HERE, "..", "examples"))
-from client import hash_of  # noqa: E402
-
-HASH = hash_of(SCHEMA)
-LONGEST = 268_435_456
-# A call waits for a minute. A reply that was sent in part is one more, and some systems take a part twice.
-HANG_SECONDS = 180
+from shared import (HANG_SECONDS, HASH, LONGEST, SECONDS, SEED, Server, Talk, answers, ask, bulk, case,
+                    collection, command, compact, digest, free_port, held, insist, main, peak_of, pull, push,
+                    reset, room, run, said, said_line, text, told)
 
 
-def pull(n, place=None):
-    at = {"place": place} if place else {}
-    return compact({"ask": "pull", "batch": 100, "epoch": 1, "n": n, **at, "schema": HASH})
-
-
-def push(n, keys, number=1):
-    rows = [{"new": {"_deleted": False, "id": key, "n": number}} for key in keys]
-    return compact({"ask": "push", "epoch": 1, "n": n, "rows": rows, "schema": HASH})
-
-
-def free_port():
-    with socket.socket() as it:
-        it.bind(("127.0.0.1", 0))
-        return it.getsockname()[1]
-
-
-class Server:
-    """A master with so many connections, over a journal that is made with these documents."""
-
-    def __init__(self, folder, connections, keys=(), prepare=None, name="c", journal="journal", port=None,
-                 more=()):
-        self.journal, self.port = os.path.join(folder, journal), port or free_port()
-        if not os.path.exists(self.journal):
-            insist(run(self.journal, [collection(), *map(insert, keys)])[0] == 0, "no journal")
-        words = [RX, "serve", self.journal, name, str(self.port), str(connections), *more]
-        self.child = subprocess.Popen(words, stdout=subprocess.PIPE, stderr=subprocess.DEVNULL,
-                                      preexec_fn=prepare)
-
-    def dial(self):
-        end = time.monotonic() + SECONDS
-        while True:
-            try:
-                return socket.create_connection(("127.0.0.1", self.port), HANG_SECONDS + SECONDS)
-            except ConnectionRefusedError:
-                insist(time.monotonic() < end and self.child.poll() is None, "nothing listens")
-                time.sleep(0.005)
-
-    def end(self):
-        """The status and what was told of each connection."""
-        written, _ = self.child.communicate(timeout=HANG_SECONDS + SECONDS)
-        return self.child.returncode, answers(written)
-
-
-def said(wire):
-    """All that the peer says until it ends."""
-    parts = []
-    while part := wire.recv(1 << 16):
-        parts.append(part)
-    return b"".join(parts)
-
-
-def ask(wire, line):
-    """One reply, or nothing where the peer ended."""
-    wire.sendall(text([line]))
-    reply = b""
-    while not reply.endswith(b"\n"):
-        part = wire.recv(1 << 16)
-        if not part:
-            return None
-        reply += part
-    return json.loads(reply)
-
-
-def told(number, end, requests):
-    return {"connection": number, "end": end, "requests": requests}
-
-
+@case("connections one after another")
 def one_after_another(folder):
     keys = [f"k{n}" for n in range(250)]
     server, found = Server(folder, 3, keys), []
@@ -117,13 +36,7 @@ def one_after_another(folder):
     return "three connections in turn, pages and pushes, and the journal has both pushes"
 
 
-def said_line(wire):
-    line = b""
-    while not line.endswith(b"\n"):
-        line += wire.recv(1)
-    return line
-
-
+@case("lines that are no request")
 def lines_that_are_no_request(folder):
     tried = [(b"hello\n", "not_json"), (b"[]\n", "not_object"), (b"\n", "not_json"),
              (b"\xff\xfe\n", "not_json"), (b'{"ask":"pull"}\n', "missing"),
@@ -145,6 +58,7 @@ def lines_that_are_no_request(folder):
     return f"{len(tried)} of them: the fault's name once, then the connection ends, and the next is served"
 
 
+@case("a line in pieces")
 def a_line_in_pieces(folder):
     server = Server(folder, 1, ["a"])
     with server.dial() as wire:
@@ -158,6 +72,7 @@ def a_line_in_pieces(folder):
     return "a byte at a time, and three lines in one piece"
 
 
+@case("a line that is too long")
 def a_line_too_long(folder):
     server = Server(folder, 2)
     with server.dial() as wire:
@@ -165,8 +80,7 @@ def a_line_too_long(folder):
         while left:
             left -= wire.send(piece[:left])
         insist(said(wire) == b'{"fault":"too_long"}\n', "another fault")
-    with open(f"/proc/{server.child.pid}/status", encoding="ascii") as status:
-        peak = int(next(line for line in status if line.startswith("VmHWM")).split()[1]) << 10
+    peak = peak_of(server.child)
     insist(peak < 2.5 * LONGEST, f"a peak of {peak:,} bytes")
     with server.dial() as wire:
         insist(ask(wire, pull(1)) == {"docs": [], "epoch": 1, "n": 1}, "the next connection")
@@ -174,12 +88,7 @@ def a_line_too_long(folder):
     return f"`too_long`, with a peak of {peak >> 20} MiB, and the next connection is served"
 
 
-def reset(wire):
-    """Ends a connection so that the other side's next call fails."""
-    wire.setsockopt(socket.SOL_SOCKET, socket.SO_LINGER, struct.pack("ii", 1, 0))
-    wire.close()
-
-
+@case("peers that go away")
 def peers_that_go_away(folder):
     keys = [f"k{n}" for n in range(100)]
     server = Server(folder, 61, keys)
@@ -211,6 +120,7 @@ def peers_that_go_away(folder):
     return "60 of them in mid-line, in mid-reply, after a reply and before it: what was answered is there"
 
 
+@case("peers that hang", seconds=600)
 def peers_that_hang(folder):
     """All at once, each with a server of its own: one says nothing, one stops within a line, one asks
     and never reads."""
@@ -239,39 +149,35 @@ def peers_that_hang(folder):
     return f"`wire` within {waited:.0f} seconds, and the next connection is served"
 
 
+@case("what else has the journal or the port")
 def statuses(folder):
     server = Server(folder, 1, ["a"])
     with server.dial() as wire:
         second = Server(folder, 1)
         insist(second.end() == (3, [{"stop": "disk"}]), "a second server of one journal")
         insist(run(server.journal, [])[0] == 3, "a run beside a server")
-        taken = subprocess.run([RX, "serve", os.path.join(folder, "other"), "c", str(server.port), "1"],
-                               capture_output=True, timeout=SECONDS, check=False)
-        insist(taken.returncode == 10, f"no collection: {taken.returncode}")
+        status, _ = command("serve", os.path.join(folder, "other"), "c", str(server.port), "1")
+        insist(status == 10, f"no collection: {status}")
         insist(ask(wire, pull(1))["n"] == 1, "the first server")
     server.end()
-    fork = [compact({"do": "collection", "name": "f", "schema": SCHEMA}),
+    fork = [collection("f"),
             compact({"do": "replicate", "name": "r", "fork": "f", "master": "c", "handler": "join"})]
     insist(run(server.journal, fork)[0] == 0, "no fork")
     insist(Server(folder, 1, name="f").end() == (10, [{"stop": "no_collection"}]), "a fork is served")
     with socket.create_server(("127.0.0.1", 0)) as door:
-        words = [RX, "serve", server.journal, "c", str(door.getsockname()[1]), "1"]
-        done = subprocess.run(words, capture_output=True, timeout=SECONDS, check=False)
-    insist((done.returncode, answers(done.stdout)) == (4, [{"stop": "read"}]), "a port that is taken")
+        status, written = command("serve", server.journal, "c", str(door.getsockname()[1]), "1")
+    insist((status, answers(written)) == (4, [{"stop": "read"}]), "a port that is taken")
     return "3 where the journal is locked, 4 where the port is taken, 10 for no collection and for a fork"
 
 
+@case("a full disk")
 def full_disk(folder):
     seen = Server(folder, 1, journal="seen")
-    killed(seen)
+    seen.kill()
     most = os.path.getsize(seen.journal)
     tried = 0
-    for room in range(most + 1, most + 400, 20):
-        def limit(room=room):
-            signal.signal(signal.SIGXFSZ, signal.SIG_IGN)
-            resource.setrlimit(resource.RLIMIT_FSIZE, (room, room))
-
-        server = Server(folder, 1, prepare=limit, journal=f"journal{room}")
+    for size in range(most + 1, most + 400, 20):
+        server = Server(folder, 1, prepare=room(size), journal=f"journal{size}")
         kept = set()
         try:
             with server.dial() as wire:
@@ -282,12 +188,13 @@ def full_disk(folder):
         except ConnectionError:
             pass
         status, ends = server.end()
-        insist((status, ends[-1]) == (3, {"stop": "disk"}), f"{room} bytes: {status} {ends}")
-        insist(kept <= held(server.journal), f"{room} bytes: an answered push is lost")
+        insist((status, ends[-1]) == (3, {"stop": "disk"}), f"{size} bytes: {status} {ends}")
+        insist(kept <= held(server.journal), f"{size} bytes: an answered push is lost")
         tried += 1
     return f"at {tried} lengths: 3, and each answered push is there"
 
 
+@case("kill -9 in a loop")
 def killed_in_a_loop(folder):
     moments, kept, rounds = random.Random(SEED), set(), 40
     for number in range(rounds):
@@ -298,8 +205,7 @@ def killed_in_a_loop(folder):
                 kept.add(f"k{number}-{n}")
             wire.sendall(text([push(n, [f"more{number}-{n}"]) for n in range(1, 51)]))
             time.sleep(moments.uniform(0, 0.01))
-            server.child.kill()
-            server.child.communicate(timeout=SECONDS)
+            server.kill()
             wire.settimeout(1)
             try:
                 kept |= {f"more{number}-{json.loads(line)['n']}" for line in said(wire).split(b"\n")[:-1]}
@@ -310,26 +216,19 @@ def killed_in_a_loop(folder):
     return f"{rounds} times: the next run has all answered pushes, {len(kept):,} in the end"
 
 
-def bulk(into, number):
-    """As many documents as take a turn some time."""
-    docs = [{"id": f"{into}{number}-{n}", "n": n} for n in range(100)]
-    return compact({"do": "bulk", "in": into, "docs": docs})
-
-
 class Follower(Talk):
     """A run over a journal with a fork f of the master at a port."""
 
     def __init__(self, folder, port, number):
         super().__init__(os.path.join(folder, "fork"))
         replicate = {"do": "replicate", "name": "r", "fork": "f", "port": port, "handler": "join"}
-        self.ask(compact({"do": "collection", "name": "f", "schema": SCHEMA}))
+        self.ask(collection("f"))
         insist(self.ask(compact(replicate)).get("code", 9) == 9, "a replication")
         if number is not None:
             insist(self.ask(bulk("f", number)).get("ok") == "bulk", "documents of the fork")
 
     def begin(self):
-        self.child.stdin.write(text([compact({"do": "turn", "name": "r", "batch": 4})]))
-        self.child.stdin.flush()
+        self.send([compact({"do": "turn", "name": "r", "batch": 4})])
 
     def turned(self):
         """The last exchange of the turn that was begun, and its end."""
@@ -338,23 +237,11 @@ class Follower(Talk):
             last, reply = reply, json.loads(self.child.stdout.readline())
         return last, reply["end"]
 
-    def kill(self):
-        """Whether the turn had no reply yet."""
-        self.child.kill()
-        return self.child.communicate(timeout=SECONDS)[0] == b""
-
 
 def serve_more(folder, port, number):
     """A server to whose documents some came."""
     insist(run(os.path.join(folder, "journal"), [bulk("c", number)])[0] == 0, "documents of the master")
-    server = Server(folder, 1_000_000, port=port)
-    server.dial().close()
-    return server
-
-
-def killed(server):
-    server.child.kill()
-    server.child.communicate(timeout=SECONDS)
+    return Server(folder, 1_000_000, port=port).wait()
 
 
 def kill_in_a_turn(folder, port, number, wait):
@@ -364,8 +251,8 @@ def kill_in_a_turn(folder, port, number, wait):
     fork.begin()
     time.sleep(wait)
     if who:
-        killed(server)
-    was_cut = fork.kill() if who != 1 else None
+        server.kill()
+    was_cut = fork.kill() == b"" if who != 1 else None
     if who == 1:
         last, end = fork.turned()
         insist(end == "quiet" or last.get("lost") in ("dial", "reply", "wire"), f"{last} {end}")
@@ -373,10 +260,9 @@ def kill_in_a_turn(folder, port, number, wait):
     else:
         fork = Follower(folder, port, None)
     if who:
-        server = Server(folder, 1_000_000, port=port)
-        server.dial().close()
+        server = Server(folder, 1_000_000, port=port).wait()
     finish_turn(fork, 200 * (number + 1))
-    killed(server)
+    server.kill()
     return was_cut
 
 
@@ -386,70 +272,70 @@ def finish_turn(fork, count):
     fork.begin()
     insist(fork.turned()[1] == "quiet", "the next turn")
     seconds = time.monotonic() - begun
-    told = fork.ask(compact({"do": "digest", "in": "f"}))
+    found = fork.ask(digest("f"))
     insist(fork.end() in (0, 1), "the run of the fork failed")
-    insist(told["count"] == count, f"{told['count']} documents of {count}")
-    return seconds, told["digest"]
+    insist(found["count"] == count, f"{found['count']} documents of {count}")
+    return seconds, found["digest"]
 
 
+@case("kill -9 of a fork or its master in a turn", seconds=600)
 def killed_in_a_remote_turn(folder):
     insist(run(os.path.join(folder, "journal"), [collection()])[0] == 0, "no journal")
     moments, port, rounds, cut = random.Random(SEED), free_port(), 60, 0
     server, fork = serve_more(folder, port, 0), Follower(folder, port, 0)
     seconds, _ = finish_turn(fork, 200)
-    killed(server)
+    server.kill()
     for number in range(1, rounds + 1):
         cut += kill_in_a_turn(folder, port, number, moments.uniform(0, seconds / 2))
-    master = run(os.path.join(folder, "journal"), [compact({"do": "digest", "in": "c"})])[1][0]
-    fork = run(os.path.join(folder, "fork"), [compact({"do": "digest", "in": "f"})])[1][0]
+    master = run(os.path.join(folder, "journal"), [digest("c")])[1][0]
+    fork = run(os.path.join(folder, "fork"), [digest("f")])[1][0]
     insist(master["digest"] == fork["digest"], "the sides differ")
     insist(cut > rounds // 6, f"{cut} of {rounds} turns were cut off")
     return f"{cut} of {rounds} turns cut off: the next one is quiet, and all {fork['count']:,} documents are on both sides"
 
 
+@case("a full journal of a fork or its master in a turn")
 def full_in_a_remote_turn(folder):
     """The fork's journal, or the master's, is full in the middle of a turn."""
     seen, port = [], free_port()
-    for number, room in enumerate(range(200, 12_000, 600)):
+    for number, more in enumerate(range(200, 12_000, 600)):
         inner = os.path.join(folder, str(number))
         os.mkdir(inner)
         insist(run(os.path.join(inner, "journal"), [collection(), bulk("c", number)])[0] == 0, "no journal")
         begun = Follower(inner, port, number)
         insist(begun.end() == 0, "no fork")
-        sides = [["--max-journal", str(os.path.getsize(os.path.join(inner, name)) + room)]
+        sides = [["--max-journal", str(os.path.getsize(os.path.join(inner, name)) + more)]
                  for name in ("journal", "fork")]
         sides[number % 2] = []
         seen.append(turn_with_limits(inner, port, *sides))
-        server = Server(inner, 1_000_000, port=port)
-        server.dial().close()
+        server = Server(inner, 1_000_000, port=port).wait()
         after = Follower(inner, port, None)
-        _, digest = finish_turn(after, 200)
-        killed(server)
-        done = run(os.path.join(inner, "journal"), [compact({"do": "digest", "in": "c"})])
-        insist(done[1][0]["digest"] == digest, f"room {room}: the sides differ")
+        _, there = finish_turn(after, 200)
+        server.kill()
+        done = run(os.path.join(inner, "journal"), [digest("c")])
+        insist(done[1][0]["digest"] == there, f"{more} bytes more: the sides differ")
     insist({(0, 8), (8, None)} <= set(seen), f"{seen}")
     return f"{len(seen)} times, of which {sum(it != (0, None) for it in seen)} are full: the next turn is quiet"
 
 
 def turn_with_limits(folder, port, master, fork):
     """The statuses of the fork and, where it has ended by itself, of the master."""
-    server = Server(folder, 1_000_000, port=port, more=master)
-    server.dial().close()
-    words = [RX, "run", os.path.join(folder, "fork"), *fork]
+    server = Server(folder, 1_000_000, port=port, more=master).wait()
     line = text([compact({"do": "turn", "name": "r", "batch": 4})])
-    done = subprocess.run(words, input=line, capture_output=True, timeout=SECONDS, check=False)
-    last = answers(done.stdout)[-1]
-    if done.returncode == 8:
+    status, written = command("run", os.path.join(folder, "fork"), *fork, script=line)
+    last = answers(written)[-1]
+    if status == 8:
         insist(last.get("stop") == "full", f"{last}")
     else:
-        insist(done.returncode == 0 and last["end"] in ("quiet", "lost"), f"{done.returncode} {last}")
+        insist(status == 0 and last["end"] in ("quiet", "lost"), f"{status} {last}")
     if last.get("end") == "lost":
         insist(server.child.wait(SECONDS) == 8, "the master has ended otherwise")
         return 0, 8
-    killed(server)
-    return done.returncode, None
+    server.kill()
+    return status, None
 
 
+@case("an output that goes away")
 def output_that_goes_away(folder):
     server = Server(folder, 2, ["a"])
     server.child.stdout.close()
@@ -460,21 +346,5 @@ def output_that_goes_away(folder):
     return "5 after the first connection, and its push is there"
 
 
-TRIED = {
-    "connections one after another": one_after_another,
-    "lines that are no request": lines_that_are_no_request,
-    "a line in pieces": a_line_in_pieces,
-    "a line that is too long": a_line_too_long,
-    "peers that go away": peers_that_go_away,
-    "peers that hang": peers_that_hang,
-    "what else has the journal or the port": statuses,
-    "a full disk": full_disk,
-    "kill -9 in a loop": killed_in_a_loop,
-    "kill -9 of a fork or its master in a turn": killed_in_a_remote_turn,
-    "a full journal of a fork or its master in a turn": full_in_a_remote_turn,
-    "an output that goes away": output_that_goes_away,
-}
-
-
 if __name__ == "__main__":
-    main(TRIED)
+    main()
