@@ -1,5 +1,4 @@
 """What the benchmarks share: one program run on lines, timed, and the lines that both peers get."""
-import json
 import os
 import resource
 import shutil
@@ -9,14 +8,6 @@ import tempfile
 import time
 
 HERE = os.path.dirname(os.path.abspath(__file__))
-SEED = 7_919
-SCHEMA = {
-    "version": 0,
-    "primaryKey": "id",
-    "type": "object",
-    "properties": {"id": {"type": "string", "maxLength": 20}, "n": {"type": "integer"}},
-    "required": ["id"],
-}
 
 
 def program():
@@ -24,16 +15,14 @@ def program():
     return sys.argv[1] if len(sys.argv) > 1 else os.path.join(HERE, "..", "crates", "rx", "out", "rx")
 
 
+# What is shared with the tests runs the same program.
+os.environ["RX"] = program()
+sys.path.insert(0, os.path.join(HERE, "..", "tests"))
+from shared import SCHEMA, SEED, Server, Talk, collection, compact, hash_of  # noqa: E402, F401
+
+
 def sqlite():
     return shutil.which("sqlite3") or sys.exit("sqlite3 is not installed")
-
-
-def compact(value):
-    return json.dumps(value, separators=(",", ":"))
-
-
-def collection():
-    return compact({"do": "collection", "name": "c", "schema": SCHEMA})
 
 
 def documents(count):
