@@ -9,6 +9,20 @@ import tempfile
 import time
 
 HERE = os.path.dirname(os.path.abspath(__file__))
+
+
+def option(name):
+    """The word behind an option of the command line, both taken off it, or None where it isn't there."""
+    if name not in sys.argv:
+        return None
+    at = sys.argv.index(name)
+    word = sys.argv[at + 1]
+    del sys.argv[at:at + 2]
+    return word
+
+
+# each benchmark takes `--json FILE`, and writes its figures there too, a line each behind those that are there
+FIGURES = option("--json")
 SEED = 7_919
 SCHEMA = {
     "version": 0,
@@ -62,6 +76,14 @@ def measure(command, lines):
         if os.waitstatus_to_exitcode(status) != 0:
             sys.exit(f"{command[0]} ended with status {os.waitstatus_to_exitcode(status)}")
         return seconds, usage.ru_maxrss
+
+
+def figure(load, **numbers):
+    """Keeps a figure for bench/plots.py, in the file of `--json`."""
+    if FIGURES:
+        bench = os.path.splitext(os.path.basename(sys.argv[0]))[0]
+        with open(FIGURES, "a", encoding="utf-8") as file:
+            file.write(compact({"bench": bench, "load": load, **numbers}) + "\n")
 
 
 def report(load, who, count, runs):

@@ -1,7 +1,7 @@
 #!/usr/bin/env python3
 """Requests and bytes a second of a served collection, beside sqlite3 and a bare echo.
 
-    bench/serve.py [PROGRAM] [FOLDER] [FEWER]
+    bench/serve.py [PROGRAM] [FOLDER] [FEWER] [--json FILE]
 
 Pulls and pushes of 1, 10 and 100 rows, over 1,000 and 100,000 documents, and a pull of all of the
 100,000; with so many times fewer documents where FEWER is given. The files lie in FOLDER, or where
@@ -26,7 +26,7 @@ import sys
 import tempfile
 import time
 
-from measuring import HERE, SCHEMA, collection, compact, measure, program
+from measuring import HERE, SCHEMA, collection, compact, figure, measure, program
 
 sys.path.insert(0, os.path.join(HERE, "..", "examples"))
 from client import hash_of  # noqa: E402
@@ -237,6 +237,7 @@ def compare(load, made, size, asked):
     print(f"{load}: rx {1 / each:,.0f} requests and {size_of_each / each / 1e6:,.1f} MB a second, "
           f"sqlite3 {1 / peer:,.0f} and the echo {1 / bare:,.0f}; rx takes "
           f"{each / (peer + bare):.2f} times the time of both", flush=True)
+    figure(load, ratio=each / (peer + bare), rx=1 / each)
 
 
 def main():
