@@ -3,13 +3,7 @@
 //   node bench/clients.mjs node PROGRAM FOLDER COUNT       prints the seconds of each load
 //   node bench/clients.mjs chromium PROGRAM FOLDER COUNT   and of the page of todos, until its first emission
 
-const schema = {
-  version: 0,
-  primaryKey: 'id',
-  type: 'object',
-  properties: { id: { type: 'string', maxLength: 20 }, n: { type: 'integer' } },
-  required: ['id'],
-};
+import { schema } from '../tests/clients/schema.mjs';
 
 async function timed(work) {
   const start = performance.now();
@@ -58,7 +52,7 @@ async function inNode(program, folder, count) {
 }
 
 async function inChromium(folder, count) {
-  const { launch, serve } = await import('../clients/test/chromium.mjs');
+  const { launch, serve } = await import('../tests/clients/chromium.mjs');
   const { mkdtempSync, rmSync } = await import('node:fs');
   const own = mkdtempSync(`${folder}/rx-bench-`);
   const served = await serve(new URL('..', import.meta.url).pathname);

@@ -1,5 +1,4 @@
 """What the benchmarks share: one program run on lines, timed, and the lines that both peers get."""
-import json
 import os
 import resource
 import shutil
@@ -9,6 +8,8 @@ import tempfile
 import time
 
 HERE = os.path.dirname(os.path.abspath(__file__))
+sys.path.insert(0, os.path.join(HERE, "..", "tests"))
+from shared import SCHEMA, SEED, collection, compact  # noqa: E402, F401
 
 
 def option(name):
@@ -23,14 +24,6 @@ def option(name):
 
 # each benchmark takes `--json FILE`, and writes its figures there too, a line each behind those that are there
 FIGURES = option("--json")
-SEED = 7_919
-SCHEMA = {
-    "version": 0,
-    "primaryKey": "id",
-    "type": "object",
-    "properties": {"id": {"type": "string", "maxLength": 20}, "n": {"type": "integer"}},
-    "required": ["id"],
-}
 
 
 def program():
@@ -40,14 +33,6 @@ def program():
 
 def sqlite():
     return shutil.which("sqlite3") or sys.exit("sqlite3 is not installed")
-
-
-def compact(value):
-    return json.dumps(value, separators=(",", ":"))
-
-
-def collection():
-    return compact({"do": "collection", "name": "c", "schema": SCHEMA})
 
 
 def documents(count):

@@ -1,0 +1,189 @@
+// The client for JavaScript over a child process.
+import { spawn, spawnSync } from 'node:child_process';
+import { cpSync, readFileSync, writeFileSync } from 'node:fs';
+import { connect, createServer } from 'node:net';
+import { join } from 'node:path';
+import { child, open } from '../../clients/js/rx.mjs';
+import { behaviours } from './behaviours.mjs';
+import { emissionsOf, playScript } from './play.mjs';
+import { schema } from './schema.mjs';
+import { examples, journalName, program, quickstart, root, same, tryOne } from './shared.mjs';
+
+const tests = {};
+
+for (const { name, after, script, out } of examples()) {
+  tests[`examples/${name}, by the calls`] = async (folder) => {
+    const path = join(folder, 'journal'), native = join(folder, 'native');
+    if (after) {
+      const first = examples().find((it) => it.name === after).script;
+      for (const it of [path, native]) spawnSync(program, ['run', it], { input: first });
+    }
+    const played = await playScript(open, child(program, path), script);
+    same(played.written, script, 'the lines that were written');
+    same(played.output, out, 'the output');
+    same(JSON.stringify(played.heard), JSON.stringify(emissionsOf(out)), 'what observers heard');
+    spawnSync(program, ['run', native], { input: script });
+    same(readFileSync(path, 'latin1'), readFileSync(native, 'latin1'), 'the journal');
+  };
+}
+
+for (const [name, test] of Object.entries(behaviours)) {
+  tests[name] = (folder) => {
+    const transport = (...options) => child(program, join(folder, journalName()), ...options);
+    return test({ open, transport });
+  };
+}
+
+tests['a child that is killed in mid-call'] = async (folder) => {
+  const path = join(folder, 'journal');
+  let running;
+  const db = await open(async (hooks) => (running = await child(program, path)(hooks)));
+  const c = await db.collection('c', schema);
+  const stopped = new Promise((go) => c.observe({ limit: 1 }).subscribe({ error: go }));
+  const answered = [];
+  const calls = Array.from({ length: 3000 }, (_, i) => c.insert({ id: `k${i}`, n: i }).then(() => {
+    answered.push(`k${i}`);
+    if (answered.length === 20) running.kill();
+  }));
+  const faults = (await Promise.allSettled(calls)).filter((it) => it.status === 'rejected').map((it) => it.reason);
+  same(faults.length > 0 && faults.every((it) => it.name === 'Stopped' && it.stop === 'killed'), true, 'each open call fails');
+  same((await stopped).stop, 'killed', 'the observer');
+  same((await c.count().catch((it) => it.stop)), 'killed', 'a later call');
+  await db.close();
+  const again = await open(child(program, path));
+  const rows = await (await again.collection('c')).find();
+  same(answered.length >= 20 && answered.every((id) => rows.some((it) => it.id === id)), true, 'what was answered is there');
+  await again.close();
+};
+
+const freePort = () => new Promise((go) => {
+  const door = createServer().listen(0, '127.0.0.1', () => {
+    const { port } = door.address();
+    door.close(() => go(port));
+  });
+});
+
+// Dials until it is answered.
+const dialled = (port) => new Promise((go) => {
+  const wire = connect(port, '127.0.0.1', () => { wire.end(); go(); });
+  wire.on('error', () => setTimeout(() => dialled(port).then(go), 10));
+});
+
+tests['a fork of a master that another process serves'] = async (folder) => {
+  const path = join(folder, 'master'), port = await freePort();
+  const before = await open(child(program, path));
+  await (await before.collection('m', schema)).bulk([{ id: 'a', n: 1 }, { id: 'b', n: 1 }]);
+  await before.close();
+  const served = spawn(program, ['serve', path, 'm', String(port), '3'], { stdio: ['ignore', 'pipe', 'inherit'] });
+  let said = '';
+  served.stdout.on('data', (it) => { said += it; });
+  const over = new Promise((go) => served.on('close', go));
+  await dialled(port);
+
+  const db = await open(child(program, join(folder, 'fork')));
+  const fork = await db.collection('f', schema);
+  await db.replicate({ name: 'r', fork: 'f', port, handler: 'fork_wins' });
+  const heard = [];
+  fork.observe({ sort: [{ n: 'desc' }], limit: 1 }).subscribe((rows) => heard.push(rows.map((it) => it.n).join()));
+  const told = ({ end, each }) => `${end}: ${each.map((it) => `${it.sent} ${it.rows}`).join(', ')}`;
+  same(told(await db.turn('r')), 'quiet: pull a,b', 'a first pull');
+  await fork.patch('a', { n: 5 });
+  await fork.insert({ id: 'ä', n: 7 });
+  same(told(await db.turn('r', { batch: 1 })), 'quiet: push a, push ä, pull a, pull ä, pull ', 'edits');
+  same(heard.join(' '), ' 1 5 7', 'emissions');
+  const mine = await fork.digest();
+  await db.close();
+
+  same(await over, 0, 'the status of the server');
+  const due = [0, 1, 5].map((requests, i) => `{"connection":${i + 1},"end":"peer","requests":${requests}}\n`);
+  same(said, due.join(''), 'what it said');
+  const after = await open(child(program, path));
+  const master = await after.collection('m');
+  same(JSON.stringify(await master.digest()), JSON.stringify(mine), 'both sides');
+  same((await master.get('a')).rev, '2-m', 'a push');
+  await after.close();
+};
+
+tests['a program that does not start, and a file that is no journal'] = async (folder) => {
+  const path = join(folder, 'journal');
+  const missing = await open(child(join(folder, 'none'), path)).catch((it) => it);
+  same(`${missing.name} ${missing.stop}`, 'Stopped start', 'no program');
+  writeFileSync(path, 'something else than a journal');
+  const db = await open(child(program, path));
+  const fault = await db.collection('c', schema).catch((it) => it);
+  same(`${fault.stop} ${fault.status}`, 'not_journal 7', 'no journal');
+};
+
+// Lines as a program would write them, to be delivered in whatever pieces.
+const scripted = (answers, pieces) => async (hooks) => ({
+  send(text) {
+    for (const line of text.split('\n').slice(0, -1)) {
+      const answer = answers[line];
+      if (answer === undefined) throw new Error(`not asked for: ${line}`);
+      setTimeout(() => { for (const piece of answer.match(pieces)) hooks.output(piece); });
+    }
+  },
+  end: () => setTimeout(() => hooks.ended({ status: 0 })),
+  kill() {},
+});
+
+tests['replicate and turn, with the exchanges, over a scripted program'] = async () => {
+  const exchanges = [
+    '{"conflicts":["ä"],"exchange":1,"rows":["ä","b"],"sent":"push"}',
+    '{"exchange":2,"place":{"id":"b","lwt":3},"rows":["b"],"sent":"pull"}',
+  ];
+  const answers = {
+    '{"do":"replicate","name":"r","fork":"f","master":"m","handler":"greater","field":"n"}': '{"line":1,"ok":"replicate"}\n',
+    '{"do":"turn","name":"r","batch":2}':
+      `${exchanges.join('\n')}\n{"end":"quiet","exchanges":2,"line":2,"ok":"turn"}\n`,
+    '{"do":"turn","name":"r"}': '{"end":"quiet","exchanges":0,"line":3,"ok":"turn"}\n',
+    '{"do":"turn","name":"s"}': '{"code":18,"line":4,"refused":"no_replication"}\n',
+  };
+  for (const pieces of [/[^]/g, /[^]{1,7}/g, /[^]+/g]) {
+    const db = await open(scripted(answers, pieces));
+    await db.replicate({ name: 'r', fork: 'f', master: 'm', handler: 'greater', field: 'n' });
+    const turn = await db.turn('r', { batch: 2 });
+    same(JSON.stringify(turn), `{"end":"quiet","exchanges":2,"each":[${exchanges}]}`, 'a turn');
+    same(JSON.stringify(await db.turn('r')), '{"end":"quiet","exchanges":0,"each":[]}', 'the next');
+    same((await db.turn('s').catch((it) => it)).code, 18, 'none');
+    await db.close();
+  }
+};
+
+tests['output that is no answer ends the database'] = async () => {
+  const db = await open(scripted({ '{"do":"restart"}': 'Segmentation fault\n' }, /[^]+/g));
+  same((await db.restart().catch((it) => it)).stop, 'output', 'output');
+};
+
+tests['an observer that throws disturbs no other'] = (folder) => new Promise((done, fail) => {
+  const code = `
+    import { open, child } from ${JSON.stringify(join(root, 'clients/js/rx.mjs'))};
+    const faults = [];
+    process.on('uncaughtException', (it) => faults.push(it.message));
+    const db = await open(child(${JSON.stringify(program)}, ${JSON.stringify(join(folder, 'journal'))}));
+    const c = await db.collection('c', ${JSON.stringify(schema)});
+    const query = c.observe();
+    let heard = 0;
+    query.subscribe(() => { throw new Error('its own'); });
+    query.subscribe(() => { heard += 1; });
+    await c.insert({ id: 'a' });
+    await c.count();
+    await db.close();
+    await new Promise((go) => setTimeout(go, 20));
+    console.log(heard, faults.join());`;
+  const { stdout, stderr } = spawnSync(process.execPath, ['--input-type=module', '-e', code], { encoding: 'utf8' });
+  if (stdout === '2 its own,its own\n') done();
+  else fail(new Error(stdout + stderr));
+});
+
+tests['the quickstart of clients/README.md'] = async (folder) => {
+  cpSync(join(root, 'clients/js/rx.mjs'), join(folder, 'rx.mjs'));
+  writeFileSync(join(folder, 'quickstart.mjs'), quickstart('quickstart.mjs'));
+  for (const run of ['first', 'second']) {
+    const { stdout, stderr, status } = spawnSync(process.execPath, ['quickstart.mjs'], { cwd: folder, encoding: 'utf8', env: { ...process.env, RX: program } });
+    if (status !== 0) throw new Error(stdout + stderr);
+    if (run === 'second') same(stdout.includes('Bake bread'), true, 'the journal kept it');
+  }
+};
+
+await tryOne(tests);

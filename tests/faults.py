@@ -1,0 +1,216 @@
+#!/usr/bin/env python3
+"""Each allocation and each call of a file or a socket of the built program refused in turn.
+
+It plays every script of examples/, a trial, a report, a served connection with pulls and pushes, and
+turns with a served master. At each fault the status is the one that the fault may cause, what was written
+is a front of the whole output and then the stop line, the journal opens, and it holds what was answered.
+A socket that fails loses a turn with a served master at most, and after any fault the next turn brings
+both sides together. A call that moves one byte where more were asked for changes nothing. examples/apart,
+which takes two processes at once, isn't played here: the turns with a served master stand for it.
+"""
+import collections
+import json
+import os
+import subprocess
+import tempfile
+
+from shared import (HERE, Server, Wrong, add, answers, ask, checked, collection, command, compact, content, digest,
+                    examples, free_port, insert, insist, main, pull, push, run, text)
+
+KINDS = {"alloc": {6}, "allocs": {6}, "call": {3, 4, 5}, "short": set()}
+LIMIT = 3_600
+
+
+class Play:
+    """A command over a journal of its own, in a folder of its own."""
+
+    def __init__(self, word, *more, script=b"", before=b""):
+        self.word, self.more, self.script, self.before = word, more, script, before
+        self.counts = {}
+
+    def journal(self, folder):
+        path = os.path.join(folder, "journal")
+        if os.path.exists(path):
+            os.remove(path)
+        if self.before:
+            insist(command("run", path, script=self.before)[0] in (0, 1), "the script before failed")
+        return path
+
+    def play(self, folder, env):
+        return command(self.word, self.journal(folder), *self.more, script=self.script, env=env)
+
+    def front_of(self, whole, written):
+        """What was written before the stop line, which is a front of the whole."""
+        lines = written.splitlines(keepends=True)
+        if lines and lines[-1].startswith((b'{"stop":', b'{"limit":')):
+            written = b"".join(lines[:-1])
+        insist(whole.startswith(written), f"written is {written[-100:]}")
+        return written
+
+    def compare(self, folder, written, whole):
+        """The journal has a front of the records of the whole play, and those of all answered lines."""
+        found = records(os.path.join(folder, "journal"))
+        insist(found == whole[:len(found)], "other records stand there")
+        insist(len(found) >= self.least(folder, written), "a record of an answered line is lost")
+
+    def least(self, folder, written):
+        """How many records the lines up to the last one answered make."""
+        lines = [json.loads(line) for line in written.splitlines()]
+        answered = max((line["line"] for line in lines if "line" in line), default=0)
+        if answered not in self.counts:
+            script = b"".join(self.script.splitlines(keepends=True)[:answered])
+            with tempfile.TemporaryDirectory(dir=folder) as inner:
+                path = self.journal(inner)
+                if answered:
+                    command("run", path, script=script)
+                self.counts[answered] = len(records(path))
+        return self.counts[answered]
+
+
+class Served(Play):
+    """A served connection: two pushes and two pulls, and what each was answered."""
+
+    LINES = [push(1, ["a", "b"]), pull(2), push(3, ["c"]), pull(4)]
+
+    def __init__(self):
+        super().__init__("serve", before=text([collection()]))
+
+    def play(self, folder, env):
+        self.journal(folder)
+        server, self.answered = Server(folder, 1, env=env), []
+        try:
+            with server.dial() as wire:
+                for line in self.LINES:
+                    if (reply := ask(wire, line)) is None:
+                        break
+                    self.answered.append(reply)
+        except OSError:
+            pass
+        return server.ended()
+
+    def front_of(self, whole, written):
+        """A failing wire ends the connection and not the command."""
+        if written.startswith(b'{"connection":1,"end":"wire",'):
+            written = b""
+        return super().front_of(whole, written)
+
+    def compare(self, folder, written, whole):
+        status, replies = run(os.path.join(folder, "journal"),
+                              [compact({"do": "find", "in": "c", "query": {}})])
+        insist(status == 0, f"the next run ended with {status}")
+        found = {row["id"] for row in replies[0]["rows"]}
+        for n, keys in ((1, {"a", "b"}), (3, {"c"})):
+            if any(reply["n"] == n for reply in self.answered):
+                insist(keys <= found, f"the answered push {n} is lost")
+
+
+class Dialled(Play):
+    """Two turns with a served master, of which a failing socket may lose one."""
+
+    # Far ahead of the clock, so that what a server writes has the same times in each play.
+    MASTER = [collection(), compact({"do": "tick", "at": 9_000_000_000_000}), *map(insert, "ab")]
+
+    def __init__(self):
+        self.port = free_port()
+        replicate = {"do": "replicate", "name": "r", "fork": "f", "port": self.port, "handler": "fork_wins"}
+        self.begin = [collection("f"), compact(replicate)]
+        self.turn = compact({"do": "turn", "name": "r", "batch": 2})
+        edits = [compact({"do": "insert", "in": "f", "doc": {"id": key, "n": 2}}) for key in "bcd"]
+        super().__init__("run", script=text([*self.begin, *edits[:2], self.turn, edits[2], self.turn]))
+
+    def play(self, folder, env):
+        self.master = os.path.join(folder, "master")
+        if os.path.exists(self.master):
+            os.remove(self.master)
+        insist(run(self.master, self.MASTER)[0] == 0, "no master")
+        return self.beside_master(folder, lambda: super(Dialled, self).play(folder, env))
+
+    def beside_master(self, folder, call):
+        server = Server(folder, 1_000_000, journal="master", port=self.port).wait()
+        try:
+            return call()
+        finally:
+            server.kill()
+
+    def front_of(self, whole, written):
+        """What was written before a turn that was lost, where one was, is a front of the whole."""
+        front, lost, why = written.partition(b'"lost":')
+        if not lost:
+            return super().front_of(whole, written)
+        insist(why.startswith((b'"dial"', b'"wire"')) and why.count(lost) == 0, f"lost: {written[-200:]}")
+        insist(b"refused" not in why, f"refused: {written[-200:]}")
+        super().front_of(whole, front[:front.rfind(b"\n") + 1])
+        return written
+
+    def compare(self, folder, written, whole):
+        """The next turn brings both sides together, with each insert that was answered."""
+        journal = os.path.join(folder, "journal")
+        after = [*self.begin, self.turn, digest("f"), compact({"do": "find", "in": "f", "query": {}})]
+        status, replies = self.beside_master(folder, lambda: run(journal, after))
+        insist(status in (0, 1), f"the next run ended with {status}")
+        turn, same, found = (reply for reply in replies if reply.get("ok") in ("turn", "digest", "find"))
+        insist(turn["end"] == "quiet", f"the next turn ended {turn}")
+        insist(checked(self.master)[0]["digest"] == same["digest"], "the sides differ")
+        kept = sum(it.get("ok") == "insert" for it in answers(written))
+        keys = {row["id"] for row in found["rows"]}
+        insist({"a", "b", *"bcd"[:kept]} <= keys, f"an answered insert is lost: {keys}")
+
+
+def records(path):
+    """The bodies of a journal's records, by docs/JOURNAL.md."""
+    bodies, at = [], 8
+    if os.path.exists(path):
+        written = content(path)
+        while len(written) > 9 and written[at] == 1:
+            end = at + 5 + int.from_bytes(written[at + 1:at + 5], "big")
+            bodies.append(written[at + 5:end])
+            at = end
+    return bodies
+
+
+def try_faults(play, kind, folder, env, whole, count):
+    seen = collections.Counter()
+    status, written, records_due = whole
+    for number in range(1, count + 1):
+        ended, came = play.play(folder, {**env, "RX_FAULT": f"{kind} {number}"})
+        at = f"{kind} {number} of {count}: "
+        insist(ended == status or ended in KINDS[kind], f"{at}status {ended}")
+        insist(kind != "short" or ended == status, f"{at}status {ended}")
+        insist(kind == "call" or ended != status or came == written, f"{at}another output: {came[-100:]}")
+        try:
+            play.compare(folder, play.front_of(written, came), records_due)
+            insist(run(os.path.join(folder, "journal"), [])[0] == 0, "the journal doesn't open")
+        except Wrong as why:
+            raise Wrong(f"{at}{why}") from why
+        seen[ended] += 1
+    ends = " ".join(f"{times} of {status}" for status, times in sorted(seen.items()))
+    return f"{kind}, {count:,}: {ends}"
+
+
+def try_play(play, folder):
+    library, counts = os.path.join(folder, "faults.so"), os.path.join(folder, "counts")
+    source = os.path.join(HERE, "faults.c")
+    subprocess.run(["cc", "-shared", "-fPIC", "-O2", "-o", library, source, "-ldl"], check=True)
+    env = {"LD_PRELOAD": library, "RX_COUNTS": counts}
+    status, written = play.play(folder, env)
+    insist(status in (0, 1), f"without a fault it ended with {status}")
+    allocs, calls = map(int, content(counts).split())
+    whole = status, written, records(os.path.join(folder, "journal"))
+    return "; ".join(try_faults(play, kind, folder, env, whole, allocs if kind.startswith("alloc") else calls)
+                     for kind in KINDS)
+
+
+def plays():
+    for name, script, before, _ in examples():
+        yield f"examples, {name}", Play("run", script=script, before=before)
+    yield "a trial", Play("trial", "7", "40")
+    yield "a report", Play("check", before=text([collection(), *map(insert, "abc")]))
+    yield "a served connection", Served()
+    yield "turns with a served master", Dialled()
+
+
+for played, each in plays():
+    add(played, lambda folder, play=each: try_play(play, folder), seconds=LIMIT, in_memory=True)
+
+if __name__ == "__main__":
+    main()

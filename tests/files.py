@@ -1,0 +1,320 @@
+#!/usr/bin/env python3
+"""The built program over a real file and real streams, of which no clause speaks: what else has the
+journal, what stands in its place, what fails, and a kill at any moment.
+
+An insert counts as acknowledged once its reply was read. What can't be shown here is a power cut: a
+killed run leaves to the system all that it wrote, synced or not.
+"""
+import os
+import random
+import re
+import resource
+import subprocess
+import tempfile
+import time
+
+from shared import (DISK, RX, SECONDS, SEED, Skipped, Talk, all_there, answers, case, collection,
+                    compact, content, held, insert, inserts, insist, main, room, run, text)
+
+
+def start(journal, lines):
+    """A run that has its whole script at once."""
+    with tempfile.TemporaryFile() as script:
+        script.write(text(lines))
+        script.seek(0)
+        return subprocess.Popen([RX, "run", journal], stdin=script, stdout=subprocess.PIPE,
+                                stderr=subprocess.DEVNULL)
+
+
+def acknowledged(keys, replies):
+    """The keys whose inserts were answered with `ok`, where the first line made the collection."""
+    said = {reply["line"] for reply in replies if reply.get("ok") == "insert"}
+    return {key for line, key in enumerate(keys, 2) if line in said}
+
+
+@case("two runs that write by turns")
+def two_runs_by_turns(folder):
+    journal = os.path.join(folder, "journal")
+    first = Talk(journal)
+    first.ask(collection())
+    kept = set()
+    for turn in range(50):
+        reply = first.ask(insert(f"first{turn}"))
+        insist(reply and reply.get("ok") == "insert", f"the first run answered {reply}")
+        kept.add(f"first{turn}")
+        if turn % 10 == 0:
+            before = os.path.getsize(journal)
+            status, replies = run(journal, inserts([f"second{turn}"]))
+            insist((status, replies) == (3, [DISK]), f"the second run: {status} {replies}")
+            insist(os.path.getsize(journal) == before, "the second run wrote to the journal")
+    insist(first.end() == 0, "the first run failed")
+    insist(held(journal) == kept, "the journal holds other documents")
+    return "the second is refused with 3 and writes nothing; all 50 inserts of the first are there"
+
+
+@case("runs that start at once")
+def runs_at_once(folder):
+    """Each race is for a journal that isn't there yet, or is."""
+    wrote = 0
+    for race in range(40):
+        journal = os.path.join(folder, f"journal{race // 2}")
+        keys = [[f"k{race}-{runner}-{key}" for key in range(10)] for runner in range(4)]
+        runs = [start(journal, inserts(mine)) for mine in keys]
+        ends = [(child.communicate(timeout=SECONDS)[0], child.returncode) for child in runs]
+        insist({status for _, status in ends} <= {0, 3}, f"statuses {[end[1] for end in ends]}")
+        kept = [acknowledged(mine, answers(end[0])) for mine, end in zip(keys, ends)]
+        all_there(journal, set().union(*kept))
+        wrote += sum(map(bool, kept))
+    insist(wrote >= 40, f"{wrote} runs of 160 came to write")
+    return f"40 races of 4 runs: {wrote} wrote, the others ended with 3, and all acknowledged is there"
+
+
+@case("closed standard streams")
+def closed_streams(folder):
+    """All seven ways to leave standard streams closed, over a journal that is there and a new one."""
+    keys = [f"k{key}" for key in range(5)]
+    for new in (False, True):
+        for closed in range(1, 8):
+            journal = os.path.join(folder, f"journal{new}{closed}")
+            kept = set()
+            if not new:
+                kept = acknowledged(keys, run(journal, inserts(keys))[1])
+                insist(len(kept) == 5, "the run before failed")
+            shut = [stream for stream in range(3) if closed >> stream & 1]
+            redirects = " ".join([">&-" if s == 1 else f"{s}{'<' if s == 0 else '>'}&-" for s in shut])
+            shell = ["sh", "-c", f'exec "$0" "$@" {redirects}', RX]
+            status, replies = run(journal, inserts(["more"]), command=shell)
+            due = {4} if 0 in shut else {5} if 1 in shut else {0}
+            insist(status in due, f"{redirects}: status {status}, not {due}")
+            insist(0 in shut or 1 in shut or len(replies) == 2, f"{redirects}: {replies}")
+            if os.path.exists(journal):
+                insist(content(journal)[:8] == b"RXJOURN1", f"{redirects}: the journal's header is gone")
+            all_there(journal, kept)
+    return "input fails with 4, output with 5, and the journal never stands in their place"
+
+
+def needs_trace():
+    if subprocess.run(["strace", "-qq", "-o", os.devnull, "true"], check=False,
+                      stderr=subprocess.DEVNULL).returncode:
+        raise Skipped("strace may not trace here")
+
+
+def trace(folder, journal, lines):
+    """The system calls of a run, in order, each as its name, its words and its answer."""
+    out = os.path.join(folder, "trace")
+    command = ["strace", "-qq", "-o", out, "-e",
+               "trace=openat,fsync,fdatasync,flock,pread64,pwrite64,write,close", RX]
+    status, _ = run(journal, lines, command=command, cwd=folder)
+    insist(status == 0, f"the traced run ended with {status}")
+    with open(out, encoding="utf-8", errors="replace") as file:
+        calls = (re.match(r"(\w+)\((.*)\)\s+= (-?\d+)", line) for line in file)
+        return [(call[1], call[2], int(call[3])) for call in calls if call]
+
+
+@case("the lock and the folder's sync", needs=["strace"])
+def order_of_calls(folder):
+    needs_trace()
+    for journal, parent in ((os.path.join(folder, "journal"), folder), ("near", ".")):
+        for keys in (["a", "b"], ["c", "d"]):
+            calls = trace(folder, journal, inserts(keys))
+            opened = [place for place, (name, words, answer) in enumerate(calls)
+                      if name == "openat" and f'"{journal}"' in words and answer >= 0]
+            insist(len(opened) == 1, f"the journal was opened {len(opened)} times")
+            locked_and_named(calls[opened[0]:], parent)
+    return "each run locks before it reads or writes, and syncs the folder once, before any reply"
+
+
+def locked_and_named(calls, parent):
+    """The calls of a run from where it opened its journal on."""
+    journal = str(calls[0][2])
+    names = [name for name, _, _ in calls]
+    insist("flock" in names, "the file was not locked")
+    locked = names.index("flock")
+    insist(calls[locked][1] == f"{journal}, LOCK_EX|LOCK_NB", f"the lock: {calls[locked][1]}")
+    touched = [names.index(name) for name in ("pread64", "pwrite64") if name in names]
+    insist(locked < min(touched), "the file was read or written before it was locked")
+    replies = [place for place, name in enumerate(names) if name == "write"]
+    insist(("close", journal, 0) not in calls[:replies[-1]], "the lock was given up before the end")
+    folders = [place for place, (name, words, _) in enumerate(calls)
+               if name == "openat" and f'"{parent}"' in words]
+    insist(len(folders) == 1, f"the folder was opened {len(folders)} times")
+    insist(folders[0] < replies[0], "a reply was written before the folder was synced")
+    synced = ("fsync", str(calls[folders[0]][2]), 0)
+    insist(synced in calls[folders[0]:replies[0]], "the folder was not synced")
+
+
+@case("syncs before replies", needs=["strace"])
+def synced_before_reply(folder):
+    needs_trace()
+    journal = os.path.join(folder, "journal")
+    calls = trace(folder, journal, inserts([f"k{key}" for key in range(20)]))
+    open_writes = 0
+    for name, words, _ in calls:
+        if name == "pwrite64":
+            open_writes += 1
+        elif name == "fdatasync":
+            open_writes = 0
+        elif name == "write" and words.startswith("1,"):
+            insist(open_writes == 0, "a reply was written before its record was synced")
+    return "no reply goes out while a write isn't synced"
+
+
+@case("a full disk")
+def full_disk(folder):
+    """The file may grow to each length in turn, so that each write of a run fails once."""
+    keys = [f"k{key}" for key in range(8)]
+    whole = os.path.join(folder, "whole")
+    status, _ = run(whole, inserts(keys))
+    insist(status == 0, f"the whole run ended with {status}")
+    most = os.path.getsize(whole)
+    for size in range(0, most + 1, 3):
+        journal = os.path.join(folder, f"journal{size}")
+        status, replies = run(journal, inserts(keys), prepare=room(size))
+        insist(status in ({3} if size < most else {0, 3}), f"{size} bytes: status {status}")
+        insist(status == 0 or replies[-1] == DISK, f"{size} bytes: {replies[-1:]}")
+        all_there(journal, acknowledged(keys, replies))
+    return f"at each third length up to {most} bytes: 3, and all acknowledged is there"
+
+
+@case("something else in the journal's place")
+def other_things_in_its_place(folder):
+    pipe = os.path.join(folder, "pipe")
+    os.mkfifo(pipe)
+    places = [folder, os.path.join(folder, "missing", "journal"), pipe, "/dev/null", "/dev/full",
+              "/dev/zero", os.path.join(folder, "name" * 100)]
+    for place in places:
+        status, replies = run(place, inserts(["a"]))
+        insist((status, replies) == (3, [DISK]), f"{place}: {status} {replies}")
+    return "a folder, a missing folder, a pipe, devices, a name too long: 3"
+
+
+@case("a file that is no journal")
+def no_journal(folder):
+    """A file of more than nine bytes that is no journal is left as it is."""
+    other = os.path.join(folder, "other")
+    contents = [b"a letter to a friend\n", b"RXJOURN1" + b"\1" * 40, b"RXJOURN2" + bytes(20), bytes(10)]
+    for before in contents:
+        with open(other, "wb") as file:
+            file.write(before)
+        status, replies = run(other, inserts(["a"]))
+        insist((status, replies) == (7, [{"stop": "not_journal"}]), f"{before}: {status} {replies}")
+        insist(content(other) == before, f"{before} was changed")
+    return "7, and it stays as it was"
+
+
+@case("a cap on memory")
+def little_memory(folder):
+    """Caps on the address space, from where an empty script runs to where this one does."""
+    docs = [[{"id": f"k{bulk}-{key}", "n": key} for key in range(500)] for bulk in range(60)]
+    lines = [collection(), *(compact({"do": "bulk", "in": "c", "docs": some}) for some in docs)]
+    ended, cap = {}, 4 << 20
+    while ended.get(0, 0) == 0:
+        insist(cap < 2 << 30, f"no cap is large enough; statuses {ended}")
+        journal = os.path.join(folder, f"journal{cap}")
+
+        def limit(cap=cap):
+            resource.setrlimit(resource.RLIMIT_AS, (cap, cap))
+
+        cap = cap * 9 // 8
+        if run(os.path.join(folder, f"empty{cap}"), [], prepare=limit)[0] != 0:
+            continue
+        status, replies = run(journal, lines, prepare=limit)
+        insist(status in {0, 6}, f"{cap >> 10} KiB: status {status} {replies[-1:]}")
+        insist(status == 0 or replies[-1] == {"stop": "memory"}, f"{cap >> 10} KiB: {replies[-1:]}")
+        done = {reply["line"] for reply in replies if reply.get("ok") == "bulk"}
+        all_there(journal, {doc["id"] for line in done for doc in docs[line - 2]})
+        ended[status] = ended.get(status, 0) + 1
+    insist(ended.get(6, 0) >= 2, f"statuses {ended}")
+    return f"{ended[6]} caps: 6, and all acknowledged is there"
+
+
+@case("an output that is full or goes away")
+def output_that_takes_nothing(folder):
+    journal = os.path.join(folder, "journal")
+    keys = [f"k{key}" for key in range(100)]
+    kept = acknowledged(keys[:50], run(journal, inserts(keys[:50]))[1])
+    with open("/dev/full", "wb") as full:
+        status, _ = run(journal, inserts(keys[50:]), stdout=full)
+    insist(status == 5, f"a full output: status {status}")
+    all_there(journal, kept)
+    for lines_read in (0, 1, 30):
+        reader, writer = os.pipe()
+        child = subprocess.Popen([RX, "run", journal], stdin=subprocess.PIPE, stdout=writer)
+        os.close(writer)
+        with open(reader, "rb") as replies:
+            child.stdin.write(text([collection()]))
+            for line in range(lines_read):
+                child.stdin.write(text([insert(f"gone{lines_read}-{line}")]))
+                child.stdin.flush()
+                replies.readline()
+                kept.add(f"gone{lines_read}-{line - 1}") if line else None
+        try:
+            for line in range(200):
+                child.stdin.write(text([insert(f"late{lines_read}-{line}")]))
+            child.stdin.close()
+        except BrokenPipeError:
+            pass
+        status = child.wait(SECONDS)
+        insist(status == 5, f"an output that went away after {lines_read} lines: status {status}")
+        all_there(journal, kept)
+    return "5 where it is full or goes away, and all acknowledged is there"
+
+
+@case("kill -9 in a loop")
+def killed_in_a_loop(folder):
+    """SIGKILL in a loop: after some replies that were read, while more lines are played."""
+    journal = os.path.join(folder, "journal")
+    moments = random.Random(SEED)
+    kept, rounds = set(), 60
+    for turn in range(rounds):
+        talk = Talk(journal)
+        insist(talk.ask(collection()), f"round {turn}: the journal doesn't open")
+        keys = [f"k{turn}-{key}" for key in range(moments.randrange(30))]
+        for key in keys:
+            reply = talk.ask(insert(key))
+            insist(reply and reply.get("ok") == "insert", f"round {turn}: {reply}")
+            kept.add(key)
+        more = [f"more{turn}-{key}" for key in range(20)]
+        talk.send(map(insert, more))
+        time.sleep(moments.uniform(0, 0.02))
+        rest = answers(talk.kill())
+        kept |= set(more[:sum(reply.get("ok") == "insert" for reply in rest)])
+        all_there(journal, kept)
+    return f"{rounds} times: the next run has all acknowledged inserts, {len(kept):,} in the end"
+
+
+@case("kill -9 in a turn")
+def killed_in_a_turn(folder):
+    """SIGKILL while exchanges are made. Numbers rise with each write on either side, and of two that
+    conflict the greater is kept: so each key has to have the number that was acknowledged last."""
+    journal = os.path.join(folder, "journal")
+    moments, kept, rounds, cut = random.Random(SEED), {}, 40, 0
+    begin = [collection(name) for name in "mf"]
+    begin.append(compact({"do": "replicate", "name": "r", "fork": "f", "master": "m",
+                          "handler": "greater", "field": "n"}))
+    turn = {"do": "turn", "name": "r", "batch": 1}
+    number = 0
+    for round_ in range(rounds):
+        talk = Talk(journal)
+        insist(all([talk.ask(line) for line in begin]), f"round {round_}: the journal doesn't open")
+        for number in range(number + 1, number + 1 + moments.randrange(20)):
+            key, side = f"k{moments.randrange(30)}", moments.choice("mf")
+            reply = talk.ask(compact({"do": "upsert", "in": side, "doc": {"id": key, "n": number}}))
+            insist(reply and reply.get("ok") == "upsert", f"round {round_}: {reply}")
+            kept[key] = number
+        talk.send([compact(turn)])
+        time.sleep(moments.uniform(0, 0.02))
+        cut += not answers(talk.kill())
+    found = [compact({"do": "find", "in": side, "query": {}}) for side in "mf"]
+    status, replies = run(journal, [compact(turn), *found])
+    insist(status == 0, f"the next run ended with {status}")
+    insist(replies[-3]["end"] == "quiet", f"the next turn: {replies[-3]}")
+    for reply in replies[-2:]:
+        there = {row["id"]: row["n"] for row in reply["rows"]}
+        wrong = {key: (there.get(key), n) for key, n in kept.items() if there.get(key) != n}
+        insist(there.keys() == kept.keys() and not wrong, f"found and due: {wrong}")
+    return f"{rounds} times, {cut} before the turn's answer: the next is quiet, and no update is lost"
+
+
+if __name__ == "__main__":
+    main()

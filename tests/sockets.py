@@ -1,0 +1,350 @@
+#!/usr/bin/env python3
+"""The built program over real sockets, as a master with peers that no clause speaks of, and killed in turns.
+
+All sockets are on 127.0.0.1. A peer that says nothing is waited for as long as the program waits, a
+minute to three.
+"""
+import json
+import os
+import random
+import socket
+import time
+
+from shared import (HANG_SECONDS, HASH, LONGEST, SECONDS, SEED, Server, Talk, answers, ask, bulk, case,
+                    collection, command, compact, digest, free_port, held, insist, main, peak_of, pull, push,
+                    reset, room, run, said, said_line, text, told)
+
+
+@case("connections one after another")
+def one_after_another(folder):
+    keys = [f"k{n}" for n in range(250)]
+    server, found = Server(folder, 3, keys), []
+    with server.dial() as wire:
+        place = None
+        for n in range(1, 4):
+            reply = ask(wire, pull(n, place))
+            found += [state["id"] for state in reply["docs"]]
+            place = reply["place"]
+    insist(found == keys, f"{len(found)} documents in pages")
+    with server.dial() as first, server.dial() as second:
+        second.sendall(text([push(1, ["b"])]))
+        insist(ask(first, push(1, ["a"])) == {"conflicts": [], "epoch": 1, "n": 1}, "the first push")
+        first.close()
+        insist(json.loads(said_line(second)) == {"conflicts": [], "epoch": 1, "n": 1}, "the second")
+    insist(server.end() == (0, [told(1, "peer", 3), told(2, "peer", 1), told(3, "peer", 1)]), "the end")
+    insist(held(server.journal) == {*keys, "a", "b"}, "the journal holds other documents")
+    return "three connections in turn, pages and pushes, and the journal has both pushes"
+
+
+@case("lines that are no request")
+def lines_that_are_no_request(folder):
+    tried = [(b"hello\n", "not_json"), (b"[]\n", "not_object"), (b"\n", "not_json"),
+             (b"\xff\xfe\n", "not_json"), (b'{"ask":"pull"}\n', "missing"),
+             (text([pull(1).replace('"n"', ' "n"')]), "spelling"),
+             (text([pull(1).replace(HASH, "0" * 64)]), "schema")]
+    bytes_ = random.Random(SEED)
+    tried += [(bytes_.randbytes(1000).replace(b"\n", b"") + b"\n", "not_json") for _ in range(20)]
+    server = Server(folder, len(tried) + 1, ["a"])
+    for line, fault in tried:
+        with server.dial() as wire:
+            wire.sendall(line)
+            reply = said(wire)
+            insist(reply == text([compact({"fault": fault})]), f"{line[:40]}: {reply[:80]}")
+    with server.dial() as wire:
+        insist(len(ask(wire, pull(1))["docs"]) == 1, "the document is gone")
+    status, ends = server.end()
+    insist(status == 0 and ends[-1] == told(len(tried) + 1, "peer", 1), f"{status} {ends[-1:]}")
+    insist({end["end"] for end in ends[:-1]} == {"request"}, "an end that isn't `request`")
+    return f"{len(tried)} of them: the fault's name once, then the connection ends, and the next is served"
+
+
+@case("a line in pieces")
+def a_line_in_pieces(folder):
+    server = Server(folder, 1, ["a"])
+    with server.dial() as wire:
+        wire.setsockopt(socket.IPPROTO_TCP, socket.TCP_NODELAY, 1)
+        for byte in text([pull(1)]):
+            wire.sendall(bytes([byte]))
+        insist(len(json.loads(said_line(wire))["docs"]) == 1, "the reply")
+        wire.sendall(text([pull(2), pull(3), pull(4)]))
+        insist([json.loads(said_line(wire))["n"] for _ in range(3)] == [2, 3, 4], "three at once")
+    insist(server.end() == (0, [told(1, "peer", 4)]), "the end")
+    return "a byte at a time, and three lines in one piece"
+
+
+@case("a line that is too long")
+def a_line_too_long(folder):
+    server = Server(folder, 2)
+    with server.dial() as wire:
+        piece, left = b"a" * (1 << 20), LONGEST + 1
+        while left:
+            left -= wire.send(piece[:left])
+        insist(said(wire) == b'{"fault":"too_long"}\n', "another fault")
+    peak = peak_of(server.child)
+    insist(peak < 2.5 * LONGEST, f"a peak of {peak:,} bytes")
+    with server.dial() as wire:
+        insist(ask(wire, pull(1)) == {"docs": [], "epoch": 1, "n": 1}, "the next connection")
+    insist(server.end() == (0, [told(1, "request", 0), told(2, "peer", 1)]), "the end")
+    return f"`too_long`, with a peak of {peak >> 20} MiB, and the next connection is served"
+
+
+@case("peers that go away")
+def peers_that_go_away(folder):
+    keys = [f"k{n}" for n in range(100)]
+    server = Server(folder, 61, keys)
+    moments, kept = random.Random(SEED), set(keys)
+    for number in range(60):
+        wire, fresh = server.dial(), f"new{number}"
+        kind = number % 4
+        if kind == 0:
+            wire.sendall(text([pull(1)])[:moments.randrange(1, 60)])
+            wire.close()
+        elif kind == 1:
+            wire.sendall(text([pull(1)] * 50))
+            wire.recv(moments.randrange(1, 400))
+            reset(wire)
+        elif kind == 2:
+            insist(ask(wire, push(1, [fresh]))["conflicts"] == [], "a push")
+            kept.add(fresh)
+            reset(wire)
+        else:
+            wire.sendall(text([push(1, [fresh])]))
+            reset(wire)
+    with server.dial() as wire:
+        insist(len(ask(wire, pull(1))["docs"]) == 100, "the last connection")
+    status, ends = server.end()
+    insist(status == 0 and len(ends) == 61, f"{status} {ends[-1:]}")
+    insist({end["end"] for end in ends} <= {"peer", "wire"}, "another end")
+    found = held(server.journal)
+    insist(kept <= found, f"lost: {sorted(kept - found)[:3]}")
+    return "60 of them in mid-line, in mid-reply, after a reply and before it: what was answered is there"
+
+
+@case("peers that hang", seconds=600)
+def peers_that_hang(folder):
+    """All at once, each with a server of its own: one says nothing, one stops within a line, one asks
+    and never reads."""
+    keys = [f"{n}{'x' * 12}" for n in range(100)]
+    servers = [Server(folder, 2, keys, journal=f"journal{n}") for n in range(3)]
+    wires = [server.dial() for server in servers]
+    wires[1].sendall(text([pull(1)])[:20])
+    wires[2].settimeout(1)
+    try:
+        while True:
+            wires[2].sendall(text([pull(1)] * 100))
+    except (TimeoutError, OSError):
+        pass
+    begun = time.monotonic()
+    for number, server in enumerate(servers):
+        with server.dial() as wire:
+            insist(len(ask(wire, pull(1))["docs"]) == 100, f"peer {number}: the next connection")
+    waited = time.monotonic() - begun
+    insist(waited < HANG_SECONDS + 10, f"{waited:.0f} seconds")
+    for number, server in enumerate(servers):
+        status, ends = server.end()
+        insist(status == 0 and [end["end"] for end in ends] == ["wire", "peer"],
+               f"peer {number}: {status} {ends}")
+    for wire in wires:
+        wire.close()
+    return f"`wire` within {waited:.0f} seconds, and the next connection is served"
+
+
+@case("what else has the journal or the port")
+def statuses(folder):
+    server = Server(folder, 1, ["a"])
+    with server.dial() as wire:
+        second = Server(folder, 1)
+        insist(second.end() == (3, [{"stop": "disk"}]), "a second server of one journal")
+        insist(run(server.journal, [])[0] == 3, "a run beside a server")
+        status, _ = command("serve", os.path.join(folder, "other"), "c", str(server.port), "1")
+        insist(status == 10, f"no collection: {status}")
+        insist(ask(wire, pull(1))["n"] == 1, "the first server")
+    server.end()
+    fork = [collection("f"),
+            compact({"do": "replicate", "name": "r", "fork": "f", "master": "c", "handler": "join"})]
+    insist(run(server.journal, fork)[0] == 0, "no fork")
+    insist(Server(folder, 1, name="f").end() == (10, [{"stop": "no_collection"}]), "a fork is served")
+    with socket.create_server(("127.0.0.1", 0)) as door:
+        status, written = command("serve", server.journal, "c", str(door.getsockname()[1]), "1")
+    insist((status, answers(written)) == (4, [{"stop": "read"}]), "a port that is taken")
+    return "3 where the journal is locked, 4 where the port is taken, 10 for no collection and for a fork"
+
+
+@case("a full disk")
+def full_disk(folder):
+    seen = Server(folder, 1, journal="seen")
+    seen.kill()
+    most = os.path.getsize(seen.journal)
+    tried = 0
+    for size in range(most + 1, most + 400, 20):
+        server = Server(folder, 1, prepare=room(size), journal=f"journal{size}")
+        kept = set()
+        try:
+            with server.dial() as wire:
+                for n in range(1, 20):
+                    if ask(wire, push(n, [f"k{n}"])) is None:
+                        break
+                    kept.add(f"k{n}")
+        except ConnectionError:
+            pass
+        status, ends = server.end()
+        insist((status, ends[-1]) == (3, {"stop": "disk"}), f"{size} bytes: {status} {ends}")
+        insist(kept <= held(server.journal), f"{size} bytes: an answered push is lost")
+        tried += 1
+    return f"at {tried} lengths: 3, and each answered push is there"
+
+
+@case("kill -9 in a loop")
+def killed_in_a_loop(folder):
+    moments, kept, rounds = random.Random(SEED), set(), 40
+    for number in range(rounds):
+        server = Server(folder, 1)
+        with server.dial() as wire:
+            for n in range(1, moments.randrange(2, 20)):
+                insist(ask(wire, push(n, [f"k{number}-{n}"]))["conflicts"] == [], "a push")
+                kept.add(f"k{number}-{n}")
+            wire.sendall(text([push(n, [f"more{number}-{n}"]) for n in range(1, 51)]))
+            time.sleep(moments.uniform(0, 0.01))
+            server.kill()
+            wire.settimeout(1)
+            try:
+                kept |= {f"more{number}-{json.loads(line)['n']}" for line in said(wire).split(b"\n")[:-1]}
+            except OSError:
+                pass
+        found = held(server.journal)
+        insist(kept <= found, f"round {number}: lost: {sorted(kept - found)[:3]}")
+    return f"{rounds} times: the next run has all answered pushes, {len(kept):,} in the end"
+
+
+class Follower(Talk):
+    """A run over a journal with a fork f of the master at a port."""
+
+    def __init__(self, folder, port, number):
+        super().__init__(os.path.join(folder, "fork"))
+        replicate = {"do": "replicate", "name": "r", "fork": "f", "port": port, "handler": "join"}
+        self.ask(collection("f"))
+        insist(self.ask(compact(replicate)).get("code", 9) == 9, "a replication")
+        if number is not None:
+            insist(self.ask(bulk("f", number)).get("ok") == "bulk", "documents of the fork")
+
+    def begin(self):
+        self.send([compact({"do": "turn", "name": "r", "batch": 4})])
+
+    def turned(self):
+        """The last exchange of the turn that was begun, and its end."""
+        last, reply = {}, json.loads(self.child.stdout.readline())
+        while "exchange" in reply:
+            last, reply = reply, json.loads(self.child.stdout.readline())
+        return last, reply["end"]
+
+
+def serve_more(folder, port, number):
+    """A server to whose documents some came."""
+    insist(run(os.path.join(folder, "journal"), [bulk("c", number)])[0] == 0, "documents of the master")
+    return Server(folder, 1_000_000, port=port).wait()
+
+
+def kill_in_a_turn(folder, port, number, wait):
+    """Kills the fork, the master or both, and whether the turn was cut off. The next one is quiet."""
+    who = number % 3
+    server, fork = serve_more(folder, port, number), Follower(folder, port, number)
+    fork.begin()
+    time.sleep(wait)
+    if who:
+        server.kill()
+    was_cut = fork.kill() == b"" if who != 1 else None
+    if who == 1:
+        last, end = fork.turned()
+        insist(end == "quiet" or last.get("lost") in ("dial", "reply", "wire"), f"{last} {end}")
+        was_cut = end == "lost"
+    else:
+        fork = Follower(folder, port, None)
+    if who:
+        server = Server(folder, 1_000_000, port=port).wait()
+    finish_turn(fork, 200 * (number + 1))
+    server.kill()
+    return was_cut
+
+
+def finish_turn(fork, count):
+    """The fork has so many documents once a turn is quiet. Its seconds, and the digest."""
+    begun = time.monotonic()
+    fork.begin()
+    insist(fork.turned()[1] == "quiet", "the next turn")
+    seconds = time.monotonic() - begun
+    found = fork.ask(digest("f"))
+    insist(fork.end() in (0, 1), "the run of the fork failed")
+    insist(found["count"] == count, f"{found['count']} documents of {count}")
+    return seconds, found["digest"]
+
+
+@case("kill -9 of a fork or its master in a turn", seconds=600)
+def killed_in_a_remote_turn(folder):
+    insist(run(os.path.join(folder, "journal"), [collection()])[0] == 0, "no journal")
+    moments, port, rounds, cut = random.Random(SEED), free_port(), 60, 0
+    server, fork = serve_more(folder, port, 0), Follower(folder, port, 0)
+    seconds, _ = finish_turn(fork, 200)
+    server.kill()
+    for number in range(1, rounds + 1):
+        cut += kill_in_a_turn(folder, port, number, moments.uniform(0, seconds / 2))
+    master = run(os.path.join(folder, "journal"), [digest("c")])[1][0]
+    fork = run(os.path.join(folder, "fork"), [digest("f")])[1][0]
+    insist(master["digest"] == fork["digest"], "the sides differ")
+    insist(cut > rounds // 6, f"{cut} of {rounds} turns were cut off")
+    return f"{cut} of {rounds} turns cut off: the next one is quiet, and all {fork['count']:,} documents are on both sides"
+
+
+@case("a full journal of a fork or its master in a turn")
+def full_in_a_remote_turn(folder):
+    """The fork's journal, or the master's, is full in the middle of a turn."""
+    seen, port = [], free_port()
+    for number, more in enumerate(range(200, 12_000, 600)):
+        inner = os.path.join(folder, str(number))
+        os.mkdir(inner)
+        insist(run(os.path.join(inner, "journal"), [collection(), bulk("c", number)])[0] == 0, "no journal")
+        begun = Follower(inner, port, number)
+        insist(begun.end() == 0, "no fork")
+        sides = [["--max-journal", str(os.path.getsize(os.path.join(inner, name)) + more)]
+                 for name in ("journal", "fork")]
+        sides[number % 2] = []
+        seen.append(turn_with_limits(inner, port, *sides))
+        server = Server(inner, 1_000_000, port=port).wait()
+        after = Follower(inner, port, None)
+        _, there = finish_turn(after, 200)
+        server.kill()
+        done = run(os.path.join(inner, "journal"), [digest("c")])
+        insist(done[1][0]["digest"] == there, f"{more} bytes more: the sides differ")
+    insist({(0, 8), (8, None)} <= set(seen), f"{seen}")
+    return f"{len(seen)} times, of which {sum(it != (0, None) for it in seen)} are full: the next turn is quiet"
+
+
+def turn_with_limits(folder, port, master, fork):
+    """The statuses of the fork and, where it has ended by itself, of the master."""
+    server = Server(folder, 1_000_000, port=port, more=master).wait()
+    line = text([compact({"do": "turn", "name": "r", "batch": 4})])
+    status, written = command("run", os.path.join(folder, "fork"), *fork, script=line)
+    last = answers(written)[-1]
+    if status == 8:
+        insist(last.get("stop") == "full", f"{last}")
+    else:
+        insist(status == 0 and last["end"] in ("quiet", "lost"), f"{status} {last}")
+    if last.get("end") == "lost":
+        insist(server.child.wait(SECONDS) == 8, "the master has ended otherwise")
+        return 0, 8
+    server.kill()
+    return status, None
+
+
+@case("an output that goes away")
+def output_that_goes_away(folder):
+    server = Server(folder, 2, ["a"])
+    server.child.stdout.close()
+    with server.dial() as wire:
+        insist(ask(wire, push(1, ["b"]))["conflicts"] == [], "a push")
+    insist(server.child.wait(SECONDS) == 5, f"status {server.child.returncode}")
+    insist(held(server.journal) == {"a", "b"}, "the push is lost")
+    return "5 after the first connection, and its push is there"
+
+
+if __name__ == "__main__":
+    main()
