@@ -179,6 +179,7 @@ def curves(title, lines, across, up, across_name, up_name):
         parts += [line(x(tick), top, x(tick), bottom, "grid"), text(x(tick), bottom + 18, name, "note mid")]
     for tick in y_ticks:
         parts += [line(left, y(tick), right, y(tick), "grid"), text(left - 8, y(tick) + 4, number(tick), "note far")]
+    lines = [it for it in lines if it[2]]
     ends = spread([y(points[-1][1]) for _, _, points in lines])
     for (kind, name, points), end in zip(lines, ends):
         path = " ".join(f"{x(a):.1f},{y(b):.1f}" for a, b in points)
@@ -192,12 +193,11 @@ def curves(title, lines, across, up, across_name, up_name):
 def by_documents(figures):
     """The cost of one line as the collection grows."""
     of = lambda name: sorted((it["documents"], it) for it in figures if (it["bench"], it["load"]) == ("documents", name))
-    lines = []
+    lines, ticks = [], [1, 2, 5, 10, 20, 50]
     for kind in ("rx", "sqlite3"):
         for name in ("upserts", "gets"):
-            points = [(size, max(it[kind], 0.5)) for size, it in of(f"{name} by documents")]
+            points = [(size, max(it[kind], ticks[0])) for size, it in of(f"{name} by documents") if kind in it]
             lines.append(("rx" if kind == "rx" else "peer", f"{kind}, {name[:-1]}", points))
-    ticks = [1, 2, 5, 10, 20, 50]
     x, y = log_scale(1e3, 1e6, 70, WIDTH - 190), log_scale(ticks[0], ticks[-1], BOTTOM, TOP)
     sizes = [(size, f"{size:,}") for size in (1_000, 10_000, 100_000, 1_000_000)]
     return curves("What one line costs as the collection grows", lines, (x, sizes), (y, ticks),
@@ -229,19 +229,20 @@ def span(values):
 
 def table(figures):
     """The headline ratios as a table."""
-    yield "| load | rx's time by that of sqlite3 |"
-    yield "|---|---|"
+    yield "| | load | rx's time by that of sqlite3 |"
+    yield "|---|---|---|"
     for group, bench, rows in LOADS:
         for name, loads in rows:
             marks = ratios(figures, bench, loads)
-            if not marks:
-                continue
             said = ", ".join(f"{ratio:.2f} by {batch}" if batch else f"{ratio:.2f}" for batch, ratio in marks)
-            yield f"| {name} | {said} |"
+            yield f"| {group} | {name} | {said} |"
+            group = ""
+    group = "Observed queries, over 1,000 to 100,000 documents"
     for queries in (16, 64, 256):
         found = [it["sqlite3"] / it["rx"] for it in figures if it["bench"] == "observed" and it["queries"] == queries]
         if found:
-            yield f"| a write with {queries} observed queries, over 1,000 to 100,000 documents | {span(found)} |"
+            yield f"| {group} | a write while {queries} are observed | {span(found)} |"
+            group = ""
 
 
 def draw(path, folder):
