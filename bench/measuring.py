@@ -67,8 +67,9 @@ def figure(load, **numbers):
     """Keeps a figure for bench/plots.py, in the file of `--json`."""
     if FIGURES:
         bench = os.path.splitext(os.path.basename(sys.argv[0]))[0]
+        rounded = {name: float(f"{it:.4g}") if isinstance(it, float) else it for name, it in numbers.items()}
         with open(FIGURES, "a", encoding="utf-8") as file:
-            file.write(compact({"bench": bench, "load": load, **numbers}) + "\n")
+            file.write(compact({"bench": bench, "load": load, **rounded}) + "\n")
 
 
 def report(load, who, count, runs):
