@@ -8,8 +8,6 @@ import tempfile
 import time
 
 HERE = os.path.dirname(os.path.abspath(__file__))
-sys.path.insert(0, os.path.join(HERE, "..", "tests"))
-from shared import SCHEMA, SEED, collection, compact  # noqa: E402, F401
 
 
 def option(name):
@@ -29,6 +27,12 @@ FIGURES = option("--json")
 def program():
     """The built rx: the first argument, or where the toolchain puts it."""
     return sys.argv[1] if len(sys.argv) > 1 else os.path.join(HERE, "..", "crates", "rx", "out", "rx")
+
+
+# What is shared with the tests runs the same program.
+os.environ["RX"] = program()
+sys.path.insert(0, os.path.join(HERE, "..", "tests"))
+from shared import SCHEMA, SEED, Server, Talk, collection, compact, hash_of  # noqa: E402, F401
 
 
 def sqlite():

@@ -26,10 +26,7 @@ import sys
 import tempfile
 import time
 
-from measuring import HERE, SCHEMA, collection, compact, figure, measure, program
-
-sys.path.insert(0, os.path.join(HERE, "..", "examples"))
-from client import hash_of  # noqa: E402
+from measuring import HERE, SCHEMA, collection, compact, figure, hash_of, measure, program
 
 RUNS = 3
 SECONDS, MOST = 5, 2_000

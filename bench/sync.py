@@ -24,9 +24,7 @@ import tempfile
 import threading
 import time
 
-from measuring import HERE, SCHEMA, compact, figure, measure, program
-from real_file import Talk
-from real_socket import free_port
+from measuring import HERE, SCHEMA, Server, Talk, compact, figure, measure, program
 
 RUNS = 3
 FOLDERS = [sys.argv[2]] if len(sys.argv) > 2 else ["/dev/shm", HERE]
@@ -104,28 +102,12 @@ def local_run(made, folder):
     return seconds
 
 
-def wait_for(port):
-    """Until the server listens. This is a connection of its own."""
-    end = time.monotonic() + 60
-    while True:
-        try:
-            socket.create_connection(("127.0.0.1", port), 60).close()
-            return
-        except ConnectionRefusedError:
-            if time.monotonic() > end:
-                sys.exit("nothing listens")
-            time.sleep(0.01)
-
-
 def remote_run(made, folder, relay=None):
     journals = shutil.copy(made, os.path.join(folder, "master")), os.path.join(folder, "fork")
-    port = free_port()
-    served = subprocess.Popen([program(), "serve", journals[0], "m", str(port), "3"],
-                              stdout=subprocess.DEVNULL)
-    wait_for(port)
-    dialled, between = (relay.start(port), relay.cut) if relay else (port, lambda: None)
+    served = Server(folder, 2, name="m", journal="master").wait()
+    dialled, between = (relay.start(served.port), relay.cut) if relay else (served.port, lambda: None)
     seconds = pull_and_push(journals[1], [collection("f"), replicate(port=dialled)], between)
-    if served.wait(60) != 0:
+    if served.end()[0] != 0:
         sys.exit("the server failed")
     if digests(journals[0])["m"] != digests(journals[1])["f"]:
         sys.exit("the digests of the two journals differ")

@@ -13,8 +13,10 @@ import subprocess
 import tempfile
 import time
 
-from shared import (DISK, RX, SECONDS, SEED, Skipped, Talk, all_there, answers, case, collection,
-                    compact, content, held, insert, inserts, insist, main, room, run, text)
+from shared import (RX, SECONDS, SEED, Skipped, Talk, all_there, answers, case, collection, compact, content,
+                    held, insert, inserts, insist, main, room, run, text)
+
+DISK = {"stop": "disk"}
 
 
 def start(journal, lines):

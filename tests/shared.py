@@ -40,7 +40,6 @@ SCHEMA = {
 HASH = hash_of(SCHEMA)
 HANDLERS = [{"handler": "master_wins"}, {"handler": "fork_wins"},
             {"handler": "greater", "field": "n"}, {"handler": "join"}]
-DISK = {"stop": "disk"}
 SKIPPED = 77
 
 
@@ -114,12 +113,6 @@ def insert(key):
 
 def inserts(keys):
     return [collection(), *(insert(key) for key in keys)]
-
-
-def bulk(into, number):
-    """As many documents as take a turn some time."""
-    docs = [{"id": f"{into}{number}-{n}", "n": n} for n in range(100)]
-    return compact({"do": "bulk", "in": into, "docs": docs})
 
 
 def digest(name):

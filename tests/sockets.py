@@ -10,9 +10,9 @@ import random
 import socket
 import time
 
-from shared import (HANG_SECONDS, HASH, LONGEST, SECONDS, SEED, Server, Talk, answers, ask, bulk, case,
-                    collection, command, compact, digest, free_port, held, insist, main, peak_of, pull, push,
-                    reset, room, run, said, said_line, text, told)
+from shared import (HANG_SECONDS, HASH, LONGEST, SECONDS, SEED, Server, Talk, all_there, answers, ask,
+                    case, collection, command, compact, digest, free_port, held, insist, main, peak_of, pull,
+                    push, reset, room, run, said, said_line, text, told)
 
 
 @case("connections one after another")
@@ -115,8 +115,7 @@ def peers_that_go_away(folder):
     status, ends = server.end()
     insist(status == 0 and len(ends) == 61, f"{status} {ends[-1:]}")
     insist({end["end"] for end in ends} <= {"peer", "wire"}, "another end")
-    found = held(server.journal)
-    insist(kept <= found, f"lost: {sorted(kept - found)[:3]}")
+    all_there(server.journal, kept)
     return "60 of them in mid-line, in mid-reply, after a reply and before it: what was answered is there"
 
 
@@ -211,9 +210,14 @@ def killed_in_a_loop(folder):
                 kept |= {f"more{number}-{json.loads(line)['n']}" for line in said(wire).split(b"\n")[:-1]}
             except OSError:
                 pass
-        found = held(server.journal)
-        insist(kept <= found, f"round {number}: lost: {sorted(kept - found)[:3]}")
+        all_there(server.journal, kept)
     return f"{rounds} times: the next run has all answered pushes, {len(kept):,} in the end"
+
+
+def bulk(into, number):
+    """As many documents as take a turn some time."""
+    docs = [{"id": f"{into}{number}-{n}", "n": n} for n in range(100)]
+    return compact({"do": "bulk", "in": into, "docs": docs})
 
 
 class Follower(Talk):
