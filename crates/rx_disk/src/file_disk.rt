@@ -168,6 +168,10 @@ impl<R: Files<File = File> + Drop> Disk for FileDisk<R> {
 
     ghost faults = { λ d. d.failed };
 
+    ghost reads = { λ _. 0 };
+
+    ghost changes = { λ _. 0 };
+
     ghost content = { λ _. [] };
 
     ghost image = { λ _ _. Unit };
