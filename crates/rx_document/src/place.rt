@@ -34,7 +34,8 @@ impl Eq for Place {
 impl PartialOrd for Place {
     ghost partial_cmp = { as_partial_cmp place_cmp };
 
-    ghost laws = { partial_order_from_agreeing_total place_cmp place_total (λ x y. refl) (λ x y. refl) };
+    ghost laws = { partial_order_from_agreeing_total place_cmp place_total (λ x y. refl)
+        (λ x y. refl) };
 
     fn partial_cmp(&self, other: &Place) -> Option<Ordering> {
         Some(self.cmp(other))

@@ -99,10 +99,12 @@ fits_joined bodies name limit first second (inr fit) (inl none') =
 module _ {D : Type 0} (d : Ghosts D) where
   -- nothing was done yet
   pub keeps_none : OnlyNow d → d.tells → (disk : D) (m : MasterEngine) (bodies : List (List ℕ))
-      → IsAt d disk m bodies → (stop : Option Stop) → ((would most : ℕ) → stop ≡ Some (Full would most) → ⊥)
+      → IsAt d disk m bodies → (stop : Option Stop)
+      → ((would most : ℕ) → stop ≡ Some (Full would most) → ⊥)
       → Keeps d disk disk bodies (name_of m) (limit_of m) [] [] stop
   keeps_none only_now told disk m bodies at stop no_full = record {
-    moments = stays d disk m.journal bodies [] (world_at m) at (λ c left. only_now disk c told left);
+    moments = stays d disk m.journal bodies [] (world_at m) at
+        (λ c left. only_now disk c told left);
     now = subst (λ (bs : List (List ℕ)). Leaves d disk bs []) (sym (append-nil bodies))
         (held d disk m.journal bodies [] (world_at m) at);
     fits = inl refl;
@@ -168,7 +170,8 @@ module _ {D : Type 0} (d : Ghosts D) where
         let named : Keeps d b c mid (name_in wa) (limit_in wb) second more (stop_in wc) =
         subst (λ v. Keeps d b c mid v (limit_in wb) second more (stop_in wc)) (h.name going) next in
         let limited : Keeps d b c mid (name_in wa) (limit_in wa) second more (stop_in wc) =
-        subst (λ v. Keeps d b c mid (name_in wa) v second more (stop_in wc)) (h.limit going) named in
+        subst (λ v. Keeps d b c mid (name_in wa) v second more (stop_in wc)) (h.limit going) named
+        in
         keeps_on a b c bodies (name_in wa) (limit_in wa) first second more (stop_in wb) (stop_in wc)
         (h.keeps told bodies at) limited;
     goes_on = λ told bodies at still.

@@ -14,7 +14,8 @@ abbrev pub GivesMoments : List ℕ → List ℕ → List ℕ → Type 0
 GivesMoments old new moments =
     (new ≡ old ++ moments) ⊎ (last_count ≤ length old + length moments)
 
--- The moments that joined are those that a clock gave. Where the work stopped, one more may be given.
+-- The moments that joined are those that a clock gave. Where the work stopped, one more may be
+-- given.
 pub record Ticks (tells going : Type 0) (given given' moments moments' : List ℕ) : Type 0 where
   pub joined : List ℕ
   pub spare : List ℕ

@@ -82,8 +82,8 @@ BreaksOff why c talk moments Leaves =
     ⊎ ((stop : Option Stop) × ((stop ≡ Some why) ⊎ (why ≡ Memory))
     × (after : Held) × IsStopped (Leaves stop) (connection_of talk moments c after))
 
--- Within one more: none of its line was written. Its wire was handed back, unless memory is wanting.
--- A moment may be given that none of its pushes has.
+-- Within one more: none of its line was written. Its wire was handed back, unless memory is
+-- wanting. A moment may be given that none of its pushes has.
 pub record HaltsWithin
     (wires sink : Type 0)
     (why : Stop)
@@ -95,7 +95,8 @@ pub record HaltsWithin
   pub moments : List ℕ
   pub spare : List ℕ
   pub breaks : wires → BreaksOff why c talk moments Leaves
-  pub talks : wires → (new.talks ≡ old.talks ++ talk ∷ []) ⊎ ((why ≡ Memory) × (new.talks ≡ old.talks))
+  pub talks : wires → (new.talks ≡ old.talks ++ talk ∷ [])
+      ⊎ ((why ≡ Memory) × (new.talks ≡ old.talks))
   pub written : sink → new.written ≡ old.written
   pub given : Gives (moments ++ spare)
 
@@ -103,7 +104,8 @@ pub record HaltsWithin
 abbrev pub HaltsBy
     : ServeFault → Type 0 → Type 0 → ℕ → Held → Outside → Outside → (List ℕ → Type 0)
     → (Option Stop → Commits → Commits → Type 0) → Type 0
-HaltsBy fault.Door wires sink i c old new Gives Leaves = HaltsBetween wires sink old new Gives Leaves
+HaltsBy fault.Door wires sink i c old new Gives Leaves = HaltsBetween wires sink old new Gives
+    Leaves
 HaltsBy fault.Sink wires sink i c old new Gives Leaves =
     HaltsAtLine wires sink i c old new Gives Leaves
 HaltsBy (fault.Stopped why) wires sink i c old new Gives Leaves =

@@ -59,7 +59,8 @@ impl MasterEngine {
         ensures stood { D.tells → IfOk result (λ _. IsJournalOfSome (D.content disk.old)) }
         ensures found { D.tells → (bodies : List (List ℕ)) (w : worlds.World)
             → IsLegalFile (D.content disk.old) bodies w → IfOk result (Finds name.now w) }
-        ensures found_somewhere { IfOk result (λ found. (w : worlds.World) × Finds name.now w found) }
+        ensures found_somewhere { IfOk result (λ found. (w : worlds.World)
+            × Finds name.now w found) }
         ensures limit { IfOk result (λ found. IfSome found (λ m. limit_of m ≡ limit)) }
 
         // Over a legal file: what holds at each moment, and at `Ok`. No record is due.

@@ -130,7 +130,8 @@ impl<'a, D: Disk, C: Clock> Answer for Host<'a, D, C, Hosting> {
 
 // The moment of a push, by the clock. A pull needs none.
 fn moment<C: Clock>(ask: &AskKind, clock: &mut C, moments: &mut Vec<u64>) -> Result<u64, AllocError>
-    ensures moment { IfOk result (λ now. HasMoment ask.now now moments.old.items moments.new.items) }
+    ensures moment { IfOk result
+        (λ now. HasMoment ask.now now moments.old.items moments.new.items) }
     ensures ticks { Ticks C.tells (IsOk result) (C.given clock.old) (C.given clock.new)
         moments.old.items moments.new.items }
     ensures kept { OnErr result (moments.new.items ≡ moments.old.items) }

@@ -13,9 +13,9 @@ use Rattle.rx_reply.specs.declared.turn.Exchanged.{Exchanged}
 use Rattle.rx_reply.specs.declared.turn.TurnEnd.{TurnEnd}
 
 -- a collection is there, new or not; a document is written; documents are written, read, found,
--- counted; a query is observed, no more observed, explained; a replication begins; a turn made these
--- exchanges and ended so; states are listed up to a place; the clock is set; an epoch begins; states
--- are counted and have that digest; or the line is refused
+-- counted; a query is observed, no more observed, explained; a replication begins; a turn made
+-- these exchanges and ended so; states are listed up to a place; the clock is set; an epoch begins;
+-- states are counted and have that digest; or the line is refused
 pub data Answer : Type 0 where
   collection : Bool → Answer
   insert : List ℕ → Answer

@@ -34,20 +34,23 @@ turn_data line exchanges ended = object
 -- the object of an answer to the line of that number
 abbrev pub answer_data : ℕ → Answer → Data
 answer_data line (collection new) =
-    line_object line (member (codes "new") (boolean new) (ok_members (codes "collection") no_members))
+    line_object line (member (codes "new") (boolean new)
+    (ok_members (codes "collection") no_members))
 answer_data line (insert rev) = written_data line (codes "insert") rev
 answer_data line (upsert rev) = written_data line (codes "upsert") rev
 answer_data line (patch rev) = written_data line (codes "patch") rev
 answer_data line (remove rev) = written_data line (codes "remove") rev
 answer_data line (bulk revs) =
-    line_object line (ok_members (codes "bulk") (member (codes "revs") (list_data string revs) no_members))
+    line_object line (ok_members (codes "bulk")
+    (member (codes "revs") (list_data string revs) no_members))
 answer_data line (get doc) = object
     (member (codes "doc") (fields_data doc.state.fields)
     (member (codes "line") (number_data line)
     (member (codes "lwt") (number_data doc.lwt)
     (ok_members (codes "get") (member (codes "rev") (string (revision_text doc.rev)) no_members)))))
 answer_data line (find rows) =
-    line_object line (ok_members (codes "find") (member (codes "rows") (list_data fields_data rows) no_members))
+    line_object line (ok_members (codes "find") (member (codes "rows") (list_data fields_data rows)
+    no_members))
 answer_data line (count n) = object
     (member (codes "count") (number_data n)
     (member (codes "line") (number_data line) (ok_members (codes "count") no_members)))
@@ -71,8 +74,8 @@ answer_data line (digest n text) = object
     (member (codes "line") (number_data line) (ok_members (codes "digest") no_members))))
 answer_data line (refused refusal) = form_data line (form_of refusal)
 
--- A turn has a line for each of its exchanges before its own, numbered from 1; every other answer is
--- one line.
+-- A turn has a line for each of its exchanges before its own, numbered from 1; every other answer
+-- is one line.
 abbrev pub lines_before : Answer → List ℕ
 lines_before (turn exchanges ended) = exchange_lines 1 exchanges
 lines_before _ = []

@@ -46,7 +46,8 @@ pushed_data number rows conflicts = object
 abbrev pub pulled_data : ℕ → List (List ℕ) → Option Place → Data
 pulled_data number rows place = object
     (member (codes "exchange") (number_data number)
-    (optional_member (codes "place") (option_map place_data place) (rows_members rows (codes "pull"))))
+    (optional_member (codes "place") (option_map place_data place)
+    (rows_members rows (codes "pull"))))
 
 abbrev pub push_lost_data : ℕ → List (List ℕ) → Loss → Data
 push_lost_data number rows why = object

@@ -73,7 +73,8 @@ fn put_table(
     counts: &Counts,
 ) -> Result<(), AllocError>
     ensures tokens { OnOk result (writer.new.tokens ≡ writer.old.tokens
-        ++ json_tokens (outline (object (counted_members counts.now (actions_by_name table.now))))) }
+        ++ json_tokens (outline
+        (object (counted_members counts.now (actions_by_name table.now))))) }
     ensures before { writer.new.before ≡ writer.old.before }
 {
     writer.begin_object()?;

@@ -96,12 +96,14 @@ replicate_of d =
     (codes "field" ∷ []) d >> λ _.
     a_text (codes "name") d >> λ name. a_text (codes "fork") d >> λ fork. a_target d >> λ master.
     a_text (codes "handler") d >> λ handler. maybe_text (codes "field") d >> λ field.
-    a_name (codes "name") name >> λ _. a_name (codes "fork") fork >> λ _. a_target_name master >> λ _.
+    a_name (codes "name") name >> λ _. a_name (codes "fork") fork >> λ _.
+    a_target_name master >> λ _.
     Ok (Replicate name fork master handler field)
 
 abbrev pub turn_of : Data → Result Asked LineFault
 turn_of d =
-    has_form (codes "do" ∷ codes "name" ∷ []) (codes "batch" ∷ codes "budget" ∷ codes "link" ∷ []) d >> λ _.
+    has_form (codes "do" ∷ codes "name" ∷ []) (codes "batch" ∷ codes "budget" ∷ codes "link" ∷ []) d
+    >> λ _.
     a_text (codes "name") d >> λ name. maybe_whole (codes "batch") d >> λ _.
     maybe_whole (codes "budget") d >> λ _. maybe_link (codes "link") d >> λ link.
     a_name (codes "name") name >> λ _.

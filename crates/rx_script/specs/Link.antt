@@ -27,7 +27,8 @@ words =
 -- the number of an object of exactly the member `late`
 abbrev pub late_of : Data → Option ℕ
 late_of d =
-    only_if (is_none (unexpected (codes "late" ∷ []) [] d)) (whole_within (codes "late") 1 max_late d)
+    only_if (is_none (unexpected (codes "late" ∷ []) [] d))
+    (whole_within (codes "late") 1 max_late d)
 
 -- the happening of a word; where there is no word, that of an object
 abbrev pub happening_by : Option (List ℕ) → Data → Option Happening

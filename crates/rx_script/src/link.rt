@@ -19,7 +19,8 @@ pub(crate) fn read_maybe_link(
     json: &Json,
     name: &str,
 ) -> Result<Option<Vec<Happening>>, LineFault>
-    ensures exact { DueBy Memory (option_map (λ l. l.items)) result (maybe_link name.now (view json.now)) }
+    ensures exact { DueBy Memory (option_map (λ l. l.items)) result
+        (maybe_link name.now (view json.now)) }
     ensures late { IfOk result (λ link. IfSome link (λ l. AllByRecursion IsHappening l.items)) }
 {
     let Some(member) = json.get(name) else {

@@ -58,7 +58,8 @@ impl Selector {
     /// The operand of that operator in the member of the field's name, where it stands directly in
     /// this selector. A plain value is the operand of `$eq`.
     pub fn operand(&self, field: &str, which: Compare) -> Option<&Value>
-        ensures { option_map (λ v. v.now) result ≡ operand_in field.now which (selector_clauses self.now) }
+        ensures { option_map (λ v. v.now) result
+            ≡ operand_in field.now which (selector_clauses self.now) }
     {
         operand_among(which, tests_on(field, self.clauses.as_slice())?)
     }

@@ -68,7 +68,8 @@ fn last(results: &Results) -> Option<&Row>
 }
 
 fn is_limit_reached(query: &Query, results: &Results) -> bool
-    ensures { result ≡ some_passes (λ limit. nat_le limit (length results.now)) (asked query.now).limit }
+    ensures { result ≡ some_passes (λ limit. nat_le limit (length results.now))
+        (asked query.now).limit }
 {
     match query.limit() {
         Some(limit) => limit <= results.len() as u64,

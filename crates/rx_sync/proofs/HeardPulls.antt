@@ -1,4 +1,5 @@
--- A pull from a master elsewhere leaves nothing to be pushed, whoever answered it, and if nobody did.
+-- A pull from a master elsewhere leaves nothing to be pushed, whoever answered it, and if nobody
+-- did.
 use Rattle.std.proofs.Common.{◌≡◌, ◌∙◌, ℕ, ◌≤◌, true, List, [], length, Option, Some, None, Result, Ok, Err, refl, sym, ap, subst, append-nil}
 use Rattle.rx_value.specs.Named.{named}
 use Rattle.rx_value.proofs.Outcomes.{some_same}

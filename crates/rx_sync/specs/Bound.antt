@@ -161,4 +161,5 @@ exchanges_of name kinds (n ∷ ns) w =
 abbrev pub TurnsEndInTime : Type 0
 TurnsEndInTime =
     (name : List ℕ) (kinds : Kinds) (w : World) → IsReady w name kinds → (turns : List NextTurn)
-    → AllByRecursion IsOkTurn turns → ForLink w name (λ l. exchanges_of name kinds turns w ≤ enough l)
+    → AllByRecursion IsOkTurn turns
+    → ForLink w name (λ l. exchanges_of name kinds turns w ≤ enough l)

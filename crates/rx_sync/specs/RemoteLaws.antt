@@ -67,10 +67,10 @@ pub record IsHeardReply (w : World) (name : List ℕ) (heard : Heard) (reply : R
   pub at : schema_in w name ≡ Some schema
   pub reads : reply_of schema bytes ≡ Ok reply
 
--- Records that the reply that was heard is taken with, whichever it is, and whoever sent it: what the
--- fork holds and knows stays valid, what is sound of it without its master stays so, no checkpoint
--- falls, a document that is to be pushed changes only by the handler's answer on its conflict in this
--- reply, and nothing else changes.
+-- Records that the reply that was heard is taken with, whichever it is, and whoever sent it: what
+-- the fork holds and knows stays valid, what is sound of it without its master stays so, no
+-- checkpoint falls, a document that is to be pushed changes only by the handler's answer on its
+-- conflict in this reply, and nothing else changes.
 pub record IsTakenUnharmed (w : World) (kinds : Kinds) (name : List ℕ) (heard : Heard)
     (cs : List Content) : Type 0 where
   pub reply : Reply
@@ -85,8 +85,8 @@ pub record IsTakenUnharmed (w : World) (kinds : Kinds) (name : List ℕ) (heard 
 abbrev pub IsUnharmed : Terms → World → Heard → Course → Type 0
 IsUnharmed t w heard c = (c.records ≡ []) ⊎ IsTakenUnharmed w t.kinds t.name heard c.records
 
--- this holds of each exchange of a turn: of the world before it, of what was heard in it, and of what
--- it comes to
+-- this holds of each exchange of a turn: of the world before it, of what was heard in it, and of
+-- what it comes to
 abbrev pub EachHeard : (World → Heard → Course → Type 0) → Terms → ℕ → ℕ → List Heard → World → Asks
     → Type 0
 EachHeard P t batch zero heard w a = Unit {0}

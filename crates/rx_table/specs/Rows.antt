@@ -84,14 +84,17 @@ action_of is =
     else if not sort_params_changed && is WasFirst then RemoveFirstInsertFirst
     else if not sort_params_changed && was_in_result then ReplaceExisting
     else if not sort_params_changed then DoNothing
-    else if was_in_result && is_past_skip && is_within_limit then RemoveExistingAndInsertAtSortPosition
+    else if was_in_result && is_past_skip && is_within_limit
+    then RemoveExistingAndInsertAtSortPosition
     else if was_in_result then RunFullQueryAgain
     else if was_before_first && is_before_first then DoNothing
     else if was_after_last && is_after_last then DoNothing
     else if was_before_first && is_after_last && not was_limit_reached then RemoveFirstInsertLast
-    else if was_after_last && is_before_first && not has_skip && is_find_one then RemoveFirstInsertFirst
+    else if was_after_last && is_before_first && not has_skip && is_find_one
+    then RemoveFirstInsertFirst
     else if was_after_last && is_before_first && not has_skip then RemoveLastInsertFirst
-    else if was_after_last && not is_before_first && not is_after_last then InsertAtSortPositionRemoveLast
+    else if was_after_last && not is_before_first && not is_after_last
+    then InsertAtSortPositionRemoveLast
     else RunFullQueryAgain
 
 -- the action of the states that these bits answer

@@ -13,9 +13,9 @@ abbrev pub all_of : List (List (List ℕ)) → List (List ℕ)
 all_of [] = []
 all_of (chunk ∷ chunks) = chunk ++ all_of chunks
 
--- Moment by moment: between the disk before a chunk and the disk after it each image is a legal file
--- of the bodies of all chunks before and a front of that chunk. So it never falls behind a chunk that
--- was kept, nor passes the one that is being written.
+-- Moment by moment: between the disk before a chunk and the disk after it each image is a legal
+-- file of the bodies of all chunks before and a front of that chunk. So it never falls behind a
+-- chunk that was kept, nor passes the one that is being written.
 abbrev pub Steps
     : {D : Type 0} → Ghosts D → D → D → List (List ℕ) → List (List (List ℕ)) → Type 0
 Steps d old new bodies [] = GrowsLegally d old new bodies []

@@ -20,8 +20,8 @@ stands n dial =
     record { faults = n.faults dial; broken = n.broken dial; talks = n.talks dial }
 
 -- it shows what was heard in a line; in a blank one nothing was
-abbrev pub IsShownAt : Type 0 → List ℕ → Standing → DialStanding → DialStanding → List Heard → Type 0
-    → Type 0
+abbrev pub IsShownAt : Type 0 → List ℕ → Standing → DialStanding → DialStanding → List Heard
+    → Type 0 → Type 0
 IsShownAt wires line s old new heard Done =
     (is_blank line ≡ true → (heard ≡ []) × (new ≡ old))
     × (is_blank line ≡ false → IsShownBy wires (task s.kinds line s.session) s old new heard Done)
@@ -42,7 +42,8 @@ HearsNothing s old new = (s.heard ≡ []) × (new ≡ old)
 -- in the line at which work stopped, of which not all may be done; no master harmed a fork in it;
 -- nothing of it is said where memory was wanting
 abbrev pub HearsLast
-    : Type 0 → Result Bool EarlyEnd → List (List ℕ) → Standing → DialStanding → DialStanding → Type 0
+    : Type 0 → Result Bool EarlyEnd → List (List ℕ) → Standing → DialStanding → DialStanding
+    → Type 0
 HearsLast wires (Ok refused) rest s old new = HearsNothing s old new
 HearsLast wires (Err (Read fault)) rest s old new = HearsNothing s old new
 HearsLast wires (Err Sink) rest s old new = HearsNothing s old new

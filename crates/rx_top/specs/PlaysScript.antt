@@ -24,10 +24,10 @@ use Rattle.rx_top.specs.Story.{EachLine}
 use Rattle.rx_top.specs.Stops.{Stops, full_line, stop_line}
 use Rattle.rx_top.specs.Turns.{HoldsOfTurn}
 
--- A run ended with a status, from one state of its source, its sink, its disk and its dial to a later
--- one. Its journal may have so many bytes, and its conflicts are resolved by handlers of these kinds; and
--- this was heard of masters elsewhere, exchange after exchange. The wires of the dial tell what went over
--- them, or don't.
+-- A run ended with a status, from one state of its source, its sink, its disk and its dial to a
+-- later one. Its journal may have so many bytes, and its conflicts are resolved by handlers of
+-- these kinds; and this was heard of masters elsewhere, exchange after exchange. The wires of the
+-- dial tell what went over them, or don't.
 pub record PlaysScript
     {S K D N W : Type 0}
     (s : SourceGhosts S)
@@ -43,20 +43,23 @@ pub record PlaysScript
     (disk disk' : D)
     (dial dial' : N) : Type 0 where
   -- Wherever a run ends: some lines are done, and their replies are written, or a front of them
-  -- where the sink failed, and then the stop line. The dial shows what was heard in each line. At each
-  -- moment of the call each image of the disk is a legal file of the old records and a front of those
-  -- that are due, and at its end it has all those of the lines done.
+  -- where the sink failed, and then the stop line. The dial shows what was heard in each line. At
+  -- each moment of the call each image of the disk is a legal file of the old records and a front
+  -- of those that are due, and at its end it has all those of the lines done.
   pub headline : s.tells → FromStart d disk (λ bodies w.
-      HasRun kinds heard wires (stands n dial) (stands n dial') k.tells (k.faults out) (k.faults out') (k.written out) (k.written out') w
+      HasRun kinds heard wires (stands n dial) (stands n dial') k.tells (k.faults out)
+      (k.faults out') (k.written out) (k.written out') w
       (s.left source) (s.left source') status (KeepsRun kinds heard d disk disk' bodies w limit))
   -- Also where the source doesn't tell what it gives, each image is a legal file that goes on from
   -- the old records, at each moment of the call and at its end.
   pub legal : FromStart d disk (λ bodies w. StaysLegal d disk disk' bodies)
   -- Over any disk: the same of what was written, from some world on.
-  pub over_any_disk : s.tells → HasRunSomewhere kinds heard wires (stands n dial) (stands n dial') k.tells (k.faults out)
+  pub over_any_disk : s.tells → HasRunSomewhere kinds heard wires (stands n dial) (stands n dial')
+      k.tells (k.faults out)
       (k.faults out') (k.written out) (k.written out') (s.left source) (s.left source') status
   pub transcript_over_any_disk : status < 2 → s.tells → k.tells → (w : World)
-      × (k.written out' ≡ k.written out ++ transcript (lines (s.left source)) (opened kinds heard w))
+      × (k.written out' ≡ k.written out ++ transcript (lines (s.left source))
+      (opened kinds heard w))
   -- A file that isn't legal stays as it was, and nothing that a crash leaves is new.
   pub illegal : d.tells → IsIllegalFile (d.content disk) → IsUntouched d disk disk'
   -- The whole input was played, and the journal has its records.
@@ -68,8 +71,8 @@ pub record PlaysScript
   pub kept : status < 2 → s.tells → FromStart d disk (λ bodies w.
       (c : List ℕ) → d.image disk' c → (after : World) × IsLegalFile c
       (bodies ++ run_bodies kinds heard w (lines (s.left source))) after)
-  -- Each turn that ended quiet left its fork and its master level, each whose link did nothing came to
-  -- its end in time, and no master elsewhere, whatever it sent, harmed a fork.
+  -- Each turn that ended quiet left its fork and its master level, each whose link did nothing came
+  -- to its end in time, and no master elsewhere, whatever it sent, harmed a fork.
   pub turns : status < 2 → s.tells → FromStart d disk (λ bodies w.
       EachLine line_effect HoldsOfTurn 1 (lines (s.left source)) (opened kinds heard w))
   -- The source failed, after the lines that ended in what it gave.

@@ -59,4 +59,5 @@ Advances true old new =
     (l : List ℕ) × (old.unread ≡ l ++ 10 ∷ new.unread) × (is_within l ≡ true)
     × (new.line ≡ kept_front (old.line ++ l))
 Advances false old new =
-    (new.unread ≡ []) × (is_within old.unread ≡ true) × (new.line ≡ kept_front (old.line ++ old.unread))
+    (new.unread ≡ []) × (is_within old.unread ≡ true)
+    × (new.line ≡ kept_front (old.line ++ old.unread))

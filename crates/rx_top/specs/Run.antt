@@ -31,8 +31,8 @@ use Rattle.rx_top.specs.declared.early_end.ReadFault.TheVariants as fault
 
 -- which lines of an input are done, by how the play of them ended
 abbrev pub Reads
-    : {S : Type 0} → Step S → Result Bool EarlyEnd → List ℕ → List ℕ → List (List ℕ) → List (List ℕ) → S
-    → Type 0
+    : {S : Type 0} → Step S → Result Bool EarlyEnd → List ℕ → List ℕ → List (List ℕ) → List (List ℕ)
+    → S → Type 0
 -- all of them
 Reads step (Ok refused) input left done rest s =
     (rest ≡ []) × (refused ≡ any_refused step 1 done s)
@@ -115,7 +115,8 @@ abbrev pub KeepsLines
     → List (List ℕ) → List (List ℕ) → Type 0
 KeepsLines d old new bodies s limit ended done rest =
     Keeps d old new bodies (chunks line_effect 1 done s)
-    (next_chunk line_effect (length done + 1) rest (state_after line_effect 1 done s)) limit (stop_of ended)
+    (next_chunk line_effect (length done + 1) rest (state_after line_effect 1 done s)) limit
+    (stop_of ended)
 
 -- the same from an engine on, whatever bodies its disk has within the limit
 abbrev pub KeepsFrom
@@ -127,7 +128,8 @@ KeepsFrom s d old new first ended done rest =
 
 -- the chunks of a run: the record of its epoch, and those of its lines
 abbrev pub run_chunks : Kinds → List Heard → World → List (List ℕ) → List (List (List ℕ))
-run_chunks kinds heard w done = (epoch_body w ∷ []) ∷ chunks line_effect 1 done (opened kinds heard w)
+run_chunks kinds heard w done = (epoch_body w ∷ []) ∷ chunks line_effect 1 done
+    (opened kinds heard w)
 
 -- their bodies
 abbrev pub run_bodies : Kinds → List Heard → World → List (List ℕ) → List (List ℕ)
@@ -136,23 +138,26 @@ run_bodies kinds heard w done = all_of (run_chunks kinds heard w done)
 -- the chunk that is due after lines
 abbrev pub due_after : Kinds → List Heard → World → List (List ℕ) → List (List ℕ) → List (List ℕ)
 due_after kinds heard w done rest =
-    next_chunk line_effect (length done + 1) rest (state_after line_effect 1 done (opened kinds heard w))
+    next_chunk line_effect (length done + 1) rest
+    (state_after line_effect 1 done (opened kinds heard w))
 
--- The disk keeps the chunks of a run from the journal as it was found: where that wasn't opened none,
--- and the record of the epoch was due; and where it was, that one with those of the lines done.
+-- The disk keeps the chunks of a run from the journal as it was found: where that wasn't opened
+-- none, and the record of the epoch was due; and where it was, that one with those of the lines
+-- done.
 abbrev pub KeepsRun
-    : {D : Type 0} → Kinds → List Heard → Ghosts D → D → D → List (List ℕ) → World → ℕ → Result Bool EarlyEnd
-    → List (List ℕ) → List (List ℕ) → Type 0
+    : {D : Type 0} → Kinds → List Heard → Ghosts D → D → D → List (List ℕ) → World → ℕ
+    → Result Bool EarlyEnd → List (List ℕ) → List (List ℕ) → Type 0
 KeepsRun kinds heard d old new bodies w limit ended done rest =
     ((WasPlayed ended → ⊥) × (done ≡ [])
     × Keeps d old new bodies [] (epoch_body w ∷ []) limit (stop_of ended))
-    ⊎ Keeps d old new bodies (run_chunks kinds heard w done) (due_after kinds heard w done rest) limit (stop_of ended)
+    ⊎ Keeps d old new bodies (run_chunks kinds heard w done) (due_after kinds heard w done rest)
+    limit (stop_of ended)
 
 -- ---- both, and the end
 
 -- A run ended with this status, and its last line, or a front of it where the sink failed, stands
--- behind the replies. What was heard in its lines its dial shows. What it kept is said of how it ended,
--- the lines done and the rest.
+-- behind the replies. What was heard in its lines its dial shows. What it kept is said of how it
+-- ended, the lines done and the rest.
 pub record HasRun
     (kinds : Kinds)
     (heard : List Heard)
@@ -169,7 +174,8 @@ pub record HasRun
   pub is_status : status ≡ status_of ended
   -- what the sink had before the last line
   pub before : List ℕ
-  pub run : Plays line_effect HoldsOfTurn tells written before input left (opened kinds heard w) ended
+  pub run : Plays line_effect HoldsOfTurn tells written before input left (opened kinds heard w)
+      ended
       (HearsAll wires (opened kinds heard w) dial dial' ended) (Kept ended)
   pub line : EndsWith tells faults faults' before written' (last_words ended)
 
@@ -177,7 +183,8 @@ pub record HasRun
 abbrev pub HasRunSomewhere
     : Kinds → List Heard → Type 0 → DialStanding → DialStanding → Type 0 → ℕ → ℕ → List ℕ → List ℕ
     → List ℕ → List ℕ → ℕ → Type 0
-HasRunSomewhere kinds heard wires dial dial' tells faults faults' written written' input left status =
+HasRunSomewhere kinds heard wires dial dial' tells faults faults' written written'
+    input left status =
     (w : World)
     × HasRun kinds heard wires dial dial' tells faults faults' written written' w input left status
     (λ ended done rest. ⊤)
@@ -203,4 +210,5 @@ pub record IsDue
     (would limit : ℕ) : Type 0 where
   pub whole : lines ≡ done ++ rest
   pub past : ((done ≡ []) × IsFull d disk bodies (epoch_body w ∷ []) would limit)
-      ⊎ IsFull d disk (bodies ++ run_bodies kinds heard w done) (due_after kinds heard w done rest) would limit
+      ⊎ IsFull d disk (bodies ++ run_bodies kinds heard w done) (due_after kinds heard w done rest)
+      would limit

@@ -20,8 +20,9 @@ use Rattle.rx_top.specs.Serve.{HasServed}
 use Rattle.rx_top.specs.Start.{FromStart, StaysLegal}
 use Rattle.rx_top.specs.Stops.{EndsWith, full_line}
 
--- Serving a collection of that name to so many connections ended with a status, from one state of its
--- sink, disk, door and clock to a later one. The wires of the door tell what went over them, or don't.
+-- Serving a collection of that name to so many connections ended with a status, from one state of
+-- its sink, disk, door and clock to a later one. The wires of the door tell what went over them, or
+-- don't.
 pub record ServesCollection
     {K D L W C : Type 0}
     (k : SinkGhosts K)
@@ -35,18 +36,18 @@ pub record ServesCollection
     (disk disk' : D)
     (door door' : L)
     (clock clock' : C) : Type 0 where
-  -- Wherever it ends: what is due was served at the moments that the clock gave, of the connection at
-  -- which it halted a front, then comes the stop line. At each moment each image of the disk is a
-  -- legal file of the old records and a front of those due, and at its end it has all those of each
-  -- request of whose reply a byte was sent.
+  -- Wherever it ends: what is due was served at the moments that the clock gave, of the connection
+  -- at which it halted a front, then comes the stop line. At each moment each image of the disk is
+  -- a legal file of the old records and a front of those due, and at its end it has all those of
+  -- each request of whose reply a byte was sent.
   pub headline : FromStart d disk (λ bodies w.
       HasServed wires k.tells (k.faults out) (k.faults out') name connections w
       (record { talks = l.talks door; written = k.written out })
       (record { talks = l.talks door'; written = k.written out' }) status
       (λ moments. c.tells → GivesMoments (c.given clock) (c.given clock') moments)
       (λ stop sure more. Keeps d disk disk' bodies name limit sure more stop))
-  -- Also where wires don't tell what they give, each image is a legal file that goes on from the old
-  -- records, at each moment of the call and at its end.
+  -- Also where wires don't tell what they give, each image is a legal file that goes on from the
+  -- old records, at each moment of the call and at its end.
   pub legal : FromStart d disk (λ bodies w. StaysLegal d disk disk' bodies)
   -- Over any disk: the same of all but the disk, in some world.
   pub over_any_disk : (w : World)
@@ -57,8 +58,8 @@ pub record ServesCollection
       (λ stop sure more. ⊤)
   -- A file that isn't legal stays as it was, and nothing that a crash leaves is new.
   pub illegal : d.tells → IsIllegalFile (d.content disk) → IsUntouched d disk disk'
-  -- With status 0 exactly so many connections were served: each is told of by the door and by a line,
-  -- and no other is.
+  -- With status 0 exactly so many connections were served: each is told of by the door and by a
+  -- line, and no other is.
   pub all_served : status ≡ 0 → (conns : List ServedConnection) × (length conns ≡ connections)
       × (wires → l.talks door' ≡ l.talks door ++ talks_of conns)
       × (k.tells → k.written out' ≡ k.written out ++ lines_from 1 conns)
@@ -77,8 +78,8 @@ pub record ServesCollection
       × IsFull d disk' (bodies ++ bodies_of name sure) (bodies_of name more) would limit
       × EndsWith k.tells (k.faults out) (k.faults out') before (k.written out')
       (full_line would limit))
-  -- The journal doesn't hold the collection, or it is a fork: exactly then, unless the disk failed or
-  -- memory was wanting before that was known.
+  -- The journal doesn't hold the collection, or it is a fork: exactly then, unless the disk failed
+  -- or memory was wanting before that was known.
   pub no_collection : status ≡ 10 → FromStart d disk (λ bodies w. is_served name w ≡ false)
   pub no_collection_only : FromStart d disk (λ bodies w. is_served name w ≡ false
       → (status ≡ 10) ⊎ (status ≡ 3) ⊎ (status ≡ 6))

@@ -6,7 +6,8 @@ use Rattle.rx_store.specs.Holds.{GrowsLegally, ImagesStandFor, IsLegalFile, Leav
 use Rattle.rx_world.specs.World.{World, empty}
 
 -- a disk whose file is legal, and stays so in a crash
-pub record IsStart {D : Type 0} (d : Ghosts D) (disk : D) (bodies : List (List ℕ)) (w : World) : Type 0 where
+pub record IsStart {D : Type 0} (d : Ghosts D) (disk : D) (bodies : List (List ℕ)) (w : World) :
+    Type 0 where
   pub legal : IsLegalFile (d.content disk) bodies w
   pub alike : ImagesStandFor d disk bodies
 
@@ -21,10 +22,11 @@ pub record IsSettled {D : Type 0} (d : Ghosts D) (disk : D) (file : List ℕ) : 
   pub only : Only file (d.image disk)
 
 -- each image, at each moment of a run and now, is a legal file that goes on from the old bodies
-pub record StaysLegal {D : Type 0} (d : Ghosts D) (old new : D) (bodies : List (List ℕ)) : Type 0 where
-  pub more : List (List ℕ)
-  pub moments : GrowsLegally d old new bodies more
-  pub now : Leaves d new bodies more
+pub record StaysLegal {D : Type 0} (d : Ghosts D) (old new : D) (bodies : List (List ℕ)) : Type 0
+  where
+    pub more : List (List ℕ)
+    pub moments : GrowsLegally d old new bodies more
+    pub now : Leaves d new bodies more
 
 -- Going on: a file that a crash may leave at some moment of a run, on a disk that holds it and
 -- nothing else, is a journal that a run may begin with, and it has the bodies that were there.

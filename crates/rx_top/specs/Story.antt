@@ -1,8 +1,8 @@
 -- What the lines of a script do, one after the other, over any state and any meaning of a line.
 use Rattle.std.specs.Prelude.{ℕ, ◌+◌, List, [], ◌∷◌, ◌++◌, Bool, false, ◌||◌}
 
--- what a line does: its reply and what is written after it, the bodies of its records, whether it is
--- refused, and the state after it
+-- what a line does: its reply and what is written after it, the bodies of its records, whether it
+-- is refused, and the state after it
 pub record Effect (S : Type 0) : Type 0 where
   pub reply : List ℕ
   pub bodies : List (List ℕ)

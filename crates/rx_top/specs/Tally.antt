@@ -60,6 +60,7 @@ summary_of script s =
     summary_text (tally_of (meanings 1 script s)) (state_after line_effect 1 script s).session.world
 
 -- a tally and an engine are those that lines come to which are played as things stand
-pub record ComesTo (lines : List (List ℕ)) (s : Standing) (engine : Engine) (t : Tally) : Type 0 where
-  pub tally : t ≡ tally_of (meanings 1 lines s)
-  pub world : (session_of engine).world ≡ (state_after line_effect 1 lines s).session.world
+pub record ComesTo (lines : List (List ℕ)) (s : Standing) (engine : Engine) (t : Tally) : Type 0
+  where
+    pub tally : t ≡ tally_of (meanings 1 lines s)
+    pub world : (session_of engine).world ≡ (state_after line_effect 1 lines s).session.world

@@ -5,7 +5,8 @@ use Rattle.rx_outside.specs.Sink.{WritesFront}
 use Rattle.rx_outside.specs.declared.stop.Stop.{Stop}
 use Rattle.rx_top.specs.Stops.{EndsWith, stop_status, stop_words}
 
--- the sink took the text, and the status is 0; or it failed after a front of it, and the status is 5
+-- the sink took the text, and the status is 0; or it failed after a front of it, and the status is
+-- 5
 abbrev pub TellsText : Type 0 → ℕ → ℕ → List ℕ → List ℕ → ℕ → List ℕ → Type 0
 TellsText tells faults faults' old new status text =
     ((status ≡ 0) × (tells → new ≡ old ++ text))

@@ -46,7 +46,8 @@ as_run None = Ok false
 as_run (Some why) = Err (Work why)
 
 -- A trial of lines, as things stand, ended with a status: they are done, and their summary is
--- written, or a front of it where the sink failed; or work stopped, and the line that tells of it is.
+-- written, or a front of it where the sink failed; or work stopped, and the line that tells of it
+-- is.
 pub record HasTried
     (wires : Type 0)
     (dial dial' : DialStanding)
@@ -65,10 +66,11 @@ pub record HasTried
 
 -- ---- what it promises
 
--- A trial of the script of a seed, with so many lines of its own, ended with a status, from one state
--- of its sink, its disk and its dial to a later one. Its journal may have so many bytes, and its conflicts
--- are resolved by handlers of these kinds; and this was heard of masters elsewhere, exchange after
--- exchange, where the journal has a replication with such a master under the script's name.
+-- A trial of the script of a seed, with so many lines of its own, ended with a status, from one
+-- state of its sink, its disk and its dial to a later one. Its journal may have so many bytes, and
+-- its conflicts are resolved by handlers of these kinds; and this was heard of masters elsewhere,
+-- exchange after exchange, where the journal has a replication with such a master under the
+-- script's name.
 pub record TriesScript
     {K D N W : Type 0}
     (k : SinkGhosts K)
@@ -81,19 +83,22 @@ pub record TriesScript
     (out out' : K)
     (disk disk' : D)
     (dial dial' : N) : Type 0 where
-  -- Wherever it ends: some lines of the script are done, and the summary or the stop line is written,
-  -- or a front of it where the sink failed. The dial shows what was heard in each line. At each moment of the call each image of the disk is a
-  -- legal file of the old records and a front of those that are due, as in a run of these lines, and
-  -- at its end it has all those of the lines done.
+  -- Wherever it ends: some lines of the script are done, and the summary or the stop line is
+  -- written, or a front of it where the sink failed. The dial shows what was heard in each line. At
+  -- each moment of the call each image of the disk is a legal file of the old records and a front
+  -- of those that are due, as in a run of these lines, and at its end it has all those of the lines
+  -- done.
   pub headline : FromStart d disk (λ bodies w.
-      HasTried wires (stands n dial) (stands n dial') k.tells (k.faults out) (k.faults out') (k.written out) (k.written out')
+      HasTried wires (stands n dial) (stands n dial') k.tells (k.faults out) (k.faults out')
+      (k.written out) (k.written out')
       (script seed count) (opened kinds heard w) status
       (λ stop. KeepsRun kinds heard d disk disk' bodies w limit (as_run stop)))
   -- So each image is a legal file that goes on from the old records.
   pub legal : FromStart d disk (λ bodies w. StaysLegal d disk disk' bodies)
   -- Over any disk: the same of what was written, from some world on.
   pub over_any_disk : (w : World)
-      × HasTried wires (stands n dial) (stands n dial') k.tells (k.faults out) (k.faults out') (k.written out) (k.written out')
+      × HasTried wires (stands n dial) (stands n dial') k.tells (k.faults out) (k.faults out')
+      (k.written out) (k.written out')
       (script seed count) (opened kinds heard w) status (λ stop done rest. ⊤)
   -- A file that isn't legal stays as it was, and nothing that a crash leaves is new.
   pub illegal : d.tells → IsIllegalFile (d.content disk) → IsUntouched d disk disk'
@@ -103,7 +108,8 @@ pub record TriesScript
   -- The sink failed, and took a front of it.
   pub sink_fault : status ≡ 5 → Rises (k.faults out) (k.faults out')
   pub sink : status ≡ 5 → k.tells → FromStart d disk (λ bodies w.
-      WritesFront (k.written out) (k.written out') (summary_of (script seed count) (opened kinds heard w)))
+      WritesFront (k.written out) (k.written out')
+      (summary_of (script seed count) (opened kinds heard w)))
   -- Then the journal has the records of the whole script, within the limit.
   pub kept : (status ≡ 0) ⊎ (status ≡ 5) → FromStart d disk (λ bodies w.
       (c : List ℕ) → d.image disk' c → (after : World)
@@ -118,8 +124,8 @@ pub record TriesScript
       (k.written out') (stop_line (codes "memory"))
   pub not_journal_line : status ≡ 7 → EndsWith k.tells (k.faults out) (k.faults out')
       (k.written out) (k.written out') (stop_line (codes "not_journal"))
-  -- A legal file is never refused. One that is refused stays as it was. No line is played over a file
-  -- that isn't legal, nor is one full.
+  -- A legal file is never refused. One that is refused stays as it was. No line is played over a
+  -- file that isn't legal, nor is one full.
   pub not_journal : status ≡ 7 → d.tells → IsIllegalFile (d.content disk)
   pub not_journal_kept : status ≡ 7 → d.tells → IsUntouched d disk disk'
   pub stood : (status ≡ 0) ⊎ (status ≡ 5) ⊎ (status ≡ 8) → d.tells
@@ -132,7 +138,8 @@ pub record TriesScript
       × EndsWith k.tells (k.faults out) (k.faults out') (k.written out) (k.written out')
       (full_line would limit))
   -- no other status comes, and counts don't fall
-  pub statuses : (status ≡ 0) ⊎ (status ≡ 3) ⊎ (status ≡ 5) ⊎ (status ≡ 6) ⊎ (status ≡ 7) ⊎ (status ≡ 8)
+  pub statuses : (status ≡ 0) ⊎ (status ≡ 3) ⊎ (status ≡ 5) ⊎ (status ≡ 6) ⊎ (status ≡ 7)
+      ⊎ (status ≡ 8)
   pub sink_faults : k.faults out ≤ k.faults out'
   pub disk_faults : d.faults disk ≤ d.faults disk'
   pub dial_faults : n.faults dial ≤ n.faults dial'

@@ -9,8 +9,8 @@ use Rattle.rx_sync.specs.Turn.{Turned}
 use Rattle.rx_top.specs.Lines.{is_blank}
 use Rattle.rx_top.specs.Script.{line_effect}
 
--- each of them makes one whose link does nothing, of one document an exchange at least, as a line that
--- is read does
+-- each of them makes one whose link does nothing, of one document an exchange at least, as a line
+-- that is read does
 abbrev pub AreTurnsOf : List ℕ → ℕ → List (List ℕ) → Standing → Type 0
 AreTurnsOf name n [] s = Unit {0}
 AreTurnsOf name n (l ∷ ls) s =

@@ -10,7 +10,13 @@ pub record Reach (S D L N C : Type 0) : Type 0 where
   pub dial : N
   pub clock : C
 
--- Nothing is read, opened or asked, and this line is written, or a front of it where the sink failed.
+-- these
+abbrev pub reach : {S D L N C : Type 0} → S → D → L → N → C → Reach S D L N C
+reach source disk door dial clock =
+    record { source = source; disk = disk; door = door; dial = dial; clock = clock }
+
+-- Nothing is read, opened or asked, and this line is written, or a front of it where the sink
+-- failed.
 pub record OnlyWrites
     {S D L N C : Type 0}
     (tells : Type 0)

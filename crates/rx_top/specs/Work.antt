@@ -30,8 +30,8 @@ abbrev pub HasAll : {D : Type 0} → Ghosts D → D → Option Engine → List (
 HasAll d disk None bodies = Leaves d disk bodies []
 HasAll d disk (Some engine) bodies = IsAt d disk engine bodies
 
--- A line was worked on, and this was heard in it. Whatever is to be heard later, what was done is what
--- the line does: the next engine, the bytes written, and the records, wherever it stopped.
+-- A line was worked on, and this was heard in it. Whatever is to be heard later, what was done is
+-- what the line does: the next engine, the bytes written, and the records, wherever it stopped.
 pub record WorksLine
     {D : Type 0}
     (d : Ghosts D)

@@ -14,9 +14,9 @@ pub fn starts_empty<D: Disk>()
     ensures { StartsEmpty D.Disk }
 {}
 
-/// Turns of one replication that follow each other in a script, and whose links do nothing, make no more
-/// exchanges than are enough before the first of them, up to and with the first that is quiet or finds
-/// no write time.
+/// Turns of one replication that follow each other in a script, and whose links do nothing, make no
+/// more exchanges than are enough before the first of them, up to and with the first that is quiet
+/// or finds no write time.
 pub fn turn_lines_end_in_time()
     ensures { TurnLinesEndInTime }
 {}

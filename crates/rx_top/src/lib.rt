@@ -1,5 +1,5 @@
-//! The program over any source, sink, disk, door, dial and clock: a command from its words to its status,
-//! and the play of a script from its bytes to its answers.
+//! The program over any source, sink, disk, door, dial and clock: a command from its words to its
+//! status, and the play of a script from its bytes to its answers.
 //!
 //! `rx` is the call that the program makes. What it promises of each command is a record of specs/:
 //! `PlaysScript` of `run`, `ServesCollection` of `serve`, `ReportsJournal` of `check` and

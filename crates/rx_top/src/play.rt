@@ -48,7 +48,8 @@ pub(crate) fn play<S: Source, K: Sink, D: Disk, N: Dial>(
         → Plays line_effect HoldsOfTurn K.tells (K.written out.old) (K.written out.new)
         (S.left source.old) (S.left source.new) (standing_of (kinds_of handlers.now) heard first)
         result (HearsAll N.W.tells (standing_of (kinds_of handlers.now) heard first)
-        (stands N.Dial dial.old) (stands N.Dial dial.new) result) (KeepsFrom (standing_of (kinds_of handlers.now) heard first) D.Disk disk.old disk.new
+        (stands N.Dial dial.old) (stands N.Dial dial.new) result)
+        (KeepsFrom (standing_of (kinds_of handlers.now) heard first) D.Disk disk.old disk.new
         first result)) }
     ensures legal { D.tells → (bodies : List (List ℕ)) → IsAt D.Disk disk.old first bodies
         → StaysLegal D.Disk disk.old disk.new bodies }
@@ -113,9 +114,11 @@ fn play_line<K: Sink, D: Disk, N: Dial>(
     requires { D.tells → (bodies : List (List ℕ)) × IsAt D.Disk disk.old engine bodies }
     // What was heard in it, and by that the next engine, the reply, and the records: what holds at
     // each moment, where the work was done, and where it stopped.
-    ensures works { WorksLine D.Disk (kinds_of handlers.now) N.W.tells K.tells number line.now engine
+    ensures works { WorksLine D.Disk (kinds_of handlers.now) N.W.tells K.tells number line.now
+        engine
         disk.old disk.new
-        (stands N.Dial dial.old) (stands N.Dial dial.new) (K.written out.old) (K.written out.new) result }
+        (stands N.Dial dial.old) (stands N.Dial dial.new) (K.written out.old) (K.written out.new)
+        result }
     ensures unsaid { K.tells → (s : Stop) → IsErrOf result (EarlyEnd.Work s)
         → K.written out.new ≡ K.written out.old }
     ensures no_read { (f : ReadFault) → IsErrOf result (EarlyEnd.Read f) → ⊥ }

@@ -43,7 +43,11 @@ impl Model for Reader {
 
     ghost Value = { Reading };
 
-    ghost view = { λ r. record { line = r.line.items; unread = drop r.at r.piece.items; given = r.given } };
+    ghost view = { λ r. record {
+      line = r.line.items;
+      unread = drop r.at r.piece.items;
+      given = r.given;
+    } };
 
     ghost invariant = { λ r. IsInBounds r.at (vec_len r.piece) (vec_len r.line) r.given };
 }
@@ -75,7 +79,8 @@ impl Reader {
         ensures next { S.tells → IfOk result (λ next. TakesKept next self.new.line
             (self.old.unread ++ S.left source.old) (self.new.unread ++ S.left source.new)) }
         ensures took { S.tells → OnOk result
-            (Took self.old.given (S.left source.old) (S.left source.new) (λ n. n ≡ self.new.given)) }
+            (Took self.old.given (S.left source.old) (S.left source.new)
+            (λ n. n ≡ self.new.given)) }
         ensures bounded { OnOk result (self.new.given ≤ max_input_bytes) }
         ensures smaller { IfOk result (λ next. next ≡ Next.Line
             → length self.new.unread + self.old.given < length self.old.unread + self.new.given) }
@@ -85,11 +90,14 @@ impl Reader {
         ensures stops_long { S.tells → IsErrOf result ReadFault.TooLong
             → (b : ℕ) × StopsWithin (self.old.unread ++ S.left source.old) (b ∷ S.left source.new) }
         ensures within { S.tells → OnErr result ((IsErrOf result ReadFault.TooLong → ⊥)
-            → Took self.old.given (S.left source.old) (S.left source.new) (λ n. n ≤ max_input_bytes)) }
+            → Took self.old.given (S.left source.old) (S.left source.new)
+            (λ n. n ≤ max_input_bytes)) }
         ensures too_long { S.tells → IsErrOf result ReadFault.TooLong
-            → Took self.old.given (S.left source.old) (S.left source.new) (λ n. n ≡ max_input_bytes + 1) }
+            → Took self.old.given (S.left source.old) (S.left source.new)
+            (λ n. n ≡ max_input_bytes + 1) }
         ensures faults { S.faults source.old ≤ S.faults source.new }
-        ensures read { IsErrOf result ReadFault.Failed → Rises (S.faults source.old) (S.faults source.new) }
+        ensures read { IsErrOf result ReadFault.Failed
+            → Rises (S.faults source.old) (S.faults source.new) }
     {
         self.line.clear();
         'pieces: loop {
@@ -138,7 +146,8 @@ impl Reader {
     // Reads a piece more, and says whether there was one.
     fn fill<S: Source>(&mut self, source: &mut S) -> Result<bool, ReadFault>
         ensures line { self.new.line ≡ self.old.line }
-        ensures more { S.tells → OnOk result (S.left source.old ≡ self.new.unread ++ S.left source.new) }
+        ensures more { S.tells
+            → OnOk result (S.left source.old ≡ self.new.unread ++ S.left source.new) }
         ensures end { S.tells → IfOk result (λ some. some ≡ false → S.left source.old ≡ []) }
         ensures given { OnOk result (self.new.given ≡ self.old.given + length self.new.unread) }
         ensures bounded { OnOk result (self.new.given ≤ max_input_bytes) }
@@ -149,7 +158,8 @@ impl Reader {
         ensures too_long { S.tells → IsErrOf result ReadFault.TooLong
             → (b : ℕ) × (S.left source.old ≡ b ∷ S.left source.new) }
         ensures faults { S.faults source.old ≤ S.faults source.new }
-        ensures read { IsErrOf result ReadFault.Failed → Rises (S.faults source.old) (S.faults source.new) }
+        ensures read { IsErrOf result ReadFault.Failed
+            → Rises (S.faults source.old) (S.faults source.new) }
     {
         let room = MAX_INPUT_BYTES - self.given;
         self.at = 0;
@@ -170,7 +180,8 @@ fn line_end(bytes: &[u8]) -> Option<usize>
     ensures none { IfNone result (is_within bytes.now ≡ true) }
     ensures within { IfSome result (λ at. at < length bytes.now) }
     ensures line { IfSome result (λ at. is_within (take at bytes.now) ≡ true) }
-    ensures end { IfSome result (λ at. bytes.now ≡ take at bytes.now ++ 10 ∷ drop (at + 1) bytes.now) }
+    ensures end { IfSome result (λ at. bytes.now
+        ≡ take at bytes.now ++ 10 ∷ drop (at + 1) bytes.now) }
 {
     memchr(b'\n', bytes)
 }
@@ -190,12 +201,15 @@ fn keep(line: &mut Vec<u8>, bytes: &[u8]) -> Result<(), AllocError>
 fn read_piece<S: Source>(piece: &mut Vec<u8>, most: u64, source: &mut S) -> Result<usize, ReadFault>
     requires { 0 < most }
     ensures count { IfOk result (λ n. (n ≡ length piece.new.items) × (n ≤ most)) }
-    ensures stream { S.tells → OnOk result (S.left source.old ≡ piece.new.items ++ S.left source.new) }
+    ensures stream { S.tells
+        → OnOk result (S.left source.old ≡ piece.new.items ++ S.left source.new) }
     ensures end { S.tells → IfOk result (λ n. n ≡ 0 → S.left source.old ≡ []) }
     ensures keeps { S.tells → OnErr result (S.left source.new ≡ S.left source.old) }
     ensures faults { S.faults source.old ≤ S.faults source.new }
-    ensures read { IsErrOf result ReadFault.Failed → Rises (S.faults source.old) (S.faults source.new) }
-    ensures others { OnErr result (IsErrOf result ReadFault.Failed ⊎ IsErrOf result ReadFault.Memory) }
+    ensures read { IsErrOf result ReadFault.Failed
+        → Rises (S.faults source.old) (S.faults source.new) }
+    ensures others { OnErr result (IsErrOf result ReadFault.Failed
+        ⊎ IsErrOf result ReadFault.Memory) }
 {
     let size = most.min(piece_size(piece.len()) as u64);
     piece.clear();

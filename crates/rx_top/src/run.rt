@@ -27,7 +27,8 @@ use rx_handler::Handlers;
 use rx_outside::{Dial, Sink, Source};
 use std::alloc::Global;
 
-/// Plays the script that the source gives over the journal that the disk is, and answers its status.
+/// Plays the script that the source gives over the journal that the disk is, and answers its
+/// status.
 pub(crate) fn run<S: Source, K: Sink, D: Disk, N: Dial>(
     alloc: Global,
     limit: u64,
@@ -40,7 +41,8 @@ pub(crate) fn run<S: Source, K: Sink, D: Disk, N: Dial>(
     requires low { 9 ≤ limit }
     requires high { limit < 2 ^ 32 }
     ensures plays { (heard : List Heard)
-        × PlaysScript S.Source K.Sink D.Disk N.Dial N.W.tells (kinds_of handlers.now) heard limit result
+        × PlaysScript S.Source K.Sink D.Disk N.Dial N.W.tells (kinds_of handlers.now) heard limit
+        result
         source.old source.new out.old out.new disk.old disk.new
         dial.old dial.new }
 {
@@ -62,8 +64,8 @@ fn open_and_play<S: Source, K: Sink, D: Disk, N: Dial>(
 ) -> Result<bool, EarlyEnd>
     requires low { 9 ≤ limit }
     requires high { limit < 2 ^ 32 }
-    // By what was heard of masters elsewhere in all lines, as the dial shows, over a disk that tells its
-    // content and over any other.
+    // By what was heard of masters elsewhere in all lines, as the dial shows, over a disk that
+    // tells its content and over any other.
     ensures run { (heard : List Heard) × (S.tells → FromStart D.Disk disk.old (λ bodies w.
         Plays line_effect HoldsOfTurn K.tells (K.written out.old) (K.written out.new)
         (S.left source.old) (S.left source.new) (opened (kinds_of handlers.now) heard w) result

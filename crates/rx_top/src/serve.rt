@@ -50,7 +50,8 @@ pub(crate) fn serve<K: Sink, D: Disk, L: Listen, C: Clock>(
 ) -> u8
     requires low { 9 ≤ limit }
     requires high { limit < 2 ^ 32 }
-    ensures serves { ServesCollection K.Sink D.Disk L.Listen L.W.tells C.Clock offer.now.collection.now
+    ensures serves { ServesCollection K.Sink D.Disk L.Listen L.W.tells C.Clock
+        offer.now.collection.now
         offer.now.connections limit result out.old out.new disk.old disk.new door.old door.new
         clock.old clock.new }
 {
@@ -90,7 +91,8 @@ fn open_and_serve<K: Sink, D: Disk, L: Listen, C: Clock>(
     ensures illegal { D.tells → IsIllegalFile (D.content disk.old)
         → IsUntouched D.Disk disk.old disk.new }
     ensures stood { D.tells → IsOpened result → IsJournalOfSome (D.content disk.old) }
-    ensures full { (would most : ℕ) → IsErrOf result (Halt.Fault (fault.Stopped (stop.Full would most)))
+    ensures full { (would most : ℕ)
+        → IsErrOf result (Halt.Fault (fault.Stopped (stop.Full would most)))
         → FromStart D.Disk disk.old (λ bodies w. (sure : Commits) × (more : Commits)
         × (most ≡ limit)
         × IsFull D.Disk disk.new (bodies ++ bodies_of offer.now.collection.now sure)

@@ -9,7 +9,7 @@ ghost use Rattle.rx_top.specs.ReportsJournal.{ReportsJournal};
 ghost use Rattle.rx_top.specs.ServesCollection.{ServesCollection};
 ghost use Rattle.rx_top.specs.Stops.{EndsWith, stop_line};
 ghost use Rattle.rx_top.specs.TriesScript.{TriesScript};
-ghost use Rattle.rx_top.specs.Untouched.{LacksMemory, OnlyWrites};
+ghost use Rattle.rx_top.specs.Untouched.{LacksMemory, OnlyWrites, reach};
 
 use crate::check::check;
 use crate::run::run;
@@ -25,8 +25,8 @@ use std::alloc::Global;
 ///
 /// `run JOURNAL` opens the journal, which is the disk, begins a new epoch, and plays the script
 /// that the source gives, a line of JSON a line. The records of a line are on the disk before a
-/// byte of its reply is written. A turn whose master is at a port dials it once, and that it is lost
-/// ends no run.
+/// byte of its reply is written. A turn whose master is at a port dials it once, and that it is
+/// lost ends no run.
 ///
 /// `serve JOURNAL COLLECTION PORT CONNECTIONS` opens the journal, and then the door at that port on
 /// loopback, and serves the collection as a master to so many connections, one after another.
@@ -67,13 +67,12 @@ pub fn rx<S: Source, K: Sink, D: Disk, L: Listen, N: Dial, C: Clock>(
     ensures runs { (path : List ℕ) (limit : ℕ)
         → command_of words.now.words.items ≡ Some (Run path limit)
         → ((heard : List Heard)
-        × PlaysScript S.Source K.Sink D.Disk N.Dial N.W.tells (kinds_of handlers.now) heard limit result
-        source.old source.new out.old out.new disk.old disk.new
-        dial.old dial.new)
+        × PlaysScript S.Source K.Sink D.Disk N.Dial N.W.tells (kinds_of handlers.now) heard limit
+        result source.old source.new out.old out.new disk.old disk.new dial.old dial.new)
         ⊎ LacksMemory result K.tells (K.faults out.old) (K.faults out.new) (K.written out.old)
         (K.written out.new)
-        (record { source = source.old; disk = disk.old; door = door.old; dial = dial.old; clock = clock.old })
-        (record { source = source.new; disk = disk.new; door = door.new; dial = dial.new; clock = clock.new }) }
+        (reach source.old disk.old door.old dial.old clock.old)
+        (reach source.new disk.new door.new dial.new clock.new) }
 
     // The command `serve`, likewise.
     ensures serves { (path name : List ℕ) (port connections limit : ℕ)
@@ -82,8 +81,8 @@ pub fn rx<S: Source, K: Sink, D: Disk, L: Listen, N: Dial, C: Clock>(
         out.old out.new disk.old disk.new door.old door.new clock.old clock.new
         ⊎ LacksMemory result K.tells (K.faults out.old) (K.faults out.new) (K.written out.old)
         (K.written out.new)
-        (record { source = source.old; disk = disk.old; door = door.old; dial = dial.old; clock = clock.old })
-        (record { source = source.new; disk = disk.new; door = door.new; dial = dial.new; clock = clock.new }) }
+        (reach source.old disk.old door.old dial.old clock.old)
+        (reach source.new disk.new door.new dial.new clock.new) }
 
     // The command `check`, likewise.
     ensures reports { (path : List ℕ)
@@ -91,20 +90,19 @@ pub fn rx<S: Source, K: Sink, D: Disk, L: Listen, N: Dial, C: Clock>(
         → ReportsJournal K.Sink D.Disk result out.old out.new disk.old disk.new
         ⊎ LacksMemory result K.tells (K.faults out.old) (K.faults out.new) (K.written out.old)
         (K.written out.new)
-        (record { source = source.old; disk = disk.old; door = door.old; dial = dial.old; clock = clock.old })
-        (record { source = source.new; disk = disk.new; door = door.new; dial = dial.new; clock = clock.new }) }
+        (reach source.old disk.old door.old dial.old clock.old)
+        (reach source.new disk.new door.new dial.new clock.new) }
 
     // The command `trial`, likewise.
     ensures tries { (path : List ℕ) (seed count limit : ℕ)
         → command_of words.now.words.items ≡ Some (Trial path seed count limit)
         → ((heard : List Heard)
-        × TriesScript K.Sink D.Disk N.Dial N.W.tells (kinds_of handlers.now) heard limit seed count result
-        out.old out.new disk.old disk.new
-        dial.old dial.new)
+        × TriesScript K.Sink D.Disk N.Dial N.W.tells (kinds_of handlers.now) heard limit seed count
+        result out.old out.new disk.old disk.new dial.old dial.new)
         ⊎ LacksMemory result K.tells (K.faults out.old) (K.faults out.new) (K.written out.old)
         (K.written out.new)
-        (record { source = source.old; disk = disk.old; door = door.old; dial = dial.old; clock = clock.old })
-        (record { source = source.new; disk = disk.new; door = door.new; dial = dial.new; clock = clock.new }) }
+        (reach source.old disk.old door.old dial.old clock.old)
+        (reach source.new disk.new door.new dial.new clock.new) }
 
     // What a command doesn't need it leaves alone.
     ensures run_alone { (path : List ℕ) (limit : ℕ)
@@ -126,8 +124,8 @@ pub fn rx<S: Source, K: Sink, D: Disk, L: Listen, N: Dial, C: Clock>(
     ensures usage_only { command_of words.now.words.items ≡ None → (result ≡ 2) ⊎ (result ≡ 6) }
     ensures usage_line { result ≡ 2 → OnlyWrites K.tells (K.faults out.old) (K.faults out.new)
         (K.written out.old) (K.written out.new)
-        (record { source = source.old; disk = disk.old; door = door.old; dial = dial.old; clock = clock.old })
-        (record { source = source.new; disk = disk.new; door = door.new; dial = dial.new; clock = clock.new })
+        (reach source.old disk.old door.old dial.old clock.old)
+        (reach source.new disk.new door.new dial.new clock.new)
         (stop_line (codes "usage")) }
 {
     match command_of(alloc, words) {

@@ -61,8 +61,8 @@ fn open_and_play<D: Disk, N: Dial>(
 ) -> Result<String, Stop>
     requires low { 9 ≤ limit }
     requires high { limit < 2 ^ 32 }
-    // By what was heard of masters elsewhere in all lines, as the dial shows, over a disk that tells its
-    // content and over any other.
+    // By what was heard of masters elsewhere in all lines, as the dial shows, over a disk that
+    // tells its content and over any other.
     ensures plays { (heard : List Heard) × FromStart D.Disk disk.old (λ bodies w.
         DoesLines (script seed count) (result_err result)
         (HearsAll N.W.tells (opened (kinds_of handlers.now) heard w) (stands N.Dial dial.old)
@@ -116,7 +116,8 @@ fn play_lines<D: Disk, N: Dial>(
     requires filled { All (λ line. is_blank line ≡ false) lines.old }
     requires few { length lines.old < 2 ^ 63 }
     ensures plays { (heard : List Heard) × DoesLines lines.old (result_err result)
-        (HearsAll N.W.tells (standing_of (kinds_of handlers.now) heard first) (stands N.Dial dial.old)
+        (HearsAll N.W.tells (standing_of (kinds_of handlers.now) heard first)
+        (stands N.Dial dial.old)
         (stands N.Dial dial.new) (as_run (result_err result)))
         (KeepsFrom (standing_of (kinds_of handlers.now) heard first) D.Disk disk.old disk.new first
         (as_run (result_err result)))

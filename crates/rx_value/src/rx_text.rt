@@ -25,7 +25,8 @@ impl Model for ShortText {
 
     ghost view = { λ t. take t.len t.bytes };
 
-    ghost invariant = { λ t. (t.len ≤ 14) × (length t.bytes ≡ 14) × ∥ IsUtf8 (take t.len t.bytes) ∥₁ };
+    ghost invariant = { λ t. (t.len ≤ 14) × (length t.bytes ≡ 14)
+        × ∥ IsUtf8 (take t.len t.bytes) ∥₁ };
 }
 
 impl ShortText {
