@@ -18,7 +18,7 @@ from shared import (HERE, Server, Wrong, add, answers, ask, checked, collection,
                     examples, free_port, insert, insist, main, pull, push, run, text)
 
 KINDS = {"alloc": {6}, "allocs": {6}, "call": {3, 4, 5}, "short": set()}
-LIMIT = 3_600
+LIMIT = 7_200
 
 
 class Play:

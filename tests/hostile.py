@@ -309,7 +309,7 @@ def play_round(folder, number):
     return it
 
 
-@case("replies at random", seconds=3_600, in_memory=True)
+@case("replies at random", seconds=7_200, in_memory=True)
 def replies_at_random(folder):
     seen, kinds, number = collections.Counter(), collections.Counter(), 0
     while sum(kinds.values()) < REPLIES:
@@ -439,7 +439,7 @@ ENDS = {
 }
 
 
-@case("peers that end", seconds=600)
+@case("peers that end", seconds=1_800)
 def peers_that_end(folder):
     seen = collections.Counter()
     for number in range(40):
@@ -487,7 +487,7 @@ def flood(call, size, tail):
     insist(why == "reply", why)
 
 
-@case("lines without an end", seconds=600)
+@case("lines without an end", seconds=1_800)
 def lines_without_an_end(folder):
     for number, (size, tail) in enumerate([(1 << 20, b""), (1 << 20, b"\n"), (LONGEST, b"\n"),
                                            (LONGEST + 1, b"a")]):
@@ -508,7 +508,7 @@ def hang_within_a_reply(wire):
     wire.sendall(b'{"docs":[]')
 
 
-@case("peers that hang", seconds=900)
+@case("peers that hang", seconds=1_800)
 def peers_that_hang(folder):
     """All at once: one takes no connection in, one none at all, one says nothing, one stops within a
     reply, one takes nothing of a long request."""

@@ -72,7 +72,7 @@ def a_line_in_pieces(folder):
     return "a byte at a time, and three lines in one piece"
 
 
-@case("a line that is too long")
+@case("a line that is too long", seconds=1_800)
 def a_line_too_long(folder):
     server = Server(folder, 2)
     with server.dial() as wire:
@@ -119,7 +119,7 @@ def peers_that_go_away(folder):
     return "60 of them in mid-line, in mid-reply, after a reply and before it: what was answered is there"
 
 
-@case("peers that hang", seconds=600)
+@case("peers that hang", seconds=1_800)
 def peers_that_hang(folder):
     """All at once, each with a server of its own: one says nothing, one stops within a line, one asks
     and never reads."""
@@ -282,7 +282,7 @@ def finish_turn(fork, count):
     return seconds, found["digest"]
 
 
-@case("kill -9 of a fork or its master in a turn", seconds=600)
+@case("kill -9 of a fork or its master in a turn", seconds=1_800)
 def killed_in_a_remote_turn(folder):
     insist(run(os.path.join(folder, "journal"), [collection()])[0] == 0, "no journal")
     moments, port, rounds, cut = random.Random(SEED), free_port(), 60, 0
