@@ -1,19 +1,19 @@
 #!/usr/bin/env python3
 """Documents written and read a second, beside sqlite3.
 
-    bench/documents.py [PROGRAM] [FOLDER]
+    bench/documents.py [PROGRAM] [FOLDER] [--json FILE]
 
 The files lie in FOLDER, or in memory-backed storage where it is left out. Upserts and gets start
 from 100,000 documents, and sqlite3 does the same on a database in the same folder, in WAL mode with
 synchronous=FULL. What it takes to make those documents is taken off both. The two take turns, three
-runs each, and the best time counts. Then the cost of one upsert as the collection grows, and the
-opening of a journal of 200,000 records.
+runs each, and the best time counts. Then the processor time of one upsert and of one get as the
+collection grows, and the opening of a journal of 200,000 records.
 """
 import os
 import sys
 import tempfile
 
-from measuring import collection, compact, documents, measure, program, report, sqlite
+from measuring import collection, compact, documents, figure, measure, processor, program, report, sqlite
 
 RUNS = 3
 COUNT = 100_000
@@ -98,19 +98,42 @@ def compare(load, count, ours, theirs, start, start_in_sql):
     pairs = [(run(rx, start + ours), run(rx, start), run(peer, start_in_sql + theirs), run(peer, start_in_sql)) for _ in range(RUNS)]
     seconds = report(load, "rx", count, [(whole[0] - begun[0], whole[1]) for whole, begun, _, _ in pairs])
     peer_seconds = report(load, "sqlite3", count, [(whole[0] - begun[0], whole[1]) for _, _, whole, begun in pairs])
-    print(f"{load}: rx takes {seconds / peer_seconds:.2f} times the time of sqlite3")
+    print(f"{load}: rx takes {seconds / peer_seconds:.2f} times the time of sqlite3", flush=True)
+    figure(load, ratio=seconds / peer_seconds, rx=count / seconds, sqlite3=count / peer_seconds)
+
+
+def used(command, lines):
+    """The seconds of a processor of the best run."""
+    times = []
+    for _ in range(RUNS):
+        before = processor()
+        run(command, lines)
+        times.append(processor() - before)
+    return min(times)
+
+
+def costs(command, start, loads, count):
+    """The microseconds of a line of each load, behind the lines that make the documents."""
+    begun = used(command, start)
+    return [(used(command, start + lines) - begun) / count * 1e6 for lines in loads]
 
 
 def growth():
-    """The cost of one upsert over few and over many documents."""
-    costs = []
+    """The cost of one line over few and over many documents, whose keys come in no order."""
+    count, names = 200_000, ("upserts", "gets")
+    rx, peer, first = [program(), "run"], [sqlite(), "-batch"], None
     for size in (1_000, 10_000, 100_000, 1_000_000):
-        lines = [compact({"do": "upsert", "in": "c", "doc": {"id": f"k{i * 7_919 % size}", "n": i}}) for i in range(20_000)]
-        rx = [program(), "run"]
-        start = made(size)
-        costs.append(min(run(rx, start + lines)[0] - run(rx, start)[0] for _ in range(RUNS)))
-        print(f"upserts over {size:,} documents: {costs[-1] / 20_000 * 1e6:.1f} us each")
-    print(f"upserts: over 1,000,000 documents one takes {costs[-1] / costs[0]:.2f} times as long as over 1,000")
+        keys = [f"k{i * 7_919 % size}" for i in range(count)]
+        ours = [[compact({"do": "upsert", "in": "c", "doc": {"id": key, "n": i}}) for i, key in enumerate(keys)],
+                [compact({"do": "get", "in": "c", "key": key}) for key in keys]]
+        theirs = [[f"INSERT INTO c VALUES('{key}',{i}) ON CONFLICT DO UPDATE SET n={i} RETURNING '2-c';" for i, key in enumerate(keys)],
+                  [f"SELECT json_object('id',id,'n',n) FROM c WHERE id='{key}';" for key in keys]]
+        both = costs(rx, made(size), ours, count), costs(peer, made_in_sql(size), theirs, count)
+        first = first or both[0]
+        for name, cost, other, least in zip(names, *both, first):
+            print(f"{name} over {size:,} documents: rx {cost:.1f} us of a processor each, sqlite3 {other:.1f}; "
+                  f"rx takes {cost / least:.2f} times as long as over 1,000", flush=True)
+            figure(f"{name} by documents", documents=size, rx=cost, sqlite3=other)
 
 
 def opening():

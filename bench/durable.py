@@ -1,7 +1,7 @@
 #!/usr/bin/env python3
 """Durable inserts a second, one by one, beside the raw floor and sqlite3, on one disk.
 
-    bench/durable.py [PROGRAM] [FOLDER]
+    bench/durable.py [PROGRAM] [FOLDER] [--json FILE]
 
 The floor is what a journal can't do without: for each record two writes and two syncs of the data,
 of the same lengths, by os.pwrite and os.fdatasync. sqlite3 inserts the same documents as statements
@@ -14,7 +14,7 @@ import sys
 import tempfile
 import time
 
-from measuring import HERE, collection, compact, documents, measure, program, report, sqlite
+from measuring import HERE, collection, compact, documents, figure, measure, program, report, sqlite
 
 RUNS = 3
 COUNT = 1_000
@@ -65,6 +65,7 @@ def main():
     seconds = {who: report("durable inserts", who, COUNT, runs[who]) for who in peers}
     for who in list(peers)[1:]:
         print(f"durable inserts: rx takes {seconds['rx'] / seconds[who]:.2f} times the time of {who}")
+        figure(f"inserts beside {who}", ratio=seconds["rx"] / seconds[who], rx=COUNT / seconds["rx"])
 
 
 main()

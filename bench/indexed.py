@@ -1,14 +1,15 @@
 #!/usr/bin/env python3
 """Queries and writes by an index, beside sqlite3 with the same index.
 
-    bench/indexed.py [PROGRAM] [FOLDER]
+    bench/indexed.py [PROGRAM] [FOLDER] [--json FILE] [--only loads]
 
 100,000 documents stand in an index by group and number. Both peers are asked for one document by its key, for a
 range of a group with a limit, for the first 20 of a group by number, for the count of a group, and for that of
 a group from a number on; then a mix of the first ones and of upserts. sqlite3 has a database in the same
 folder, in WAL mode with synchronous=FULL, and gives rows as JSON too. What it takes to make the documents is
 taken off both; the two take turns, three runs each, and the best times count. Then the cost of one upsert with
-0, 1, 4 and 16 indexes as the collection grows, and what a document takes in memory with them.
+0, 1, 4 and 16 indexes as the collection grows, and what a document takes in memory with them, unless
+only the loads are asked for.
 """
 import os
 import random
@@ -16,9 +17,10 @@ import sys
 import tempfile
 from itertools import chain, islice
 
-from measuring import compact, measure, program, report, sqlite
+from measuring import compact, figure, measure, option, program, report, sqlite
 
 RUNS = 3
+ONLY = option("--only")
 COUNT, LINES = 100_000, 40_000
 STORAGE = sys.argv[2] if len(sys.argv) > 2 else "/dev/shm"
 NUMBER = {"type": "integer", "minimum": 0, "maximum": 1_000_003, "multipleOf": 1}
@@ -117,6 +119,7 @@ def compare(load, one):
     seconds = report(load, "rx", LINES, [added([row[0] for row in rows], [row[1] for row in rows])])
     peer_seconds = report(load, "sqlite3", LINES, [added([row[2] for row in rows], [row[3] for row in rows])])
     print(f"{load}: rx takes {seconds / peer_seconds:.2f} times the time of sqlite3", flush=True)
+    figure(load, ratio=seconds / peer_seconds, rx=LINES / seconds, sqlite3=LINES / peer_seconds)
 
 
 def numbered(numbers, key):
@@ -141,6 +144,7 @@ def growth(indexes):
         costs.append((whole - begun[0]) / 20_000 * 1e6)
         memory.append(begun[1])
         print(f"{indexes} indexes, {size:,} documents: {costs[-1]:.1f} us an upsert, peak {begun[1]:,} KiB", flush=True)
+        figure("upserts by documents", indexes=indexes, documents=size, rx=costs[-1], peak=begun[1])
     grown = (memory[-1] - memory[-2]) * 1024 / (sizes[-1] - sizes[-2])
     print(f"{indexes} indexes: over 1,000,000 documents {costs[-1] / costs[0]:.2f} times as long as over 1,000; {grown:.0f} bytes a document", flush=True)
 
@@ -148,7 +152,7 @@ def growth(indexes):
 def main():
     for load, one in (("by key", point), ("range", part), ("first 20", first), ("count", count), ("count from", count_from), ("mixed", mixed)):
         compare(load, one)
-    for indexes in (0, 1, 4, 16):
+    for indexes in () if ONLY else (0, 1, 4, 16):
         growth(indexes)
 
 

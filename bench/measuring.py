@@ -10,6 +10,20 @@ import time
 HERE = os.path.dirname(os.path.abspath(__file__))
 
 
+def option(name):
+    """The word behind an option of the command line, both taken off it, or None where it isn't there."""
+    if name not in sys.argv:
+        return None
+    at = sys.argv.index(name)
+    word = sys.argv[at + 1]
+    del sys.argv[at:at + 2]
+    return word
+
+
+# each benchmark takes `--json FILE`, and writes its figures there too, a line each behind those that are there
+FIGURES = option("--json")
+
+
 def program():
     """The built rx: the first argument, or where the toolchain puts it."""
     return sys.argv[1] if len(sys.argv) > 1 else os.path.join(HERE, "..", "crates", "rx", "out", "rx")
@@ -51,6 +65,15 @@ def measure(command, lines):
         if os.waitstatus_to_exitcode(status) != 0:
             sys.exit(f"{command[0]} ended with status {os.waitstatus_to_exitcode(status)}")
         return seconds, usage.ru_maxrss
+
+
+def figure(load, **numbers):
+    """Keeps a figure for bench/plots.py, in the file of `--json`."""
+    if FIGURES:
+        bench = os.path.splitext(os.path.basename(sys.argv[0]))[0]
+        rounded = {name: float(f"{it:.4g}") if isinstance(it, float) else it for name, it in numbers.items()}
+        with open(FIGURES, "a", encoding="utf-8") as file:
+            file.write(compact({"bench": bench, "load": load, **rounded}) + "\n")
 
 
 def report(load, who, count, runs):

@@ -1,7 +1,7 @@
 #!/usr/bin/env python3
 """Lines a second while queries are observed, beside sqlite3 asked again after each change.
 
-    bench/observed.py [PROGRAM] [FOLDER]
+    bench/observed.py [PROGRAM] [FOLDER] [--json FILE]
 
 A random stream of writes (one in ten inserts, one removes, the others set the number of a document)
 goes over collections of 1,000, 10,000 and 100,000 documents with 0, 16, 64 and 256 observed queries.
@@ -18,7 +18,7 @@ import sys
 import tempfile
 from collections import Counter
 
-from measuring import compact, measure, program, sqlite
+from measuring import compact, figure, measure, program, sqlite
 
 RUNS = 3
 # More writes where each takes less.
@@ -118,8 +118,8 @@ def asked_again(count, queries, index, lines):
     """The seconds of one write with all queries asked again by sqlite3."""
     peer, start = [sqlite(), "-batch"], made_in_sql(count, index)
     begun = min(run(peer, start)[0] for _ in range(RUNS))
-    # One run is enough where it takes long.
-    runs = 1 if queries >= 64 else RUNS
+    # One run over fewer writes is enough where each takes long.
+    runs, lines = (1, lines // 4) if queries >= 64 else (RUNS, lines)
     return (min(run(peer, start + list(theirs(count, queries, lines)))[0] for _ in range(runs)) - begun) / lines
 
 
@@ -131,8 +131,9 @@ def compare(count, queries):
     peer = asked_again(count, queries, INDEX, lines)
     print(f"{count:,} documents, {queries} queries: rx {1 / taken:,.0f} lines a second, peak {memory:,} KiB, journal {size // 1024:,} KiB")
     print(f"    sqlite3 with an index {1 / peer:,.0f}: {peer / taken:.1f} times the time", flush=True)
+    figure("writes", documents=count, queries=queries, rx=1 / taken, sqlite3=1 / peer)
     if queries == 64:
-        slow = asked_again(count, queries, "", 20)
+        slow = asked_again(count, queries, "", 80)
         print(f"    sqlite3 without one {1 / slow:,.0f}: {slow / taken:.1f} times the time", flush=True)
 
 

@@ -1,7 +1,7 @@
 #!/usr/bin/env python3
 """Turns of a fork and its master: exchanges and documents a second, beside sqlite3.
 
-    bench/replication.py [PROGRAM] [FOLDER] [FEWER]
+    bench/replication.py [PROGRAM] [FOLDER] [FEWER] [--json FILE]
 
 The files lie in FOLDER, or in memory-backed storage where it is left out. A first pull of 100,000
 documents, 10,000 documents pushed, and 1,000 conflicts with each handler, each with batches of 1, 10
@@ -24,7 +24,7 @@ import sys
 import tempfile
 import time
 
-from measuring import SCHEMA, compact, program
+from measuring import SCHEMA, compact, figure, program
 
 RUNS = 3
 SECONDS = 600
@@ -249,6 +249,7 @@ def compare(load, count, filled, handler, batch):
           f"{count / ours:,.0f} documents a second, sqlite3 {exchanges / theirs:,.0f} and "
           f"{count / theirs:,.0f}; rx takes {ours / theirs:.2f} times the time of sqlite3",
           flush=True)
+    figure(load, batch=batch, ratio=ours / theirs, rx=count / ours, sqlite3=count / theirs)
 
 
 # ---- turns of one exchange
@@ -354,6 +355,7 @@ def table():
                 done = "pulled" if side == "m" else "pushed"
                 print(f"a fork of {count:,} that {load}, one {done}: rx {ours[side] * 1e6:,.1f} us, "
                       f"sqlite3 {theirs[side] * 1e6:,.1f} us", flush=True)
+                figure(f"one {done} where the fork {load}", documents=count, rx=ours[side] * 1e6, sqlite3=theirs[side] * 1e6)
 
 
 def main():

@@ -1,7 +1,7 @@
 #!/usr/bin/env python3
 """Requests and bytes a second of a served collection, beside sqlite3 and a bare echo.
 
-    bench/serve.py [PROGRAM] [FOLDER] [FEWER]
+    bench/serve.py [PROGRAM] [FOLDER] [FEWER] [--json FILE]
 
 Pulls and pushes of 1, 10 and 100 rows, over 1,000 and 100,000 documents, and a pull of all of the
 100,000; with so many times fewer documents where FEWER is given. The files lie in FOLDER, or where
@@ -26,7 +26,7 @@ import sys
 import tempfile
 import time
 
-from measuring import HERE, SCHEMA, collection, compact, hash_of, measure, program
+from measuring import HERE, SCHEMA, collection, compact, figure, hash_of, measure, program
 
 RUNS = 3
 SECONDS, MOST = 5, 2_000
@@ -234,6 +234,7 @@ def compare(load, made, size, asked):
     print(f"{load}: rx {1 / each:,.0f} requests and {size_of_each / each / 1e6:,.1f} MB a second, "
           f"sqlite3 {1 / peer:,.0f} and the echo {1 / bare:,.0f}; rx takes "
           f"{each / (peer + bare):.2f} times the time of both", flush=True)
+    figure(load, ratio=each / (peer + bare), rx=1 / each)
 
 
 def main():

@@ -1,7 +1,7 @@
 #!/usr/bin/env python3
 """A fork and its master as two processes: documents and bytes a second, beside turns in one process.
 
-    bench/sync.py [PROGRAM] [FOLDER] [FEWER]
+    bench/sync.py [PROGRAM] [FOLDER] [FEWER] [--json FILE]
 
 `rx serve` has the master's journal and `rx run` the fork's, and a socket on 127.0.0.1 goes between
 them: a first pull of 100,000 documents, and then 10,000 of them edited by the fork and pushed, with
@@ -24,7 +24,7 @@ import tempfile
 import threading
 import time
 
-from measuring import HERE, SCHEMA, Server, Talk, compact, measure, program
+from measuring import HERE, SCHEMA, Server, Talk, compact, figure, measure, program
 
 RUNS = 3
 FOLDERS = [sys.argv[2]] if len(sys.argv) > 2 else ["/dev/shm", HERE]
@@ -171,6 +171,7 @@ def compare(storage, made):
         print(f"{load} of {count:,} in {storage}: two processes {count / far:,.0f} documents and "
               f"{size / far / 1e6:,.1f} MB a second ({size:,} bytes), one process {count / near:,.0f} "
               f"documents; the rate of two is {near / far:.2f} times that of one", flush=True)
+        figure(load, storage=storage, ratio=near / far, two=count / far, one=count / near)
 
 
 def main():

@@ -1,0 +1,50 @@
+ghost use Rattle.std.specs.Prelude.{◌≡◌, length};
+ghost use Rattle.std.specs.Iterator.{at_most};
+ghost use Rattle.std.specs.Map.Iter.{TakesFirst, deref_pair};
+ghost use Rattle.rx_runs.specs.Rows.{shown, AllUnder};
+
+use crate::name::Name;
+use crate::pairs::Pairs;
+use crate::slots::Slots;
+use std::marker::Model;
+
+/// Names with the values of their slots, by rising name, lent.
+#[derive(Drop)]
+pub struct Rows<'a, V> {
+    names: Pairs<'a, u32>,
+    rows: &'a Slots<V>,
+}
+
+impl<'a, V> Model for Rows<'a, V> {
+    ghost use Rattle.std.specs.Prelude.{List, ℕ, length};
+    ghost use Rattle.rx_runs.specs.Rows.{shown, AllUnder};
+
+    ghost Value = { List (List ℕ × V) };
+
+    ghost view = { λ r. shown r.rows.now r.names };
+
+    ghost invariant = { λ r. AllUnder (length r.rows.now) r.names };
+}
+
+impl<'a, V> Rows<'a, V> {
+    /// The names with the values of their slots.
+    pub fn new(names: Pairs<'a, u32>, rows: &'a Slots<V>) -> Rows<'a, V>
+        requires { AllUnder (length rows.now) names }
+        ensures { result ≡ shown rows.entry.now names.entry }
+    {
+        Rows { names, rows }
+    }
+}
+
+impl<'a, V> Iterator for Rows<'a, V> {
+    type Item = (&'a Name, &'a V);
+
+    ghost next_gives = { TakesFirst deref_pair };
+
+    ghost remaining = { λ s. at_most (length s) };
+
+    fn next(&mut self) -> Option<(&'a Name, &'a V)> {
+        let (name, slot) = self.names.next()?;
+        Some((name, self.rows.at(*slot as usize)))
+    }
+}
