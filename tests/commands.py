@@ -29,7 +29,7 @@ def a_large_report(folder):
     insist(status == 0, f"the run ended with {status}")
     told = checked(journal)
     insist(told[0]["count"] == count and told[1]["records"] >= RECORDS, f"other documents or records: {told}")
-    return f"{told[1]}"
+    return compact(told[1])
 
 
 if __name__ == "__main__":
