@@ -2,13 +2,10 @@
 use Rattle.std.proofs.Common.{◌≡◌, ℕ, Bool, true, false, cond, ◌&&◌, List, [], ◌∷◌, ◌++◌, map, Option, Some, None, is_some, refl, sym, ap, ◌∙◌}
 use Rattle.std.proofs.lemmas.Bool.{false≢true, and_parts}
 use Rattle.std.proofs.lemmas.List.{same_from_push}
-use Rattle.std.proofs.lemmas.Map.Made.{is_some-lookup}
 use Rattle.std.proofs.lemmas.Slice.Eq.{bytes_eq-Decides}
-use Rattle.std.specs.BTreeMap.{BTreeMap, get, Updates}
 use Rattle.std.specs.Bool.{beq}
 use Rattle.std.specs.Cmp.{Equal-is, booleans_Decides}
 use Rattle.std.specs.List.{list_all}
-use Rattle.std.specs.Map.{keys_of}
 use Rattle.std.specs.Ordering.{is_eq}
 use Rattle.std.specs.Str.{bytes_eq}
 use Rattle.rx_value.proofs.Named.{named-put_in_order}
@@ -17,7 +14,6 @@ use Rattle.rx_value.specs.Fields.{Pairs}
 use Rattle.rx_value.specs.Named.{named, put_in_order}
 use Rattle.rx_value.specs.Order.{order_of}
 use Rattle.rx_value.specs.declared.value.Value.TheVariants.{Flag, Text}
-use Rattle.rx_value.proofs.Outcomes.{some_if, none_if}
 use Rattle.rx_document.specs.Documents.{Documents}
 use Rattle.rx_document.specs.declared.stored.Stored.{Stored}
 use Rattle.rx_index.specs.Index.{indexed_by, has_key, is_key_of, has_same_key, Holds}
@@ -91,30 +87,6 @@ key_if : (fields : List (List ℕ)) (b : Bool) (d : Stored) (o : Option Stored) 
     ≡ cond b (is_eq (position_cmp (key_of fields d) k)) (is_key_of fields o k)
 key_if fields true d o k = refl
 key_if fields false d o k = refl
-
--- a key that goes in
-pub added : (before after : BTreeMap Position (Unit {0})) (key k : Position)
-    → Updates position_cmp before after key (Some tt)
-    → has_key (keys_of after.entries) k
-    ≡ cond (is_eq (position_cmp key k)) true (has_key (keys_of before.entries) k)
-added before after key k updates =
-    sym (is_some-lookup (λ q. is_eq (position_cmp k q)) after.entries)
-    ∙ ap is_some (updates.0 k)
-    ∙ some_if (is_eq (position_cmp key k)) tt (get position_cmp before k)
-    ∙ ap (cond (is_eq (position_cmp key k)) true)
-    (is_some-lookup (λ q. is_eq (position_cmp k q)) before.entries)
-
--- a key that comes out
-pub taken : (before after : BTreeMap Position (Unit {0})) (key k : Position)
-    → Updates position_cmp before after key None
-    → has_key (keys_of after.entries) k
-    ≡ cond (is_eq (position_cmp key k)) false (has_key (keys_of before.entries) k)
-taken before after key k updates =
-    sym (is_some-lookup (λ q. is_eq (position_cmp k q)) after.entries)
-    ∙ ap is_some (updates.0 k)
-    ∙ none_if (is_eq (position_cmp key k)) (get position_cmp before k)
-    ∙ ap (cond (is_eq (position_cmp key k)) false)
-    (is_some-lookup (λ q. is_eq (position_cmp k q)) before.entries)
 
 -- ---- a document in the place of the one with its key
 

@@ -1,3 +1,7 @@
 pub mod Positions
 pub mod Held
-pub mod Between
+pub mod Digits
+pub mod Packing
+pub mod Characters
+pub mod Keys
+pub mod Ids

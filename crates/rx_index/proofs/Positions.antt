@@ -69,7 +69,7 @@ bounds_enclose p rest = encloses p.values p.after rest
 -- ---- keys
 
 -- the last of a list that has one more
-last_pushed : {X : Type 0} (xs : List X) (x : X)
+pub last_pushed : {X : Type 0} (xs : List X) (x : X)
     → slice_get (xs ++ x ∷ []) (length (xs ++ x ∷ []) - 1) ≡ Some x
 last_pushed xs x =
     let long : length (xs ++ x ∷ []) ≡ length xs + 1 = length-append xs (x ∷ []) in

@@ -1,3 +1,4 @@
 pub mod Position
+pub mod Packed
 pub mod Ordered
 pub mod Index

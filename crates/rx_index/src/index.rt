@@ -1,40 +1,44 @@
-ghost use Rattle.std.specs.Prelude.{◌≡◌, ◌<◌, ◌^◌, [], length, IfOk, OnOk, OnErr, option_map};
+ghost use Rattle.std.specs.Prelude.{◌≡◌, ◌<◌, ◌^◌, [], true, false, length, IfOk, OnOk, OnErr, option_map, if◌then◌else◌};
 ghost use Rattle.std.specs.List.Sorted.{IsStrictlySortedBy};
 ghost use Rattle.std.specs.Ordering.{is_eq};
 ghost use Rattle.rx_value.specs.Named.{named, put_in_order};
 ghost use Rattle.rx_value.specs.Order.{order_of};
 ghost use Rattle.rx_document.specs.Documents.{Documents};
-ghost use Rattle.rx_index.specs.Index.{has_same_fields, has_same_key, Holds, Replaces, ids_between};
-ghost use Rattle.rx_index.specs.Position.{key_of, position_cmp};
+ghost use Rattle.rx_index.specs.Index.{has_key, has_same_fields, has_same_key, Holds, Replaces, ids_between};
+ghost use Rattle.rx_index.specs.Packed.{IsKey, IsKeyOf, unpacked};
+ghost use Rattle.rx_index.specs.Position.{Position, position_cmp};
 
 use crate::bound::Bound;
+use crate::packed::{ROOM, put_flag, put_text, put_value};
 use crate::range::Range;
 use rx_document::Stored;
-use rx_value::{Fields, RxText, Value, order};
+use rx_runs::{Name, Run};
+use rx_value::{Fields, RxText, order};
 use std::alloc::{AllocError, Global};
-use std::collections::BTreeMap;
 use std::marker::Model;
-use std::ops::Bound as End;
 
-/// The keys of documents in order: the deletion mark, some fields, the primary key.
+// More keys than any memory holds.
+const MOST: usize = 9_223_372_036_854_775_807;
+
+/// The keys of documents in order: the deletion mark, some fields, the primary key. With each is a
+/// slot, which says where its document may be.
 #[derive(Drop)]
 pub struct Index {
     alloc: Global,
     fields: Vec<RxText>,
-    keys: BTreeMap<Bound, ()>,
+    keys: Run<u32>,
 }
 
 impl Model for Index {
-    ghost use Rattle.std.specs.List.Sorted.{IsStrictlySortedBy};
-    ghost use Rattle.std.specs.Map.{keys_of};
+    ghost use Rattle.std.specs.Prelude.{◌<◌, ◌^◌, length};
     ghost use Rattle.rx_index.specs.Index.{Indexed, indexed_by};
-    ghost use Rattle.rx_index.specs.Position.{position_cmp};
+    ghost use Rattle.rx_index.specs.Packed.{AreKeys, positions};
 
     ghost Value = { Indexed };
 
-    ghost view = { λ i. indexed_by i.fields.items (keys_of i.keys.entries) };
+    ghost view = { λ i. indexed_by i.fields.items (positions i.keys) };
 
-    ghost invariant = { λ i. IsStrictlySortedBy position_cmp (keys_of i.keys.entries) };
+    ghost invariant = { λ i. AreKeys i.keys × (length i.keys < 2 ^ 63) };
 }
 
 impl Index {
@@ -48,7 +52,7 @@ impl Index {
         Ok(Index {
             alloc,
             fields: names,
-            keys: BTreeMap::new(alloc),
+            keys: Run::new(alloc),
         })
     }
 
@@ -58,8 +62,13 @@ impl Index {
         self.fields.as_slice()
     }
 
-    /// Puts a document in the place of the one with its key.
-    pub fn put(&mut self, old: Option<&Stored>, new: &Stored) -> Result<(), AllocError>
+    /// Puts a document, which lies in that slot, in the place of the one with its key.
+    pub fn put(
+        &mut self,
+        old: Option<&Stored>,
+        new: &Stored,
+        slot: u32,
+    ) -> Result<(), AllocError>
         requires { (documents : Documents)
             × Replaces self.old documents (option_map (λ d. d.now) old) new.now }
         ensures ok { OnOk result ((documents : Documents)
@@ -70,8 +79,7 @@ impl Index {
     {
         let Some(old) = old else {
             let key = self.key(new)?;
-            self.keys.insert(key, ())?;
-            return Ok(());
+            return self.add(key, slot);
         };
         if self.has_same_key(old, new) {
             return Ok(());
@@ -79,8 +87,8 @@ impl Index {
         // Both keys are made first, so that nothing is refused once the new one is in.
         let gone = self.key(old)?;
         let key = self.key(new)?;
-        self.keys.insert(key, ())?;
-        self.keys.remove(&gone);
+        self.add(key, slot)?;
+        self.take_out(&gone);
         Ok(())
     }
 
@@ -91,8 +99,10 @@ impl Index {
         ensures rising { IsStrictlySortedBy position_cmp self.now.keys }
         ensures fits { length result < 2 ^ 63 }
     {
-        let high = if high < low { low } else { high };
-        Range::new(self.keys.range((End::Included(low), End::Excluded(high))))
+        let between = self
+            .keys
+            .between(low.name().as_bytes(), high.name().as_bytes());
+        Range::new(between)
     }
 
     fn has_same_key(&self, old: &Stored, new: &Stored) -> bool
@@ -102,21 +112,42 @@ impl Index {
             && has_same_fields(self.fields.as_slice(), &old.state.fields, &new.state.fields)
     }
 
-    // The bound before a document's key.
-    fn key(&self, document: &Stored) -> Result<Bound, AllocError>
-        ensures { IfOk result (λ k. k ≡ key_of self.now.fields document.now) }
+    // The name of a document's key.
+    fn key(&self, document: &Stored) -> Result<Name, AllocError>
+        ensures { IfOk result (IsKeyOf self.now.fields document.now) }
     {
-        let mut values = Vec::with_capacity(self.alloc, self.fields.len() + 2)?;
-        values.push(Some(Value::Flag(document.state.deleted)))?;
+        let mut bytes = Vec::with_capacity(self.alloc, ROOM)?;
+        put_flag(&mut bytes, document.state.deleted)?;
         for field in &self.fields {
-            let value = match document.state.fields.get(field.as_str()) {
-                Some(value) => Some(value.copy(self.alloc)?),
-                None => None,
-            };
-            values.push(value)?;
+            put_value(&mut bytes, document.state.fields.get(field.as_str()))?;
         }
-        values.push(Some(Value::Text(document.state.key.copy(self.alloc)?)))?;
-        Ok(Bound::new(values, false))
+        put_text(&mut bytes, document.state.key.as_str())?;
+        Ok(Name::new(self.alloc, bytes.as_slice())?)
+    }
+
+    fn add(&mut self, key: Name, slot: u32) -> Result<(), AllocError>
+        requires { IsKey key }
+        ensures ok { OnOk result ((k : Position) → has_key self.new.keys k
+            ≡ (if is_eq (position_cmp (unpacked key) k) then true else has_key self.old.keys k)) }
+        ensures fields { self.new.fields ≡ self.old.fields }
+        ensures err { OnErr result (self.new ≡ self.old) }
+    {
+        if self.keys.len() + 1 >= MOST {
+            return Err(AllocError);
+        }
+        match self.keys.put(key, slot) {
+            Ok(_) => Ok(()),
+            Err(_) => Err(AllocError),
+        }
+    }
+
+    fn take_out(&mut self, key: &Name)
+        requires { IsKey key.now }
+        ensures keys { (k : Position) → has_key self.new.keys k
+            ≡ (if is_eq (position_cmp (unpacked key.now) k) then false else has_key self.old.keys k) }
+        ensures fields { self.new.fields ≡ self.old.fields }
+    {
+        self.keys.remove(key.as_bytes());
     }
 }
 

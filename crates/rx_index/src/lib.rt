@@ -3,8 +3,12 @@
 
 mod bound;
 mod index;
+mod packed;
 mod range;
 
 pub use bound::{Bound, bound_laws};
 pub use index::Index;
-pub use range::Range;
+pub use range::{Entry, Range};
+
+#[cfg(test)]
+mod tests;

@@ -41,7 +41,7 @@ impl<'a, V> Pairs<'a, V> {
     }
 
     /// How many pairs there are.
-    pub(crate) fn len(&self) -> usize
+    pub fn len(&self) -> usize
         requires { length self.now < 18446744073709551616 }
         ensures { result ≡ length self.now }
     {

@@ -266,6 +266,7 @@ impl<V: Drop> Run<V> {
     pub fn remove(&mut self, name: &[u8]) -> Option<V>
         ensures old { result ≡ named self.old name.now }
         ensures others { self.new ≡ without self.old name.now }
+        ensures rising { AreRising self.old }
     {
         if self.chunks.is_empty() {
             return None;

@@ -1,23 +1,62 @@
-use Rattle.std.proofs.Common.{◌≡◌, ◌∙◌, ap, sym, subst, option_map, IfSome, Some, None}
-use Rattle.std.specs.BTreeMap.{Updates}
-use Rattle.rx_index.specs.Index.{has_same_key, Holds}
-use Rattle.rx_index.specs.Position.{position_cmp, key_of}
-use Rattle.rx_index.proofs.Held.{added, taken, held_same, held_fresh, held_moved}
+use Rattle.std.proofs.Common.{◌≡◌, List, ℕ, Bool, true, false, cond, Option, Some, None, IfSome, option_map, ◌∙◌, ap, sym, subst}
+use Rattle.std.proofs.lemmas.Result.{on_ok_weaker}
+use Rattle.std.specs.Ordering.{is_eq}
+use Rattle.rx_document.specs.Documents.{Documents}
+use Rattle.rx_document.specs.declared.stored.Stored.{Stored}
+use Rattle.rx_value.specs.Named.{put_in_order}
+use Rattle.rx_index.specs.Index.{Indexed, indexed_by, has_key, has_same_key, Holds, Replaces}
+use Rattle.rx_index.specs.Packed.{IsKeyOf, unpacked}
+use Rattle.rx_index.specs.Position.{Position, position_cmp}
+use Rattle.rx_index.proofs.Held.{held_same, held_fresh, held_moved}
+use Rattle.rx_index.proofs.Keys.{unpacked-key, key_is}
 use Rattle.rx_index.proofs.index.Index.put.Goals as goal
 
+-- the second index has the keys of the first and one more, or one less
+abbrev Has : Bool → List ℕ → Indexed → Indexed → Type 0
+Has there bs i j =
+    (k : Position)
+    → has_key j.keys k ≡ cond (is_eq (position_cmp (unpacked bs) k)) there (has_key i.keys k)
+
+has_so : (there : Bool) (bs : List ℕ) (i j : Indexed) (p : Position) → unpacked bs ≡ p
+    → Has there bs i j → (k : Position)
+    → has_key j.keys k ≡ cond (is_eq (position_cmp p k)) there (has_key i.keys k)
+has_so there bs i j p is has k =
+    subst (λ q. has_key j.keys k ≡ cond (is_eq (position_cmp q k)) there (has_key i.keys k)) is (has k)
+
+-- where there was no document of the key
+made_fresh : (i j : Indexed) (new : Stored) (bs : List ℕ) → IsKeyOf i.fields new bs
+    → j.fields ≡ i.fields → (old : Option Stored) → old ≡ None → Has true bs i j
+    → (documents : Documents) → Replaces i documents old new
+    → Holds j (put_in_order documents new.state.key new)
+made_fresh i j new bs key same old none adds documents r =
+    subst (λ fs. Holds (indexed_by fs j.keys) (put_in_order documents new.state.key new)) (sym same)
+    (held_fresh i.fields documents new i.keys r.held (r.old_one ∙ none) j.keys
+    (has_so true bs i j _ (unpacked-key i.fields new bs key) adds))
+
+-- where there was one with another key
+made_moved : (i j l : Indexed) (before new : Stored) (bs cs : List ℕ) → IsKeyOf i.fields before cs
+    → IsKeyOf i.fields new bs → l.fields ≡ i.fields → (old : Option Stored) → old ≡ Some before
+    → has_same_key i.fields before new ≡ false → Has true bs i j → Has false cs j l
+    → (documents : Documents) → Replaces i documents old new
+    → Holds l (put_in_order documents new.state.key new)
+made_moved i j l before new bs cs gone key same old was differ adds takes documents r =
+    subst (λ fs. Holds (indexed_by fs l.keys) (put_in_order documents new.state.key new)) (sym same)
+    (held_moved i.fields documents new i.keys r.held before (r.old_one ∙ was)
+    (subst (λ (o : _). IfSome o (λ d. d.state.key ≡ new.state.key)) was r.keyed) differ j.keys l.keys
+    (has_so true bs i j _ (unpacked-key i.fields new bs key) adds)
+    (has_so false cs j l _ (unpacked-key i.fields before cs gone) takes))
+
+pub add-requires : goal.add-requires
+add-requires c = key_is c.args.self.now.fields c.args.new.now c.in_ok-key.key c.in_ok-key.ensures
+
 pub returns-in_default-clause-ok : goal.returns-in_default-clause-ok
-returns-in_default-clause-ok c = λ documents r.
-    let i = c.self.inside in
-    let fields = i.fields.items in
-    let new = c.args.new.now in
-    let held = subst (λ x. Holds x documents) (sym c.self.view_is) r.held in
-    let is : c.in_ok-key.key ≡ key_of fields new =
-    c.in_ok-key.ensures ∙ ap (λ x. key_of x.fields new) (sym c.self.view_is) in
-    held_fresh fields documents new _ held
-    (r.old_one ∙ ap (option_map (λ d. d.now)) c.in_default.is) _
-    (λ k. added i.keys c.insert.new.self (key_of fields new) k
-    (subst (λ q. Updates position_cmp i.keys c.insert.new.self q (Some tt)) is
-    c.in_ok-insert.ensures.updates))
+returns-in_default-clause-ok c =
+    let i = c.args.self.now in
+    let old = option_map (λ d. d.now) c.args.old in
+    on_ok_weaker c.add.result
+    (made_fresh i c.add.new.self c.args.new.now c.in_ok-key.key c.in_ok-key.ensures
+    c.add.ensures.fields old (ap (option_map (λ d. d.now)) c.in_default.is))
+    c.add.ensures.ok
 
 pub returns-then-has_same_key-clause-ok : goal.returns-then-has_same_key-clause-ok
 returns-then-has_same_key-clause-ok c = λ documents r.
@@ -28,27 +67,20 @@ returns-then-has_same_key-clause-ok c = λ documents r.
     c.in-Some.is r.keyed)
     (sym c.has_same_key.ensures ∙ c.if-has_same_key.true)
 
+pub add-requires-2 : goal.add-requires-2
+add-requires-2 c =
+    key_is c.args.self.now.fields c.args.new.now c.in_ok-key-2.key c.in_ok-key-2.ensures
+
+pub take_out-requires : goal.take_out-requires
+take_out-requires c =
+    key_is c.args.self.now.fields c.in-Some.old.now c.in_ok-gone.gone c.in_ok-gone.ensures
+
 pub returns-clause-ok : goal.returns-clause-ok
 returns-clause-ok c = λ documents r.
-    let i = c.self.inside in
-    let fields = i.fields.items in
-    let new = c.args.new.now in
-    let old = c.in-Some.old.now in
-    let held = subst (λ x. Holds x documents) (sym c.self.view_is) r.held in
-    let is : c.in_ok-key-2.key ≡ key_of fields new =
-    c.in_ok-key-2.ensures ∙ ap (λ x. key_of x.fields new) (sym c.self.view_is) in
-    let was : c.in_ok-gone.gone ≡ key_of fields old =
-    c.in_ok-gone.ensures ∙ ap (λ x. key_of x.fields old) (sym c.self.view_is) in
-    held_moved fields documents new _ held old
-    (r.old_one ∙ ap (option_map (λ d. d.now)) c.in-Some.is)
-    (subst (λ (o : _). IfSome (option_map (λ d. d.now) o) (λ d. d.state.key ≡ new.state.key))
-    c.in-Some.is r.keyed)
-    (ap (λ x. has_same_key x.fields old new) c.self.view_is ∙ sym c.has_same_key.ensures
-    ∙ c.if-has_same_key.false)
-    _ _
-    (λ k. added i.keys c.insert-2.new.self (key_of fields new) k
-    (subst (λ q. Updates position_cmp i.keys c.insert-2.new.self q (Some tt)) is
-    c.in_ok-insert-2.ensures.updates))
-    (λ k. taken c.insert-2.new.self c.remove.new.self (key_of fields old) k
-    (subst (λ q. Updates position_cmp c.insert-2.new.self c.remove.new.self q None) was
-    c.remove.ensures.updates))
+    let i = c.args.self.now in
+    made_moved i c.add-2.new.self c.take_out.new.self c.in-Some.old.now c.args.new.now
+    c.in_ok-key-2.key c.in_ok-gone.gone c.in_ok-gone.ensures c.in_ok-key-2.ensures
+    (c.take_out.ensures.fields ∙ c.add-2.ensures.fields) _
+    (ap (option_map (λ d. d.now)) c.in-Some.is)
+    (sym c.has_same_key.ensures ∙ c.if-has_same_key.false) c.in_ok-add.ensures.ok
+    c.take_out.ensures.keys documents r
