@@ -85,8 +85,8 @@ module _ {X : Type 0} where
   others_so P Q (e ∷ es) k others apart all =
       (others e.0 e.1 apart.0 all.0, others_so P Q es k others apart.1 all.1)
 
-  -- where names are distinct, what holds of the thing of a name and what holds of all others becomes
-  -- what holds of all, once the thing of the name is changed
+  -- where names are distinct, what holds of the thing of a name and what holds of all others
+  -- becomes what holds of all, once the thing of the name is changed
   pub all_changed : (P Q : List ℕ → X → Type 0) (es : List (List ℕ × X)) (k : List ℕ) (f : X → X)
       → ((n : List ℕ) (x : X) → bytes_eq k n ≡ false → P n x → Q n x)
       → ((x : X) → P k x → Q k (f x)) → IsDistinct bytes_eq (keys_of es)

@@ -26,7 +26,8 @@ abbrev pub AreWholeLives : Lives → Type 0
 AreWholeLives ls =
     AllByRecursion (λ e. IsWhole (λ (l : Observing). l.collection) (λ l. l.broken) e.0 e.1) ls
 
--- the first collections have their queries, the others have none yet, and those of the others are left
+-- the first collections have their queries, the others have none yet, and those of the others are
+-- left
 pub record IsCarrying (old ls : Lives) (left : List Observing) : Type 0 where
   pub done : Lives
   pub rest : Lives

@@ -1,4 +1,5 @@
--- A journal is opened again: the queries move to the collections that were read from it, and are cold.
+-- A journal is opened again: the queries move to the collections that were read from it, and are
+-- cold.
 use Rattle.std.proofs.Common.{◌≡◌, ℕ, false, cond, List, [], ◌∷◌, ◌++◌, map, Option, Some, None, option_map, option_and_then, refl, sym, ap, ◌∙◌}
 use Rattle.std.proofs.lemmas.Map.Made.{IsSome-lookup_same_keys, keys_of-map_values}
 use Rattle.std.specs.List.{AllByRecursion, IsDistinct}

@@ -27,8 +27,8 @@ with_written lwt written l = put_all l (stored_rows l.collection.name lwt writte
 abbrev pub IsMadeFor : Held → Observing → Type 0
 IsMadeFor c l = l ≡ record { collection = c; queries = []; broken = false }
 
--- A new collection has no queries, the collection of rows takes them and its queries follow, and all
--- others stay.
+-- A new collection has no queries, the collection of rows takes them and its queries follow, and
+-- all others stay.
 abbrev pub IsAfter : Touch → Lives → Lives → Type 0
 IsAfter t old new = After (λ (l : Observing). l.collection) put_all IsMadeFor t old new
 

@@ -68,8 +68,8 @@ abbrev pub has_key : List ℕ → Option Held → Bool
 has_key primary None = false
 has_key primary (Some c) = bytes_eq primary c.schema.primary
 
--- a record is legal and in order; a query's name is free, and its collection has its primary key; an
--- epoch is the next one
+-- a record is legal and in order; a query's name is free, and its collection has its primary key;
+-- an epoch is the next one
 abbrev pub MayDo : Doing → Session → Type 0
 MayDo (write c) s = (legal c s.world ≡ true) × IsOrdered c
 MayDo (watch name coll q) s =

@@ -37,5 +37,6 @@ abbrev pub bare : Observing → Observing
 bare l = with_queries l []
 
 -- each collection with something done to its queries
-abbrev pub each_live : (Observing → Observing) → List (List ℕ × Observing) → List (List ℕ × Observing)
+abbrev pub each_live : (Observing → Observing) → List (List ℕ × Observing)
+    → List (List ℕ × Observing)
 each_live f ls = map (λ l. (l.0, f l.1)) ls

@@ -40,8 +40,8 @@ session_in_play s = record {
   queries = queries_of (holders_in s.world) s.places.items;
 }
 
--- the places are those of the collections' queries, no name of a collection comes twice, and nothing
--- is to be emitted of a collection that wasn't written
+-- the places are those of the collections' queries, no name of a collection comes twice, and
+-- nothing is to be emitted of a collection that wasn't written
 pub record IsInPlay (s : Inside) : Type 0 where
   pub placed : ArePlaced (holders_in s.world) s.places.items
   pub distinct : AreDistinct (world_of s.world)
@@ -76,7 +76,8 @@ in_places [] es = []
 in_places (p ∷ ps) es =
     cons_option (emission_of p.name es) (in_places ps (without_emission p.name es))
 
--- those that are due: of one collection in the order of its queries, of several in that of the places
+-- those that are due: of one collection in the order of its queries, of several in that of the
+-- places
 abbrev pub due_in_all : List (List ℕ) → List QueryPlace → Lives → List Emission
 due_in_all [] ps ls = []
 due_in_all (coll ∷ []) ps ls = due_of (named ls coll)

@@ -46,7 +46,8 @@ pub(crate) fn observe(
     query: Query,
 ) -> Result<(), AllocError>
     requires free { IsFree name (named (holders_in world.old) coll.now) }
-    requires keyed { has_key (asked query).primary (named (world_of world.old).collections coll.now) ≡ true }
+    requires keyed { has_key (asked query).primary (named (world_of world.old).collections coll.now)
+        ≡ true }
     ensures lives { OnOk result (holders_in world.new
         ≡ change_named (holders_in world.old) coll.now (with_query name (asked query))) }
     ensures replications { world.new.replications ≡ world.old.replications }

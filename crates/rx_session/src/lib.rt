@@ -1,5 +1,6 @@
 //! What there is between two lines of a script: collections with their observed queries, and the
-//! present moment. A line that writes several records plays them one after another, and then settles.
+//! present moment. A line that writes several records plays them one after another, and then
+//! settles.
 #![tactic(auto)]
 
 mod applying;

@@ -86,7 +86,8 @@ impl Session {
     fn watch(self, alloc: Global, watch: Watch) -> Result<(Session, Vec<Emission>), AllocError>
         requires { MayDo (doing.watch watch.name watch.coll (asked watch.query)) self }
         ensures session { IfOk result (λ p. p.0
-            ≡ settled_session (after (doing.watch watch.name watch.coll (asked watch.query)) self)) }
+            ≡ settled_session (after (doing.watch watch.name watch.coll (asked watch.query))
+            self)) }
         ensures emissions { IfOk result (λ p. p.1.items
             ≡ emissions (after (doing.watch watch.name watch.coll (asked watch.query)) self)) }
         ensures before { IsSettled self }
@@ -137,7 +138,8 @@ fn observe_in(
     query: Query,
 ) -> Result<Vec<Emission>, AllocError>
     requires free { IsFree name.now (named (holders_in world.old) coll.now) }
-    requires keyed { has_key (asked query).primary (named (world_of world.old).collections coll.now) ≡ true }
+    requires keyed { has_key (asked query).primary (named (world_of world.old).collections coll.now)
+        ≡ true }
     ensures lives { OnOk result (holders_in world.new ≡ settled_in (Some coll.now)
         (watched_in name.now coll.now (asked query) (holders_in world.old))) }
     ensures replications { world.new.replications ≡ world.old.replications }

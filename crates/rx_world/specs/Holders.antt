@@ -46,7 +46,11 @@ abbrev pub AreWhole : {H : Type 0} → (H → Held) → (H → Bool) → List (S
 AreWhole held broken es = AllByRecursion (λ e. IsWhole held broken (string_bytes e.0) e.1) es
 
 -- each holder is so, and the world that they hold is as records make it
-pub record AreSound {H : Type 0} (held : H → Held) (broken : H → Bool) (h : Holders H) : Type 0 where
+pub record AreSound
+    {H : Type 0}
+    (held : H → Held)
+    (broken : H → Bool)
+    (h : Holders H) : Type 0 where
   pub whole : AreWhole held broken h.entries
   pub made : IsMadeWorld (world_in held h)
 

@@ -4,8 +4,8 @@ use Rattle.rx_world.specs.Linked.{AreLinked}
 use Rattle.rx_world.specs.Valid.{AllValid, AllSpelled, AreDistinct}
 use Rattle.rx_world.specs.World.{World}
 
--- Collections are lawful, their documents valid, and the texts of their schemas read back. No name of
--- a collection comes twice. Replications are linked.
+-- Collections are lawful, their documents valid, and the texts of their schemas read back. No name
+-- of a collection comes twice. Replications are linked.
 pub record IsMadeWorld (w : World) : Type 0 where
   pub lawful : IsLawfulWorld w
   pub valid : AllValid w

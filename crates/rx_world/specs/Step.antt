@@ -114,8 +114,8 @@ takes_exchange cs lwt written known up down r =
     stays_or_rises r.side.up up && stays_or_rises r.side.down down
     && option_map_or (fork_takes lwt written known) (named cs r.fork) false
 
--- a replication's name is a name and isn't held, its fork is held and its master fits it, the fork may
--- follow the master, and there is room for it
+-- a replication's name is a name and isn't held, its fork is held and its master fits it, the fork
+-- may follow the master, and there is room for it
 abbrev pub may_begin : List ℕ → List ℕ → MasterName → World → Bool
 may_begin name fork master w =
     is_name name && is_none (named w.replications name)
@@ -123,10 +123,10 @@ may_begin name fork master w =
     && may_follow w.replications fork master
     && nat_lt (length w.replications) max_replications
 
--- A collection is legal where its name is a name and isn't held, its schema's text is canonical, and
--- there is room for it. Rows are legal where the collection is held and takes them, a replication
--- where it may begin, and an exchange where the replication is held and takes it. An epoch is legal
--- where it is the one after the last.
+-- A collection is legal where its name is a name and isn't held, its schema's text is canonical,
+-- and there is room for it. Rows are legal where the collection is held and takes them, a
+-- replication where it may begin, and an exchange where the replication is held and takes it. An
+-- epoch is legal where it is the one after the last.
 abbrev pub legal : Content → World → Bool
 legal (collection name schema) w =
     is_name name && is_none (named w.collections name)

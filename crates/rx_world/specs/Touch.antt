@@ -28,7 +28,8 @@ fork_rows lwt (row ∷ written) r = new_rows r.fork lwt (row ∷ written)
 
 -- that of the replication of a name
 abbrev pub exchange_touch : ℕ → List RowOut → List ℕ → Replications → Touch
-exchange_touch lwt written name rs = option_map_or (fork_rows lwt written) (named rs name) no_collection
+exchange_touch lwt written name rs = option_map_or (fork_rows lwt written) (named rs name)
+    no_collection
 
 -- in a world, whose replications tell the fork of an exchange
 abbrev pub touch : Content → World → Touch

@@ -37,7 +37,8 @@ pub(crate) fn change<H: Holder + Drop, F: Fn(Collection) -> Result<H, AllocError
         ≡ step (content entry) (world_in H.held (holders_of parts.old))) }
     ensures whole { OnOk result (AreWhole H.held H.is_broken parts.new.holders.entries) }
     ensures holders { OnOk result (After H.held H.written (λ c h. F.post make.now c (Ok h))
-        (touch (content entry) (world_in H.held (holders_of parts.old))) (by_bytes parts.old.holders.entries)
+        (touch (content entry) (world_in H.held (holders_of parts.old)))
+        (by_bytes parts.old.holders.entries)
         (by_bytes parts.new.holders.entries)) }
 {
     match entry {
@@ -93,7 +94,8 @@ fn write_fork<H: Holder>(
         (λ r. ForSome (named (by_name H.held parts.old.holders.entries) r.fork)
         (λ c. AreNext c (stored_rows c.name lwt rows.items))) }
     ensures held { OnOk result (by_name H.held parts.new.holders.entries
-        ≡ collections_after (exchange_touch lwt rows.items name.now (by_bytes parts.old.replications.entries))
+        ≡ collections_after (exchange_touch lwt rows.items name.now
+        (by_bytes parts.old.replications.entries))
         (by_name H.held parts.old.holders.entries)) }
     ensures holders { OnOk result (After H.held H.written (λ c h. Unit {0})
         (exchange_touch lwt rows.items name.now (by_bytes parts.old.replications.entries))
@@ -129,7 +131,8 @@ fn add_collection<H: Holder + Drop, F: Fn(Collection) -> Result<H, AllocError>>(
         → IfOk r (λ h. (H.held h ≡ c) × (H.is_broken h ≡ false)) }
     requires whole { AreWhole H.held H.is_broken holders.old.entries }
     ensures held { OnOk result (by_name H.held holders.new.entries
-        ≡ collections_after (new_where name (schema_in schema.now)) (by_name H.held holders.old.entries)) }
+        ≡ collections_after (new_where name (schema_in schema.now))
+        (by_name H.held holders.old.entries)) }
     ensures made { OnOk result (After H.held H.written (λ c h. F.post make.now c (Ok h))
         (new_where name (schema_in schema.now)) (by_bytes holders.old.entries)
         (by_bytes holders.new.entries)) }

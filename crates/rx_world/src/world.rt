@@ -40,7 +40,8 @@ use rx_value::State;
 use std::alloc::{AllocError, Global};
 use std::marker::Model;
 
-/// Holders of collections and replications by name, in the order of their making, and the last epoch.
+/// Holders of collections and replications by name, in the order of their making, and the last
+/// epoch.
 #[derive(Drop)]
 pub struct World<H: Holder + Drop> {
     parts: Parts<H>,
@@ -80,7 +81,8 @@ impl<H: Holder + Drop> World<H> {
     pub fn len(&self) -> usize
         ensures count { result ≡ length (world_in H.held self.now).collections }
         ensures lawful { IsLawfulWorld (world_in H.held self.now) }
-        ensures whole { AllByRecursion (λ e. IsWhole H.held H.is_broken e.0 e.1) (holders_in self.now) }
+        ensures whole { AllByRecursion (λ e. IsWhole H.held H.is_broken e.0 e.1)
+            (holders_in self.now) }
         ensures distinct { AreDistinct (world_in H.held self.now) }
         ensures made { IsMadeWorld (world_in H.held self.now) }
     {
@@ -159,7 +161,8 @@ impl<H: Holder + Drop> World<H> {
             ≡ step (content entry) (world_in H.held self))
             × (legal (content entry) (world_in H.held self) ≡ true)) }
         ensures holders { IfOk result (λ world. After H.held H.written
-            (λ c h. F.post make.now c (Ok h)) (touch (content entry) (world_in H.held self)) (holders_in self)
+            (λ c h. F.post make.now c (Ok h)) (touch (content entry) (world_in H.held self))
+            (holders_in self)
             (holders_in world)) }
         ensures distinct { IfOk result (λ world. AreDistinct (world_in H.held world)) }
         ensures made { IfOk result (λ world. IsMadeWorld (world_in H.held world)) }
@@ -188,7 +191,8 @@ impl<H: Holder + Drop> World<H> {
         ensures world { IfOk result (λ world. world_in H.held world
             ≡ step (content entry) (world_in H.held self)) }
         ensures holders { IfOk result (λ world. After H.held H.written
-            (λ c h. F.post make.now c (Ok h)) (touch (content entry) (world_in H.held self)) (holders_in self)
+            (λ c h. F.post make.now c (Ok h)) (touch (content entry) (world_in H.held self))
+            (holders_in self)
             (holders_in world)) }
         ensures distinct { IfOk result (λ world. AreDistinct (world_in H.held world)) }
         ensures made { IfOk result (λ world. IsMadeWorld (world_in H.held world)) }
@@ -286,9 +290,11 @@ impl<H: Holder + Drop> World<H> {
         requires distinct { IsDistinct bytes_eq (map (λ s. s.key) states.items) }
         requires valid { ForSome (named (world_in H.held self.now).collections name.now)
             (λ c. AllByRecursion (IsValidState c.schema) states.items) }
-        ensures ok { IfOk result (λ entry. commit (world_in H.held self.now) name.now states.items now
+        ensures ok { IfOk result (λ entry. commit (world_in H.held self.now) name.now
+            states.items now
             ≡ Some (content entry)) }
-        ensures legal { IfOk result (λ entry. legal (content entry) (world_in H.held self.now) ≡ true) }
+        ensures legal { IfOk result (λ entry. legal (content entry) (world_in H.held self.now)
+            ≡ true) }
         ensures ordered { IfOk result (λ entry. IsOrdered (content entry)) }
         ensures clock_end { IsErrOf result StepFault.ClockEnd
             → commit (world_in H.held self.now) name.now states.items now ≡ None }
