@@ -1,5 +1,6 @@
 // Reads a journal and leaves it as it is.
 ghost use Rattle.std.specs.Prelude.{◌≡◌, ℕ, List, length, false, IfOk, IsErrOf};
+ghost use Rattle.rx_disk.specs.Calls.{OnlyReads};
 ghost use Rattle.rx_frame.specs.File.{end_of};
 ghost use Rattle.rx_journal.specs.Reading.{IsUntouched};
 ghost use Rattle.rx_outside.specs.declared.stop.Stop.TheVariants as Stop;
@@ -47,6 +48,7 @@ pub fn look<H: Holder + Drop, D: Disk, F: Fn(Collection) -> Result<H, AllocError
 
     ensures sound { IfOk result (λ l. IsSoundWorld (world_in H.held l.world)) }
     ensures untouched { D.tells → IsUntouched D.Disk disk.old disk.new }
+    ensures only_reads { D.tells → OnlyReads D.Disk disk.old disk.new }
     ensures no_full { (would most : ℕ) → IsErrOf result (Stop.Full would most) → ⊥ }
     ensures cause { HasDiskCause (D.faults disk.old) (D.faults disk.new) result }
 {

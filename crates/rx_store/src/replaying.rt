@@ -1,5 +1,6 @@
 // Plays the records of a journal, one after another as they are read.
-ghost use Rattle.std.specs.Prelude.{◌≡◌, ◌<◌, ◌≤◌, ◌+◌, ◌^◌, ℕ, List, [], false, Ok, IfOk, IsErrOf, Some, None};
+ghost use Rattle.std.specs.Prelude.{◌≡◌, ◌<◌, ◌≤◌, ◌+◌, ◌^◌, ℕ, List, [], false, Ok, IfOk, IsErr, IsErrOf, Some, None};
+ghost use Rattle.rx_disk.specs.Calls.{OnlyReads};
 ghost use Rattle.rx_journal.specs.Reading.{IsUntouched};
 ghost use Rattle.rx_journal.specs.Windows.{HaveLent, IsAtEnd, MayGoOn, WillLend, limit_of};
 ghost use Rattle.rx_outside.specs.Failed.{Rises};
@@ -63,6 +64,7 @@ pub(crate) fn replay<H: Holder + Drop, D: Disk, F: Fn(Collection) -> Result<H, A
     ensures epochs { IfOk result (λ r. r.world.epoch < 2 ^ 32) }
     ensures short { IfOk result (λ r. r.bytes < 2 ^ 32) }
     ensures untouched { D.tells → IsUntouched D.Disk disk.old disk.new }
+    ensures only_reads { D.tells → OnlyReads D.Disk disk.old disk.new }
     ensures disk_only { IsErrOf result Stop.Disk → Rises (D.faults disk.old) (D.faults disk.new) }
     ensures faults { D.faults disk.old ≤ D.faults disk.new }
     ensures no_full { (would limit : ℕ) → IsErrOf result (Stop.Full would limit) → ⊥ }
@@ -106,6 +108,8 @@ fn replay_one<H: Holder + Drop, F: Fn(Collection) -> Result<H, AllocError>>(
     ensures epoch { IfOk result (λ w. w.epoch ≤ world.epoch + 1) }
     ensures not_journal { IsErrOf result Stop.NotJournal
         → after_body (record_of body.now) (world_in H.held world) ≡ None }
+    // What can't be read is refused before memory is taken.
+    ensures unread { IsErr (record_of body.now) → IsErrOf result Stop.NotJournal }
     ensures no_disk { IsErrOf result Stop.Disk → ⊥ }
     ensures no_full { (would limit : ℕ) → IsErrOf result (Stop.Full would limit) → ⊥ }
 {

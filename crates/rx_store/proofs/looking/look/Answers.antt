@@ -59,3 +59,15 @@ returns-then-not-sound-clause-cause g c =
 pub returns-clause-cause : goal.returns-clause-cause
 returns-clause-cause g c =
     ok_cause _ _ (omega (arith, c.look.ensures.faults, c.replay.ensures.faults)) _
+
+pub returns-in_err-replayed-clause-only_reads : goal.returns-in_err-replayed-clause-only_reads
+returns-in_err-replayed-clause-only_reads g c told =
+    c.replay.ensures.only_reads told ∙ c.in-Ok.ensures.only_reads told
+
+pub returns-then-not-sound-clause-only_reads : goal.returns-then-not-sound-clause-only_reads
+returns-then-not-sound-clause-only_reads g c told =
+    c.replay.ensures.only_reads told ∙ c.in-Ok.ensures.only_reads told
+
+pub returns-clause-only_reads : goal.returns-clause-only_reads
+returns-clause-only_reads g c told =
+    c.replay.ensures.only_reads told ∙ c.in-Ok.ensures.only_reads told

@@ -17,6 +17,7 @@ loop-body-init g c =
     let is = c.new-world.ensures in
     record {
       untouched = λ told. not_yet g.D.Disk c.args.disk.now (λ f. g.met.D.Disk.only_now c.args.disk.now f told);
+      only_reads = λ told. refl;
       playing = λ told.
           begun (g.D.Disk.content c.args.disk.now) c.args.windows.now
           (world_in g.H.Holder.held c.new-world.result) is;
@@ -107,6 +108,7 @@ loop-body-preserved g c =
       untouched = λ told.
           read_on g.D.Disk c.args.disk.now c.loop-body.disk c.next.new.disk (inv.untouched told)
           (c.in-Ok-Some.ensures.untouched told);
+      only_reads = λ told. c.in-Ok-Some.ensures.only_reads told ∙ inv.only_reads told;
       playing = λ told.
           goes_on content c.args.windows.now c.loop-body.windows now body.now w w' (inv.playing told)
           (subst (λ (l : List ℕ). Lends l c.loop-body.windows body.now now) (inv.untouched told).same
@@ -155,3 +157,15 @@ returns-in_err-world-clause-ok g c = λ told lent.
 pub returns-in_err-world-clause-counted : goal.returns-in_err-world-clause-counted
 returns-in_err-world-clause-counted g c = λ told.
     IfOk-from_err c.from_residual.result _ c.from_residual.ensures.0
+
+pub returns-in-Ok-None-clause-only_reads : goal.returns-in-Ok-None-clause-only_reads
+returns-in-Ok-None-clause-only_reads g c = λ told.
+    c.in-Ok-None.ensures.only_reads told ∙ c.loop-body.invariant.only_reads told
+
+pub returns-in-Err-clause-only_reads : goal.returns-in-Err-clause-only_reads
+returns-in-Err-clause-only_reads g c = λ told.
+    c.in-Err.ensures.only_reads told ∙ c.loop-body.invariant.only_reads told
+
+pub returns-in_err-world-clause-only_reads : goal.returns-in_err-world-clause-only_reads
+returns-in_err-world-clause-only_reads g c = λ told.
+    c.in-Ok-Some.ensures.only_reads told ∙ c.loop-body.invariant.only_reads told

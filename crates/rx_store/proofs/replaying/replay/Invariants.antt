@@ -1,4 +1,5 @@
 use Rattle.std.proofs.Common.{◌≡◌, ◌≤◌, ◌+◌, ◌-◌, ◌^◌, [], Ok}
+use Rattle.rx_disk.specs.Calls.{OnlyReads}
 use Rattle.rx_journal.specs.Reading.{IsUntouched}
 use Rattle.rx_journal.specs.Windows.{HaveLent, limit_of, place_of}
 use Rattle.rx_world.specs.Holders.{holders_in, world_in}
@@ -10,6 +11,7 @@ use Rattle.rx_store.proofs.replaying.replay.Given as goal
 abbrev pub invariant-loop-body : goal.invariant-loop-body
 invariant-loop-body g l = record {
   untouched : g.D.Disk.tells → IsUntouched g.D.Disk l.initial.disk l.disk;
+  only_reads : g.D.Disk.tells → OnlyReads g.D.Disk l.initial.disk l.disk;
   playing : g.D.Disk.tells → IsPlaying (g.D.Disk.content l.initial.disk) l.initial.windows l.windows
       (world_in g.H.Holder.held l.world);
   lent : g.D.Disk.tells → HaveLent g.D.Disk l.initial.disk l.initial.windows []
