@@ -14,7 +14,7 @@ use Rattle.rx_document.specs.Place.{place_cmp}
 use Rattle.rx_document.specs.declared.place.Place.{Place}
 use Rattle.rx_document.specs.declared.stored.Stored.{Stored}
 use Rattle.rx_collection.specs.Held.{Held}
-use Rattle.rx_collection.specs.Lawful.{IsHeldAt, IsLawful, was_written_at, ArePlacesOf}
+use Rattle.rx_collection.specs.Lawful.{IsHeldAt, IsLawful}
 use Rattle.rx_collection.specs.Time.{last_lwt, most_lwt}
 use Rattle.rx_collection.proofs.Named.{all_named}
 
@@ -38,14 +38,8 @@ pub last-le : (n : ℕ) (es : Documents) → AllByRecursion (λ e. e.1.lwt ≤ n
 last-le n [] all = omega arith
 last-le n (e ∷ es) all = max-le all.0 (last-le n es all.1)
 
--- the document that was written at a time
-written : (o : Option Stored) (lwt : ℕ) → was_written_at o lwt ≡ true
-    → (d : Stored) × (o ≡ Some d) × (d.lwt ≡ lwt)
-written None lwt h = absurd (true≢false (sym h))
-written (Some d) lwt h = (d, refl, eqb-true d.lwt lwt h)
-
 -- a place that isn't above another was written no later
-no_later : (p q : Place) → is_lt (place_cmp p q) ≡ false → q.lwt ≤ p.lwt
+pub no_later : (p q : Place) → is_lt (place_cmp p q) ≡ false → q.lwt ≤ p.lwt
 no_later p q h =
     elim (nat_cmp p.lwt q.lwt) as (λ r. r ≡ nat_cmp p.lwt q.lwt
     → is_lt (ordering_then r (text_cmp p.id q.id)) ≡ false → q.lwt ≤ p.lwt) [
@@ -54,38 +48,6 @@ no_later p q h =
       | Greater ↦ (λ is h. let above = ranked p.lwt q.lwt Greater is in omega arith)
     ] refl h
 
-module _ (documents : Documents) (places : BTreeMap Place (Unit {0}))
-    (agree : ArePlacesOf documents places) where
-  -- a document's place is among them
-  pub is_placed : (k : List ℕ) (d : Stored) → named documents k ≡ Some d
-      → IsSome (get place_cmp places (record { lwt = d.lwt; id = k }))
-  is_placed k d at =
-      agree (record { lwt = d.lwt; id = k })
-      ∙ ap (λ o. was_written_at o d.lwt) at ∙ eq-eqb d.lwt d.lwt refl
-
-  -- the last place was written last
-  pub last_is : AreRising documents → (p : Place) → IsSome (get place_cmp places p)
-      → IsUpperBound place_cmp places p → p.lwt ≡ last_lwt documents
-  last_is rising p at greatest =
-      let d = written (named documents p.id) p.lwt (sym (agree p) ∙ at) in
-      let upper : last_lwt documents ≤ p.lwt =
-      last-le p.lwt documents (all_named (λ k d. d.lwt ≤ p.lwt) documents rising
-      (λ k d at. no_later p (record { lwt = d.lwt; id = k })
-      (greatest (record { lwt = d.lwt; id = k }) (is_placed k d at)))) in
-      let lower = within_last documents p.id d.0 d.1 in
-      let time = d.2 in omega arith
-
--- where there is no place there is no document
-pub none_is : (documents : Documents) (places : BTreeMap Place (Unit {0}))
-    → ArePlacesOf documents places → places.entries ≡ [] → 0 ≡ last_lwt documents
-none_is [] places agree empty = refl
-none_is (e ∷ es) places agree empty =
-    let held : named (e ∷ es) e.0 ≡ Some e.1 =
-    ap (λ b. cond b (Some e.1) (named es e.0)) (bytes_itself e.0) in
-    let at = is_placed (e ∷ es) places agree e.0 e.1 held in
-    let none : is_some (get place_cmp places (record { lwt = e.1.lwt; id = e.0 })) ≡ false = rw empty in
-    absurd (true≢false (sym at ∙ none))
-
 -- what holds no entry is empty
 pub empty_of : {X : Type 0} (xs : List X) → (0 < length xs → false ≡ true) → xs ≡ []
 empty_of [] h = refl
@@ -93,7 +55,8 @@ empty_of (x ∷ xs) h = absurd (true≢false (sym (h (omega arith))))
 
 -- each was written in range
 all_in_range : (primary : List ℕ) (es : Documents)
-    → AllByRecursion (λ e. IsHeldAt primary e.0 e.1) es → AllByRecursion (λ e. e.1.lwt ≤ most_lwt) es
+    → AllByRecursion (λ e. IsHeldAt primary e.0 e.1) es → AllByRecursion (λ e. e.1.lwt ≤ most_lwt)
+    es
 all_in_range primary [] all = tt
 all_in_range primary (e ∷ es) all = (all.0.in_range, all_in_range primary es all.1)
 

@@ -3,7 +3,7 @@ use Rattle.std.proofs.Common.{T, ◌≡◌, ℕ, suc, ◌==◌, ◌&&◌, Bool, 
 use Rattle.std.specs.BTreeMap.{BTreeMap, IsOrdered}
 use Rattle.std.specs.BTreeMap.Range.{entries_between, range_contains}
 use Rattle.std.specs.FinMap.Entries.{put, find, is_sorted, below_all, by_order, same_entries, find-put, is_sorted-put}
-use Rattle.std.specs.List.{AllByRecursion}
+use Rattle.std.specs.List.{AllByRecursion, filter_map}
 use Rattle.std.specs.List.Sorted.{IsStrictlySortedBy}
 use Rattle.std.specs.Map.{keys_of, values_of, lookup}
 use Rattle.std.specs.Map.Iter.{TakesFirst, deref}
@@ -24,11 +24,32 @@ use Rattle.rx_document.specs.Place.{place_cmp, place_total}
 use Rattle.rx_document.specs.declared.place.Place.{Place}
 use Rattle.rx_document.specs.declared.stored.Stored.{Stored}
 use Rattle.rx_document.proofs.Places.{place_ties}
-use Rattle.rx_collection.specs.Lawful.{IsHeldAt, was_written_at, ArePlacesOf}
+use Rattle.rx_collection.specs.Lawful.{IsHeldAt}
 use Rattle.rx_collection.specs.Since.{place_of, by_place, is_above, since}
-use Rattle.rx_collection.specs.Standing.{standing, AllStand}
 use Rattle.rx_collection.proofs.Named.{first_alone, all_named, at_name}
-use Rattle.rx_collection.proofs.Placed.{place_tie_back, written_if, fresh}
+use Rattle.rx_collection.proofs.Placed.{place_tie_back}
+
+-- there is a document, and it was written at that time
+abbrev pub was_written_at : Option Stored → ℕ → Bool
+was_written_at None lwt = false
+was_written_at (Some d) lwt = d.lwt == lwt
+
+-- the documents that are held at the keys of places
+abbrev pub standing : Documents → List (Place × Unit {0}) → List Stored
+standing documents places = filter_map (λ p. named documents p.0.id) places
+
+-- a place more: the key's own, where it had none
+fresh : (b w z : Bool) → (b ≡ true → z ≡ false) → cond (w && b) true z ≡ cond b w z
+fresh true true z none = refl
+fresh true false z none = none refl
+fresh false true z none = refl
+fresh false false z none = refl
+
+-- of what is chosen
+written_if : (b : Bool) (d : Stored) (o : Option Stored) (lwt : ℕ)
+    → was_written_at (cond b (Some d) o) lwt ≡ cond b (d.lwt == lwt) (was_written_at o lwt)
+written_if true d o lwt = refl
+written_if false d o lwt = refl
 
 -- ---- the order of places
 
@@ -54,7 +75,7 @@ placed_at primary (e ∷ es) rising all p =
     ∙ sym (written_if here e.1 (named es p.id) p.lwt)
 
 -- they rise
-sorted_places : (es : Documents) → T (is_sorted place_cmp (by_place es))
+pub sorted_places : (es : Documents) → T (is_sorted place_cmp (by_place es))
 sorted_places [] = tt
 sorted_places (e ∷ es) =
     is_sorted-put place_cmp place_total (place_of e.1) e.1 (by_place es) (sorted_places es)
@@ -70,25 +91,21 @@ below_marks : (p : Place) (es : List (Place × Stored))
 below_marks p [] = refl
 below_marks p (e ∷ es) = ap (λ b. is_lt (place_cmp p e.0) && b) (below_marks p es)
 
-sorted_marks : (es : List (Place × Stored)) → is_sorted place_cmp (marks es) ≡ is_sorted place_cmp es
+pub sorted_marks : (es : List (Place × Stored)) → is_sorted place_cmp (marks es)
+    ≡ is_sorted place_cmp es
 sorted_marks [] = refl
 sorted_marks (e ∷ es) =
     ap (λ b. b && is_sorted place_cmp (marks es)) (below_marks e.0 es)
     ∙ ap (λ b. below_all place_cmp e.0 es && b) (sorted_marks es)
 
-found_marks : (p : Place) (es : List (Place × Stored))
+pub found_marks : (p : Place) (es : List (Place × Stored))
     → is_some (find place_cmp p (marks es)) ≡ is_some (find place_cmp p es)
 found_marks p [] = refl
 found_marks p (e ∷ es) =
-    elim (eq_by_cmp place_cmp p e.0) as (λ b. is_some (cond b (Some tt) (find place_cmp p (marks es)))
+    elim (eq_by_cmp place_cmp p e.0) as (λ b.
+    is_some (cond b (Some tt) (find place_cmp p (marks es)))
     ≡ is_some (cond b (Some e.1) (find place_cmp p es)))
     [ true ↦ refl | false ↦ found_marks p es ]
-
--- a look-up finds what `find` does
-find-lookup : (p : Place) (es : List (Place × Unit {0}))
-    → find place_cmp p es ≡ lookup (λ q. is_eq (place_cmp p q)) es
-find-lookup p [] = refl
-find-lookup p (e ∷ es) = ap (cond (is_eq (place_cmp p e.0)) (Some e.1)) (find-lookup p es)
 
 -- rising keys pass the test for it
 below_test : (p : Place) (es : List (Place × Unit {0}))
@@ -97,7 +114,7 @@ below_test p [] all = tt
 below_test p (e ∷ es) all =
     subst (λ r. T (is_lt r && below_all place_cmp p es)) (sym all.0) (below_test p es all.1)
 
-rising_test : (es : List (Place × Unit {0})) → IsStrictlySortedBy place_cmp (keys_of es)
+pub rising_test : (es : List (Place × Unit {0})) → IsStrictlySortedBy place_cmp (keys_of es)
     → T (is_sorted place_cmp es)
 unfolding IsStrictlySortedBy
 rising_test [] up = tt
@@ -108,23 +125,11 @@ rising_test (e ∷ es) up =
     ] (below_test e.0 es up.0)
 
 -- there is but one thing to find
-one_mark : (o p : Option (Unit {0})) → is_some o ≡ is_some p → o ≡ p
+pub one_mark : (o p : Option (Unit {0})) → is_some o ≡ is_some p → o ≡ p
 one_mark None None h = refl
 one_mark None (Some u) h = absurd (true≢false (sym h))
 one_mark (Some u) None h = absurd (true≢false h)
 one_mark (Some u) (Some v) h = refl
-
--- the places of a collection are those of its documents, in order
-pub places_are : (primary : List ℕ) (es : Documents) (places : BTreeMap Place (Unit {0}))
-    → AreRising es → AllByRecursion (λ e. IsHeldAt primary e.0 e.1) es → ArePlacesOf es places
-    → IsOrdered place_cmp places → places.entries ≡ marks (by_place es)
-places_are primary es places rising all agree up =
-    same_entries place_cmp place_total (λ p q h. (place_ties p q).0 h) places.entries
-    (marks (by_place es)) (rising_test places.entries up)
-    (subst T (sym (sorted_marks (by_place es))) (sorted_places es))
-    (λ p. one_mark (find place_cmp p places.entries) (find place_cmp p (marks (by_place es)))
-    (ap is_some (find-lookup p places.entries) ∙ agree p
-    ∙ sym (found_marks p (by_place es) ∙ placed_at primary es rising all p)))
 
 -- ---- the documents at places
 
@@ -148,93 +153,19 @@ all_by_place P (e ∷ es) all =
     all_placed P (place_of e.1) e.1 (by_place es) all.0 (all_by_place P es all.1)
 
 -- those held at the keys of documents' places are the documents
-standing-marks : (documents : Documents) (es : List (Place × Stored))
+pub standing-marks : (documents : Documents) (es : List (Place × Stored))
     → AllByRecursion (λ e. named documents e.0.id ≡ Some e.1) es
     → standing documents (marks es) ≡ values_of es
 standing-marks documents [] all = refl
-standing-marks documents (e ∷ es) all = rw all.0 (ap (λ ds. e.1 ∷ ds) (standing-marks documents es all.1))
-
--- there is one at each
-all_stand : (documents : Documents) (es : List (Place × Stored))
-    → AllByRecursion (λ e. named documents e.0.id ≡ Some e.1) es → AllStand documents (marks es)
-all_stand documents [] all = tt
-all_stand documents (e ∷ es) all = (ap is_some all.0, all_stand documents es all.1)
+standing-marks documents (e ∷ es) all = rw all.0 (ap (λ ds. e.1 ∷ ds)
+    (standing-marks documents es all.1))
 
 -- a test of the places alone
-passed_marks : (f : Place → Bool) (es : List (Place × Stored))
+pub passed_marks : (f : Place → Bool) (es : List (Place × Stored))
     → filter (λ e. f e.0) (marks es) ≡ marks (filter (λ e. f e.0) es)
 passed_marks f [] = refl
 passed_marks f (e ∷ es) =
-    elim (f e.0) as (λ b. cond b ((e.0, tt) ∷ filter (λ e. f e.0) (marks es)) (filter (λ e. f e.0) (marks es))
+    elim (f e.0) as (λ b. cond b ((e.0, tt) ∷ filter (λ e. f e.0) (marks es))
+    (filter (λ e. f e.0) (marks es))
     ≡ marks (cond b (e ∷ filter (λ e. f e.0) es) (filter (λ e. f e.0) es)))
     [ true ↦ ap (λ ys. (e.0, tt) ∷ ys) (passed_marks f es) | false ↦ passed_marks f es ]
-
--- a range from a place on is what is above it
-abbrev pub IsFrom : Bound Place → Option Place → Type 0
-IsFrom after place = (q : Place) → range_contains place_cmp after Unbounded q ≡ is_above place q
-
-from_none : IsFrom Unbounded None
-from_none q = refl
-
-from_some : (p : Place) → IsFrom (Excluded p) (Some p)
-from_some p q = and-true (is_lt (place_cmp p q))
-
-pub from_place : (after : Bound (Bor Place)) (place : Option (Bor Place))
-    → ((after ≡ Unbounded) × (place ≡ None)) ⊎ ((p : Bor Place) × (after ≡ Excluded p) × (place ≡ Some p))
-    → IsFrom (bound_map (λ x. x.now) after) (option_map (λ p. p.now) place)
-from_place after place (inl e) =
-    subst₂ (λ (a : Bound (Bor Place)) (o : Option (Bor Place)).
-    IsFrom (bound_map (λ x. x.now) a) (option_map (λ p. p.now) o)) (sym e.0) (sym e.1) from_none
-from_place after place (inr e) =
-    subst₂ (λ (a : Bound (Bor Place)) (o : Option (Bor Place)).
-    IsFrom (bound_map (λ x. x.now) a) (option_map (λ p. p.now) o)) (sym e.1) (sym e.2)
-    (from_some e.0.now)
-
-module _ (primary : List ℕ) (documents : Documents) (places : BTreeMap Place (Unit {0}))
-    (rising : AreRising documents)
-    (all : AllByRecursion (λ e. IsHeldAt primary e.0 e.1) documents)
-    (agree : ArePlacesOf documents places) (up : IsOrdered place_cmp places)
-    (after : Bound Place) (place : Option Place) (from : IsFrom after place)
-    (part : List (Place × Unit {0}))
-    (between : part ≡ entries_between place_cmp after Unbounded places.entries) where
-  -- the documents above the place with their places
-  abbrev above : List (Place × Stored)
-  above = filter (λ e. is_above place e.0) (by_place documents)
-
-  -- are held there
-  all_above : AllByRecursion (λ e. named documents e.0.id ≡ Some e.1) above
-  all_above =
-      all_passed (λ e. named documents e.0.id ≡ Some e.1) (λ e. is_above place e.0)
-      (by_place documents)
-      (all_by_place (λ p d. named documents p.id ≡ Some d) documents
-      (all_named (λ k d. named documents d.state.key ≡ Some d) documents rising
-      (λ k d at. ap (named documents) (at_name (IsHeldAt primary) documents k d all at).keyed ∙ at)))
-
-  -- and their places are the part of the places above it
-  part_is : part ≡ marks above
-  part_is =
-      between
-      ∙ filter_agree (λ e. range_contains place_cmp after Unbounded e.0) (λ e. is_above place e.0)
-      (λ e. from e.0) places.entries
-      ∙ ap (filter (λ e. is_above place e.0)) (places_are primary documents places rising all agree up)
-      ∙ passed_marks (is_above place) (by_place documents)
-
-  pub page_stands : AllStand documents part
-  page_stands = subst (AllStand documents) (sym part_is) (all_stand documents above all_above)
-
-  pub page_is : (n : ℕ) → take n (standing documents part) ≡ since documents place n
-  page_is n =
-      ap (λ ps. take n (standing documents ps)) part_is
-      ∙ ap (take n) (standing-marks documents above all_above)
-
--- ---- one document after another
-
--- the first, and then the others
-pub page_step : (documents : Documents) (s t : List (Place × Unit {0})) (p : Place) (u : Unit {0})
-    (n m : ℕ) (r : Option (Bor Stored)) → s ≡ (p, u) ∷ t → n ≡ suc m
-    → option_copied r ≡ named documents p.id → IsSome (named documents p.id)
-    → TakesFirst deref (take n (standing documents s)) r (take m (standing documents t))
-page_step documents s t p u n m None is more found held =
-    absurd (true≢false (sym held ∙ ap is_some (sym found)))
-page_step documents s t p u n m (Some d) is more found held =
-    let at : named documents p.id ≡ Some d.now = sym found in rw (is, more, at) refl

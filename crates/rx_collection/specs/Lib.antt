@@ -2,5 +2,5 @@ pub mod Held
 pub mod Time
 pub mod Commit
 pub mod Since
-pub mod Standing
 pub mod Lawful
+pub mod Log

@@ -1,18 +1,18 @@
-ghost use Rattle.std.specs.Prelude.{◌≡◌, length, [], IfOk, IfErr, OnOk, OnErr, option_map};
-ghost use Rattle.rx_value.specs.Named.{named, by_bytes, put_in_order, AreRising};
+ghost use Rattle.std.specs.Prelude.{◌≡◌, length, [], Some, IfSome, OnOk, OnErr, option_map};
+ghost use Rattle.rx_value.specs.Named.{named};
 ghost use Rattle.rx_collection.specs.Commit.{IsNext, with_row};
 ghost use Rattle.rx_collection.specs.Held.{held_with};
 ghost use Rattle.rx_collection.specs.Lawful.{IsLawful};
-ghost use Rattle.rx_collection.specs.Since.{place_of};
 ghost use Rattle.rx_collection.specs.Time.{last_lwt, stamp};
 
-use rx_document::{Lookup, Place, Stored};
+use crate::hints::Hints;
+use crate::log::{kept, reserve, slot_of, write};
+use rx_document::{Lookup, Stored};
+use rx_runs::{Run, Slots};
 use rx_schema::Schema;
 use rx_value::RxText;
 use std::alloc::{AllocError, Global};
-use std::collections::BTreeMap;
 use std::marker::Model;
-use std::mem;
 
 /// The greatest write time, 2^53 - 1.
 pub const MOST_LWT: u64 = 9_007_199_254_740_991;
@@ -23,22 +23,26 @@ pub struct Collection {
     alloc: Global,
     name: RxText,
     schema: Schema,
-    pub(crate) stored: BTreeMap<String, Stored>,
-    /// The place of each document.
-    pub(crate) places: BTreeMap<Place, ()>,
+    // The slot of each key.
+    pub(crate) names: Run<u32>,
+    // The documents by slot.
+    pub(crate) rows: Slots<Stored>,
+    hints: Hints,
+    // The write time and the slot of each write, in order. Those are stale whose slot was written
+    // again.
+    pub(crate) log: Vec<(u64, u32)>,
 }
 
 impl Model for Collection {
+    ghost use Rattle.rx_runs.specs.Rows.{shown};
     ghost use Rattle.rx_collection.specs.Held.{Held, held_with};
-    ghost use Rattle.rx_collection.specs.Lawful.{IsLawful, ArePlacesOf};
-    ghost use Rattle.rx_value.specs.Named.{by_bytes};
+    ghost use Rattle.rx_collection.specs.Log.{IsWhole};
 
     ghost Value = { Held };
 
-    ghost view = { λ c. held_with c.name c.schema (by_bytes c.stored.entries) };
+    ghost view = { λ c. held_with c.name c.schema (shown c.rows c.names) };
 
-    ghost invariant = { λ c. IsLawful (held_with c.name c.schema (by_bytes c.stored.entries))
-        × ArePlacesOf (by_bytes c.stored.entries) c.places };
+    ghost invariant = { λ c. IsWhole c.name c.schema c.rows c.names c.log.items };
 }
 
 impl Collection {
@@ -49,8 +53,10 @@ impl Collection {
             alloc,
             name,
             schema,
-            stored: BTreeMap::new(alloc),
-            places: BTreeMap::new(alloc),
+            names: Run::new(alloc),
+            rows: Slots::new(alloc),
+            hints: Hints::new(alloc),
+            log: Vec::new(alloc),
         }
     }
 
@@ -71,7 +77,7 @@ impl Collection {
         ensures count { result ≡ length self.now.documents }
         ensures lawful { IsLawful self.now }
     {
-        self.stored.len()
+        self.names.len()
     }
 
     /// The document of that key, a tombstone too.
@@ -79,7 +85,30 @@ impl Collection {
         ensures value { option_map (λ d. d.now) result ≡ named self.now.documents key.now }
         ensures lawful { IsLawful self.now }
     {
-        self.stored.get(key)
+        match slot_of(&self.names, &self.rows, &self.hints, key) {
+            Some(slot) => Some(self.rows.at(slot as usize)),
+            None => None,
+        }
+    }
+
+    /// The document in that slot, if there is one. A document keeps its slot for good.
+    pub fn at(&self, slot: u32) -> Option<&Stored>
+        ensures held { IfSome result (λ d. named self.now.documents d.now.state.key ≡ Some d.now) }
+        ensures lawful { IsLawful self.now }
+    {
+        if slot as usize >= self.rows.len() {
+            return None;
+        }
+        Some(self.rows.at(slot as usize))
+    }
+
+    /// The slot of a key's document, or the one that the next new key gets. It is a hint: whoever
+    /// keeps it looks at the document that is there.
+    pub fn slot_for(&self, key: &str) -> u32 {
+        match slot_of(&self.names, &self.rows, &self.hints, key) {
+            Some(slot) => slot,
+            None => u32::try_from(self.rows.len()).unwrap_or(u32::MAX),
+        }
     }
 
     /// The greatest write time, 0 where there is no document.
@@ -87,8 +116,8 @@ impl Collection {
         ensures value { result ≡ last_lwt self.now.documents }
         ensures lawful { IsLawful self.now }
     {
-        match self.places.last_key_value() {
-            Some((place, _)) => place.lwt,
+        match self.log.as_slice().last() {
+            Some(write) => write.0,
             None => 0,
         }
     }
@@ -112,68 +141,27 @@ impl Collection {
         ensures ok { OnOk result (self.new ≡ with_row self.old row) }
         ensures err { OnErr result (self.new ≡ self.old) }
     {
-        let place = Place {
-            lwt: row.lwt,
-            id: row.state.key.copy(self.alloc)?,
-        };
-        self.places.insert(place, ())?;
-        match write(&mut self.stored, self.alloc, row) {
-            Ok(None) => Ok(()),
-            Ok(Some(old)) => {
-                self.places.remove(&into_place(old));
-                Ok(())
-            }
-            Err(row) => {
-                self.places.remove(&into_place(row));
-                Err(AllocError)
-            }
-        }
+        // Room first, so that nothing is refused once the row is in.
+        reserve(&mut self.log)?;
+        let lwt = row.lwt;
+        let slot = write(
+            &mut self.names,
+            &mut self.rows,
+            &mut self.hints,
+            self.alloc,
+            row,
+        )?;
+        self.log.push_reserved((lwt, slot));
+        self.compact();
+        Ok(())
     }
-}
 
-// Writes a row, and gives the document in whose place it comes. The row comes back where there is
-// no memory.
-fn write(
-    stored: &mut BTreeMap<String, Stored>,
-    alloc: Global,
-    row: Stored,
-) -> Result<Option<Stored>, Stored>
-    requires { AreRising (by_bytes stored.old.entries) }
-    ensures old { IfOk result (λ old. old ≡ named (by_bytes stored.old.entries) row.state.key) }
-    ensures new { OnOk result (by_bytes stored.new.entries
-        ≡ put_in_order (by_bytes stored.old.entries) row.state.key row) }
-    ensures refused { IfErr result (λ refused. refused ≡ row) }
-    ensures same { OnErr result (stored.new.entries ≡ stored.old.entries) }
-{
-    // Only the first row of a key needs a key of the map's own.
-    if row.rev.height == 1 {
-        return add(stored, alloc, row);
-    }
-    match stored.get_mut(row.state.key.as_str()) {
-        Some(held) => Ok(Some(mem::replace(held, row))),
-        None => add(stored, alloc, row),
-    }
-}
-
-fn add(
-    stored: &mut BTreeMap<String, Stored>,
-    alloc: Global,
-    row: Stored,
-) -> Result<Option<Stored>, Stored>
-    ensures old { IfOk result (λ old. old ≡ named (by_bytes stored.old.entries) row.state.key) }
-    ensures new { OnOk result (by_bytes stored.new.entries
-        ≡ put_in_order (by_bytes stored.old.entries) row.state.key row) }
-    ensures refused { IfErr result (λ refused. refused ≡ row) }
-    ensures same { OnErr result (stored.new.entries ≡ stored.old.entries) }
-{
-    let Ok(key) = String::from_str(alloc, row.state.key.as_str()) else {
-        return Err(row);
-    };
-    match stored.insert(key, row) {
-        Ok(old) => Ok(old),
-        Err(refused) => {
-            let (_, row) = refused.value;
-            Err(row)
+    // Forgets stale writes.
+    fn compact(&mut self)
+        ensures { self.new ≡ self.old }
+    {
+        if let Some(log) = kept(self.alloc, &self.rows, self.log.as_slice()) {
+            self.log = log;
         }
     }
 }
@@ -184,12 +172,8 @@ impl Lookup for Collection {
     fn lookup(&self, id: &str) -> Option<&Stored> {
         self.get(id)
     }
-}
 
-/// Where a document stood that is let go.
-fn into_place(document: Stored) -> Place
-    ensures { result ≡ place_of document }
-{
-    let Stored { state, lwt, .. } = document;
-    Place { lwt, id: state.key }
+    fn at(&self, slot: u32) -> Option<&Stored> {
+        Collection::at(self, slot)
+    }
 }

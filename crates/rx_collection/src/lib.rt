@@ -4,7 +4,9 @@
 mod all;
 mod collection;
 mod commit;
+mod hints;
 mod holder;
+mod log;
 mod page;
 mod same;
 

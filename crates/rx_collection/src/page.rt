@@ -5,48 +5,46 @@ ghost use Rattle.rx_collection.specs.Lawful.{IsLawful};
 ghost use Rattle.rx_collection.specs.Since.{since};
 
 use crate::collection::Collection;
+use crate::log::{is_up_to, next_standing};
 use rx_document::{Place, Stored};
-use std::collections::BTreeMap;
-use std::collections::btree_map::Range;
+use rx_runs::Slots;
 use std::marker::Model;
-use std::ops::Bound;
 
 /// Documents above a place, by rising place, lent.
 #[derive(Drop)]
 pub struct Page<'a> {
-    places: Range<'a, Place, ()>,
+    log: &'a [(u64, u32)],
     left: usize,
-    stored: &'a BTreeMap<String, Stored>,
+    rows: &'a Slots<Stored>,
 }
 
 impl<'a> Model for Page<'a> {
     ghost use Rattle.std.specs.Prelude.{List, take};
     ghost use Rattle.rx_document.specs.declared.stored.Stored.{Stored};
-    ghost use Rattle.rx_value.specs.Named.{by_bytes};
-    ghost use Rattle.rx_collection.specs.Standing.{standing, AllStand};
+    ghost use Rattle.rx_collection.specs.Log.{written};
 
     ghost Value = { List Stored };
 
-    ghost view = { λ p. take p.left (standing (by_bytes p.stored.now.entries) p.places) };
-
-    ghost invariant = { λ p. AllStand (by_bytes p.stored.now.entries) p.places };
+    ghost view = { λ p. take p.left (written p.rows.now p.log.now) };
 }
 
 impl Collection {
     /// The first `n` documents above the place, by rising place. Where none is given, any document
     /// is above it.
     pub fn page(&self, place: Option<&Place>, n: usize) -> Page<'_>
-        ensures documents { result ≡ since self.now.documents (option_map (λ p. p.now) place.entry) n }
+        ensures documents { result
+            ≡ since self.now.documents (option_map (λ p. p.now) place.entry) n }
         ensures lawful { IsLawful self.now }
     {
-        let after = match place {
-            None => Bound::Unbounded,
-            Some(place) => Bound::Excluded(place),
-        };
-        Page {
-            places: self.places.range((after, Bound::Unbounded)),
-            left: n,
-            stored: &self.stored,
+        let rows = &self.rows;
+        let log = self.log.as_slice();
+        match place {
+            None => Page { log, left: n, rows },
+            Some(place) => {
+                let from = log.partition_point(|write| is_up_to(rows, write.0, write.1, place));
+                let (_, log) = log.split_at(from);
+                Page { log, left: n, rows }
+            }
         }
     }
 }
@@ -62,8 +60,9 @@ impl<'a> Iterator for Page<'a> {
         if self.left == 0 {
             return None;
         }
-        let (place, _) = self.places.next()?;
+        let (found, log) = next_standing(self.rows, self.log);
+        self.log = log;
         self.left -= 1;
-        self.stored.get(place.id.as_str())
+        found
     }
 }

@@ -17,7 +17,8 @@ use Rattle.rx_runs.proofs.Joined.{turned, below_greater, all_parts, all_joined, 
 -- ---- orders
 
 -- what is below what is at most a name is below the name
-below_le : (a b k : List ℕ) → text_cmp a b ≡ Less → is_le (text_cmp b k) ≡ true → text_cmp a k ≡ Less
+below_le : (a b k : List ℕ) → text_cmp a b ≡ Less → is_le (text_cmp b k) ≡ true
+    → text_cmp a k ≡ Less
 below_le a b k less le =
     elim (text_cmp b k) as (λ o. text_cmp b k ≡ o → is_le o ≡ true → text_cmp a k ≡ Less) [
       | Less ↦ (λ is h. text_total.trans a b k less is)
@@ -26,7 +27,8 @@ below_le a b k less le =
     ] refl le
 
 -- what is at most what is below a name is below the name
-le_below : (a b k : List ℕ) → is_le (text_cmp a b) ≡ true → text_cmp b k ≡ Less → text_cmp a k ≡ Less
+le_below : (a b k : List ℕ) → is_le (text_cmp a b) ≡ true → text_cmp b k ≡ Less
+    → text_cmp a k ≡ Less
 le_below a b k le less =
     elim (text_cmp a b) as (λ o. text_cmp a b ≡ o → is_le o ≡ true → text_cmp a k ≡ Less) [
       | Less ↦ (λ is h. text_total.trans a b k is less)
@@ -91,20 +93,25 @@ module _ {X : Type 0} where
       partitioned k cs rising.1 i j d (omega arith) (omega arith) is
 
   -- with the n-th head above a name, none is at most it only where there is no chunk
-  pub rooted_none : (k : List ℕ) (cs : List (List ℕ × List (List ℕ × X))) → IsRooted cs → 0 < length cs
+  pub rooted_none : (k : List ℕ) (cs : List (List ℕ × List (List ℕ × X))) → IsRooted cs
+      → 0 < length cs
       → ((d : List ℕ × List (List ℕ × X)) → is_le (text_cmp (get_or cs 0 d).0 k) ≡ false) → ⊥
   rooted_none k [] rooted lt high = omega arith
   rooted_none k (c ∷ cs) rooted lt high =
       true≢false (sym (ap (λ h. is_le (text_cmp h k)) rooted ∙ least k) ∙ high c)
 
   -- so from there on the heads are above it, and before it at most it
-  pub some_low : (k : List ℕ) (cs : List (List ℕ × List (List ℕ × X))) (n : ℕ) → IsRooted cs → 0 < length cs
-      → IsPartitionPoint (λ c. is_le (text_cmp c.0 k) ≡ true) (λ c. is_le (text_cmp c.0 k) ≡ false) cs n → 1 ≤ n
-  some_low k cs zero rooted lt point = absurd (rooted_none k cs rooted lt (λ d. point.1 0 d (omega arith) lt))
+  pub some_low : (k : List ℕ) (cs : List (List ℕ × List (List ℕ × X))) (n : ℕ) → IsRooted cs
+      → 0 < length cs
+      → IsPartitionPoint (λ c. is_le (text_cmp c.0 k) ≡ true) (λ c. is_le (text_cmp c.0 k) ≡ false)
+      cs n → 1 ≤ n
+  some_low k cs zero rooted lt point = absurd (rooted_none k cs rooted lt
+      (λ d. point.1 0 d (omega arith) lt))
   some_low k cs (suc n) rooted lt point = omega arith
 
   pub is_in : (k : List ℕ) (cs : List (List ℕ × List (List ℕ × X))) (n : ℕ) → 1 ≤ n → n ≤ length cs
-      → IsPartitionPoint (λ c. is_le (text_cmp c.0 k) ≡ true) (λ c. is_le (text_cmp c.0 k) ≡ false) cs n
+      → IsPartitionPoint (λ c. is_le (text_cmp c.0 k) ≡ true) (λ c. is_le (text_cmp c.0 k) ≡ false)
+      cs n
       → IsIn cs k (n - 1)
   is_in k cs n some within point = record {
     within = omega arith;
@@ -113,12 +120,15 @@ module _ {X : Type 0} where
   }
 
   -- names from a head on are above what the head is above
-  from_above : (k h : List ℕ) (es : List (List ℕ × X)) → text_cmp k h ≡ Less → AllFrom h es → AllAbove k es
-  from_above k h es less all = all_follow (λ q. is_le (text_cmp h q) ≡ true) (λ q. text_cmp k q ≡ Less) es
+  from_above : (k h : List ℕ) (es : List (List ℕ × X)) → text_cmp k h ≡ Less → AllFrom h es
+      → AllAbove k es
+  from_above k h es less all = all_follow (λ q. is_le (text_cmp h q) ≡ true)
+      (λ q. text_cmp k q ≡ Less) es
       (λ q le. below_le k h q less le) all
 
   -- names below a head are below what the head is at most
-  under_below : (k h : List ℕ) (es : List (List ℕ × X)) → is_le (text_cmp h k) ≡ true → AllBelow h es → AllBelow k es
+  under_below : (k h : List ℕ) (es : List (List ℕ × X)) → is_le (text_cmp h k) ≡ true
+      → AllBelow h es → AllBelow k es
   under_below k h es le all = all_follow (λ q. text_cmp q h ≡ Less) (λ q. text_cmp q k ≡ Less) es
       (λ q less. below_le q h k less le) all
 
@@ -134,7 +144,8 @@ module _ {X : Type 0} where
       (all_above k cs parted.2 (λ j d lt. high (suc j) d (omega arith)))
 
   -- the names before the chunk that a name is in are below it
-  before_below : (k : List ℕ) (c : List ℕ × List (List ℕ × X)) (cs : List (List ℕ × List (List ℕ × X)))
+  before_below : (k : List ℕ) (c : List ℕ × List (List ℕ × X))
+      (cs : List (List ℕ × List (List ℕ × X)))
       → AreParted (c ∷ cs) → 0 < length cs
       → ((d : List ℕ × List (List ℕ × X)) → is_le (text_cmp (get_or cs 0 d).0 k) ≡ true)
       → AllBelow k c.1
@@ -142,7 +153,8 @@ module _ {X : Type 0} where
   before_below k c (d ∷ ds) parted lt low = under_below k d.0 c.1 (low d) parted.1.0
 
   -- in the other chunks after the first
-  in_rest : (k : List ℕ) (c : List ℕ × List (List ℕ × X)) (cs : List (List ℕ × List (List ℕ × X))) (i : ℕ)
+  in_rest : (k : List ℕ) (c : List ℕ × List (List ℕ × X)) (cs : List (List ℕ × List (List ℕ × X)))
+      (i : ℕ)
       → IsIn (c ∷ cs) k (suc i) → IsIn cs k i
   in_rest k c cs i is = record {
     within = omega (arith, is.within);
@@ -151,7 +163,8 @@ module _ {X : Type 0} where
   }
 
   -- a name is looked for in the chunk that it is in
-  pub named_in : (k : List ℕ) (cs : List (List ℕ × List (List ℕ × X))) (i : ℕ) (d : List ℕ × List (List ℕ × X))
+  pub named_in : (k : List ℕ) (cs : List (List ℕ × List (List ℕ × X))) (i : ℕ)
+      (d : List ℕ × List (List ℕ × X))
       → AreParted cs → IsIn cs k i → named (flat cs) k ≡ named (get_or cs i d).1 k
   named_in k [] i d parted is = absurd (omega (arith, is.within))
   named_in k (c ∷ cs) zero d parted is =
@@ -165,7 +178,8 @@ module _ {X : Type 0} where
   -- and put there
   pub put_in : (k : List ℕ) (x : X) (cs : List (List ℕ × List (List ℕ × X))) (i : ℕ)
       (d : List ℕ × List (List ℕ × X)) → AreParted cs → IsIn cs k i
-      → flat (set cs i ((get_or cs i d).0, put_in_order (get_or cs i d).1 k x)) ≡ put_in_order (flat cs) k x
+      → flat (set cs i ((get_or cs i d).0, put_in_order (get_or cs i d).1 k x))
+      ≡ put_in_order (flat cs) k x
   put_in k x [] i d parted is = absurd (omega (arith, is.within))
   put_in k x (c ∷ cs) zero d parted is =
       sym (put-first k x c.1 (flat cs)
@@ -195,7 +209,8 @@ module _ {X : Type 0} where
   -- the heads part the chunks where they part the new one from the later ones
   pub parted_set : (cs : List (List ℕ × List (List ℕ × X))) (i : ℕ) (d : List ℕ × List (List ℕ × X))
       (es : List (List ℕ × X)) → i < length cs → AreParted cs → AllFrom (get_or cs i d).0 es
-      → ((j : ℕ) (e : List ℕ × List (List ℕ × X)) → i < j → j < length cs → AllBelow (get_or cs j e).0 es)
+      → ((j : ℕ) (e : List ℕ × List (List ℕ × X)) → i < j → j < length cs
+      → AllBelow (get_or cs j e).0 es)
       → AreParted (set cs i ((get_or cs i d).0, es))
   parted_set [] i d es lt parted from below = absurd (omega arith)
   parted_set (c ∷ cs) zero d es lt parted from below = (
@@ -218,7 +233,8 @@ module _ {X : Type 0} where
   from_at (c ∷ cs) (suc i) d lt parted = from_at cs i d (omega arith) parted.2
 
   -- and below the heads after it
-  pub below_at : (cs : List (List ℕ × List (List ℕ × X))) (i j : ℕ) (d e : List ℕ × List (List ℕ × X))
+  pub below_at : (cs : List (List ℕ × List (List ℕ × X))) (i j : ℕ)
+      (d e : List ℕ × List (List ℕ × X))
       → i < j → j < length cs → AreParted cs → AllBelow (get_or cs j e).0 (get_or cs i d).1
   below_at [] i j d e lt within parted = absurd (omega arith)
   below_at (c ∷ cs) i zero d e lt within parted = absurd (omega arith)
@@ -240,7 +256,8 @@ module _ {X : Type 0} where
         parted = parted_set cs i d es is.within are.parted
             (all_put (λ q. is_le (text_cmp (get_or cs i d).0 q) ≡ true) (get_or cs i d).1 k x
             (is.low i d (omega arith)) (from_at cs i d is.within are.parted))
-            (λ j e after within. all_put (λ q. text_cmp q (get_or cs j e).0 ≡ Less) (get_or cs i d).1 k x
+            (λ j e after within. all_put (λ q. text_cmp q (get_or cs j e).0 ≡ Less)
+            (get_or cs i d).1 k x
             (not_le (get_or cs j e).0 k (is.high j e after within))
             (below_at cs i j d e after within are.parted));
         rooted = rooted_set cs i d es are.rooted;
@@ -249,29 +266,35 @@ module _ {X : Type 0} where
   -- ---- two chunks of one
 
   -- the chunks with the i-th cut at a place, and a head for what comes after
-  abbrev pub cut : List (List ℕ × List (List ℕ × X)) → ℕ → ℕ → List ℕ → List (List ℕ × List (List ℕ × X))
+  abbrev pub cut : List (List ℕ × List (List ℕ × X)) → ℕ → ℕ → List ℕ
+      → List (List ℕ × List (List ℕ × X))
   cut [] i at f = []
   cut (c ∷ cs) zero at f = (c.0, take at c.1) ∷ (f, drop at c.1) ∷ cs
   cut (c ∷ cs) (suc i) at f = c ∷ cut cs i at f
 
   -- it is what is made by a write and an insert
-  pub cut_is : (cs : List (List ℕ × List (List ℕ × X))) (i at : ℕ) (f : List ℕ) (d : List ℕ × List (List ℕ × X))
+  pub cut_is : (cs : List (List ℕ × List (List ℕ × X))) (i at : ℕ) (f : List ℕ)
+      (d : List ℕ × List (List ℕ × X))
       → i < length cs
-      → insert (set cs i ((get_or cs i d).0, take at (get_or cs i d).1)) (suc i) (f, drop at (get_or cs i d).1)
+      → insert (set cs i ((get_or cs i d).0, take at (get_or cs i d).1)) (suc i)
+      (f, drop at (get_or cs i d).1)
       ≡ cut cs i at f
   cut_is [] i at f d lt = absurd (omega arith)
   cut_is (c ∷ cs) zero at f d lt = refl
   cut_is (c ∷ cs) (suc i) at f d lt = ap (λ r. c ∷ r) (cut_is cs i at f d (omega arith))
 
   -- the pairs are the same
-  pub flat_cut : (cs : List (List ℕ × List (List ℕ × X))) (i at : ℕ) (f : List ℕ) → flat (cut cs i at f) ≡ flat cs
+  pub flat_cut : (cs : List (List ℕ × List (List ℕ × X))) (i at : ℕ) (f : List ℕ)
+      → flat (cut cs i at f) ≡ flat cs
   flat_cut [] i at f = refl
   flat_cut (c ∷ cs) zero at f =
-      sym (append_assoc (take at c.1) (drop at c.1) (flat cs)) ∙ ap (λ es. es ++ flat cs) (take-append-drop at c.1)
+      sym (append_assoc (take at c.1) (drop at c.1) (flat cs))
+      ∙ ap (λ es. es ++ flat cs) (take-append-drop at c.1)
   flat_cut (c ∷ cs) (suc i) at f = ap (λ r. c.1 ++ r) (flat_cut cs i at f)
 
   -- what holds of the heads and the new one
-  pub all_cut : (P : List ℕ → Type 0) (cs : List (List ℕ × List (List ℕ × X))) (i at : ℕ) (f : List ℕ)
+  pub all_cut : (P : List ℕ → Type 0) (cs : List (List ℕ × List (List ℕ × X))) (i at : ℕ)
+      (f : List ℕ)
       → P f → AllByRecursion P (keys_of cs) → AllByRecursion P (keys_of (cut cs i at f))
   all_cut P [] i at f here all = tt
   all_cut P (c ∷ cs) zero at f here all = (all.0, (here, all.1))
@@ -286,7 +309,8 @@ module _ {X : Type 0} where
     pub below_later : (q : List ℕ) → AllBelow q es → text_cmp f q ≡ Less
 
   -- what begins with a name behind the cut
-  dropped : (f : List ℕ) (es : List (List ℕ × X)) (at : ℕ) → option_map (λ e. e.0) (slice_get es at) ≡ Some f
+  dropped : (f : List ℕ) (es : List (List ℕ × X)) (at : ℕ) → option_map (λ e. e.0) (slice_get es at)
+      ≡ Some f
       → (x : X) × ((rest : List (List ℕ × X)) × (drop at es ≡ (f, x) ∷ rest))
   dropped f [] at is = absurd (cc)
   dropped f (e ∷ es) zero is =
@@ -309,7 +333,8 @@ module _ {X : Type 0} where
       let whole : es ≡ take at es ++ (f, begin.0) ∷ begin.1.0 =
       sym (take-append-drop at es) ∙ ap (λ r. take at es ++ r) begin.1.1 in
       let rises = subst AreRising whole rising in
-      let front = (all_parts (λ q. is_le (text_cmp h q) ≡ true) (take at es) ((f, begin.0) ∷ begin.1.0)
+      let front = (all_parts (λ q. is_le (text_cmp h q) ≡ true) (take at es)
+      ((f, begin.0) ∷ begin.1.0)
       (subst (AllFrom h) whole from)).0 in
       let below = below_second (take at es) (f, begin.0) begin.1.0 rises in
       let back = (rising_parts (take at es) ((f, begin.0) ∷ begin.1.0) rises).1 in
@@ -322,55 +347,70 @@ module _ {X : Type 0} where
           all_follow (λ q. text_cmp f q ≡ Less) (λ q. is_le (text_cmp f q) ≡ true) begin.1.0
               (λ q less. ap is_le less) back.0,
         );
-        below_later = λ q all. (all_parts (λ k. text_cmp k q ≡ Less) (take at es) ((f, begin.0) ∷ begin.1.0)
+        below_later = λ q all. (all_parts (λ k. text_cmp k q ≡ Less) (take at es)
+            ((f, begin.0) ∷ begin.1.0)
             (subst (AllBelow q) whole all)).1.0;
       }
 
   -- the heads rise with the new one
-  heads_cut : (cs : List (List ℕ × List (List ℕ × X))) (i at : ℕ) (f : List ℕ) (d : List ℕ × List (List ℕ × X))
+  heads_cut : (cs : List (List ℕ × List (List ℕ × X))) (i at : ℕ) (f : List ℕ)
+      (d : List ℕ × List (List ℕ × X))
       → i < length cs → AreRising cs → text_cmp (get_or cs i d).0 f ≡ Less
-      → ((j : ℕ) (e : List ℕ × List (List ℕ × X)) → i < j → j < length cs → text_cmp f (get_or cs j e).0 ≡ Less)
+      → ((j : ℕ) (e : List ℕ × List (List ℕ × X)) → i < j → j < length cs
+      → text_cmp f (get_or cs j e).0 ≡ Less)
       → AreRising (cut cs i at f)
   unfolding IsStrictlySortedBy
   heads_cut [] i at f d lt rising above below = absurd (omega arith)
   heads_cut (c ∷ cs) zero at f d lt rising above below = (
     (above, rising.0),
-    (all_names (λ q. text_cmp f q ≡ Less) cs (λ j e within. below (suc j) e (omega arith) (omega arith)), rising.1),
+    (
+      all_names (λ q. text_cmp f q ≡ Less) cs (λ j e within. below (suc j) e (omega arith)
+          (omega arith)),
+      rising.1,
+    ),
   )
   heads_cut (c ∷ cs) (suc i) at f d lt rising above below =
       let first = all_at (λ q. text_cmp c.0 q ≡ Less) cs i d (omega arith) rising.0 in (
-        all_cut (λ q. text_cmp c.0 q ≡ Less) cs i at f (text_total.trans c.0 (get_or cs i d).0 f first above) rising.0,
+        all_cut (λ q. text_cmp c.0 q ≡ Less) cs i at f (text_total.trans c.0 (get_or cs i d).0 f
+            first above) rising.0,
         heads_cut cs i at f d (omega arith) rising.1 above
             (λ j e after within. below (suc j) e (omega arith) (omega arith)),
       )
 
   -- and part the chunks
-  parted_cut : (cs : List (List ℕ × List (List ℕ × X))) (i at : ℕ) (f : List ℕ) (d : List ℕ × List (List ℕ × X))
-      → i < length cs → AreParted cs → Halves (get_or cs i d).0 f (get_or cs i d).1 at → AreParted (cut cs i at f)
+  parted_cut : (cs : List (List ℕ × List (List ℕ × X))) (i at : ℕ) (f : List ℕ)
+      (d : List ℕ × List (List ℕ × X))
+      → i < length cs → AreParted cs → Halves (get_or cs i d).0 f (get_or cs i d).1 at
+      → AreParted (cut cs i at f)
   parted_cut [] i at f d lt parted h = absurd (omega arith)
   parted_cut (c ∷ cs) zero at f d lt parted h =
-      let part = λ (q : List ℕ) (all : AllBelow q c.1). all_parts (λ k. text_cmp k q ≡ Less) (take at c.1) (drop at c.1)
+      let part = λ (q : List ℕ) (all : AllBelow q c.1). all_parts (λ k. text_cmp k q ≡ Less)
+      (take at c.1) (drop at c.1)
       (subst (AllBelow q) (sym (take-append-drop at c.1)) all) in (
         h.front_from,
         (
           h.front_below,
-          all_follow (λ q. AllBelow q c.1) (λ q. AllBelow q (take at c.1)) cs (λ q all. (part q all).0) parted.1,
+          all_follow (λ q. AllBelow q c.1) (λ q. AllBelow q (take at c.1)) cs
+              (λ q all. (part q all).0) parted.1,
         ),
         (
           h.back_from,
-          all_follow (λ q. AllBelow q c.1) (λ q. AllBelow q (drop at c.1)) cs (λ q all. (part q all).1) parted.1,
+          all_follow (λ q. AllBelow q c.1) (λ q. AllBelow q (drop at c.1)) cs
+              (λ q all. (part q all).1) parted.1,
           parted.2,
         ),
       )
   parted_cut (c ∷ cs) (suc i) at f d lt parted h =
       let first = all_at (λ q. AllBelow q c.1) cs i d (omega arith) parted.1 in (
         parted.0,
-        all_cut (λ q. AllBelow q c.1) cs i at f (below_greater f (get_or cs i d).0 c.1 h.above_head first) parted.1,
+        all_cut (λ q. AllBelow q c.1) cs i at f (below_greater f (get_or cs i d).0 c.1 h.above_head
+            first) parted.1,
         parted_cut cs i at f d (omega arith) parted.2 h,
       )
 
   -- the first head stays
-  rooted_cut : (cs : List (List ℕ × List (List ℕ × X))) (i at : ℕ) (f : List ℕ) → IsRooted cs → IsRooted (cut cs i at f)
+  rooted_cut : (cs : List (List ℕ × List (List ℕ × X))) (i at : ℕ) (f : List ℕ) → IsRooted cs
+      → IsRooted (cut cs i at f)
   rooted_cut [] i at f rooted = tt
   rooted_cut (c ∷ cs) zero at f rooted = rooted
   rooted_cut (c ∷ cs) (suc i) at f rooted = rooted
@@ -380,19 +420,23 @@ module _ {X : Type 0} where
       → i < length cs → AreRising (flat cs) → AreRising (get_or cs i d).1
   rising_at [] i d lt rising = absurd (omega arith)
   rising_at (c ∷ cs) zero d lt rising = (rising_parts c.1 (flat cs) rising).0
-  rising_at (c ∷ cs) (suc i) d lt rising = rising_at cs i d (omega arith) (rising_parts c.1 (flat cs) rising).1
+  rising_at (c ∷ cs) (suc i) d lt rising = rising_at cs i d (omega arith)
+      (rising_parts c.1 (flat cs) rising).1
 
   -- so a cut of a chunk leaves chunks
-  pub chunks_cut : (cs : List (List ℕ × List (List ℕ × X))) (i at : ℕ) (f : List ℕ) (d : List ℕ × List (List ℕ × X))
+  pub chunks_cut : (cs : List (List ℕ × List (List ℕ × X))) (i at : ℕ) (f : List ℕ)
+      (d : List ℕ × List (List ℕ × X))
       → AreChunks cs → i < length cs → 0 < at → at < length (get_or cs i d).1
       → option_map (λ e. e.0) (slice_get (get_or cs i d).1 at) ≡ Some f → AreChunks (cut cs i at f)
   chunks_cut cs i at f d are lt some within is =
-      let h = halves (get_or cs i d).0 f (get_or cs i d).1 at some within (from_at cs i d lt are.parted)
+      let h = halves (get_or cs i d).0 f (get_or cs i d).1 at some within
+      (from_at cs i d lt are.parted)
       (rising_at cs i d lt are.rising) is in
       record {
         rising = subst AreRising (sym (flat_cut cs i at f)) are.rising;
         heads = heads_cut cs i at f d lt are.heads h.above_head
-            (λ j e after inside. h.below_later (get_or cs j e).0 (below_at cs i j d e after inside are.parted));
+            (λ j e after inside. h.below_later (get_or cs j e).0
+            (below_at cs i j d e after inside are.parted));
         parted = parted_cut cs i at f d lt are.parted h;
         rooted = rooted_cut cs i at f are.rooted;
       }
@@ -405,7 +449,8 @@ module _ {X : Type 0} where
   cut_made cs rs i at f m front back same lt read is_front is_back =
       (λ j. insert (set (same j) i (m.0, is_front j)) (i + 1) (f, is_back j))
       ∙ ap (λ n. insert (set cs i (m.0, take at m.1)) n (f, drop at m.1)) (add-one i)
-      ∙ ap (λ (p : List ℕ × List (List ℕ × X)). insert (set cs i (p.0, take at p.1)) (suc i) (f, drop at p.1))
+      ∙ ap (λ (p : List ℕ × List (List ℕ × X)). insert (set cs i (p.0, take at p.1)) (suc i)
+      (f, drop at p.1))
       (read ∙ ap (λ r. get_or r i m) same)
       ∙ cut_is cs i at f m lt
 
@@ -422,7 +467,8 @@ module _ {X : Type 0} where
   first_chunk (c ∷ cs) h es none is_least is_empty = absurd (omega arith)
 
   -- the run that chunks make with a pair put into one
-  pub flat_put : (k : List ℕ) (x : X) (es : List (List ℕ × X)) (cs ds : List (List ℕ × List (List ℕ × X))) (i : ℕ)
+  pub flat_put : (k : List ℕ) (x : X) (es : List (List ℕ × X))
+      (cs ds : List (List ℕ × List (List ℕ × X))) (i : ℕ)
       (d : List ℕ × List (List ℕ × X)) → AreChunks cs → IsIn cs k i → flat cs ≡ es
       → ds ≡ set cs i ((get_or cs i d).0, put_in_order (get_or cs i d).1 k x)
       → AreChunks ds × (flat ds ≡ put_in_order es k x)
@@ -432,7 +478,8 @@ module _ {X : Type 0} where
   )
 
   -- the value in whose place it comes
-  pub old_put : (k : List ℕ) (es : List (List ℕ × X)) (cs : List (List ℕ × List (List ℕ × X))) (i : ℕ)
+  pub old_put : (k : List ℕ) (es : List (List ℕ × X)) (cs : List (List ℕ × List (List ℕ × X)))
+      (i : ℕ)
       (d : List ℕ × List (List ℕ × X)) (old : Option X) → AreChunks cs → IsIn cs k i → flat cs ≡ es
       → old ≡ named (get_or cs i d).1 k → old ≡ named es k
   old_put k es cs i d old are is same found =
@@ -462,11 +509,13 @@ module _ {X : Type 0} where
       let in_place = remove_in k cs i d are.parted is in (
         subst AreChunks (sym made) (record {
           rising = subst AreRising (sym in_place) (without_rising (flat cs) k are.rising);
-          heads = subst (IsStrictlySortedBy text_cmp) (sym (heads_set cs i d es is.within)) are.heads;
+          heads = subst (IsStrictlySortedBy text_cmp) (sym (heads_set cs i d es is.within))
+              are.heads;
           parted = parted_set cs i d es is.within are.parted
               (all_without (λ q. is_le (text_cmp (get_or cs i d).0 q) ≡ true) (get_or cs i d).1 k
               (from_at cs i d is.within are.parted))
-              (λ j e after within. all_without (λ q. text_cmp q (get_or cs j e).0 ≡ Less) (get_or cs i d).1 k
+              (λ j e after within. all_without (λ q. text_cmp q (get_or cs j e).0 ≡ Less)
+              (get_or cs i d).1 k
               (below_at cs i j d e after within are.parted));
           rooted = rooted_set cs i d es are.rooted;
         }),
@@ -545,7 +594,8 @@ module _ {X : Type 0} where
       let above = from-above low (flat cs)
       (all_above low cs parted.2 (λ j e lt. is_low.high (suc j) e (omega arith) (omega arith))) in
       ap (λ n. from_name c.1 low ++ (flat (take n cs) ++ below_name (get_or cs j e).1 high)) same
-      ∙ ap (λ r. from_name c.1 low ++ r) (below_in high cs j e parted.2 (in_rest high c cs j is_high))
+      ∙ ap (λ r. from_name c.1 low ++ r) (below_in high cs j e parted.2
+      (in_rest high c cs j is_high))
       ∙ ap (λ r. r ++ below_name (flat cs) high) (sym (below-below high (from_name c.1 low)
       (all_from (λ q. text_cmp q high ≡ Less) low c.1 first)))
       ∙ ap (λ r. below_name (from_name c.1 low) high ++ below_name r high) (sym above)
@@ -555,16 +605,20 @@ module _ {X : Type 0} where
       let same : suc j - suc i - 1 ≡ j - i - 1 = omega arith in
       ap (λ n. from_name (get_or cs i d).1 low ++ (flat (take n (drop (suc i) cs))
       ++ below_name (get_or cs j e).1 high)) same
-      ∙ between_in low high cs i j d e parted.2 (in_rest low c cs i is_low) (in_rest high c cs j is_high)
+      ∙ between_in low high cs i j d e parted.2 (in_rest low c cs i is_low)
+      (in_rest high c cs j is_high)
       (omega arith)
-      ∙ ap (λ es. below_name es high) (ap (λ r. r ++ from_name (flat cs) low) (sym (from-below low c.1
-      (before_below low c cs parted (omega (arith, is_low.within)) (λ e. is_low.low 1 e (omega arith)))))
+      ∙ ap (λ es. below_name es high) (ap (λ r. r ++ from_name (flat cs) low)
+      (sym (from-below low c.1
+      (before_below low c cs parted (omega (arith, is_low.within))
+      (λ e. is_low.low 1 e (omega arith)))))
       ∙ sym (from-parts low c.1 (flat cs)))
 
   -- ---- how many pairs chunks have
 
   -- one chunk more
-  pub length_more : (cs : List (List ℕ × List (List ℕ × X))) (i : ℕ) (d : List ℕ × List (List ℕ × X))
+  pub length_more : (cs : List (List ℕ × List (List ℕ × X))) (i : ℕ)
+      (d : List ℕ × List (List ℕ × X))
       → i < length cs
       → length (flat (take (i + 1) cs)) ≡ length (flat (take i cs)) + length (get_or cs i d).1
   length_more [] i d lt = absurd (omega arith)
@@ -572,7 +626,13 @@ module _ {X : Type 0} where
       omega (arith, ap length (append-nil c.1))
   length_more (c ∷ cs) (suc i) d lt =
       let rest = length_more cs i d (omega arith) in
-      rw add-one (omega (arith, length-append c.1 (flat (take (suc i) cs)), length-append c.1 (flat (take i cs)), rw add-one at rest))
+      rw add-one (omega (
+        arith,
+        length-append c.1 (flat (take (suc i) cs)),
+        length-append c.1
+            (flat (take i cs)),
+        rw add-one at rest,
+      ))
 
   -- a front has at most all
   pub length_front : (cs : List (List ℕ × List (List ℕ × X))) (i : ℕ)
@@ -580,17 +640,25 @@ module _ {X : Type 0} where
   length_front cs zero = omega arith
   length_front [] (suc i) = omega arith
   length_front (c ∷ cs) (suc i) =
-      omega (arith, length_front cs i, length-append c.1 (flat (take i cs)), length-append c.1 (flat cs))
+      omega (
+        arith,
+        length_front cs i,
+        length-append c.1 (flat (take i cs)),
+        length-append c.1
+            (flat cs),
+      )
 
   -- ---- an empty chunk dropped
 
   -- the chunks without the i-th
-  abbrev pub dropped_chunk : List (List ℕ × List (List ℕ × X)) → ℕ → List (List ℕ × List (List ℕ × X))
+  abbrev pub dropped_chunk : List (List ℕ × List (List ℕ × X)) → ℕ
+      → List (List ℕ × List (List ℕ × X))
   dropped_chunk [] i = []
   dropped_chunk (c ∷ cs) zero = cs
   dropped_chunk (c ∷ cs) (suc i) = c ∷ dropped_chunk cs i
 
-  dropped_is : (cs : List (List ℕ × List (List ℕ × X))) (i : ℕ) → i < length cs → remove cs i ≡ dropped_chunk cs i
+  dropped_is : (cs : List (List ℕ × List (List ℕ × X))) (i : ℕ) → i < length cs
+      → remove cs i ≡ dropped_chunk cs i
   dropped_is [] i lt = absurd (omega arith)
   dropped_is (c ∷ cs) zero lt = refl
   dropped_is (c ∷ cs) (suc i) lt = ap (λ l. c ∷ l) (dropped_is cs i (omega arith))
@@ -601,26 +669,31 @@ module _ {X : Type 0} where
   all_dropped P (c ∷ cs) zero all = all.1
   all_dropped P (c ∷ cs) (suc i) all = (all.0, all_dropped P cs i all.1)
 
-  flat_dropped : (cs : List (List ℕ × List (List ℕ × X))) (i : ℕ) (d : List ℕ × List (List ℕ × X)) → i < length cs
+  flat_dropped : (cs : List (List ℕ × List (List ℕ × X))) (i : ℕ) (d : List ℕ × List (List ℕ × X))
+      → i < length cs
       → (get_or cs i d).1 ≡ [] → flat (dropped_chunk cs i) ≡ flat cs
   flat_dropped [] i d lt empty = absurd (omega arith)
   flat_dropped (c ∷ cs) zero d lt empty = sym (ap (λ es. es ++ flat cs) empty)
-  flat_dropped (c ∷ cs) (suc i) d lt empty = ap (λ l. c.1 ++ l) (flat_dropped cs i d (omega arith) empty)
+  flat_dropped (c ∷ cs) (suc i) d lt empty = ap (λ l. c.1 ++ l)
+      (flat_dropped cs i d (omega arith) empty)
 
-  heads_dropped : (cs : List (List ℕ × List (List ℕ × X))) (i : ℕ) → AreRising cs → AreRising (dropped_chunk cs i)
+  heads_dropped : (cs : List (List ℕ × List (List ℕ × X))) (i : ℕ) → AreRising cs
+      → AreRising (dropped_chunk cs i)
   unfolding IsStrictlySortedBy
   heads_dropped [] i rising = tt
   heads_dropped (c ∷ cs) zero rising = rising.1
   heads_dropped (c ∷ cs) (suc i) rising =
       (all_dropped (λ q. text_cmp c.0 q ≡ Less) cs i rising.0, heads_dropped cs i rising.1)
 
-  parted_dropped : (cs : List (List ℕ × List (List ℕ × X))) (i : ℕ) → AreParted cs → AreParted (dropped_chunk cs i)
+  parted_dropped : (cs : List (List ℕ × List (List ℕ × X))) (i : ℕ) → AreParted cs
+      → AreParted (dropped_chunk cs i)
   parted_dropped [] i parted = tt
   parted_dropped (c ∷ cs) zero parted = parted.2
   parted_dropped (c ∷ cs) (suc i) parted =
       (parted.0, all_dropped (λ h. AllBelow h c.1) cs i parted.1, parted_dropped cs i parted.2)
 
-  rooted_dropped : (cs : List (List ℕ × List (List ℕ × X))) (i : ℕ) → 0 < i → IsRooted cs → IsRooted (dropped_chunk cs i)
+  rooted_dropped : (cs : List (List ℕ × List (List ℕ × X))) (i : ℕ) → 0 < i → IsRooted cs
+      → IsRooted (dropped_chunk cs i)
   rooted_dropped [] i some rooted = tt
   rooted_dropped (c ∷ cs) zero some rooted = absurd (omega arith)
   rooted_dropped (c ∷ cs) (suc i) some rooted = rooted
@@ -630,7 +703,8 @@ module _ {X : Type 0} where
   no_pairs (e ∷ es) none = absurd (omega arith)
 
   -- leaves chunks, and the same run
-  pub chunks_drop : (cs : List (List ℕ × List (List ℕ × X))) (i : ℕ) (d : List ℕ × List (List ℕ × X)) → AreChunks cs
+  pub chunks_drop : (cs : List (List ℕ × List (List ℕ × X))) (i : ℕ)
+      (d : List ℕ × List (List ℕ × X)) → AreChunks cs
       → i < length cs → 0 < i → length (get_or cs i d).1 ≡ 0
       → AreChunks (remove cs i) × (flat (remove cs i) ≡ flat cs)
   chunks_drop cs i d are lt some none =

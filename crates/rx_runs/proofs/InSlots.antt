@@ -29,15 +29,18 @@ module _ {X : Type 0} where
   slot_set (r ∷ rows) (suc s) x lt = slot_set rows s x (omega arith)
 
   -- that was not
-  slot_other : (rows : List X) (s t : ℕ) (x : X) → t ≢ s → slice_get (set rows s x) t ≡ slice_get rows t
+  slot_other : (rows : List X) (s t : ℕ) (x : X) → t ≢ s → slice_get (set rows s x) t
+      ≡ slice_get rows t
   slot_other [] s t x differs = refl
   slot_other (r ∷ rows) zero zero x differs = absurd (differs refl)
   slot_other (r ∷ rows) zero (suc t) x differs = refl
   slot_other (r ∷ rows) (suc s) zero x differs = refl
-  slot_other (r ∷ rows) (suc s) (suc t) x differs = slot_other rows s t x (λ same. differs (ap suc same))
+  slot_other (r ∷ rows) (suc s) (suc t) x differs = slot_other rows s t x
+      (λ same. differs (ap suc same))
 
   -- before a value more
-  slot_before : (rows : List X) (s : ℕ) (x : X) → s < length rows → slice_get (rows ++ x ∷ []) s ≡ slice_get rows s
+  slot_before : (rows : List X) (s : ℕ) (x : X) → s < length rows
+      → slice_get (rows ++ x ∷ []) s ≡ slice_get rows s
   slot_before [] s x lt = absurd (omega arith)
   slot_before (r ∷ rows) zero x lt = refl
   slot_before (r ∷ rows) (suc s) x lt = slot_before rows s x (omega arith)
@@ -68,7 +71,8 @@ all_slots_put : (Q : ℕ → Type 0) (es : List (List ℕ × ℕ)) (k : List ℕ
 all_slots_put Q [] k n here all = (here, tt)
 all_slots_put Q (e ∷ es) k n here all =
     elim (text_cmp k e.0)
-    as (λ o. AllByRecursion (λ e. Q e.1) (match_ordering o ((k, n) ∷ e ∷ es) ((e.0, n) ∷ es) (e ∷ put_in_order es k n))) [
+    as (λ o. AllByRecursion (λ e. Q e.1) (match_ordering o ((k, n) ∷ e ∷ es) ((e.0, n) ∷ es)
+    (e ∷ put_in_order es k n))) [
       | Less ↦ (here, all)
       | Equal ↦ (here, all.1)
       | Greater ↦ (all.0, all_slots_put Q es k n here all.1)
@@ -81,21 +85,27 @@ all_slots_follow P Q [] step all = tt
 all_slots_follow P Q (e ∷ es) step all = (step e.1 all.0, all_slots_follow P Q es step all.1)
 
 -- a slot that no name has leaves the slots apart
-apart_put : (es : List (List ℕ × ℕ)) (k : List ℕ) (n : ℕ) → AreApart es → NoneAt n es → AreApart (put_in_order es k n)
+apart_put : (es : List (List ℕ × ℕ)) (k : List ℕ) (n : ℕ) → AreApart es → NoneAt n es
+    → AreApart (put_in_order es k n)
 apart_put [] k n apart none = (tt, tt)
 apart_put (e ∷ es) k n apart none =
     elim (text_cmp k e.0)
-    as (λ o. AreApart (match_ordering o ((k, n) ∷ e ∷ es) ((e.0, n) ∷ es) (e ∷ put_in_order es k n))) [
+    as (λ o. AreApart (match_ordering o ((k, n) ∷ e ∷ es) ((e.0, n) ∷ es)
+    (e ∷ put_in_order es k n))) [
       | Less ↦ (none, apart)
       | Equal ↦ (none.1, apart.1)
-      | Greater ↦ (all_slots_put (λ t. t ≢ e.1) es k n (λ same. none.0 (sym same)) apart.0, apart_put es k n apart.1 none.1)
+      | Greater ↦ (
+        all_slots_put (λ t. t ≢ e.1) es k n (λ same. none.0 (sym same)) apart.0,
+        apart_put es k n apart.1 none.1,
+      )
     ]
 
 -- ---- what is seen
 
 module _ {X : Type 0} where
   -- the first pair
-  shown_first : (rows : List X) (e : List ℕ × ℕ) (es : List (List ℕ × ℕ)) (x : X) → slice_get rows e.1 ≡ Some x
+  shown_first : (rows : List X) (e : List ℕ × ℕ) (es : List (List ℕ × ℕ)) (x : X)
+      → slice_get rows e.1 ≡ Some x
       → shown rows (e ∷ es) ≡ (e.0, x) ∷ shown rows es
   shown_first rows e es x is = ap (λ o. with_value e.0 o (shown rows es)) is
 
@@ -116,14 +126,6 @@ module _ {X : Type 0} where
       let here = slot_before rows e.1 x under.0 in
       let rest = shown_more rows x es under.1 in
       λ j. with_value e.0 (here j) (rest j)
-
-  -- the names are the same
-  pub keys_shown : (rows : List X) (es : List (List ℕ × ℕ)) → AllUnder (length rows) es
-      → keys_of (shown rows es) ≡ keys_of es
-  keys_shown rows [] under = refl
-  keys_shown rows (e ∷ es) under =
-      let v = slot_some rows e.1 under.0 in
-      ap keys_of (shown_first rows e es v.0 v.1) ∙ ap (λ ks. e.0 ∷ ks) (keys_shown rows es under.1)
 
   pub length_shown : (rows : List X) (es : List (List ℕ × ℕ)) → AllUnder (length rows) es
       → length (shown rows es) ≡ length es
@@ -180,17 +182,20 @@ module _ {X : Type 0} where
             let found : Some s ≡ None = sym is ∙ none in absurd (cc))
         | Equal ↦ (λ tie.
             let here : bytes_eq k e.0 ≡ true = sym (is_eq-slice_cmp k e.0) ∙ ap is_eq tie in
-            let found : Some e.1 ≡ Some s = sym (ap (λ b. cond b (Some e.1) (named es k)) here) ∙ is in
+            let found : Some e.1 ≡ Some s = sym (ap (λ b. cond b (Some e.1) (named es k)) here)
+            ∙ is in
             let same : e.1 ≡ s = cc in
             let none : NoneAt s es = subst (λ t. NoneAt t es) same slots.apart.0 in
             let within : s < length rows = subst (λ t. t < length rows) same slots.within.0 in
-            shown_first (set rows s x) e es x (ap (slice_get (set rows s x)) same ∙ slot_set rows s x within)
+            shown_first (set rows s x) e es x (ap (slice_get (set rows s x)) same
+            ∙ slot_set rows s x within)
             ∙ ap (λ r. (e.0, x) ∷ r) (shown_set rows s x es none))
         | Greater ↦ (λ more.
             let there : named es k ≡ Some s =
             sym (ap (λ b. cond b (Some e.1) (named es k)) (other k e.0 Greater more refl)) ∙ is in
             let differs = named_slot (λ t. t ≢ e.1) es k s slots.apart.0 there in
-            shown_first (set rows s x) e es v.0 (slot_other rows s e.1 x (λ same. differs (sym same)) ∙ v.1)
+            shown_first (set rows s x) e es v.0 (slot_other rows s e.1 x
+            (λ same. differs (sym same)) ∙ v.1)
             ∙ ap (λ r. (e.0, v.0) ∷ r) (put_old rows es k s x rest there))
       ] refl
       ∙ ap (λ l. put_in_order l k x) (sym (shown_first rows e es v.0 v.1))
@@ -199,7 +204,8 @@ module _ {X : Type 0} where
   pub put_new : (rows : List X) (es : List (List ℕ × ℕ)) (k : List ℕ) (x : X)
       → AllUnder (length rows) es → named es k ≡ None
       → shown (rows ++ x ∷ []) (put_in_order es k (length rows)) ≡ put_in_order (shown rows es) k x
-  put_new rows [] k x under is = shown_first (rows ++ x ∷ []) (k, length rows) [] x (slot_last rows x)
+  put_new rows [] k x under is = shown_first (rows ++ x ∷ []) (k, length rows) [] x
+      (slot_last rows x)
   put_new rows (e ∷ es) k x under is =
       let v = slot_some rows e.1 under.0 in
       let all = rows ++ x ∷ [] in
@@ -211,10 +217,12 @@ module _ {X : Type 0} where
       ((e.0, v.0) ∷ put_in_order (shown rows es) k x)) [
         | Less ↦ (λ less.
             shown_first all (k, n) (e ∷ es) x (slot_last rows x)
-            ∙ ap (λ r. (k, x) ∷ r) (shown_more rows x (e ∷ es) under ∙ shown_first rows e es v.0 v.1))
+            ∙ ap (λ r. (k, x) ∷ r) (shown_more rows x (e ∷ es) under
+            ∙ shown_first rows e es v.0 v.1))
         | Equal ↦ (λ tie.
             let here : bytes_eq k e.0 ≡ true = sym (is_eq-slice_cmp k e.0) ∙ ap is_eq tie in
-            let found : Some e.1 ≡ None = sym (ap (λ b. cond b (Some e.1) (named es k)) here) ∙ is in absurd (cc))
+            let found : Some e.1 ≡ None = sym (ap (λ b. cond b (Some e.1) (named es k)) here)
+            ∙ is in absurd (cc))
         | Greater ↦ (λ more.
             let there : named es k ≡ None =
             sym (ap (λ b. cond b (Some e.1) (named es k)) (other k e.0 Greater more refl)) ∙ is in

@@ -22,7 +22,8 @@ pub turned : (a b : List ℕ) (o : Ordering) → text_cmp a b ≡ o → text_cmp
 turned a b o is = text_total.antisymm b a ∙ ap ordering_reverse is
 
 -- a name that comes before or after another isn't it
-pub other : (a b : List ℕ) (o : Ordering) → text_cmp a b ≡ o → is_eq o ≡ false → bytes_eq a b ≡ false
+pub other : (a b : List ℕ) (o : Ordering) → text_cmp a b ≡ o → is_eq o ≡ false
+    → bytes_eq a b ≡ false
 other a b o is differs = sym (is_eq-slice_cmp a b) ∙ ap is_eq is ∙ differs
 
 -- a test for below
@@ -56,7 +57,8 @@ module _ {X : Type 0} where
       (text_total.trans e.0 l k all.0 is, below_greater k l es is all.1)
 
   -- what holds of all names holds of the i-th
-  pub all_at : (P : List ℕ → Type 0) (es : List (List ℕ × X)) (i : ℕ) (d : List ℕ × X) → i < length es
+  pub all_at : (P : List ℕ → Type 0) (es : List (List ℕ × X)) (i : ℕ) (d : List ℕ × X)
+      → i < length es
       → AllByRecursion P (keys_of es) → P (get_or es i d).0
   all_at P [] i d lt all = absurd (omega arith)
   all_at P (e ∷ es) zero d lt all = all.0
@@ -78,7 +80,8 @@ module _ {X : Type 0} where
   all_joined P (x ∷ xs) ys first second = (first.0, all_joined P xs ys first.1 second)
 
   -- each of two rising parts rises
-  pub rising_parts : (xs ys : List (List ℕ × X)) → AreRising (xs ++ ys) → AreRising xs × AreRising ys
+  pub rising_parts : (xs ys : List (List ℕ × X)) → AreRising (xs ++ ys)
+      → AreRising xs × AreRising ys
   unfolding IsStrictlySortedBy
   rising_parts [] ys rising = (tt, rising)
   rising_parts (x ∷ xs) ys rising =
@@ -90,14 +93,18 @@ module _ {X : Type 0} where
       → AreRising (xs ++ y ∷ ys) → AllBelow y.0 xs
   unfolding IsStrictlySortedBy
   below_second [] y ys rising = tt
-  below_second (x ∷ xs) y ys rising =
-      ((all_parts (λ q. text_cmp x.0 q ≡ Less) xs (y ∷ ys) rising.0).1.0, below_second xs y ys rising.1)
+  below_second (x ∷ xs) y ys rising = (
+    (all_parts (λ q. text_cmp x.0 q ≡ Less) xs (y ∷ ys) rising.0).1.0,
+    below_second xs y ys
+        rising.1,
+  )
 
   -- a name below all is not there
   pub named-above : (k : List ℕ) (es : List (List ℕ × X)) → AllAbove k es → named es k ≡ None
   named-above k [] all = refl
   named-above k (e ∷ es) all =
-      ap (λ b. cond b (Some e.1) (named es k)) (other k e.0 Less all.0 refl) ∙ named-above k es all.1
+      ap (λ b. cond b (Some e.1) (named es k)) (other k e.0 Less all.0 refl)
+      ∙ named-above k es all.1
 
   -- and goes to the front
   pub put-above : (k : List ℕ) (x : X) (es : List (List ℕ × X)) → AllAbove k es
@@ -110,17 +117,20 @@ module _ {X : Type 0} where
   pub named-first : (k : List ℕ) (xs ys : List (List ℕ × X)) → AllAbove k ys
       → named (xs ++ ys) k ≡ named xs k
   named-first k [] ys above = named-above k ys above
-  named-first k (x ∷ xs) ys above = ap (cond (bytes_eq k x.0) (Some x.1)) (named-first k xs ys above)
+  named-first k (x ∷ xs) ys above = ap (cond (bytes_eq k x.0) (Some x.1))
+      (named-first k xs ys above)
 
   -- and put there
   pub put-first : (k : List ℕ) (v : X) (xs ys : List (List ℕ × X)) → AllAbove k ys
       → put_in_order (xs ++ ys) k v ≡ put_in_order xs k v ++ ys
   put-first k v [] ys above = put-above k v ys above
   put-first k v (x ∷ xs) ys above =
-      ap (λ r. match_ordering (text_cmp k x.0) ((k, v) ∷ x ∷ (xs ++ ys)) ((x.0, v) ∷ (xs ++ ys)) (x ∷ r))
+      ap (λ r. match_ordering (text_cmp k x.0) ((k, v) ∷ x ∷ (xs ++ ys)) ((x.0, v) ∷ (xs ++ ys))
+      (x ∷ r))
       (put-first k v xs ys above)
       ∙ elim (text_cmp k x.0)
-      as (λ o. match_ordering o ((k, v) ∷ x ∷ (xs ++ ys)) ((x.0, v) ∷ (xs ++ ys)) (x ∷ (put_in_order xs k v ++ ys))
+      as (λ o. match_ordering o ((k, v) ∷ x ∷ (xs ++ ys)) ((x.0, v) ∷ (xs ++ ys))
+      (x ∷ (put_in_order xs k v ++ ys))
       ≡ match_ordering o ((k, v) ∷ x ∷ xs) ((x.0, v) ∷ xs) (x ∷ put_in_order xs k v) ++ ys)
       [ Less ↦ refl | Equal ↦ refl | Greater ↦ refl ]
 
@@ -129,7 +139,8 @@ module _ {X : Type 0} where
       → named (xs ++ ys) k ≡ named ys k
   named-second k [] ys below = refl
   named-second k (x ∷ xs) ys below =
-      ap (λ b. cond b (Some x.1) (named (xs ++ ys) k)) (other k x.0 Greater (turned x.0 k Less below.0) refl)
+      ap (λ b. cond b (Some x.1) (named (xs ++ ys) k)) (other k x.0 Greater
+      (turned x.0 k Less below.0) refl)
       ∙ named-second k xs ys below.1
 
   -- and put there
@@ -137,7 +148,8 @@ module _ {X : Type 0} where
       → put_in_order (xs ++ ys) k v ≡ xs ++ put_in_order ys k v
   put-second k v [] ys below = refl
   put-second k v (x ∷ xs) ys below =
-      ap (λ o. match_ordering o ((k, v) ∷ x ∷ (xs ++ ys)) ((x.0, v) ∷ (xs ++ ys)) (x ∷ put_in_order (xs ++ ys) k v))
+      ap (λ o. match_ordering o ((k, v) ∷ x ∷ (xs ++ ys)) ((x.0, v) ∷ (xs ++ ys))
+      (x ∷ put_in_order (xs ++ ys) k v))
       (turned x.0 k Less below.0)
       ∙ ap (λ r. x ∷ r) (put-second k v xs ys below.1)
 
@@ -148,7 +160,8 @@ module _ {X : Type 0} where
   length_put-new (e ∷ es) k x none =
       elim (text_cmp k e.0)
       as (λ o. text_cmp k e.0 ≡ o
-      → length (match_ordering o ((k, x) ∷ e ∷ es) ((e.0, x) ∷ es) (e ∷ put_in_order es k x)) ≡ suc (length es) + 1) [
+      → length (match_ordering o ((k, x) ∷ e ∷ es) ((e.0, x) ∷ es) (e ∷ put_in_order es k x))
+      ≡ suc (length es) + 1) [
         | Less ↦ (λ is. omega arith)
         | Equal ↦ (λ is.
             let same : bytes_eq k e.0 ≡ true = sym (is_eq-slice_cmp k e.0) ∙ ap is_eq is in
@@ -161,14 +174,16 @@ module _ {X : Type 0} where
       ] refl
 
   -- one that is there makes none
-  pub length_put-old : (es : List (List ℕ × X)) (k : List ℕ) (x y : X) → AreRising es → named es k ≡ Some y
+  pub length_put-old : (es : List (List ℕ × X)) (k : List ℕ) (x y : X) → AreRising es
+      → named es k ≡ Some y
       → length (put_in_order es k x) ≡ length es
   unfolding IsStrictlySortedBy
   length_put-old [] k x y rising some = absurd (cc)
   length_put-old (e ∷ es) k x y rising some =
       elim (text_cmp k e.0)
       as (λ o. text_cmp k e.0 ≡ o
-      → length (match_ordering o ((k, x) ∷ e ∷ es) ((e.0, x) ∷ es) (e ∷ put_in_order es k x)) ≡ suc (length es)) [
+      → length (match_ordering o ((k, x) ∷ e ∷ es) ((e.0, x) ∷ es) (e ∷ put_in_order es k x))
+      ≡ suc (length es)) [
         | Less ↦ (λ is.
             let none : named (e ∷ es) k ≡ None =
             named-above k (e ∷ es) (is, above_lower k e.0 es is rising.0) in
@@ -220,11 +235,13 @@ module _ {X : Type 0} where
   -- a front and a back of rising pairs rise
   pub take_rising : (i : ℕ) (es : List (List ℕ × X)) → AreRising es → AreRising (take i es)
   take_rising i es rising =
-      (rising_parts (take i es) (drop i es) (subst AreRising (sym (take-append-drop i es)) rising)).0
+      (rising_parts (take i es) (drop i es) (subst AreRising (sym (take-append-drop i es))
+      rising)).0
 
   pub drop_rising : (i : ℕ) (es : List (List ℕ × X)) → AreRising es → AreRising (drop i es)
   drop_rising i es rising =
-      (rising_parts (take i es) (drop i es) (subst AreRising (sym (take-append-drop i es)) rising)).1
+      (rising_parts (take i es) (drop i es) (subst AreRising (sym (take-append-drop i es))
+      rising)).1
 
   -- ---- without the pair of a name
 
@@ -232,12 +249,14 @@ module _ {X : Type 0} where
   pub without_none : (k : List ℕ) (es : List (List ℕ × X)) → named es k ≡ None → without es k ≡ es
   without_none k [] none = refl
   without_none k (e ∷ es) none =
-      elim (bytes_eq k e.0) as (λ b. cond b (Some e.1) (named es k) ≡ None → cond b es (e ∷ without es k) ≡ e ∷ es) [
+      elim (bytes_eq k e.0) as (λ b. cond b (Some e.1) (named es k) ≡ None
+      → cond b es (e ∷ without es k) ≡ e ∷ es) [
         | true ↦ (λ found. absurd (cc))
         | false ↦ (λ rest. ap (λ r. e ∷ r) (without_none k es rest))
       ] none
 
-  pub without_absent : (es : List (List ℕ × X)) (k : List ℕ) (o : Option X) → o ≡ named es k → is_some o ≡ false
+  pub without_absent : (es : List (List ℕ × X)) (k : List ℕ) (o : Option X) → o ≡ named es k
+      → is_some o ≡ false
       → without es k ≡ es
   without_absent es k None is none = without_none k es (sym is)
   without_absent es k (Some y) is none = absurd (true≢false none)
@@ -257,7 +276,8 @@ module _ {X : Type 0} where
       → without (xs ++ ys) k ≡ xs ++ without ys k
   without-second k [] ys below = refl
   without-second k (x ∷ xs) ys below =
-      ap (λ b. cond b (xs ++ ys) (x ∷ without (xs ++ ys) k)) (other k x.0 Greater (turned x.0 k Less below.0) refl)
+      ap (λ b. cond b (xs ++ ys) (x ∷ without (xs ++ ys) k))
+      (other k x.0 Greater (turned x.0 k Less below.0) refl)
       ∙ ap (λ r. x ∷ r) (without-second k xs ys below.1)
 
   -- what holds of all names holds of the others
@@ -269,22 +289,29 @@ module _ {X : Type 0} where
       [ true ↦ all.1 | false ↦ (all.0, all_without P es k all.1) ]
 
   -- they rise
-  pub without_rising : (es : List (List ℕ × X)) (k : List ℕ) → AreRising es → AreRising (without es k)
+  pub without_rising : (es : List (List ℕ × X)) (k : List ℕ) → AreRising es
+      → AreRising (without es k)
   unfolding IsStrictlySortedBy
   without_rising [] k rising = tt
   without_rising (e ∷ es) k rising =
       elim (bytes_eq k e.0) as (λ b. AreRising (cond b es (e ∷ without es k))) [
         | true ↦ rising.1
-        | false ↦ (all_without (λ q. text_cmp e.0 q ≡ Less) es k rising.0, without_rising es k rising.1)
+        | false ↦ (
+          all_without (λ q. text_cmp e.0 q ≡ Less) es k rising.0,
+          without_rising es k
+              rising.1,
+        )
       ]
 
   -- they are one less where it is there
-  pub length_without : (es : List (List ℕ × X)) (k : List ℕ) (o : Option X) → o ≡ named es k → is_some o ≡ true
+  pub length_without : (es : List (List ℕ × X)) (k : List ℕ) (o : Option X) → o ≡ named es k
+      → is_some o ≡ true
       → length (without es k) + 1 ≡ length es
   length_without [] k o is some = absurd (true≢false (sym some ∙ ap is_some is))
   length_without (e ∷ es) k o is some =
       elim (bytes_eq k e.0)
-      as (λ b. o ≡ cond b (Some e.1) (named es k) → length (cond b es (e ∷ without es k)) + 1 ≡ suc (length es)) [
+      as (λ b. o ≡ cond b (Some e.1) (named es k) → length (cond b es (e ∷ without es k)) + 1
+      ≡ suc (length es)) [
         | true ↦ (λ here. omega arith)
         | false ↦ (λ rest. let less = length_without es k o rest some in omega arith)
       ] is
@@ -301,7 +328,8 @@ module _ {X : Type 0} where
       let below : text_cmp e.0 k ≡ Less = ap (text_cmp e.0) (sym (there e))
       ∙ all_at (λ q. text_cmp e.0 q ≡ Less) es i e (omega arith) rising.0 in
       ap (λ r. e ∷ r) (remove_is es k i (omega arith) rising.1 there)
-      ∙ sym (ap (λ b. cond b es (e ∷ without es k)) (other k e.0 Greater (turned e.0 k Less below) refl))
+      ∙ sym (ap (λ b. cond b es (e ∷ without es k)) (other k e.0 Greater (turned e.0 k Less below)
+      refl))
 
   -- ---- the pairs from a name on
 
@@ -320,13 +348,15 @@ module _ {X : Type 0} where
   pub from-above : (k : List ℕ) (es : List (List ℕ × X)) → AllAbove k es → from_name es k ≡ es
   from-above k [] all = refl
   from-above k (e ∷ es) all =
-      ap (λ o. cond (is_le o) (e ∷ from_name es k) (from_name es k)) all.0 ∙ ap (λ r. e ∷ r) (from-above k es all.1)
+      ap (λ o. cond (is_le o) (e ∷ from_name es k) (from_name es k)) all.0
+      ∙ ap (λ r. e ∷ r) (from-above k es all.1)
 
   -- none that are below it
   pub from-below : (k : List ℕ) (es : List (List ℕ × X)) → AllBelow k es → from_name es k ≡ []
   from-below k [] all = refl
   from-below k (e ∷ es) all =
-      ap (λ o. cond (is_le o) (e ∷ from_name es k) (from_name es k)) (turned e.0 k Less all.0) ∙ from-below k es all.1
+      ap (λ o. cond (is_le o) (e ∷ from_name es k) (from_name es k)) (turned e.0 k Less all.0)
+      ∙ from-below k es all.1
 
   -- a name below another has only such names before it
   pub below_first : (k : List ℕ) (es : List (List ℕ × X)) → AreRising es
@@ -336,29 +366,37 @@ module _ {X : Type 0} where
   below_first k (e ∷ es) rising zero zero d le lt is = is
   below_first k (e ∷ es) rising zero (suc j) d le lt is =
       let below = all_at (λ q. text_cmp e.0 q ≡ Less) es j d (omega arith) rising.0 in
-      ap is_lt (text_total.trans e.0 (get_or es j d).0 k below ((Less-is (text_cmp (get_or es j d).0 k)).0 is))
+      ap is_lt (text_total.trans e.0 (get_or es j d).0 k below
+      ((Less-is (text_cmp (get_or es j d).0 k)).0 is))
   below_first k (e ∷ es) rising (suc i) zero d le lt is = absurd (omega arith)
   below_first k (e ∷ es) rising (suc i) (suc j) d le lt is =
       below_first k es rising.1 i j d (omega arith) (omega arith) is
 
   -- those from where the names below it end
   pub from_point : (k : List ℕ) (es : List (List ℕ × X)) (j : ℕ) → j ≤ length es
-      → IsPartitionPoint (λ e. is_lt (text_cmp e.0 k) ≡ true) (λ e. is_lt (text_cmp e.0 k) ≡ false) es j
+      → IsPartitionPoint (λ e. is_lt (text_cmp e.0 k) ≡ true) (λ e. is_lt (text_cmp e.0 k) ≡ false)
+      es j
       → drop j es ≡ from_name es k
   from_point k [] zero le point = refl
   from_point k [] (suc j) le point = absurd (omega arith)
   from_point k (e ∷ es) zero le point =
-      let here : is_le (text_cmp k e.0) ≡ true = not_lt e.0 k (point.1 0 e (omega arith) (omega arith)) in
-      ap (λ r. e ∷ r) (from_point k es zero (omega arith)
-      ((λ i d low high. absurd (omega arith)), (λ i d low high. point.1 (suc i) d (omega arith) (omega arith))))
+      let here : is_le (text_cmp k e.0) ≡ true = not_lt e.0 k
+      (point.1 0 e (omega arith) (omega arith)) in
+      ap (λ r. e ∷ r) (from_point k es zero (omega arith) (
+        (λ i d low high. absurd (omega arith)),
+        (λ i d low high.
+            point.1 (suc i) d (omega arith) (omega arith)),
+      ))
       ∙ sym (ap (λ b. cond b (e ∷ from_name es k) (from_name es k)) here)
   from_point k (e ∷ es) (suc j) le point =
-      let below : text_cmp e.0 k ≡ Less = (Less-is (text_cmp e.0 k)).0 (point.0 0 e (omega arith) (omega arith)) in
+      let below : text_cmp e.0 k ≡ Less = (Less-is (text_cmp e.0 k)).0
+      (point.0 0 e (omega arith) (omega arith)) in
       from_point k es j (omega arith) (
         (λ i d low high. point.0 (suc i) d (omega arith) (omega arith)),
         (λ i d low high. point.1 (suc i) d (omega arith) (omega arith)),
       )
-      ∙ sym (ap (λ o. cond (is_le o) (e ∷ from_name es k) (from_name es k)) (turned e.0 k Less below))
+      ∙ sym (ap (λ o. cond (is_le o) (e ∷ from_name es k) (from_name es k))
+      (turned e.0 k Less below))
 
   -- they rise
   pub all_from : (P : List ℕ → Type 0) (k : List ℕ) (es : List (List ℕ × X))
@@ -389,7 +427,8 @@ module _ {X : Type 0} where
   below-parts k (x ∷ xs) ys =
       ap (λ r. cond (is_lt (text_cmp x.0 k)) (x ∷ r) r) (below-parts k xs ys)
       ∙ elim (is_lt (text_cmp x.0 k))
-      as (λ b. cond b (x ∷ (below_name xs k ++ below_name ys k)) (below_name xs k ++ below_name ys k)
+      as (λ b. cond b (x ∷ (below_name xs k ++ below_name ys k))
+      (below_name xs k ++ below_name ys k)
       ≡ cond b (x ∷ below_name xs k) (below_name xs k) ++ below_name ys k)
       [ true ↦ refl | false ↦ refl ]
 
@@ -409,7 +448,8 @@ module _ {X : Type 0} where
 
   -- those up to where the names below it end
   pub below_point : (k : List ℕ) (es : List (List ℕ × X)) (j : ℕ) → j ≤ length es
-      → IsPartitionPoint (λ e. is_lt (text_cmp e.0 k) ≡ true) (λ e. is_lt (text_cmp e.0 k) ≡ false) es j
+      → IsPartitionPoint (λ e. is_lt (text_cmp e.0 k) ≡ true) (λ e. is_lt (text_cmp e.0 k) ≡ false)
+      es j
       → take j es ≡ below_name es k
   below_point k [] zero le point = refl
   below_point k [] (suc j) le point = absurd (omega arith)

@@ -44,7 +44,8 @@ pub record AreChunks {X : Type 0} (cs : List (List ℕ × List (List ℕ × X)))
   pub rooted : IsRooted cs
 
 -- the heads up to the i-th are at most the name, and the others above it
-pub record IsIn {X : Type 0} (cs : List (List ℕ × List (List ℕ × X))) (name : List ℕ) (i : ℕ) : Type 0 where
+pub record IsIn {X : Type 0} (cs : List (List ℕ × List (List ℕ × X))) (name : List ℕ)
+    (i : ℕ) : Type 0 where
   pub within : i < length cs
   pub low : (j : ℕ) (d : List ℕ × List (List ℕ × X)) → j ≤ i
       → is_le (text_cmp (slice_index_or cs j d).0 name) ≡ true

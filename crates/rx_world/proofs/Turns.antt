@@ -17,7 +17,7 @@ use Rattle.rx_collection.specs.Lawful.{IsLawful}
 use Rattle.rx_collection.specs.Since.{place_of}
 use Rattle.rx_collection.specs.Time.{last_lwt, most_lwt}
 use Rattle.rx_collection.proofs.Commits.{all_below}
-use Rattle.rx_collection.proofs.Lawful.{lawful_put, rising_none}
+use Rattle.rx_collection.proofs.Lawful.{lawful_put, next_height_is, rising_none}
 use Rattle.rx_collection.proofs.Named.{above_other, all_put}
 use Rattle.rx_record.specs.Rows.{key_of}
 use Rattle.rx_record.specs.declared.record.RowOut.{RowOut}
@@ -102,7 +102,8 @@ turns name now lwt (r ∷ rs) low high up ready = (
     above = ready.0.below;
     written = low;
     in_range = high;
-    height = ready.0.height;
+    height =
+        next_height_is (named now.documents r.state.key) lwt r.height low ready.0.height;
     carried = ready.0.carried;
   },
   turns name (with_row now (stored_of name lwt r)) lwt rs low high up.1

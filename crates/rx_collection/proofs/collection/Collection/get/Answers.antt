@@ -1,10 +1,30 @@
-use Rattle.std.proofs.Common.{ap, ◌∙◌}
+use Rattle.std.proofs.Common.{◌∙◌, ◌<◌, ap, sym, length}
 use Rattle.rx_value.specs.Named.{named}
-use Rattle.rx_value.proofs.Named.{tree_lookup-by_bytes}
+use Rattle.rx_runs.proofs.InSlots.{named_slot, shown_none, shown_some}
 use Rattle.rx_collection.specs.Held.{Held}
 use Rattle.rx_collection.proofs.collection.Collection.get.Goals as goal
 
-pub returns-clause-value : goal.returns-clause-value
-returns-clause-value c =
-    c.get.ensures.value ∙ tree_lookup-by_bytes c.self.inside.stored.entries c.args.key.now
-    ∙ ap (λ (h : Held). named h.documents c.args.key.now) c.self.view_is
+pub slot_of-requires : goal.slot_of-requires
+slot_of-requires c = c.self.invariant.logged.keyed
+
+pub at-requires : goal.at-requires
+at-requires c =
+    let i = c.self.inside in
+    named_slot (λ s. s < length i.rows) i.names c.args.key.now c.in-Some.slot
+    c.self.invariant.slots.within
+    (sym c.in-Some.ensures)
+
+pub returns-in-Some-clause-value : goal.returns-in-Some-clause-value
+returns-in-Some-clause-value c =
+    let i = c.self.inside in
+    let k = c.args.key.now in
+    sym (shown_some i.rows i.names k c.in-Some.slot c.at.result.now c.self.invariant.slots.within
+    (sym c.in-Some.ensures) c.at.ensures)
+    ∙ ap (λ (h : Held). named h.documents k) c.self.view_is
+
+pub returns-in-None-clause-value : goal.returns-in-None-clause-value
+returns-in-None-clause-value c =
+    let i = c.self.inside in
+    let k = c.args.key.now in
+    sym (shown_none i.rows i.names k c.self.invariant.slots.within (sym c.in-None.ensures))
+    ∙ ap (λ (h : Held). named h.documents k) c.self.view_is

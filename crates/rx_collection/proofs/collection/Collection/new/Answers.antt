@@ -1,9 +1,7 @@
-use Rattle.std.proofs.Common.{refl}
-use Rattle.rx_document.specs.declared.stored.Stored.{Stored}
-use Rattle.rx_collection.proofs.Lawful.{rising_none}
+use Rattle.rx_collection.proofs.Logged.{whole_none}
 use Rattle.rx_collection.proofs.collection.Collection.new.Goals as goal
 
 pub invariant_of-result : goal.invariant_of-result
 invariant_of-result c =
-    rw (c.new.ensures.empty, c.new-2.ensures.empty)
-    (record { rising = rising_none Stored; each = tt }, λ p. refl)
+    rw (c.new.ensures, c.new-2.ensures, c.new-4.ensures.items)
+    (whole_none c.args.name c.args.schema)

@@ -1,27 +1,39 @@
-use Rattle.std.proofs.Common.{◌∙◌, ap, option_map, inl, inr}
-use Rattle.rx_value.specs.Named.{by_bytes}
+use Rattle.std.proofs.Common.{rules, ◌∙◌, ap, sym, subst, option_map, slice_get, take}
+use Rattle.std.proofs.lemmas.Fn.{always_returns_same}
 use Rattle.rx_collection.specs.Held.{Held}
+use Rattle.rx_runs.specs.Rows.{shown}
+use Rattle.rx_collection.specs.Log.{is_up_to, written, IsLog}
 use Rattle.rx_collection.specs.Since.{since}
-use Rattle.rx_collection.proofs.Pages.{page_is, page_stands, from_place}
+use Rattle.rx_collection.proofs.Logged.{page_none, page_some, up_first}
 use Rattle.rx_collection.proofs.collection.Collection.page.Goals as goal
-use Rattle.rx_collection.proofs.collection.Collection.page.Goals.{in-None, in-Some}
 
-pub invariant_of-result : goal.invariant_of-result
-invariant_of-result c =
+pub returns-in-None-clause-documents : goal.returns-in-None-clause-documents
+returns-in-None-clause-documents c =
     let i = c.self.inside in
-    let from = from_place c.match-place.after c.args.place (elim c.match-place.branch
-    [ in-None w ↦ inl (w.after-is, w.in-None.is) | in-Some w ↦ inr (w.in-Some.place, w.after-is, w.in-Some.is) ]) in
-    page_stands i.schema.primary (by_bytes i.stored.entries) i.places c.self.invariant.0.rising
-    c.self.invariant.0.each c.self.invariant.1 c.range.ensures.ordered _ _ from c.range.result
-    (c.range.ensures.between tt)
+    let w = c.self.invariant in
+    let n = c.args.n in
+    ap (λ l. take n (written i.rows l)) c.as_slice-log.ensures.value
+    ∙ page_none i.schema.primary i.rows i.names i.log.items n w.slots w.logged w.lawful.rising
+    w.lawful.each
+    ∙ ap (λ o. since (shown i.rows i.names) (option_map (λ p. p.now) o) n) (sym c.in-None.is)
+    ∙ ap (λ (h : Held). since h.documents (option_map (λ p. p.now) c.args.place) n) c.self.view_is
 
-pub returns-clause-documents : goal.returns-clause-documents
-returns-clause-documents c =
+pub returns-in-Some-clause-documents : goal.returns-in-Some-clause-documents
+returns-in-Some-clause-documents c =
     let i = c.self.inside in
-    let place = option_map (λ p. p.now) c.args.place in
-    let from = from_place c.match-place.after c.args.place (elim c.match-place.branch
-    [ in-None w ↦ inl (w.after-is, w.in-None.is) | in-Some w ↦ inr (w.in-Some.place, w.after-is, w.in-Some.is) ]) in
-    page_is i.schema.primary (by_bytes i.stored.entries) i.places c.self.invariant.0.rising
-    c.self.invariant.0.each c.self.invariant.1 c.range.ensures.ordered _ place from c.range.result
-    (c.range.ensures.between tt) c.args.n
-    ∙ ap (λ (h : Held). since h.documents place c.args.n) c.self.view_is
+    let w = c.self.invariant in
+    let n = c.args.n in
+    let q = c.in-Some.place.now in
+    let log = c.as_slice-log.result.now in
+    let from = c.partition_point-from.result in
+    let logged = subst (IsLog i.rows i.names) (sym c.as_slice-log.ensures.value) w.logged in
+    let point = c.partition_point-from.ensures.partitioned (λ l.
+    is_up_to q l.0 (slice_get i.rows l.1))
+    (always_returns_same _ _ _ (λ a r f called. search rules))
+    (up_first i.rows q log logged.each logged.rising) in
+    ap (λ l. take n (written i.rows l)) c.split_at.ensures.back
+    ∙ page_some i.schema.primary i.rows i.names log q from n w.slots logged w.lawful.rising
+    w.lawful.each
+    c.partition_point-from.ensures.bound point
+    ∙ ap (λ o. since (shown i.rows i.names) (option_map (λ p. p.now) o) n) (sym c.in-Some.is)
+    ∙ ap (λ (h : Held). since h.documents (option_map (λ p. p.now) c.args.place) n) c.self.view_is
