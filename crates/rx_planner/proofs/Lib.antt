@@ -7,5 +7,6 @@ pub mod Counts
 pub mod Ordered
 pub mod Members
 pub mod Rising
+pub mod Single
 pub mod Runs
 pub mod Standing

@@ -1,14 +1,16 @@
 -- The rows that a walk along an index meets.
-use Rattle.std.specs.Prelude.{◌≡◌, ℕ, ◌+◌, ◌≤◌, ◌⊎◌, List, [], ◌++◌, length, take, Option, Some, None, option_map}
+use Rattle.std.specs.Prelude.{◌≡◌, ℕ, ◌+◌, ◌≤◌, ◌==◌, ◌⊎◌, Bool, not, ◌&&◌, List, [], ◌++◌, length, take, Option, Some, None, option_map}
 use Rattle.std.specs.List.{IsDistinct, filter_map}
 use Rattle.std.specs.List.Sorted.{IsStrictlySortedBy}
 use Rattle.std.specs.Ordering.{eq_by_cmp}
 use Rattle.rx_value.specs.Due.{only_if}
 use Rattle.rx_value.specs.Named.{named}
+use Rattle.rx_value.specs.declared.value.Value.{Value}
+use Rattle.rx_value.specs.declared.value.Value.TheVariants.{Text}
 use Rattle.rx_document.specs.Documents.{Documents}
 use Rattle.rx_document.specs.declared.stored.Stored.{Stored}
 use Rattle.rx_query.specs.Asked.{Asked}
-use Rattle.rx_query.specs.Lists.{sorted}
+use Rattle.rx_query.specs.Lists.{sorted, some_passes}
 use Rattle.rx_query.specs.Result.{is_due, stored_before, stored_cmp}
 
 -- the document, if it is due
@@ -19,6 +21,15 @@ if_due q (Some d) = only_if (is_due q d) (Some d)
 -- the due documents of those primary keys
 abbrev pub due_among : Asked → Documents → List (List ℕ) → List Stored
 due_among q documents ids = filter_map (λ id. if_due q (named documents id)) ids
+
+-- the due document of a primary key, which is a text
+abbrev pub due_at : Asked → Documents → Value → Option Stored
+due_at q documents (Text id) = if_due q (named documents id)
+due_at q documents _ = None
+
+-- the window takes in a first row
+abbrev pub shows_first : Asked → Bool
+shows_first q = q.skip == 0 && not (some_passes (λ limit. limit == 0) q.limit)
 
 -- how many rows the window and what is skipped are, if that is limited
 abbrev pub most_rows : Asked → Option ℕ

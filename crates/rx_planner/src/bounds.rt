@@ -27,7 +27,7 @@ pub(crate) fn bound(
             None => return end(alloc, query, field, up, values),
         }
     }
-    Ok(Bound::new(values, up))
+    Bound::new(alloc, values, up)
 }
 
 // The operators that bound a field on that side, the one that leaves its operand out first.
@@ -54,10 +54,10 @@ pub(crate) fn end(
     let (strict, loose) = operators(up);
     if let Some(value) = operand(query, field, strict) {
         values.push(Some(value.copy(alloc)?))?;
-        return Ok(Bound::new(values, !up));
+        return Bound::new(alloc, values, !up);
     }
     if let Some(value) = operand(query, field, loose) {
         values.push(Some(value.copy(alloc)?))?;
     }
-    Ok(Bound::new(values, up))
+    Bound::new(alloc, values, up)
 }

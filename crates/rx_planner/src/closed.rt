@@ -29,7 +29,7 @@ pub(crate) fn closed(
             None => return closed_end(alloc, query, field, up, values),
         }
     }
-    Ok(Bound::new(values, up))
+    Bound::new(alloc, values, up)
 }
 
 // The values of fixed fields, and the bound of the next one.
@@ -74,8 +74,8 @@ fn kind_end(
         (Value::Int(_), true) | (Value::Text(_), false) => {
             (Value::Text(RxText::new(alloc, "")?), false)
         }
-        (Value::Text(_), true) => return Ok(Bound::new(values, true)),
+        (Value::Text(_), true) => return Bound::new(alloc, values, true),
     };
     values.push(Some(last))?;
-    Ok(Bound::new(values, after))
+    Bound::new(alloc, values, after)
 }

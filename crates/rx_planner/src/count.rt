@@ -43,7 +43,7 @@ impl Plan {
         let due = if is_exact(query, path) {
             ids.len()
         } else {
-            count_due(query, docs, ids)
+            count_due(alloc, query, docs, ids)?
         };
         Ok(in_window(query, due))
     }
@@ -59,17 +59,23 @@ impl Plan {
 }
 
 // How many of the documents are due.
-fn count_due<T: Lookup>(query: &Query, docs: &T, ids: Range<'_>) -> usize
+fn count_due<T: Lookup>(
+    alloc: Global,
+    query: &Query,
+    docs: &T,
+    ids: Range<'_>,
+) -> Result<usize, AllocError>
     requires { length ids < 2 ^ 63 }
-    ensures { result ≡ length (due_among (asked query.now) (T.documents docs.now) ids.entry) }
+    ensures { IfOk result
+        (λ n. n ≡ length (due_among (asked query.now) (T.documents docs.now) ids.entry)) }
 {
     let mut count = 0;
-    for id in ids {
-        if due(query, docs, id).is_some() {
+    for entry in ids {
+        if due(alloc, query, docs, &entry)?.is_some() {
             count += 1;
         }
     }
-    count
+    Ok(count)
 }
 
 /// Of so many due documents those that the window takes in.

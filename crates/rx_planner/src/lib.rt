@@ -6,6 +6,7 @@ mod choice;
 mod closed;
 mod count;
 mod exact;
+mod one;
 mod order;
 mod path;
 mod planned;

@@ -10,21 +10,53 @@ ghost use Rattle.rx_query.specs.Result.{stored_before, stored_cmp};
 ghost use Rattle.rx_planner.specs.Rows.{if_due, due_among, IsFull, StandsFor};
 
 use rx_document::{Lookup, Stored};
-use rx_index::Range;
+use rx_index::{Entry, Range};
 use rx_query::Query;
 use std::alloc::{AllocError, Global};
 
-// The document of that primary key, if it is due.
-pub(crate) fn due<'a, T: Lookup>(query: &Query, docs: &'a T, id: &str) -> Option<&'a Stored>
-    ensures { option_map (λ d. d.now) result
-        ≡ if_due (asked query.now) (named (T.documents docs.now) id.now) }
+// The document of an index's key: the one in the key's slot, if it is that one. So a slot is no more
+// than a hint, of which nothing has to be known.
+fn document_of<'a, T: Lookup>(
+    alloc: Global,
+    docs: &'a T,
+    entry: &Entry<'_>,
+) -> Result<Option<&'a Stored>, AllocError>
+    ensures { IfOk result
+        (λ o. option_map (λ d. d.now) o ≡ named (T.documents docs.now) entry.now) }
 {
-    let document = docs.lookup(id)?;
+    if let Some(document) = docs.at(entry.slot()) {
+        if entry.is_of(document.state.key.as_str()) {
+            return Ok(Some(document));
+        }
+    }
+    let id = entry.id(alloc)?;
+    Ok(docs.lookup(id.as_str()))
+}
+
+// The document, if it is due.
+pub(crate) fn only_due<'a>(query: &Query, document: Option<&'a Stored>) -> Option<&'a Stored>
+    ensures { option_map (λ d. d.now) result
+        ≡ if_due (asked query.now) (option_map (λ d. d.now) document.entry) }
+{
+    let document = document?;
     if !document.state.deleted && query.matches(&document.state.fields) {
         Some(document)
     } else {
         None
     }
+}
+
+// The document of an index's key, if it is due.
+pub(crate) fn due<'a, T: Lookup>(
+    alloc: Global,
+    query: &Query,
+    docs: &'a T,
+    entry: &Entry<'_>,
+) -> Result<Option<&'a Stored>, AllocError>
+    ensures { IfOk result (λ o. option_map (λ d. d.now) o
+        ≡ if_due (asked query.now) (named (T.documents docs.now) entry.now)) }
+{
+    Ok(only_due(query, document_of(alloc, docs, entry)?))
 }
 
 fn is_full(most: Option<u128>, len: usize) -> bool
@@ -50,11 +82,11 @@ pub(crate) fn first_due<'a, T: Lookup>(
     ensures full { IfOk result (λ rows. IsFull most (length rows.items) ids.new) }
 {
     let mut rows = Vec::new(alloc);
-    while !is_full(most, rows.len()) {
-        let Some(id) = ids.next() else {
+    'rows: while !is_full(most, rows.len()) {
+        let Some(entry) = ids.next() else {
             return Ok(rows);
         };
-        if let Some(document) = due(query, docs, id) {
+        if let Some(document) = due(alloc, query, docs, &entry)? {
             rows.push(document)?;
         }
     }
@@ -72,6 +104,7 @@ pub(crate) fn put_in_order(query: &Query, rows: &mut Vec<&Stored>)
 
 // Of these rows and of the due documents that are left, as many first ones as there are rows.
 pub(crate) fn improve<'a, T: Lookup>(
+    alloc: Global,
     query: &Query,
     docs: &'a T,
     ids: Range<'_>,
@@ -87,8 +120,8 @@ pub(crate) fn improve<'a, T: Lookup>(
         ++ due_among (asked query.now) (T.documents docs.now) ids.entry))) }
 {
     let wanted = rows.len();
-    for id in ids {
-        if let Some(document) = due(query, docs, id) {
+    for entry in ids {
+        if let Some(document) = due(alloc, query, docs, &entry)? {
             consider(query, rows, wanted, document)?;
         }
     }

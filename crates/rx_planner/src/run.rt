@@ -6,16 +6,19 @@ ghost use Rattle.rx_query.specs.Result.{IsCollection, result_of};
 ghost use Rattle.rx_planner.specs.Plan.{IsPlan};
 ghost use Rattle.rx_planner.specs.Rows.{most_rows};
 
+use crate::one::run_at;
+use crate::path::operand;
 use crate::planned::Plan;
 use crate::rows::{first_due, improve, put_in_order};
 use rx_document::{Lookup, Stored};
 use rx_index::Index;
 use rx_query::Query;
+use rx_selector::Compare;
 use std::alloc::{AllocError, Global};
 
 impl Plan {
     /// The query's result over these documents, lent. Of its index it looks at what stands between
-    /// its bounds alone.
+    /// its bounds alone, and a document whose primary key is asked for is looked up at once.
     pub fn run<'a, T: Lookup>(
         &self,
         alloc: Global,
@@ -30,11 +33,14 @@ impl Plan {
         ensures { IfOk result (λ rows. map (λ r. r.now) rows.items
             ≡ result_of (asked query.now) (values_of (T.documents docs.now))) }
     {
+        if let Some(id) = operand(query, query.primary(), Compare::Eq) {
+            return run_at(alloc, query, docs, id);
+        }
         let mut ids = indexes[self.index].range(&self.low, &self.high);
         let mut rows = first_due(alloc, query, docs, &mut ids, most_rows(query))?;
         if !self.ordered {
             put_in_order(query, &mut rows);
-            improve(query, docs, ids, &mut rows)?;
+            improve(alloc, query, docs, ids, &mut rows)?;
         }
         skip_rows(&mut rows, query.skip() as usize);
         Ok(rows)

@@ -4,7 +4,7 @@ use Rattle.rx_planner.specs.Count.{in_window}
 use Rattle.rx_planner.specs.Plan.{path_of}
 use Rattle.rx_planner.proofs.Counts.{walked_count, span_count}
 use Rattle.rx_planner.proofs.planned.Plan.count.Goals as goal
-use Rattle.rx_planner.proofs.planned.Plan.count.Goals.{then-is_exact, else-is_exact}
+use Rattle.rx_planner.proofs.planned.Plan.count.Goals.{then-is_exact, else-is_exact+in_ok-due}
 
 pub returns : goal.returns
 returns g c =
@@ -23,8 +23,8 @@ returns g c =
           c.requires.planned c.requires.keyed c.requires.held c.range-ids.ensures.rising path
           c.in_ok-low.low c.in_ok-high.high c.range-ids.result path_is c.in_ok-low.ensures
           c.in_ok-high.ensures c.range-ids.ensures.ids (sym c.is_exact.ensures ∙ w.if-is_exact.true)
-      | else-is_exact w ↦
-          ap (in_window q) (w.due-is ∙ w.count_due-due.ensures)
+      | else-is_exact+in_ok-due w ↦
+          ap (in_window q) (w.due-is ∙ w.in_ok-due.ensures)
           ∙ walked_count q documents c.args.indexes.now c.args.self.now i.result i.is
           c.requires.planned c.requires.keyed c.requires.held c.range-ids.ensures.rising path
           c.in_ok-low.low c.in_ok-high.high c.range-ids.result path_is c.in_ok-low.ensures
