@@ -1,4 +1,4 @@
-ghost use Rattle.std.specs.Prelude.{◌≡◌, filter, length, map, IfOk};
+ghost use Rattle.std.specs.Prelude.{◌<◌, ◌^◌, ◌≡◌, filter, length, map, IfOk};
 ghost use Rattle.std.specs.Map.{values_of};
 ghost use Rattle.rx_query.specs.Asked.{asked};
 ghost use Rattle.rx_query.specs.Result.{is_due, result_of, row_of, fresh_rows};
@@ -73,10 +73,13 @@ pub(crate) fn count_by(
 pub(crate) fn count_in(collection: &Collection, query: &Query) -> u64
     ensures { result ≡ length (result_of (asked query.now) (values_of collection.now.documents)) }
 {
+    // So many are due at most, which a count holds.
+    let _most = collection.len();
     in_window(query, count_due(query, collection.all()))
 }
 
 fn count_due(query: &Query, documents: All<'_>) -> usize
+    requires { length documents < 2 ^ 64 }
     ensures { result ≡ length (filter (is_due (asked query.now)) documents.entry) }
 {
     documents.filter(|document| query.is_due(document)).count()

@@ -29,7 +29,8 @@ fn index_by(alloc: Global, collection: &Collection, fields: &[RxText]) -> Result
 {
     let mut index = Index::new(alloc, fields)?;
     for document in collection.all() {
-        index.put(None, document)?;
+        let slot = collection.slot_for(document.state.key.as_str());
+        index.put(None, document, slot)?;
     }
     Ok(index)
 }
@@ -46,9 +47,10 @@ pub(crate) fn put_in_each(
     requires indexed { AreIndexesOf collection.now indexes.old.items }
     ensures { OnOk result (AreIndexesOf (with_row collection.now row.now) indexes.new.items) }
 {
+    let slot = collection.slot_for(row.state.key.as_str());
     for i in 0..indexes.len() {
         let index = &mut indexes[i];
-        index.put(old, row)?;
+        index.put(old, row, slot)?;
     }
     Ok(())
 }
