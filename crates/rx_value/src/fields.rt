@@ -73,7 +73,10 @@ impl Fields {
                 self.pairs[i].1 = value;
                 Ok(())
             }
-            Err(i) => Ok(self.pairs.insert(i, (name, value))?),
+            Err(i) => {
+                make_room(&mut self.pairs)?;
+                Ok(self.pairs.insert(i, (name, value))?)
+            }
         }
     }
 
@@ -86,6 +89,16 @@ impl Fields {
         }
         Ok(Fields { pairs })
     }
+}
+
+// Makes room for a pair more. By an eighth at a time, so that a few pairs have none to spare.
+fn make_room(pairs: &mut Vec<(RxText, Value)>) -> Result<(), AllocError>
+    ensures { pairs.new.items ≡ pairs.old.items }
+{
+    if pairs.len() < pairs.capacity() {
+        return Ok(());
+    }
+    pairs.reserve_exact(pairs.len() / 8 + 1)
 }
 
 impl PartialEq for Fields {

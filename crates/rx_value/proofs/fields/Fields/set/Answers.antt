@@ -11,7 +11,7 @@ invariant_of-self c =
 -- a new one is inserted with its value
 pub invariant_of-self-in-Err : goal.invariant_of-self-in-Err
 invariant_of-self-in-Err c =
-    rw c.in_ok-insert-in-Err.ensures.items
+    rw (c.in_ok-insert-in-Err.ensures.items, c.make_room.ensures)
     (insert_fields _ c.args.name c.args.value c.in-Err.i
     (rw (c.as_slice.ensures.value, c.as_str.ensures) at c.in-Err.ensures.absent)
     c.self.invariant c.requires)
