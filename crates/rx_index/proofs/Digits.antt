@@ -27,20 +27,20 @@ lower x y a b c d p ha hc hx hy h =
 alike : (x y a b c d p : ℕ) → x ≡ b * p + a → y ≡ d * p + c → b ≡ d → nat_cmp x y ≡ nat_cmp a c
 alike x y a b c d p hx hy h =
     (elim (nat_cmp a c) as (λ r. MatchOrdering r (a < c) (a ≡ c) (c < a) → nat_cmp x y ≡ r) [
-        | Less ↦ (λ k. sym (nat_cmp_is x y Less (omega (arith, ap (λ n. n * p) h))))
-        | Equal ↦ (λ k. sym (nat_cmp_is x y Equal (omega (arith, ap (λ n. n * p) h))))
-        | Greater ↦ (λ k. sym (nat_cmp_is x y Greater (omega (arith, ap (λ n. n * p) h))))
-      ]) (ranks a c)
+      | Less ↦ (λ k. sym (nat_cmp_is x y Less (omega (arith, ap (λ n. n * p) h))))
+      | Equal ↦ (λ k. sym (nat_cmp_is x y Equal (omega (arith, ap (λ n. n * p) h))))
+      | Greater ↦ (λ k. sym (nat_cmp_is x y Greater (omega (arith, ap (λ n. n * p) h))))
+    ]) (ranks a c)
 
 by_digits : (x y a b c d p : ℕ) → a < p → c < p → x ≡ b * p + a → y ≡ d * p + c
     → nat_cmp x y ≡ ordering_then (nat_cmp b d) (nat_cmp a c)
 by_digits x y a b c d p ha hc hx hy =
     (elim (nat_cmp b d) as (λ r. MatchOrdering r (b < d) (b ≡ d) (d < b)
     → nat_cmp x y ≡ ordering_then r (nat_cmp a c)) [
-        | Less ↦ (λ h. sym (nat_cmp_is x y Less (lower x y a b c d p ha hc hx hy h)))
-        | Equal ↦ (λ h. alike x y a b c d p hx hy h)
-        | Greater ↦ (λ h. sym (nat_cmp_is x y Greater (lower y x c d a b p hc ha hy hx h)))
-      ]) (ranks b d)
+      | Less ↦ (λ h. sym (nat_cmp_is x y Less (lower x y a b c d p ha hc hx hy h)))
+      | Equal ↦ (λ h. alike x y a b c d p hx hy h)
+      | Greater ↦ (λ h. sym (nat_cmp_is x y Greater (lower y x c d a b p hc ha hy hx h)))
+    ]) (ranks b d)
 
 power_above : (k : ℕ) → 0 < 256 ^ k
 power_above zero = omega arith
@@ -101,10 +101,10 @@ both_raised : (n m : ℕ) → nat_cmp (n + 6) (m + 6) ≡ nat_cmp n m
 both_raised n m =
     (elim (nat_cmp n m) as (λ r. MatchOrdering r (n < m) (n ≡ m) (m < n)
     → nat_cmp (n + 6) (m + 6) ≡ r) [
-        | Less ↦ (λ k. sym (nat_cmp_is (n + 6) (m + 6) Less (omega arith)))
-        | Equal ↦ (λ k. sym (nat_cmp_is (n + 6) (m + 6) Equal (omega arith)))
-        | Greater ↦ (λ k. sym (nat_cmp_is (n + 6) (m + 6) Greater (omega arith)))
-      ]) (ranks n m)
+      | Less ↦ (λ k. sym (nat_cmp_is (n + 6) (m + 6) Less (omega arith)))
+      | Equal ↦ (λ k. sym (nat_cmp_is (n + 6) (m + 6) Equal (omega arith)))
+      | Greater ↦ (λ k. sym (nat_cmp_is (n + 6) (m + 6) Greater (omega arith)))
+    ]) (ranks n m)
 
 pub texts_alike : (s t r q : List ℕ)
     → text_cmp (raised_text s ++ 0 ∷ [] ++ r) (raised_text t ++ 0 ∷ [] ++ q)

@@ -78,8 +78,11 @@ module _ (front s : List ℕ) where
 
   long : length whole ≡ length front + 1 + length (raised_text s) + 1
   long =
-      omega (arith, length-append front (5 ∷ (raised_text s ++ 0 ∷ [])),
-      length-append (raised_text s) (0 ∷ []))
+      omega (
+        arith,
+        length-append front (5 ∷ (raised_text s ++ 0 ∷ [])),
+        length-append (raised_text s) (0 ∷ []),
+      )
 
   -- the bytes of the primary key are high
   inside : (i : ℕ) → i < length (raised_text s) → 6 ≤ get_or whole (length front + 1 + i) 0

@@ -120,17 +120,17 @@ put_key [] name slot k = or_if (is_eq (position_cmp k (unpacked name))) false
 put_key (e ∷ es) name slot k =
     (elim (text_cmp name e.0) as (λ o. text_cmp name e.0 ≡ o
     → has_key (positions (match_ordering o ((name, slot) ∷ e ∷ es) ((e.0, slot) ∷ es)
-      (e ∷ put_in_order es name slot))) k
+    (e ∷ put_in_order es name slot))) k
     ≡ cond (is_eq (position_cmp k (unpacked name))) true (has_key (positions (e ∷ es)) k)) [
-        | Less ↦ (λ h. or_if (is_eq (position_cmp k (unpacked name))) _)
-        | Equal ↦ (λ h. subst (λ n. has_key (positions (e ∷ es)) k
-            ≡ cond (is_eq (position_cmp k (unpacked n))) true (has_key (positions (e ∷ es)) k))
-            (sym (text_ties name e.0 h)) (or_twice (is_eq (position_cmp k (unpacked e.0))) _))
-        | Greater ↦ (λ h. ap (λ b. is_eq (position_cmp k (unpacked e.0)) || b)
-            (put_key es name slot k)
-            ∙ or_behind (is_eq (position_cmp k (unpacked name)))
-            (is_eq (position_cmp k (unpacked e.0))) (has_key (positions es) k))
-      ]) refl
+      | Less ↦ (λ h. or_if (is_eq (position_cmp k (unpacked name))) _)
+      | Equal ↦ (λ h. subst (λ n. has_key (positions (e ∷ es)) k
+          ≡ cond (is_eq (position_cmp k (unpacked n))) true (has_key (positions (e ∷ es)) k))
+          (sym (text_ties name e.0 h)) (or_twice (is_eq (position_cmp k (unpacked e.0))) _))
+      | Greater ↦ (λ h. ap (λ b. is_eq (position_cmp k (unpacked e.0)) || b)
+          (put_key es name slot k)
+          ∙ or_behind (is_eq (position_cmp k (unpacked name)))
+          (is_eq (position_cmp k (unpacked e.0))) (has_key (positions es) k))
+    ]) refl
 
 -- a key that goes in
 pub added : (es : List (List ℕ × ℕ)) (name : List ℕ) (slot : ℕ) (k : Position)
@@ -169,19 +169,19 @@ take_key (e ∷ es) name k key ks h =
     (elim (bytes_eq name e.0) as (λ b. bytes_eq name e.0 ≡ b
     → has_key (positions (cond b es (e ∷ without es name))) k
     ≡ cond (is_eq (position_cmp k (unpacked name))) false (has_key (positions (e ∷ es)) k)) [
-        | true ↦ (λ is. subst (λ n. has_key (positions es) k
-            ≡ cond (is_eq (position_cmp k (unpacked n))) false (has_key (positions (e ∷ es)) k))
-            (sym ((bytes_eq-Decides name e.0).0 is))
-            (first_out (is_eq (position_cmp k (unpacked e.0))) (has_key (positions es) k)
-            (λ t. ap (has_key (positions es)) ((position_eq-Decides k (unpacked e.0)).0 t)
-            ∙ none_above (unpacked e.0) (positions es)
-            (rise_above e.0 es ks.0 ks.1 h.0))))
-        | false ↦ (λ is. ap (λ b. is_eq (position_cmp k (unpacked e.0)) || b)
-            (take_key es name k key ks.1 h.1)
-            ∙ later_out (is_eq (position_cmp k (unpacked name)))
-            (is_eq (position_cmp k (unpacked e.0))) (has_key (positions es) k)
-            (λ t. other e.0 ks.0 is t))
-      ]) refl
+      | true ↦ (λ is. subst (λ n. has_key (positions es) k
+          ≡ cond (is_eq (position_cmp k (unpacked n))) false (has_key (positions (e ∷ es)) k))
+          (sym ((bytes_eq-Decides name e.0).0 is))
+          (first_out (is_eq (position_cmp k (unpacked e.0))) (has_key (positions es) k)
+          (λ t. ap (has_key (positions es)) ((position_eq-Decides k (unpacked e.0)).0 t)
+          ∙ none_above (unpacked e.0) (positions es)
+          (rise_above e.0 es ks.0 ks.1 h.0))))
+      | false ↦ (λ is. ap (λ b. is_eq (position_cmp k (unpacked e.0)) || b)
+          (take_key es name k key ks.1 h.1)
+          ∙ later_out (is_eq (position_cmp k (unpacked name)))
+          (is_eq (position_cmp k (unpacked e.0))) (has_key (positions es) k)
+          (λ t. other e.0 ks.0 is t))
+    ]) refl
   where
     other : (q : List ℕ) → IsKey q → bytes_eq name q ≡ false
         → is_eq (position_cmp k (unpacked name)) ≡ true → is_eq (position_cmp k (unpacked q)) ≡ false

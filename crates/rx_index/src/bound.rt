@@ -27,15 +27,12 @@ impl Model for Bound {
 
     ghost view = { λ b. position_with b.values.items b.after };
 
-    ghost invariant = { λ b. AreLawful b.values.items × (b.name ≡ values_bytes b.values.items b.after) };
+    ghost invariant = { λ b. AreLawful b.values.items
+        × (b.name ≡ values_bytes b.values.items b.after) };
 }
 
 impl Bound {
-    pub fn new(
-        alloc: Global,
-        values: Vec<Option<Value>>,
-        after: bool,
-    ) -> Result<Bound, AllocError>
+    pub fn new(alloc: Global, values: Vec<Option<Value>>, after: bool) -> Result<Bound, AllocError>
         ensures { IfOk result (λ b. b ≡ position_with values.items after) }
     {
         let name = name_of(alloc, values.as_slice(), after)?;

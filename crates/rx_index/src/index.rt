@@ -63,12 +63,7 @@ impl Index {
     }
 
     /// Puts a document, which lies in that slot, in the place of the one with its key.
-    pub fn put(
-        &mut self,
-        old: Option<&Stored>,
-        new: &Stored,
-        slot: u32,
-    ) -> Result<(), AllocError>
+    pub fn put(&mut self, old: Option<&Stored>, new: &Stored, slot: u32) -> Result<(), AllocError>
         requires { (documents : Documents)
             × Replaces self.old documents (option_map (λ d. d.now) old) new.now }
         ensures ok { OnOk result ((documents : Documents)
@@ -144,7 +139,8 @@ impl Index {
     fn take_out(&mut self, key: &Name)
         requires { IsKey key.now }
         ensures keys { (k : Position) → has_key self.new.keys k
-            ≡ (if is_eq (position_cmp (unpacked key.now) k) then false else has_key self.old.keys k) }
+            ≡ (if is_eq (position_cmp (unpacked key.now) k) then false
+            else has_key self.old.keys k) }
         ensures fields { self.new.fields ≡ self.old.fields }
     {
         self.keys.remove(key.as_bytes());

@@ -9,9 +9,13 @@ use std::alloc::{AllocError, Global};
 
 // The bytes that stand for kinds.
 const MISSING: u8 = 1;
+
 const FALSE: u8 = 2;
+
 const TRUE: u8 = 3;
+
 const NUMBER: u8 = 4;
+
 const TEXT: u8 = 5;
 
 // The byte behind the values of a position that is after their keys, above each kind.

@@ -58,7 +58,9 @@ fn bytes_stand_as_positions(rt: HostRuntime) -> Result<(), Fail> {
 fn a_position_in_bytes(rt: HostRuntime) -> Result<(), Fail> {
     let alloc = rt.alloc();
     let bound = position(alloc, "no #-2 ~ 'é >")?;
-    let due = [2, 4, 127, 255, 255, 255, 255, 255, 255, 254, 1, 5, 201, 175, 0, 6];
+    let due = [
+        2, 4, 127, 255, 255, 255, 255, 255, 255, 254, 1, 5, 201, 175, 0, 6,
+    ];
     assert_eq!(rt; bound.name().as_bytes(), due.as_slice());
     Ok(())
 }

@@ -60,12 +60,14 @@ others : (id : List ℕ) (es : Documents) → Keyed es
     → AllByRecursion (λ k. text_cmp id k ≡ Less) (keys_of es)
     → AllByRecursion (λ e. Text id ≡ Text e.1.state.key → ⊥) es
 others id [] keyed up = tt
-others id (e ∷ es) keyed up =
-    (λ same.
-    let one : id ≡ e.1.state.key = cc in
-    let tie : text_cmp id id ≡ Less = ap (text_cmp id) (one ∙ keyed.0) ∙ up.0 in
-    let bad : Less ≡ Equal = sym tie ∙ tied_itself text_total id in
-    cc, others id es keyed.1 up.1)
+others id (e ∷ es) keyed up = (
+  λ same.
+      let one : id ≡ e.1.state.key = cc in
+      let tie : text_cmp id id ≡ Less = ap (text_cmp id) (one ∙ keyed.0) ∙ up.0 in
+      let bad : Less ≡ Equal = sym tie ∙ tied_itself text_total id in
+      cc,
+  others id es keyed.1 up.1,
+)
 
 text_due : (q : Asked) (id : List ℕ) → operand q q.primary Eq ≡ Some (Text id) → (es : Documents)
     → AreRising es → Keyed es → Carry q.primary es
@@ -94,13 +96,13 @@ text_due q id fixed (e ∷ es) up keyed carried =
   where
     not_this : bytes_eq id e.0 ≡ false → is_due q e.1 ≡ false
     not_this is = (elim (is_due q e.1) as (λ b. is_due q e.1 ≡ b → b ≡ false) [
-        | true ↦ (λ due.
-            let key : Text id ≡ Text e.1.state.key =
-            asked_key q (Text id) fixed e.1 carried.0 due in
-            let same : id ≡ e.1.state.key = cc in
-            absurd (false≢true (sym is ∙ (bytes_eq-Decides id e.0).1 (same ∙ keyed.0))))
-        | false ↦ (λ _. refl)
-      ]) refl
+      | true ↦ (λ due.
+          let key : Text id ≡ Text e.1.state.key =
+          asked_key q (Text id) fixed e.1 carried.0 due in
+          let same : id ≡ e.1.state.key = cc in
+          absurd (false≢true (sym is ∙ (bytes_eq-Decides id e.0).1 (same ∙ keyed.0))))
+      | false ↦ (λ _. refl)
+    ]) refl
 
 -- what is no text is no key
 no_text : (v : Value) → ((id : List ℕ) → v ≡ Text id → ⊥) → (es : Documents)

@@ -168,7 +168,13 @@ fn values_in_slots(rt: HostRuntime) -> Result<(), Fail> {
     for i in 0..600_u32 {
         assert!(rt; slots.push(i).is_ok());
     }
+    if slots.len() != 600 {
+        return Err(Fail::new("not a value each"));
+    }
     assert_eq!(rt; slots.replace(256, 7), 256);
+    if slots.len() != 600 {
+        return Err(Fail::new("a value more or less"));
+    }
     assert_eq!(rt; *slots.at(256), 7);
     assert_eq!(rt; *slots.at(511), 511);
     assert_eq!(rt; slots.pop(), 599);
