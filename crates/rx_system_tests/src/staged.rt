@@ -129,12 +129,7 @@ fn a_record_past_the_limit_is_left_out_of_its_group(rt: HostRuntime) -> Result<(
     Ok(())
 }
 
-fn try_limit(
-    alloc: Global,
-    limit: u64,
-    lens: &[usize],
-    full: &[(usize, u64)],
-) -> Result<(), Fail> {
+fn try_limit(alloc: Global, limit: u64, lens: &[usize], full: &[(usize, u64)]) -> Result<(), Fail> {
     let mut disk = MemoryDisk::new(alloc, Vec::new(alloc), Vec::new(alloc));
     let (mut journal, _image) = Journal::open(alloc, &mut disk, limit)?;
     let mut refused = full.iter();
