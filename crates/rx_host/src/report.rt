@@ -1,5 +1,5 @@
 // The lines of a report.
-ghost use Rattle.std.specs.Prelude.{◌≡◌, ◌<◌, ◌++◌, length, filter, option_map, IfOk, OnOk, IsSome, string_bytes};
+ghost use Rattle.std.specs.Prelude.{◌≡◌, ◌<◌, ◌^◌, ◌++◌, length, filter, option_map, IfOk, OnOk, IsSome, string_bytes};
 ghost use Rattle.json.specs.Tree.{json_tokens};
 ghost use Rattle.serde_json.specs.Written.{outline};
 ghost use Rattle.rx_host.specs.Report.{collection_data, collection_lines, counts_data, end_data, is_tombstone, name_in, pending_at, port_in, replication_data, replication_lines, report_of};
@@ -89,6 +89,7 @@ fn put_counts(
 
 // How many documents are tombstones.
 fn count_deleted(documents: All<'_>) -> usize
+    requires { length documents < 2 ^ 64 }
     ensures { result ≡ length (filter is_tombstone documents.entry) }
 {
     documents.filter(|document| is_tombstone(document)).count()
