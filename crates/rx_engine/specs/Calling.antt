@@ -9,8 +9,8 @@ use Rattle.rx_sync.specs.RemoteLaws.{HasMasterElsewhere}
 use Rattle.rx_engine.specs.Standing.{Standing, asks_of}
 use Rattle.rx_engine.specs.Turning.{terms}
 
--- exchanges of the replication of a name with its master at a port: of so many documents, so many at
--- most
+-- exchanges of the replication of a name with its master at a port: of so many documents, so many
+-- at most
 pub record Call : Type 0 where
   pub name : List ℕ
   pub port : ℕ

@@ -109,8 +109,8 @@ abbrev pub HasMade : List Request → RemoteTurned → Type 0 → Type 0
 HasMade requests u Done =
     (rest : List Request) × (u.requests ≡ requests ++ rest) × (Done → rest ≡ [])
 
--- A turn was made, and this was heard in it. What it comes to and what it writes is the same whatever
--- is to be heard later.
+-- A turn was made, and this was heard in it. What it comes to and what it writes is the same
+-- whatever is to be heard later.
 pub record TurnsRemotely
     {D A : Type 0}
     (d : Ghosts D)

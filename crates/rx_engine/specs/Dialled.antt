@@ -19,8 +19,8 @@ abbrev pub IsWithoutLine : List ℕ → List ℕ → Type 0
 IsWithoutLine rest left =
     ((left ≡ []) × (length rest ≤ longest_line)) ⊎ (longest_line < length rest)
 
--- What was heard last and is no line, if anything was. All texts were sent, or a front of them where
--- the wire failed. Nothing was received behind the end of the last line.
+-- What was heard last and is no line, if anything was. All texts were sent, or a front of them
+-- where the wire failed. Nothing was received behind the end of the last line.
 abbrev pub EndsBy : List Heard → List (List ℕ) → Talk → Type 0
 EndsBy [] texts t = ((cut t.given).rest ≡ []) × (t.sent ≡ as_lines texts)
 EndsBy (no_wire ∷ []) texts t = (t.failed ≡ true) × IsFront t.sent (as_lines texts)
@@ -28,14 +28,15 @@ EndsBy (no_line ∷ []) texts t =
     IsWithoutLine (cut t.given).rest t.left × (t.sent ≡ as_lines texts)
 EndsBy other texts t = ⊥
 
--- over a wire with this talk: each line that it gave was heard in turn, after the text that asked for
--- it
+-- over a wire with this talk: each line that it gave was heard in turn, after the text that asked
+-- for it
 pub record IsHeardIn (texts : List (List ℕ)) (heard : List Heard) (t : Talk) : Type 0 where
   pub last : List Heard
   pub lines : heard ≡ map (λ l. line l) (cut t.given).whole ++ last
   pub ends : EndsBy last texts t
 
--- how a dial stands: the count of its calls that failed, that of its wires that failed, and its talks
+-- how a dial stands: the count of its calls that failed, that of its wires that failed, and its
+-- talks
 pub record DialStanding : Type 0 where
   pub faults : ℕ
   pub broken : ℕ
@@ -48,9 +49,9 @@ pub record FailsToDial (old new : DialStanding) (heard : List Heard) : Type 0 wh
   pub same_broken : new.broken ≡ old.broken
   pub same_talks : new.talks ≡ old.talks
 
--- it gave one wire, over which something was heard after each text; the wire was handed back, and its
--- talk is the last one where wires tell; it is heard to have failed only where the count of such wires
--- rose
+-- it gave one wire, over which something was heard after each text; the wire was handed back, and
+-- its talk is the last one where wires tell; it is heard to have failed only where the count of
+-- such wires rose
 pub record Dials (tells : Type 0) (old new : DialStanding) (texts : List (List ℕ))
     (heard : List Heard) : Type 0 where
   pub wire : ℕ

@@ -68,8 +68,8 @@ pub record LeavesAll (number : ℕ) (line : List ℕ) (s : Standing) (e : Engine
   pub emissions : o.emissions ≡ 0
   pub ended : o.end ≡ None
 
--- an engine is as it is after a turn of the replication of a name, the emissions are those due then,
--- and the exchanges and the end are the turn's
+-- an engine is as it is after a turn of the replication of a name, the emissions are those due
+-- then, and the exchanges and the end are the turn's
 pub record IsAfterTurn (name : List ℕ) (t : Turned) (s : Standing) (m : AfterTurn) : Type 0 where
   pub session : session_of m.engine ≡ settled_session (written t.records s.session)
   pub asks : asks_in m.engine ≡ put_named s.asks name t.asks
@@ -119,7 +119,8 @@ pub record IsBounded (line : List ℕ) (s : Standing) : Type 0 where
 
 -- ---- what no master can do
 
--- where the line makes a turn to a master elsewhere, no exchange of it harms the fork, whatever is heard
+-- where the line makes a turn to a master elsewhere, no exchange of it harms the fork, whatever is
+-- heard
 abbrev pub IsUnharmedBy : List ℕ → Standing → Type 0
 IsUnharmedBy line s =
     (c : Call) → task s.kinds line s.session ≡ calls c

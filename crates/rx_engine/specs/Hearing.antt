@@ -17,8 +17,8 @@ use Rattle.rx_engine.specs.Standing.{Standing}
 use Rattle.rx_engine.specs.declared.engine.Engine.{Engine}
 use Rattle.rx_engine.specs.declared.output.Output.{Output}
 
--- the dial shows what was heard in a turn: the requests that it made were sent; all of them but at a
--- stop
+-- the dial shows what was heard in a turn: the requests that it made were sent; all of them but at
+-- a stop
 pub record IsShown (tells : Type 0) (c : Call) (s : Standing) (old new : DialStanding)
     (heard : List Heard) (Done : Type 0) : Type 0 where
   pub requests : List Request
@@ -33,9 +33,9 @@ IsShownBy tells (answered o) s old new heard Done = (heard ≡ []) × (new ≡ o
 IsShownBy tells (turns t) s old new heard Done = (heard ≡ []) × (new ≡ old)
 IsShownBy tells (calls c) s old new heard Done = IsShown tells c s old new heard Done
 
--- A line is played, and this is heard in it. Whatever is to be heard later, the answer is that of its
--- meaning, and its records come to the disk one after another: those that are due depend on what was
--- heard before them alone.
+-- A line is played, and this is heard in it. Whatever is to be heard later, the answer is that of
+-- its meaning, and its records come to the disk one after another: those that are due depend on
+-- what was heard before them alone.
 pub record PlaysLine
     {D : Type 0}
     (d : Ghosts D)

@@ -57,8 +57,8 @@ asked_outcome kinds (Tick at) s = tick_line at
 asked_outcome kinds Restart s = restart_line s
 asked_outcome kinds (Digest coll) s = digest_line coll s
 
--- what a line comes to: an outcome; or a turn, to a master of this journal or to one elsewhere, which
--- is answered once it is made
+-- what a line comes to: an outcome; or a turn, to a master of this journal or to one elsewhere,
+-- which is answered once it is made
 pub data Task : Type 0 where
   answered : Outcome → Task
   turns : ToTurn → Task

@@ -63,8 +63,8 @@ has_schema fork held = option_map_or (has_schema_of fork) held true
 
 -- ---- the line
 
--- The name is free, the fork is held and so is a master that is named, the handler is there, the fork
--- may follow the master, both have one schema, and there is room.
+-- The name is free, the fork is held and so is a master that is named, the handler is there, the
+-- fork may follow the master, both have one schema, and there is room.
 abbrev pub replicate_line : Kinds → List ℕ → List ℕ → MasterName → List ℕ → Option (List ℕ)
     → Session → Result Outcome Fault
 replicate_line kinds name fork master handler field s =

@@ -7,8 +7,8 @@ use Rattle.rx_sync.specs.Asks.{Asks, no_asks}
 use Rattle.rx_sync.specs.Remote.{Heard}
 
 -- the session; what is remembered of the requests of each replication that made some, by its name;
--- what resolves conflicts, by its name; and what is to be heard of masters elsewhere, exchange after
--- exchange
+-- what resolves conflicts, by its name; and what is to be heard of masters elsewhere, exchange
+-- after exchange
 pub record Standing : Type 0 where
   pub session : Session
   pub asks : List (List ℕ × Asks)

@@ -41,8 +41,8 @@ turned_at kinds name s =
     or_fault (Refused NoReplication) (named s.world.replications name) >> λ r.
     demand (is_handled kinds s r) (Refused NoHandler) >> λ _. Ok r
 
--- the turn that is made, where the master is of this journal: nothing is done to its exchanges, where
--- nothing is said of the link
+-- the turn that is made, where the master is of this journal: nothing is done to its exchanges,
+-- where nothing is said of the link
 abbrev pub turn_here : List ℕ → ℕ → ℕ → Option (List Happening) → Turn
 turn_here name batch budget link =
     record { name = name; batch = batch; budget = budget; link = unwrap_or link [] }

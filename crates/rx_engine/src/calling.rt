@@ -30,8 +30,8 @@ use rx_sync::{Asks, Heard, Planned, fork_schema, hear};
 use rx_wire::Request;
 use std::alloc::{AllocError, Global};
 
-/// Makes an exchange over a wire, where the one before it has pulled or not. Nothing came of it where
-/// a commit found no write time.
+/// Makes an exchange over a wire, where the one before it has pulled or not. Nothing came of it
+/// where a commit found no write time.
 pub(crate) fn call_exchange<D: Disk, W: Wire>(
     alloc: Global,
     disk: &mut D,

@@ -89,8 +89,8 @@ impl Engine {
         })
     }
 
-    /// Plays a line that isn't blank. Its records are on the disk before its output exists. A turn to
-    /// a master elsewhere dials once, and hands the wire back. The engine is spent on a stop.
+    /// Plays a line that isn't blank. Its records are on the disk before its output exists. A turn
+    /// to a master elsewhere dials once, and hands the wire back. The engine is spent on a stop.
     pub fn line<D: Disk, L: Dial>(
         self,
         alloc: Global,

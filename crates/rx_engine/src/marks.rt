@@ -11,8 +11,8 @@ use rx_session::{Playing, Session};
 use std::alloc::{AllocError, Global};
 use std::marker::Model;
 
-/// By the name of a replication, the last write of its fork at which nothing was to be pushed. It is
-/// told by the turn before, which ended with a pull, and holds until the fork is written again.
+/// By the name of a replication, the last write of its fork at which nothing was to be pushed. It
+/// is told by the turn before, which ended with a pull, and holds until the fork is written again.
 #[derive(Drop)]
 pub(crate) struct Marks {
     by_name: IndexMap<String, Option<u64>>,
@@ -48,8 +48,8 @@ impl Marks {
         }
     }
 
-    /// Marks the last write of the fork, where nothing is to be pushed, and takes its mark away where
-    /// that isn't known.
+    /// Marks the last write of the fork, where nothing is to be pushed, and takes its mark away
+    /// where that isn't known.
     pub(crate) fn set(
         &mut self,
         alloc: Global,

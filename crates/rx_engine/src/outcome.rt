@@ -17,8 +17,8 @@ pub(crate) struct Outcome<'a> {
     pub reply: Reply<'a>,
 }
 
-/// What a line comes to: an outcome; or a turn, to a master of this journal or to one elsewhere, which
-/// is answered once it is made.
+/// What a line comes to: an outcome; or a turn, to a master of this journal or to one elsewhere,
+/// which is answered once it is made.
 #[derive(Drop)]
 pub(crate) enum Task<'a> {
     Answered(Outcome<'a>),

@@ -32,8 +32,8 @@ pub(crate) struct Call {
     pub budget: u32,
 }
 
-/// Makes the exchanges of a turn over a wire, until one ends it or none is left. Where `none` nothing
-/// is to be pushed before it.
+/// Makes the exchanges of a turn over a wire, until one ends it or none is left. Where `none`
+/// nothing is to be pushed before it.
 pub(crate) fn call_turn<D: Disk, W: Wire>(
     alloc: Global,
     disk: &mut D,
@@ -103,7 +103,8 @@ pub(crate) fn call_turn<D: Disk, W: Wire>(
     })
 }
 
-/// Whether an exchange asked for a pull, whatever came of it: then nothing is to be pushed after it.
+/// Whether an exchange asked for a pull, whatever came of it: then nothing is to be pushed after
+/// it.
 pub(crate) fn asked_to_pull(exchanged: &Exchanged) -> bool
     ensures { result ≡ asked_to_pull (Some exchanged.now) }
 {

@@ -14,8 +14,8 @@ use rx_sync::Asks;
 use std::marker::Model;
 
 /// A session whose world is one that records made, and sound, with what is remembered of the
-/// requests of its replications, by their names, and where they have nothing to push. The marks are no
-/// part of what a session means.
+/// requests of its replications, by their names, and where they have nothing to push. The marks are
+/// no part of what a session means.
 #[derive(Drop)]
 pub(crate) struct SoundSession {
     session: Session,

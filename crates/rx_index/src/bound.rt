@@ -49,6 +49,7 @@ impl Bound {
         self.values.as_slice()
     }
 
+    /// For tests: whether it stands behind the keys that begin with its values.
     pub fn is_after(&self) -> bool
         ensures { result ≡ self.now.after }
     {

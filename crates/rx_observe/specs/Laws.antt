@@ -10,8 +10,8 @@ use Rattle.rx_collection.specs.Held.{Held}
 use Rattle.rx_collection.specs.Lawful.{IsLawful}
 use Rattle.rx_observe.specs.Watched.{IsReady}
 
--- over a collection, what a query finds is its one result, and the rows from scratch are the rows of
--- that
+-- over a collection, what a query finds is its one result, and the rows from scratch are the rows
+-- of that
 pub record IsFromScratch (q : Asked) (documents : Documents) : Type 0 where
   pub found : IsTheResult q (values_of documents)
   pub rows : fresh_rows q documents ≡ map row_of (result_of q (values_of documents))

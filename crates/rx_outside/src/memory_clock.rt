@@ -4,7 +4,7 @@ ghost use Rattle.rx_outside.specs.Failed.{one_more};
 
 use crate::clock::Clock;
 
-/// A clock in memory.
+/// For tests: a clock in memory.
 #[derive(Debug, Drop)]
 pub struct MemoryClock {
     moments: Vec<u64>,

@@ -10,7 +10,7 @@ use crate::memory_wire::MemoryWire;
 use crate::wires::Wires;
 use std::alloc::{AllocError, Global};
 
-/// A dial in memory. It gives wires in turn, whatever the port.
+/// For tests: a dial in memory. It gives wires in turn, whatever the port.
 #[derive(Debug, Drop)]
 pub struct MemoryDial {
     wires: Wires,

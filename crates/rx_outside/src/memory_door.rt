@@ -10,7 +10,7 @@ use crate::memory_wire::MemoryWire;
 use crate::wires::Wires;
 use std::alloc::{AllocError, Global};
 
-/// A door in memory. It gives wires in turn, and is always open.
+/// For tests: a door in memory. It gives wires in turn, and is always open.
 #[derive(Debug, Drop)]
 pub struct MemoryDoor {
     wires: Wires,

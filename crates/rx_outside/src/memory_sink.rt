@@ -8,7 +8,7 @@ use crate::failed::Failed;
 use crate::sink::Sink;
 use std::alloc::Global;
 
-/// A sink into memory.
+/// For tests: a sink into memory.
 #[derive(Debug, Drop)]
 pub struct MemorySink {
     bytes: Vec<u8>,
@@ -18,8 +18,8 @@ pub struct MemorySink {
 impl MemorySink {
     ghost use Rattle.rx_outside.specs.MemorySink.{sink_written, sink_calls};
 
-    /// Holds nothing at first. The calls whose numbers, counted from 1, stand in `fails` fail, and so
-    /// do those that find no memory.
+    /// Holds nothing at first. The calls whose numbers, counted from 1, stand in `fails` fail, and
+    /// so do those that find no memory.
     pub fn new(alloc: Global, fails: Vec<u64>) -> MemorySink
         ensures written { sink_written result ≡ [] }
         ensures calls { sink_calls result

@@ -8,7 +8,7 @@ use crate::calls::Calls;
 use crate::failed::Failed;
 use crate::source::Source;
 
-/// A source over bytes in memory.
+/// For tests: a source over bytes in memory.
 #[derive(Debug, Drop)]
 pub struct MemorySource {
     bytes: Vec<u8>,

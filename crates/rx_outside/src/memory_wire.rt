@@ -10,7 +10,7 @@ use crate::memory_source::copy_front;
 use crate::wire::Wire;
 use std::alloc::Global;
 
-/// A wire over bytes in memory.
+/// For tests: a wire over bytes in memory.
 #[derive(Debug, Drop)]
 pub struct MemoryWire {
     bytes: Vec<u8>,

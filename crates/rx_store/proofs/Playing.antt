@@ -26,8 +26,8 @@ use Rattle.rx_world.proofs.Replays.{replay-append, replay_from-first, replay_fro
 use Rattle.rx_store.specs.Made.{AreMade}
 use Rattle.rx_store.specs.Stops.{of_open}
 
--- of the bodies that windows were to lend at first, those that they still are to lend are still to be
--- played on the world
+-- of the bodies that windows were to lend at first, those that they still are to lend are still to
+-- be played on the world
 abbrev pub IsPlaying : List ℕ → Windows → Windows → World → Type 0
 IsPlaying content first now w = (bodies : List (List ℕ)) → WillLend content first bodies
     → (rest : List (List ℕ)) × WillLend content now rest × (replay bodies ≡ replay_from (Some w) rest)

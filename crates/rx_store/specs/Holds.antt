@@ -11,7 +11,8 @@ use Rattle.rx_world.specs.Replay.{replay}
 
 -- ---- files
 
--- a file is legal: it stands for bodies that end where a journal may end, and they make a sound world
+-- a file is legal: it stands for bodies that end where a journal may end, and they make a sound
+-- world
 pub record IsLegalFile (file : List ℕ) (bodies : List (List ℕ)) (w : World) : Type 0 where
   pub stands : StandsFor file bodies
   pub short : end_of bodies < 2 ^ 32

@@ -21,7 +21,7 @@ use serde_json::{Map, Value as Json};
 use std::alloc::{AllocError, Global};
 use std::mem;
 
-/// Appends the compact JSON object of the fields.
+/// For tests, as the program puts tokens: appends the compact JSON object of the fields.
 pub fn write_fields(text: &mut String, fields: &Fields) -> Result<(), AllocError>
     ensures ok { OnOk result (string_bytes text.new
         ≡ string_bytes text.old ++ compact_text (fields_data fields.now)) }
@@ -111,7 +111,7 @@ fn put_value(writer: &mut Writer, value: &Value) -> Result<(), AllocError>
     }
 }
 
-/// The compact JSON object of the fields, which `read_fields` reads back.
+/// For tests: the compact JSON object of the fields, which `read_fields` reads back.
 pub fn fields_text(alloc: Global, fields: &Fields) -> Result<RxText, AllocError>
     ensures text { IfOk result (λ t. t ≡ compact_text (fields_data fields.now)) }
     ensures reads_back { IfOk result
@@ -121,8 +121,8 @@ pub fn fields_text(alloc: Global, fields: &Fields) -> Result<RxText, AllocError>
     Ok(compact(alloc, &json)?)
 }
 
-/// The compact JSON object of the state: its fields, with the deletion mark. A field of the name
-/// of the mark would be lost.
+/// For tests: the compact JSON object of the state, its fields with the deletion mark. A field of
+/// the name of the mark would be lost.
 pub fn text(alloc: Global, state: &State) -> Result<RxText, AllocError>
     ensures text { IfOk result (λ t. t ≡ compact_text (state_data state.now)) }
     ensures reads_back { named state.now.fields mark ≡ None

@@ -6,8 +6,8 @@ use Rattle.rx_engine.specs.Turning.{terms}
 use Rattle.rx_engine.proofs.Callings.{IsCalling}
 use Rattle.rx_engine.proofs.remote.call_turn.Given as goal
 
--- so many exchanges were made, and the turn is these and the rest of it, whatever is heard in it; after
--- one that has pulled nothing is to be pushed
+-- so many exchanges were made, and the turn is these and the rest of it, whatever is heard in it;
+-- after one that has pulled nothing is to be pushed
 abbrev pub invariant-loop-i : goal.invariant-loop-i
 invariant-loop-i g l = record {
   on : IsCalling (terms l.wanted.name l.now (kinds_of l.handlers)) l.wanted.batch g.D.Disk l.fn.disk
