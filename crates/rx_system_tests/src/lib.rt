@@ -1,10 +1,8 @@
 //! Tests of what meets the system: streams, doors and clocks in memory and as the system has them,
-//! and records added to a journal, call by call in memory and to a real file.
+//! and an append to a journal, call by call in memory and to a real file.
 #![tactic(auto)]
 
 #[cfg(test)]
 mod appended;
 #[cfg(test)]
 mod outside;
-#[cfg(test)]
-mod staged;
