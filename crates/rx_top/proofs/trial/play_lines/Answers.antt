@@ -1,4 +1,5 @@
 use Rattle.std.proofs.Common.{◌≡◌, ◌∙◌, ◌+◌, ◌++◌, ◌∷◌, [], List, ℕ, Err, length, arith, rules, refl, ap, sym, subst, append_assoc, append-nil}
+use Rattle.std.specs.Prelude.{IsErrOf, Ok}
 use Rattle.rx_engine.specs.Engine.{standing_of}
 use Rattle.rx_handler.specs.Shown.{kinds_of}
 use Rattle.rx_outside.specs.declared.stop.Stop.TheVariants.{NotJournal}
@@ -14,6 +15,10 @@ use Rattle.rx_top.proofs.Hears.{heard_in, shown_in}
 use Rattle.rx_top.proofs.Tallies.{refused_among}
 use Rattle.rx_top.proofs.Through.{Through, all_done, all_so, begins, line_done, line_stopped, memory_out, none_so, some_so}
 use Rattle.rx_top.proofs.trial.play_lines.Goals as goal
+
+-- what was answered is no error
+answered : {T E : Type 0} (x : T) (e : E) → IsErrOf {T = T} {E = E} (Ok x) e → ⊥
+answered x e is = cc
 
 pub script-init : goal.script-init
 script-init g c =
@@ -144,7 +149,7 @@ returns-in-None-clause-plays g c =
           c.in-Ok.pair.0 c.in-Ok.pair.1 c.in-Ok.ensures.limit (plays.answers [])
           (heard_in kinds later c.script.engine)
           (shown_in g.N.W.Wire.tells text kinds c.script.engine n1 n2 plays.heard (λ all. refl)
-          later filled (plays.shown (λ is. cc)))
+          later filled (plays.shown (answered _ _)))
           (plays.safe [])
           (λ t f. g.met.D.Disk.only_now c.line.new.disk f t))
           (λ t f. g.met.D.Disk.only_now c.line.new.disk f t)
@@ -189,7 +194,7 @@ script-preserved g c =
     c.in-Ok.pair.0 c.in-Ok.pair.1 c.in-Ok.ensures.limit (plays.answers later)
     (heard_in kinds (plays.heard ++ later) c.script.engine)
     (shown_in g.N.W.Wire.tells text kinds c.script.engine n1 n2 plays.heard (λ all. refl)
-    (plays.heard ++ later) filled (plays.shown (λ is. cc)))
+    (plays.heard ++ later) filled (plays.shown (answered _ _)))
     (plays.safe later)
     (λ t f. g.met.D.Disk.only_now c.line.new.disk f t))) in
     let lines : c.in-Some.tally.lines ≡ c.script.tally.lines + 1 =
