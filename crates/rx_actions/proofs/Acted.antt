@@ -3,7 +3,7 @@ use Rattle.std.proofs.Common.{◌≡◌, suc, subst, ◌++◌, [], Bool, ℕ, �
 use Rattle.rx_document.specs.declared.change.Change.{Change}
 use Rattle.rx_table.specs.declared.action.Action.TheVariants.{RemoveLastInsertFirst, RemoveLastInsertLast, ReplaceExisting, InsertAtSortPosition, RemoveExistingAndInsertAtSortPosition, InsertAtSortPositionRemoveLast}
 use Rattle.rx_query.specs.After.{row_after, with_row, after}
-use Rattle.rx_query.specs.Asked.{Asked}
+use Rattle.rx_query.specs.QuerySpec.{QuerySpec}
 use Rattle.rx_query.specs.Lists.{insert_in_order, without_last, without_first, replaced_first}
 use Rattle.rx_query.specs.States.{precedes, is_changed}
 use Rattle.rx_query.specs.declared.results.Row.{Row}
@@ -11,10 +11,11 @@ use Rattle.rx_actions.specs.Moves.{IsFirst, IsFirstBut}
 use Rattle.rx_actions.proofs.Firsts.{remove_last, remove_found, replace_found, last_to_first, last_for_last, placed_is_insert, placed_without_earlier, placed_without_later}
 
 -- one row precedes another
-abbrev by_order : Asked → Row → Row → Bool
+abbrev by_order : QuerySpec → Row → Row → Bool
 by_order q x y = precedes q x.fields y.fields
 
-module _ (q : Asked) (c : Change) (row : Row) (is : row_after c ≡ Some row) (rows : List Row) where
+module _ (q : QuerySpec) (c : Change) (row : Row) (is : row_after c ≡ Some row)
+    (rows : List Row) where
   -- the row is the document's
   with_is : (put : Row → List Row → List Row) (others : List Row)
       → put row others ≡ with_row put c others
@@ -61,13 +62,14 @@ module _ (q : Asked) (c : Change) (row : Row) (is : row_after c ≡ Some row) (r
 
   -- and where the last row does
   pub placed_for_last : (last : ℕ) → last ≡ length rows - 1
-      → insert_in_order (by_order q) row (remove rows last) ≡ after InsertAtSortPositionRemoveLast q c rows
+      → insert_in_order (by_order q) row (remove rows last)
+      ≡ after InsertAtSortPositionRemoveLast q c rows
   placed_for_last last is =
       ap (λ n. insert_in_order (by_order q) row (remove rows n)) is
       ∙ ap (insert_in_order (by_order q) row) (remove_last rows)
       ∙ with_is (insert_in_order (by_order q)) (without_last rows)
 
-module _ (q : Asked) (row : Row) (rows : List Row) (out i : ℕ) (h : out < length rows)
+module _ (q : QuerySpec) (row : Row) (rows : List Row) (out i : ℕ) (h : out < length rows)
     (but : IsFirstBut (by_order q row) rows out i) where
   -- in its new place, behind the row that goes out
   pub to_later : out < i → i ≤ length rows

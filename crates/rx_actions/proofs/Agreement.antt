@@ -12,7 +12,7 @@ use Rattle.rx_table.specs.declared.states.StateName.{StateName}
 use Rattle.rx_table.specs.declared.states.StateName.TheVariants.{IsInsert, IsUpdate, IsDelete, HasLimit, IsFindOne, HasSkip, WasResultsEmpty, PreviousUnknown, WasLimitReached, SortParamsChanged, WasInResult, WasFirst, WasLast, WasSortedBeforeFirst, WasSortedAfterLast, IsSortedBeforeFirst, IsSortedAfterLast, WasMatching, DoesMatchNow}
 use Rattle.rx_query.specs.After as spec
 use Rattle.rx_query.specs.After.{row_after}
-use Rattle.rx_query.specs.Asked.{Asked}
+use Rattle.rx_query.specs.QuerySpec.{QuerySpec}
 use Rattle.rx_query.specs.Lists.{some_passes, first_passes, last_passes, without_last, without_first}
 use Rattle.rx_query.specs.States.{live_before, is_unknown, precedes, is_changed, before_first, after_last, state_of}
 use Rattle.rx_query.specs.declared.results.Row.{Row}
@@ -48,10 +48,11 @@ module _ {A B : Type 0} (f : A → B) where
 -- ---- the states
 
 -- such fields would make a row that carries its id
-abbrev pub Carried : Asked → List ℕ → Option Pairs → Type 0
+abbrev pub Carried : QuerySpec → List ℕ → Option Pairs → Type 0
 Carried q id o = (x : Pairs) → o ≡ Some x → Carries q (row_with id x)
 
-module _ (q : Asked) (c : Change) (rows : List Row) (all : AllByRecursion (Carries q) rows) where
+module _ (q : QuerySpec) (c : Change) (rows : List Row)
+    (all : AllByRecursion (Carries q) rows) where
   -- the row has the id
   abbrev mine : Row → Bool
   mine = is_changed c
@@ -118,7 +119,7 @@ module _ (q : Asked) (c : Change) (rows : List Row) (all : AllByRecursion (Carri
 
 -- ---- the actions
 
-module _ (q : Asked) (c : Change) (now : Carried q c.id c.after) where
+module _ (q : QuerySpec) (c : Change) (now : Carried q c.id c.after) where
   -- a row that is put in by the order
   put_agrees : (rows : List Row) → AllByRecursion (Carries q) rows
       → spec.with_placed q c rows

@@ -6,7 +6,7 @@ use Rattle.rx_value.proofs.Lists.{all_passed}
 use Rattle.rx_document.specs.Documents.{Documents}
 use Rattle.rx_document.specs.declared.stored.Stored.{Stored}
 use Rattle.rx_query.proofs.Rows.{map-drop, map-cut, all_values}
-use Rattle.rx_query.specs.Asked.{Asked}
+use Rattle.rx_query.specs.QuerySpec.{QuerySpec}
 use Rattle.rx_query.specs.Lists.{insert_in_order, sorted}
 use Rattle.rx_query.specs.Result.{is_due, stored_before, at_most, row_of, fresh_rows}
 use Rattle.rx_query.specs.States.{is_match, precedes}
@@ -38,7 +38,7 @@ map-sorted f before (x ∷ xs) =
     ∙ ap (insert_in_order before (f x)) (map-sorted f before xs)
 
 -- rows that carry their ids stand in one order by their fields and by the core's
-sorted_agrees : (q : Asked) (rows : List Row) → AllByRecursion (Carries q) rows
+sorted_agrees : (q : QuerySpec) (rows : List Row) → AllByRecursion (Carries q) rows
     → sorted (λ a b. precedes q a.fields b.fields) rows ≡ sorted (rows_query q).before rows
 sorted_agrees q [] all = refl
 sorted_agrees q (r ∷ rows) all =
@@ -49,7 +49,7 @@ sorted_agrees q (r ∷ rows) all =
 -- ---- the rows of the due documents
 
 -- they are the selected ones of the live rows
-due_rows : (q : Asked) (es : Documents)
+due_rows : (q : QuerySpec) (es : Documents)
     → map row_of (filter (is_due q) (values_of es))
     ≡ filter (rows_query q).matches (live_rows es)
 due_rows q [] = refl
@@ -75,7 +75,7 @@ all_mapped P (d ∷ ds) h = (h.0, all_mapped P ds h.1)
 -- ---- from scratch
 
 -- the rows from scratch are the core's result
-pub fresh_is : (q : Asked) (es : Documents) → right.IsCollection q.primary es
+pub fresh_is : (q : QuerySpec) (es : Documents) → right.IsCollection q.primary es
     → fresh_rows q es ≡ result (rows_query q) (live_rows es)
 unfolding fresh_rows
 fresh_is q es col =

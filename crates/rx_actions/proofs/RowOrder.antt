@@ -15,7 +15,7 @@ use Rattle.rx_value.specs.Order.{order_of, text_cmp}
 use Rattle.rx_value.specs.declared.value.Value.TheVariants.{Text}
 use Rattle.rx_value.proofs.Orderings.{less_is, then_first}
 use Rattle.rx_query.proofs.Orders.{sorts_total, sorts_decide, key_decides}
-use Rattle.rx_query.specs.Asked.{Asked}
+use Rattle.rx_query.specs.QuerySpec.{QuerySpec}
 use Rattle.rx_query.specs.Lists.{some_passes, insert_in_order}
 use Rattle.rx_query.specs.Order.{sorts_cmp, query_cmp}
 use Rattle.rx_query.specs.States.{precedes, ties, is_match}
@@ -27,11 +27,11 @@ abbrev pub row_keys : Keys Row (List ℕ)
 row_keys = record { key = λ r. r.id; same = bytes_eq }
 
 -- by the sort's fields in turn, and then by the id
-abbrev pub row_cmp : Asked → Row → Row → Ordering
+abbrev pub row_cmp : QuerySpec → Row → Row → Ordering
 row_cmp q x y = ordering_then (sorts_cmp q.sorts x.fields y.fields) (text_cmp x.id y.id)
 
 -- the query over rows
-abbrev pub rows_query : Asked → Query Row
+abbrev pub rows_query : QuerySpec → Query Row
 rows_query q = record {
   matches = λ r. is_match q r.fields;
   before = λ x y. is_lt (row_cmp q x y);
@@ -43,7 +43,7 @@ rows_query q = record {
 -- ---- it is total
 
 -- as each of its parts
-pub row_total : (q : Asked) → IsTotalOrder (row_cmp q)
+pub row_total : (q : QuerySpec) → IsTotalOrder (row_cmp q)
 row_total q =
     then_total (on_total (λ (r : Row). r.fields) (sorts_total q.sorts))
     (on_total (λ (r : Row). r.id) text_total)
@@ -61,14 +61,14 @@ then_second Less b h = cc
 then_second Greater b h = cc
 
 -- rows of other ids don't tie
-apart : (q : Asked) (x y : Row) → bytes_eq x.id y.id ≡ false → row_cmp q y x ≡ Equal → ⊥
+apart : (q : QuerySpec) (x y : Row) → bytes_eq x.id y.id ≡ false → row_cmp q y x ≡ Equal → ⊥
 apart q x y n tie =
     false≢true (sym n ∙ (bytes_eq-Decides x.id y.id).1
     (sym (text_ties y.id x.id (then_second (sorts_cmp q.sorts y.fields x.fields)
     (text_cmp y.id x.id) tie))))
 
 -- rows of one id that no sort field tells apart do
-tie : (q : Asked) (x y : Row) → ties q x.fields y.fields ≡ true → x.id ≡ y.id
+tie : (q : QuerySpec) (x y : Row) → ties q x.fields y.fields ≡ true → x.id ≡ y.id
     → row_cmp q x y ≡ Equal
 tie q x y h e =
     ap (λ o. ordering_then o (text_cmp x.id y.id))
@@ -76,7 +76,7 @@ tie q x y h e =
     ∙ ap (λ k. text_cmp k y.id) e ∙ tied_itself text_total y.id
 
 -- the laws
-pub lawful : (q : Asked) → q.limit ≢ Some 0 → IsLawful row_keys (rows_query q)
+pub lawful : (q : QuerySpec) → q.limit ≢ Some 0 → IsLawful row_keys (rows_query q)
 lawful q some =
     let total = row_total q in
     record {
@@ -92,7 +92,7 @@ lawful q some =
 -- ---- it is the order of the query
 
 -- the row carries its id as its primary key
-abbrev pub Carries : Asked → Row → Type 0
+abbrev pub Carries : QuerySpec → Row → Type 0
 Carries q r = named r.fields q.primary ≡ Some (Text r.id)
 
 -- one that doesn't leaves it to the next
@@ -102,7 +102,7 @@ then_next Equal b h = refl
 then_next Greater b h = absurd (false≢true (sym h))
 
 -- two rows stand the same way by both
-pub agrees : (q : Asked) (x y : Row) → Carries q x → Carries q y
+pub agrees : (q : QuerySpec) (x y : Row) → Carries q x → Carries q y
     → query_cmp q x.fields y.fields ≡ row_cmp q x y
 agrees q x y at_x at_y =
     let first = sorts_cmp q.sorts x.fields y.fields in
@@ -116,7 +116,7 @@ agrees q x y at_x at_y =
     ]) refl
 
 -- so rows are put in the same place
-pub placed_agrees : (q : Asked) (x : Row) (rows : List Row) → Carries q x
+pub placed_agrees : (q : QuerySpec) (x : Row) (rows : List Row) → Carries q x
     → AllByRecursion (Carries q) rows
     → insert_in_order (λ a b. precedes q a.fields b.fields) x rows ≡ insert_in_order (rows_query q).before x rows
 placed_agrees q x [] at all = refl
@@ -127,7 +127,7 @@ placed_agrees q x (y ∷ ys) at all =
     (placed_agrees q x ys at all.1)
 
 -- tests that agree on such rows agree on the row at a place
-pub passes_agree : (q : Asked) (p p' : Row → Bool) → ((r : Row) → Carries q r → p r ≡ p' r)
+pub passes_agree : (q : QuerySpec) (p p' : Row → Bool) → ((r : Row) → Carries q r → p r ≡ p' r)
     → (rows : List Row) → AllByRecursion (Carries q) rows → (k : ℕ)
     → some_passes p (slice_get rows k) ≡ some_passes p' (slice_get rows k)
 passes_agree q p p' same [] all k = refl

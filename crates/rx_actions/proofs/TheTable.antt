@@ -13,7 +13,7 @@ use Rattle.rx_document.specs.Documents.{Documents, live}
 use Rattle.rx_table.specs.Rows.{action_of, table_of}
 use Rattle.rx_query.proofs.Numbers.{table_of-number_of}
 use Rattle.rx_query.specs.After.{row_after}
-use Rattle.rx_query.specs.Asked.{Asked}
+use Rattle.rx_query.specs.QuerySpec.{QuerySpec}
 use Rattle.rx_query.specs.Lists.{sorted}
 use Rattle.rx_query.specs.Result.{at_most, row_of, IsCollection}
 use Rattle.rx_query.specs.States.{live_before, is_unknown, is_changed, state_of, bits_of}
@@ -60,7 +60,7 @@ module _ (P : Row → Type 0) where
       cond_both e.1.state.deleted (live_rows es) (row_of e.1 ∷ live_rows es) (AllByRecursion P)
       (λ _. all_live es h.1) (λ _. (h.0, all_live es h.1))
 
-module _ (q : Asked) (es : Documents) (col : IsCollection q.primary es) where
+module _ (q : QuerySpec) (es : Documents) (col : IsCollection q.primary es) where
   -- those of live documents
   live_carry : AllByRecursion (Carries q) (live_rows es)
   live_carry = all_live (Carries q) es col.carried

@@ -1,6 +1,6 @@
 ghost use Rattle.std.specs.Prelude.{◌≡◌, ◌<◌, ◌≤◌, ◌^◌, true, Some, length};
 ghost use Rattle.std.specs.List.{list_any};
-ghost use Rattle.rx_query.specs.Asked.{asked};
+ghost use Rattle.rx_query.specs.QuerySpec.{asked};
 ghost use Rattle.rx_query.specs.States.{precedes, is_changed};
 ghost use Rattle.rx_actions.specs.Moves.{IsFirst, IsFirstBut};
 

@@ -5,7 +5,7 @@ use Rattle.rx_table.specs.declared.action.Action.{Action}
 use Rattle.rx_table.specs.declared.action.Action.TheVariants.{DoNothing, InsertFirst, InsertLast, RemoveFirstItem, RemoveLastItem, RemoveFirstInsertLast, RemoveLastInsertFirst, RemoveFirstInsertFirst, RemoveLastInsertLast, RemoveExisting, ReplaceExisting, InsertAtSortPosition, RemoveExistingAndInsertAtSortPosition, RunFullQueryAgain, InsertAtSortPositionRemoveLast}
 use Rattle.rx_table.specs.declared.states.StateName.{StateName}
 use Rattle.rx_table.specs.declared.states.StateName.TheVariants.{IsInsert, IsUpdate, IsDelete, HasLimit, IsFindOne, HasSkip, WasResultsEmpty, PreviousUnknown, WasLimitReached, SortParamsChanged, WasInResult, WasFirst, WasLast, WasSortedBeforeFirst, WasSortedAfterLast, IsSortedBeforeFirst, IsSortedAfterLast, WasMatching, DoesMatchNow}
-use Rattle.rx_table.specs.Counts.{place_of}
+use Rattle.rx_table.specs.Counts.{action_number}
 use Rattle.rx_table.specs.States.{all_states, index_of}
 use Rattle.rx_diagram.specs.declared.node.Edge.{Edge}
 use Rattle.rx_diagram.specs.declared.node.Edge.TheVariants.{Act, To}
@@ -19,7 +19,7 @@ all_actions = DoNothing ∷ InsertFirst ∷ InsertLast ∷ RemoveFirstItem ∷ R
     ∷ []
 
 -- each at its place
-action_at_place : (a : Action) → get_or all_actions (place_of a) DoNothing ≡ a
+action_at_place : (a : Action) → get_or all_actions (action_number a) DoNothing ≡ a
 unfolding all_actions
 action_at_place DoNothing = refl
 action_at_place InsertFirst = refl
@@ -38,15 +38,15 @@ action_at_place RunFullQueryAgain = refl
 action_at_place InsertAtSortPositionRemoveLast = refl
 
 -- actions of one place are one
-pub same_place : (a c : Action) → place_of a ≡ place_of c → a ≡ c
+pub same_place : (a c : Action) → action_number a ≡ action_number c → a ≡ c
 same_place a c e =
     sym (action_at_place a) ∙ ap (λ k. get_or all_actions k DoNothing) e ∙ action_at_place c
 
 -- so are actions
 pub action_same : (a c : Action) → (a ≡ c) ⊎ (a ≢ c)
-action_same a c = elim (cases_eq (place_of a) (place_of c)) [
+action_same a c = elim (cases_eq (action_number a) (action_number c)) [
   | inl e ↦ inl (same_place a c e)
-  | inr e ↦ inr (λ h. e (ap place_of h))
+  | inr e ↦ inr (λ h. e (ap action_number h))
 ]
 
 -- and edges

@@ -9,7 +9,7 @@ use Rattle.std.proofs.lemmas.Nat.Bits.{same_from_bits_below, bit_at-lt, bit_at_c
 use Rattle.std.specs.Int.{bit_at}
 use Rattle.std.specs.Int.Bits.{bit_xor}
 use Rattle.std.specs.Cmp.{first_so, second_so}
-use Rattle.rx_table.specs.Counts.{place_of}
+use Rattle.rx_table.specs.Counts.{action_number}
 use Rattle.rx_table.specs.Rows.{table_of}
 use Rattle.rx_table.specs.States.{is_set}
 use Rattle.rx_table.specs.declared.action.Action.{Action}
@@ -123,7 +123,8 @@ other_way false false h = absurd (h refl)
 
 -- an action is itself
 itself : (a b : Action) → a ≡ b → same_action a b ≡ true
-itself a b h = let e : place_of a ≡ place_of b = ap place_of h in grind (arith, nat_tests)
+itself a b h = let e : action_number a
+    ≡ action_number b = ap action_number h in grind (arith, nat_tests)
 
 -- and no other
 no_other : (a b : Action) → a ≢ b → not (same_action a b) ≡ true
@@ -131,9 +132,9 @@ no_other a b ne = go (same_action a b) refl
   where
     go : (v : Bool) → same_action a b ≡ v → not v ≡ true
     go false is = refl
-    go true is = absurd (apart_places (eqb-true (place_of a) (place_of b) is))
+    go true is = absurd (apart_places (eqb-true (action_number a) (action_number b) is))
       where
-        apart_places : place_of a ≡ place_of b → ⊥
+        apart_places : action_number a ≡ action_number b → ⊥
         apart_places e = ne (same_place a b e)
 
 -- a number that tells shows it

@@ -1,7 +1,7 @@
 -- Which questions the table still depends on, once those before them are answered.
 use Rattle.std.specs.Prelude.{◌≡◌, ◌≢◌, ℕ, zero, suc, ◌+◌, ◌*◌, ◌%◌, ◌<◌, ◌^◌, ◌==◌, ◌&&◌, ◌||◌, ◌↔◌, not, Bool, true, false, List, filter, if◌then◌else◌, count_ones}
 use Rattle.std.specs.Int.Bits.{bit_xor}
-use Rattle.rx_table.specs.Counts.{place_of}
+use Rattle.rx_table.specs.Counts.{action_number}
 use Rattle.rx_table.specs.Rows.{table_of}
 use Rattle.rx_table.specs.States.{state_count, all_states, index_of, is_set}
 use Rattle.rx_table.specs.declared.action.Action.{Action}
@@ -38,7 +38,7 @@ any_below (suc n) p = p n || any_below n p
 
 -- two actions are one
 abbrev pub same_action : Action → Action → Bool
-same_action a b = place_of a == place_of b
+same_action a b = action_number a == action_number b
 
 -- a number agrees with the bits before question i, and has another action where that question is
 -- answered the other way

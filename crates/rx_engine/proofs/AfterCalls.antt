@@ -10,7 +10,7 @@ use Rattle.rx_sync.proofs.Elsewhere.{remote_turn_again, remote_turn_sound}
 use Rattle.rx_sync.proofs.Staying.{made_after, soundly_in_turn}
 use Rattle.rx_sync.proofs.Worlds.{linked_at, sound_after}
 use Rattle.rx_sync.specs.Asks.{Asks}
-use Rattle.rx_sync.specs.Exchange.{after}
+use Rattle.rx_sync.specs.Exchange.{world_after}
 use Rattle.rx_sync.specs.Laws.{ComeSoundly}
 use Rattle.rx_sync.specs.Remote.{Heard, remote_turn}
 use Rattle.rx_sync.specs.RemoteLaws.{MayCall}
@@ -101,14 +101,14 @@ module _ (c : Call) (s : Standing) (some : 1 ≤ c.batch) (made : IsMadeWorld s.
   come = remote_turn_sound (terms c.name s.session.moment s.kinds) c.batch c.budget s.heard w
       (asks_of c.name s.asks) some may_call
 
-  again : MayCall (terms c.name s.session.moment s.kinds) (after done.records w) done.asks
+  again : MayCall (terms c.name s.session.moment s.kinds) (world_after done.records w) done.asks
   again = remote_turn_again (terms c.name s.session.moment s.kinds) c.batch c.budget s.heard w
       (asks_of c.name s.asks) some may_call
 
   abbrev then : World
   then = (written done.records s.session).world
 
-  then_is : after done.records w ≡ then
+  then_is : world_after done.records w ≡ then
   then_is = sym (written-world done.records s.session)
 
   pub made_called : IsMadeWorld then
@@ -121,7 +121,7 @@ module _ (c : Call) (s : Standing) (some : 1 ≤ c.batch) (made : IsMadeWorld s.
 
   pub remembered_called : AreRemembered then (put_named s.asks c.name done.asks)
   remembered_called =
-      let v = after done.records w in
+      let v = world_after done.records w in
       let here = again.ready.there in
       let l = linked_at v again.ready.made c.name here.replication here.held in
       subst (λ (v : World). AreRemembered v (put_named s.asks c.name done.asks)) then_is

@@ -11,7 +11,7 @@ use Rattle.rx_sync.proofs.Staying.{made_after, soundly_in_turn}
 use Rattle.rx_sync.proofs.Turns.{turn_again, turn_quiet, turn_sound}
 use Rattle.rx_sync.proofs.Worlds.{linked_at, sound_after}
 use Rattle.rx_sync.specs.Asks.{Asks}
-use Rattle.rx_sync.specs.Exchange.{after}
+use Rattle.rx_sync.specs.Exchange.{world_after}
 use Rattle.rx_sync.specs.Laws.{ComeSoundly, IsLevel, MayTurn}
 use Rattle.rx_sync.specs.Turn.{Turned, turn}
 use Rattle.rx_world.specs.Made.{IsMadeWorld}
@@ -98,14 +98,14 @@ module _ (u : ToTurn) (s : Standing) (some : 1 ≤ u.batch) (made : IsMadeWorld 
   come = turn_sound (terms u.name s.session.moment s.kinds) u.batch u.budget u.link w
       (asks_of u.name s.asks) some may
 
-  again : MayTurn (terms u.name s.session.moment s.kinds) (after done.records w) done.asks
+  again : MayTurn (terms u.name s.session.moment s.kinds) (world_after done.records w) done.asks
   again = turn_again (terms u.name s.session.moment s.kinds) u.batch u.budget u.link w
       (asks_of u.name s.asks) some may
 
   abbrev then : World
   then = (written done.records s.session).world
 
-  then_is : after done.records w ≡ then
+  then_is : world_after done.records w ≡ then
   then_is = sym (written-world done.records s.session)
 
   pub made_then : IsMadeWorld then
@@ -118,7 +118,7 @@ module _ (u : ToTurn) (s : Standing) (some : 1 ≤ u.batch) (made : IsMadeWorld 
 
   pub remembered_then : AreRemembered then (put_named s.asks u.name done.asks)
   remembered_then =
-      let v = after done.records w in
+      let v = world_after done.records w in
       let here = again.ready.here in
       let l = linked_at v again.ready.made u.name here.replication here.held in
       subst (λ (v : World). AreRemembered v (put_named s.asks u.name done.asks)) then_is

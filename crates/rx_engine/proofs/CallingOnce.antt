@@ -15,7 +15,7 @@ use Rattle.rx_store.specs.Safe.{IsCrashSafe}
 use Rattle.rx_session.specs.Session.{Session}
 use Rattle.rx_sync.specs.Asking.{asked_in, pending_in}
 use Rattle.rx_sync.specs.Asks.{Asks, next_number, with_request}
-use Rattle.rx_sync.specs.Exchange.{Course, Terms, after, asked_to_pull, course_with}
+use Rattle.rx_sync.specs.Exchange.{Course, Terms, world_after, asked_to_pull, course_with}
 use Rattle.rx_sync.specs.Remote.{Heard, no_dial, no_wire, no_line, line, heard_course, heard_exchange, schema_in}
 use Rattle.rx_sync.specs.RemoteLaws.{MayCall}
 use Rattle.rx_sync.proofs.Elsewhere.{heard_course_sound}
@@ -107,7 +107,7 @@ pub then_none_heard : {D : Type 0} {d : Ghosts D} {now new : D} {tells : Type 0}
 then_none_heard {t = t} {batch = batch} {play = play} {then_play = then_play} {a = a} made some may
     is =
     let c : Course = course_heard t batch made.heard play.playing.world a in
-    let then_world : then_play.playing.world ≡ after c.records play.playing.world =
+    let then_world : then_play.playing.world ≡ world_after c.records play.playing.world =
     ap (λ (s : Session). s.world) made.session ∙ written-world c.records play.playing in
     subst (λ (w : World). pending_in w t.name ≡ Some 0) (sym then_world)
     (heard_course_pulled t batch some made.heard play.playing.world a may

@@ -19,7 +19,7 @@ use Rattle.rx_store.proofs.Crashes.{answered, idle, other_stop, then}
 use Rattle.rx_store.proofs.Growing.{held_alike, stays}
 use Rattle.rx_sync.specs.Asking.{asked_in}
 use Rattle.rx_sync.specs.Asks.{Asks, next_number}
-use Rattle.rx_sync.specs.Exchange.{Course, Terms, after}
+use Rattle.rx_sync.specs.Exchange.{Course, Terms, world_after}
 use Rattle.rx_sync.specs.Laws.{ComeSoundly}
 use Rattle.rx_sync.specs.Remote.{Heard, no_dial, no_wire, no_line, line, RemoteTurned, heard_on, remote_turn, request_made, schema_in}
 use Rattle.rx_sync.specs.RemoteLaws.{MayCall}
@@ -289,7 +289,7 @@ module _ {D : Type 0} (t : Terms) (batch : ℕ) (d : Ghosts D) (old : D) (first 
     abbrev tail : List Heard → RemoteTurned
     tail later =
         tail_on c later (end_by batch c.came)
-        (remote_turn t batch m later (after c.records w) c.asks)
+        (remote_turn t batch m later (world_after c.records w) c.asks)
 
     c_come : ComeSoundly w c.records
     c_come = (heard_course_sound t batch some h w a may).come
@@ -303,7 +303,7 @@ module _ {D : Type 0} (t : Terms) (batch : ℕ) (d : Ghosts D) (old : D) (first 
         ∙ whole (h ∷ later)
         ∙ ap (joined done requests es)
         (on_joined c asked later (end_by batch c.came)
-        (remote_turn t batch m later (after c.records w) c.asks))
+        (remote_turn t batch m later (world_after c.records w) c.asks))
         ∙ joined_twice done c.records requests (request_made asked) es (as_list c.came) (tail later)
 
     -- before its records are written
@@ -315,7 +315,7 @@ module _ {D : Type 0} (t : Terms) (batch : ℕ) (d : Ghosts D) (old : D) (first 
         let shape : u.turned.records ≡ c.records ++ (tail later).turned.records =
         ap (λ (u : RemoteTurned). u.turned.records)
         (on_joined c asked later (end_by batch c.came)
-        (remote_turn t batch m later (after c.records w) c.asks)) in
+        (remote_turn t batch m later (world_after c.records w) c.asks)) in
         way_of now play done (c.records ++ (tail later).turned.records)
         (total (then_heard ++ later)).turned.records kept
         (ap (λ (u : RemoteTurned). u.turned.records)
@@ -354,7 +354,7 @@ module _ {D : Type 0} (t : Terms) (batch : ℕ) (d : Ghosts D) (old : D) (first 
             (safe told (bodies ++ bodies_of done) so_far.at)));
       }
 
-      pub world_then : then_play.playing.world ≡ after c.records w
+      pub world_then : then_play.playing.world ≡ world_after c.records w
       world_then = ap (λ (s : Session). s.world) session ∙ written-world c.records play.playing
 
       pub may_then : (b : Asks) → b ≡ c.asks → MayCall t then_play.playing.world b
@@ -374,7 +374,7 @@ module _ {D : Type 0} (t : Terms) (batch : ℕ) (d : Ghosts D) (old : D) (first 
           → tail later ≡ remote_turn t batch m later then_play.playing.world b
       tail_then b is o came none later =
           ap (λ (e : Option TurnEnd). tail_on c later e
-          (remote_turn t batch m later (after c.records w) c.asks))
+          (remote_turn t batch m later (world_after c.records w) c.asks))
           (ap (end_by batch) (sym came) ∙ none)
           ∙ ap (λ (v : World). remote_turn t batch m later v c.asks) (sym world_then)
           ∙ ap (remote_turn t batch m later then_play.playing.world) (sym is)
@@ -385,7 +385,7 @@ module _ {D : Type 0} (t : Terms) (batch : ℕ) (d : Ghosts D) (old : D) (first 
           → tail later ≡ over_now end b later
       tail_over b is o came end last later =
           ap (λ (e : Option TurnEnd). tail_on c later e
-          (remote_turn t batch m later (after c.records w) c.asks))
+          (remote_turn t batch m later (world_after c.records w) c.asks))
           (ap (end_by batch) (sym came) ∙ last)
           ∙ ap (λ (b : Asks). over_now end b later) (sym is)
 

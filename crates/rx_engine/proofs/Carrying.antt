@@ -5,7 +5,7 @@ use Rattle.rx_record.specs.Content.{Content}
 use Rattle.rx_script.specs.declared.happening.Happening.{Happening}
 use Rattle.rx_sync.specs.Asking.{asked_in}
 use Rattle.rx_sync.specs.Asks.{Asks, next_number, with_request}
-use Rattle.rx_sync.specs.Exchange.{Planned, Terms, after, behind, course, course_by, course_with, exchange, late_records, late_request, once_late}
+use Rattle.rx_sync.specs.Exchange.{Planned, Terms, world_after, behind, course, course_by, course_with, exchange, late_records, late_request, once_late}
 use Rattle.rx_sync.specs.Laws.{ComeSoundly, IsAskedIn, IsReady, RemembersLawful}
 use Rattle.rx_sync.proofs.Staying.{ready_after}
 use Rattle.rx_sync.proofs.Turns.{exchange_well, late_asked, late_well}
@@ -36,17 +36,17 @@ module _ (t : Terms) (w : World) (ready : IsReady w t.name t.kinds) (asked : Ask
   -- an earlier request was handled first, where one comes late
   module _ (cs : List Content)
       (at : late_records t.name t.now w (late_request x a) ≡ Some cs) where
-    carried_is : carried t asked x a w ≡ behind cs (exchange t asked x (after cs w))
+    carried_is : carried t asked x a w ≡ behind cs (exchange t asked x (world_after cs w))
     carried_is = ap (once_late t asked x w) at
 
     pub records_are : (carried t asked x a w).records
-        ≡ cs ++ (exchange t asked x (after cs w)).records
+        ≡ cs ++ (exchange t asked x (world_after cs w)).records
     records_are = ap (λ (p : Planned). p.records) carried_is
 
-    pub came_is : (carried t asked x a w).came ≡ (exchange t asked x (after cs w)).came
+    pub came_is : (carried t asked x a w).came ≡ (exchange t asked x (world_after cs w)).came
     came_is = ap (λ (p : Planned). p.came) carried_is
 
-    pub still_asked : IsAskedIn (after cs w) t.name asked
+    pub still_asked : IsAskedIn (world_after cs w) t.name asked
     still_asked = (
       is.0,
       is.1,
@@ -54,5 +54,5 @@ module _ (t : Terms) (w : World) (ready : IsReady w t.name t.kinds) (asked : Ask
       late_asked t w ready is.0 is.1 is.2 asked is.3 x a lawful cs at,
     )
 
-    pub still_ready : ComeSoundly w cs → IsReady (after cs w) t.name t.kinds
+    pub still_ready : ComeSoundly w cs → IsReady (world_after cs w) t.name t.kinds
     still_ready come = ready_after cs w t.name t.kinds ready come

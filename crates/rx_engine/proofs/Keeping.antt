@@ -7,7 +7,7 @@ use Rattle.rx_world.specs.Step.{legal}
 use Rattle.rx_world.proofs.Making.{made_step}
 use Rattle.rx_world.proofs.Sounds.{sound_step}
 use Rattle.rx_world.proofs.Steps.{epoch_legal}
-use Rattle.rx_session.specs.Doing.{Doing, nothing, set_clock, write, watch, unwatch, restart, after, MayDo}
+use Rattle.rx_session.specs.Doing.{Doing, nothing, set_clock, write, watch, unwatch, restart, session_after, MayDo}
 use Rattle.rx_session.specs.Session.{Session}
 use Rattle.rx_engine.specs.Shown.{HasOrder, WritesNoExchange}
 
@@ -22,7 +22,7 @@ has_order (restart number) s may = tt
 
 -- a world that records made stays one
 pub made_then : (d : Doing) (s : Session) → MayDo d s → IsMadeWorld s.world
-    → IsMadeWorld (after d s).world
+    → IsMadeWorld (session_after d s).world
 made_then nothing s may made = made
 made_then (set_clock at) s may made = made
 made_then (write c) s may made = made_step c s.world may.0 may.1 made
@@ -34,7 +34,7 @@ made_then (restart number) s may made =
 
 -- and a sound one stays sound
 pub sound_then : (d : Doing) (s : Session) → MayDo d s → WritesNoExchange d → IsMadeWorld s.world
-    → IsSoundWorld s.world → IsSoundWorld (after d s).world
+    → IsSoundWorld s.world → IsSoundWorld (session_after d s).world
 sound_then nothing s may apart made sound = sound
 sound_then (set_clock at) s may apart made sound = sound
 sound_then (write c) s may apart made sound = sound_step c s.world may.0 may.1 apart made sound

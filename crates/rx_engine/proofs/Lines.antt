@@ -8,7 +8,7 @@ use Rattle.rx_document.specs.declared.place.Place.{Place}
 use Rattle.rx_document.specs.declared.stored.Stored.{Stored}
 use Rattle.rx_collection.specs.Held.{Held}
 use Rattle.rx_collection.specs.Since.{since}
-use Rattle.rx_query.specs.Asked.{Asked}
+use Rattle.rx_query.specs.QuerySpec.{QuerySpec}
 use Rattle.rx_reply.specs.Answer.{changes, find, count, states_of}
 use Rattle.rx_script.specs.declared.since.Since.{Since}
 use Rattle.rx_session.specs.Session.{Session}
@@ -17,14 +17,14 @@ use Rattle.rx_engine.specs.Outcome.{Outcome, answer_alone, collection_at}
 use Rattle.rx_engine.specs.Queries.{find_line, count_line, query_on, rows_found}
 use Rattle.rx_engine.specs.declared.fault.Fault.{Fault}
 
-module _ (coll : List ℕ) (d : Data) (s : Session) (c : Held) (q : Asked) (o : Outcome)
+module _ (coll : List ℕ) (d : Data) (s : Session) (c : Held) (q : QuerySpec) (o : Outcome)
     (at : collection_at coll s ≡ Ok c) (asked : query_on c d ≡ Ok q) where
   -- what is done with the collection and the query is what the line does
-  read_line : (does : Held → Asked → Result Outcome Fault) → does c q ≡ Ok o
+  read_line : (does : Held → QuerySpec → Result Outcome Fault) → does c q ≡ Ok o
       → (collection_at coll s >> λ c. query_on c d >> λ q. does c q) ≡ Ok o
   read_line does is =
       ap (λ (r : Result Held Fault). r >> λ c. query_on c d >> λ q. does c q) at
-      ∙ ap (λ (r : Result Asked Fault). r >> λ q. does c q) asked ∙ is
+      ∙ ap (λ (r : Result QuerySpec Fault). r >> λ q. does c q) asked ∙ is
 
   -- the rows are found
   pub found_line : (rows : List Pairs) → rows ≡ rows_found q c.documents → o ≡ answer_alone (find rows)

@@ -17,7 +17,7 @@ use Rattle.rx_session.specs.Doing as doing
 use Rattle.rx_session.specs.Doing.{Doing, nothing, set_clock, write, watch, unwatch, restart, MayDo}
 use Rattle.rx_session.specs.Session.{Session}
 use Rattle.rx_sync.specs.Asking.{pending_in}
-use Rattle.rx_sync.specs.Exchange.{after}
+use Rattle.rx_sync.specs.Exchange.{world_after}
 use Rattle.rx_sync.specs.Laws.{MayComeInTurn}
 use Rattle.rx_sync.proofs.Apart.{AreApart, IsApart, plain_apart}
 use Rattle.rx_sync.proofs.Pulls.{pending_is}
@@ -181,7 +181,7 @@ marked_step c w name lwt is apart m =
     ]
 
 pub marked_after : (cs : List Content) (w : World) (name : List ℕ) (lwt : ℕ) → MayComeInTurn w cs
-    → AreApart name cs → IsMarked w name lwt → IsMarked (after cs w) name lwt
+    → AreApart name cs → IsMarked w name lwt → IsMarked (world_after cs w) name lwt
 marked_after [] w name lwt come apart m = m
 marked_after (c ∷ cs) w name lwt come apart m =
     marked_after cs (step c w) name lwt come.1 apart.1
@@ -254,6 +254,6 @@ marked_doing (restart number) s marks may plain all = λ name lwt at.
 pub marked_then : (cs : List Content) (w : World) (marks : List (List ℕ × Option ℕ))
     (but : List ℕ) → MayComeInTurn w cs
     → ((name : List ℕ) → but ≢ name → AreApart name cs) → AreMarked w marks
-    → AreMarkedBut but (after cs w) marks
+    → AreMarkedBut but (world_after cs w) marks
 marked_then cs w marks but come apart all = λ name lwt other at.
     marked_after cs w name lwt come (apart name (λ e. other (sym e))) (all name lwt at)

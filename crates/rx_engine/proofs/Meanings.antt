@@ -9,7 +9,7 @@ use Rattle.rx_reply.specs.declared.turn.Exchanged.{Exchanged}
 use Rattle.rx_reply.specs.declared.turn.TurnEnd.{TurnEnd}
 use Rattle.rx_reply.specs.declared.turn.TurnEnd.TheVariants.{Quiet}
 use Rattle.rx_script.specs.declared.happening.Happening.{Happening}
-use Rattle.rx_session.specs.Doing.{Doing, MayDo, nothing, after}
+use Rattle.rx_session.specs.Doing.{Doing, MayDo, nothing, session_after}
 use Rattle.rx_session.specs.Emissions.{emissions, settled_session}
 use Rattle.rx_session.specs.Session.{Session}
 use Rattle.rx_sync.specs.Asks.{Asks}
@@ -127,16 +127,18 @@ module _ (number : ℕ) (line : List ℕ) (s : Standing) (o : Outcome) (p : Prin
       ∙ sym (ap (λ (m : Meaning). m.records) same_meaning)
 
   -- and so is what is due after it
-  due_so : emissions (after (doing_of p.doing) s.session) ≡ emissions (after o.doing s.session)
-  due_so = ap (λ (d : Doing). emissions (after d s.session)) printed.doing
+  due_so : emissions (session_after (doing_of p.doing) s.session)
+      ≡ emissions (session_after o.doing s.session)
+  due_so = ap (λ (d : Doing). emissions (session_after d s.session)) printed.doing
 
   -- the engine and the output are those of its meaning
   pub answers_so : (r : Result (Engine × Output) Stop)
-      → IfOk r (λ x. session_of x.0 ≡ settled_session (after (doing_of p.doing) s.session))
+      → IfOk r (λ x. session_of x.0 ≡ settled_session (session_after (doing_of p.doing) s.session))
       → IfOk r (λ x. asks_in x.0 ≡ asks_kept (doing_of p.doing) s.asks)
       → IfOk r (λ x. string_bytes x.1.text
-      ≡ string_bytes p.text ++ lines_of (emissions (after (doing_of p.doing) s.session)))
-      → IfOk r (λ x. x.1.emissions ≡ length (emissions (after (doing_of p.doing) s.session)))
+      ≡ string_bytes p.text ++ lines_of (emissions (session_after (doing_of p.doing) s.session)))
+      → IfOk r
+      (λ x. x.1.emissions ≡ length (emissions (session_after (doing_of p.doing) s.session)))
       → IfOk r (λ x. x.1.refused ≡ p.refused) → IfOk r (λ x. x.1.end ≡ None)
       → IfOk r (λ x. Answers s.kinds s.heard (meaning number line s) x.0 x.1)
   unfolding meaning standing_of
@@ -144,10 +146,12 @@ module _ (number : ℕ) (line : List ℕ) (s : Standing) (o : Outcome) (p : Prin
   answers_so (Ok x) session asks text emitted refused end =
       subst (λ (m : Meaning). Answers s.kinds s.heard m x.0 x.1) (sym same_meaning) (record {
         next = standing_same s.kinds s.heard _ _ _ _
-            (session ∙ ap (λ (d : Doing). settled_session (after d s.session)) printed.doing)
+            (session
+            ∙ ap (λ (d : Doing). settled_session (session_after d s.session)) printed.doing)
             (asks ∙ ap (λ (d : Doing). asks_kept d s.asks) printed.doing);
         reply = text
-            ∙ ap (λ (t : List ℕ). t ++ lines_of (emissions (after (doing_of p.doing) s.session)))
+            ∙ ap (λ (t : List ℕ). t
+            ++ lines_of (emissions (session_after (doing_of p.doing) s.session)))
             printed.text
             ∙ ap (λ (es : List Emission). answer_lines number o.answer ++ lines_of es) due_so;
         emissions = emitted ∙ ap (λ (es : List Emission). length es) due_so;
@@ -250,7 +254,8 @@ module _ (number : ℕ) (line : List ℕ) (s : Standing) (u : ToTurn)
 
   -- where its link does nothing, its exchanges are bounded
   module _ (some : 1 ≤ u.batch)
-      (may : MayTurn (terms u.name s.session.moment s.kinds) s.session.world (asks_of u.name s.asks))
+      (may : MayTurn (terms u.name s.session.moment s.kinds) s.session.world
+      (asks_of u.name s.asks))
     where
       ok_so : {P : Terms → ℕ → ℕ → List Happening → World → Asks → Type 0} → EveryOkTurn P
           → OfOkTurn P line s

@@ -16,7 +16,7 @@ use Rattle.rx_record.specs.declared.record.MasterName.{MasterName}
 use Rattle.rx_record.specs.declared.record.MasterName.TheVariants.{Local, Port}
 use Rattle.rx_record.specs.declared.record.RowOut.{RowOut}
 use Rattle.rx_handler.specs.Handlers.{Kinds}
-use Rattle.rx_query.specs.Asked.{Asked as Query}
+use Rattle.rx_query.specs.QuerySpec.{QuerySpec as Query}
 use Rattle.rx_reply.specs.Answer.{Answer, refused, insert, upsert, patch, remove, get, find, count, observe, unobserve, explain, replicate, tick, digest}
 use Rattle.rx_reply.specs.declared.refusal.Refusal.{Refusal}
 use Rattle.rx_reply.specs.declared.refusal.Refusal.TheVariants.{Chain, Clock, Exists, NoHandler, NoQuery, SchemaDiffers, TooMany}

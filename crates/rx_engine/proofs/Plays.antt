@@ -5,13 +5,13 @@ use Rattle.rx_disk.specs.declared.disk.Disk.{Ghosts}
 use Rattle.rx_outside.specs.declared.stop.Stop.{Stop}
 use Rattle.rx_outside.specs.declared.stop.Stop.TheVariants.{Memory}
 use Rattle.rx_record.specs.Content.{Content, content_bytes}
-use Rattle.rx_session.specs.Doing.{write, after}
+use Rattle.rx_session.specs.Doing.{write, session_after}
 use Rattle.rx_session.specs.Session.{Session}
 use Rattle.rx_store.specs.Holds.{GrowsLegally}
 use Rattle.rx_store.specs.Safe.{IsCrashSafe}
 use Rattle.rx_store.proofs.Crashes.{answered, idle, ran_out, sooner, then}
 use Rattle.rx_store.proofs.Growing.{grows_longer, held_alike, stays}
-use Rattle.rx_sync.specs.Exchange.{after as world_after}
+use Rattle.rx_sync.specs.Exchange.{world_after as world_after}
 use Rattle.rx_sync.specs.Laws.{ComeSoundly}
 use Rattle.rx_world.specs.Step.{step}
 use Rattle.rx_world.specs.World.{World}
@@ -29,12 +29,12 @@ bodies-append cs ds = map-append content_bytes cs ds
 pub written-world : (cs : List Content) (s : Session)
     → (written cs s).world ≡ world_after cs s.world
 written-world [] s = refl
-written-world (c ∷ cs) s = written-world cs (after (write c) s)
+written-world (c ∷ cs) s = written-world cs (session_after (write c) s)
 
 pub written-append : (cs ds : List Content) (s : Session)
     → written (cs ++ ds) s ≡ written ds (written cs s)
 written-append [] ds s = refl
-written-append (c ∷ cs) ds s = written-append cs ds (after (write c) s)
+written-append (c ∷ cs) ds s = written-append cs ds (session_after (write c) s)
 
 -- of records that come soundly, so do those behind the first
 soundly_behind : (cs ds : List Content) (w : World) → ComeSoundly w (cs ++ ds)

@@ -6,7 +6,7 @@ use Rattle.rx_value.specs.Due.{◌>>◌, or_fault, unless}
 use Rattle.rx_value.specs.Form.{unexpected}
 use Rattle.rx_selector.specs.Reading.{KindPairs}
 use Rattle.rx_selector.specs.Tree.{Clauses}
-use Rattle.rx_query.specs.Asked.{Sorts, Asked}
+use Rattle.rx_query.specs.QuerySpec.{Sorts, QuerySpec}
 use Rattle.rx_query.specs.Reading.{query_members, selector_in, sorts_in, count_at, limit_of, query_of}
 use Rattle.rx_query.specs.declared.fault.QueryFault.{QueryFault}
 use Rattle.rx_query.specs.declared.fault.QueryFault.TheVariants.{NotObject, Member, Skip, Limit}
@@ -24,16 +24,17 @@ after_none P fault (Some x) r h y is = absurd (cc)
 after_none P fault None r h y is = h y is
 
 -- the primary key of a query, if there is one
-primary_of : List ℕ → Result Asked QueryFault → List ℕ
+primary_of : List ℕ → Result QuerySpec QueryFault → List ℕ
 primary_of primary (Ok q) = q.primary
 primary_of primary (Err e) = primary
 
 -- a query that was read
-abbrev read_of : Asked → Result Asked QueryFault
+abbrev read_of : QuerySpec → Result QuerySpec QueryFault
 read_of q = Ok q
 
 -- the query of those parts
-made : (primary : List ℕ) (selector : Clauses) (sorts : Sorts) (skip : ℕ) (limit : Option ℕ) (q : Asked)
+made : (primary : List ℕ) (selector : Clauses) (sorts : Sorts) (skip : ℕ) (limit : Option ℕ)
+    (q : QuerySpec)
     → read_of (record {
       clauses = selector;
       sorts = sorts;
@@ -45,10 +46,10 @@ unfolding primary_of
 made primary selector sorts skip limit q is = ap (primary_of primary) (sym is)
 
 -- a query goes by the primary key that it was read for
-pub query_primary : (kinds : KindPairs) (primary : List ℕ) (d : Data) (q : Asked)
+pub query_primary : (kinds : KindPairs) (primary : List ℕ) (d : Data) (q : QuerySpec)
     → query_of kinds primary d ≡ Ok q → q.primary ≡ primary
 query_primary kinds primary d q is =
-    let P : Asked → Type 0 = λ q. q.primary ≡ primary in
+    let P : QuerySpec → Type 0 = λ q. q.primary ≡ primary in
     after_both P _ (or_fault NotObject (as_object d)) (λ _ q is.
     after_none P Member (unexpected [] query_members d) _ (λ q is.
     after_both P _ (selector_in kinds (get (codes "selector") d)) (λ selector q is.

@@ -9,7 +9,7 @@ use Rattle.rx_schema.specs.declared.shape.Shape.{Shape}
 use Rattle.rx_record.specs.Content.{Content, epoch}
 use Rattle.rx_sync.proofs.Staying.{stay_after, still_after}
 use Rattle.rx_sync.specs.Asks.{Asks, AsksAreLawful, no_asks}
-use Rattle.rx_sync.specs.Exchange.{after}
+use Rattle.rx_sync.specs.Exchange.{world_after}
 use Rattle.rx_sync.specs.Laws.{MayComeInTurn, RemembersLawful}
 use Rattle.rx_session.specs.Doing as doing
 use Rattle.rx_session.specs.Doing.{Doing, nothing, set_clock, write, watch, unwatch, restart, MayDo}
@@ -24,7 +24,7 @@ use Rattle.rx_engine.specs.Standing.{asks_of}
 
 -- after records that may come, of one replication
 still_remembered : (cs : List Content) (w : World) (name : List ℕ) (a : Asks) → MayComeInTurn w cs
-    → IsRemembered w name a → IsRemembered (after cs w) name a
+    → IsRemembered w name a → IsRemembered (world_after cs w) name a
 still_remembered cs w name a come m =
     let s = still_after cs w name m.replication come m.held in
     let c = (stay_after cs w come).held m.replication.fork m.fork m.fork_held in
@@ -32,13 +32,13 @@ still_remembered cs w name a come m =
       replication = s.now;
       held = s.held;
       fork = c.0;
-      fork_held = ap (named (after cs w).collections) s.fork ∙ c.1;
+      fork_held = ap (named (world_after cs w).collections) s.fork ∙ c.1;
       lawful = subst (λ (schema : Shape). AsksAreLawful schema a) (sym c.2) m.lawful;
     }
 
 -- of all
 pub remembered_after : (cs : List Content) (w : World) (asks : List (List ℕ × Asks))
-    → MayComeInTurn w cs → AreRemembered w asks → AreRemembered (after cs w) asks
+    → MayComeInTurn w cs → AreRemembered w asks → AreRemembered (world_after cs w) asks
 remembered_after cs w [] come all = tt
 remembered_after cs w (e ∷ es) come all =
     (still_remembered cs w e.0 e.1 come all.0, remembered_after cs w es come all.1)

@@ -11,7 +11,7 @@ use Rattle.rx_store.specs.Safe.{IsCrashSafe}
 use Rattle.rx_store.proofs.Crashes.{answered}
 use Rattle.rx_sync.specs.Asks.{Asks}
 use Rattle.rx_sync.specs.Asking.{pending_in}
-use Rattle.rx_sync.specs.Exchange.{Course, Terms, after, course, has_pulled}
+use Rattle.rx_sync.specs.Exchange.{Course, Terms, world_after, course, has_pulled}
 use Rattle.rx_sync.specs.Laws.{ComeSoundly, MayTurn}
 use Rattle.rx_sync.specs.Turn.{Turned, as_list, before, end_by, ended_with, first_of, going_on, rest_of, turn}
 use Rattle.rx_reply.specs.declared.turn.TurnEnd.TheVariants.{More}
@@ -64,13 +64,13 @@ one_asks c (Some end) = refl
 module _ (t : Terms) (batch : ℕ) where
   -- after an exchange another one may follow
   may_again : 1 ≤ batch → (x : Happening) (w : World) (a : Asks) → MayTurn t w a
-      → MayTurn t (after (course t batch x w a).records w) (course t batch x w a).asks
+      → MayTurn t (world_after (course t batch x w a).records w) (course t batch x w a).asks
   may_again some x w a may =
       let c = course t batch x w a in
       let o = end_by batch c.came in
-      subst (λ (b : Asks). MayTurn t (after c.records w) b) (one_asks c o)
+      subst (λ (b : Asks). MayTurn t (world_after c.records w) b) (one_asks c o)
       (subst (λ (cs : List Content).
-      MayTurn t (after cs w) (going_on c o (ended_with More c.asks)).asks)
+      MayTurn t (world_after cs w) (going_on c o (ended_with More c.asks)).asks)
       (one_records c o) (turn_again t batch 1 (x ∷ []) w a some may))
 
   -- its records may come, and each leaves a sound world
@@ -87,16 +87,17 @@ module _ (t : Terms) (batch : ℕ) where
       → (let c = course t batch x w a in
       turn t batch (suc m) (drop i over) w a
       ≡ before c (tail_of c (end_by batch c.came)
-      (turn t batch m (drop (i + 1) over) (after c.records w) c.asks)))
+      (turn t batch m (drop (i + 1) over) (world_after c.records w) c.asks)))
   from_here i m over w a x is =
       let on : Happening → List Happening → Turned = λ x xs.
       going_on (course t batch x w a) (end_by batch (course t batch x w a).came)
-      (turn t batch m xs (after (course t batch x w a).records w) (course t batch x w a).asks) in
+      (turn t batch m xs (world_after (course t batch x w a).records w)
+      (course t batch x w a).asks) in
       let c = course t batch x w a in
       ap (λ (y : Happening). on y (rest_of (drop i over))) (first_at i over ∙ sym is)
       ∙ ap (on x) (rest_at i over ∙ ap (λ (n : ℕ). drop n over) (sym (add-one i)))
       ∙ goes_on c (end_by batch c.came)
-      (turn t batch m (drop (i + 1) over) (after c.records w) c.asks)
+      (turn t batch m (drop (i + 1) over) (world_after c.records w) c.asks)
 
   -- ---- a turn that is being made
 
@@ -155,7 +156,7 @@ module _ (t : Terms) (batch : ℕ) where
 
         abbrev tail : Turned
         tail = tail_of c (end_by batch c.came)
-            (turn t batch m (drop (i + 1) over) (after c.records play.playing.world) c.asks)
+            (turn t batch m (drop (i + 1) over) (world_after c.records play.playing.world) c.asks)
 
         here : turn t batch (suc m) (drop i over) play.playing.world a ≡ before c tail
         here = from_here i m over play.playing.world a x is
@@ -174,7 +175,7 @@ module _ (t : Terms) (batch : ℕ) where
               (λ (p : Play × Option Exchanged). IsPlayAt d new p.0) (IsPlayAt d new) (then_play, o)
               then_play (made.safe told bodies at) (λ held. held))
 
-          then_world : then_play.playing.world ≡ after c.records play.playing.world
+          then_world : then_play.playing.world ≡ world_after c.records play.playing.world
           then_world =
               ap (λ (s : Session). s.world) made.session ∙ written-world c.records play.playing
 
@@ -189,7 +190,8 @@ module _ (t : Terms) (batch : ℕ) where
             over_then end last all all_is =
                 let is_tail : tail ≡ ended_with end c.asks =
                 ap (λ (e : Option TurnEnd). tail_of c e
-                (turn t batch m (drop (i + 1) over) (after c.records play.playing.world) c.asks))
+                (turn t batch m (drop (i + 1) over)
+                (world_after c.records play.playing.world) c.asks))
                 (ap (end_by batch) (sym made.came) ∙ last) in
                 let whole : turn t batch (suc m) (drop i over) play.playing.world a
                 ≡ before c (ended_with end c.asks) = here ∙ ap (before c) is_tail in
@@ -213,11 +215,12 @@ module _ (t : Terms) (batch : ℕ) where
                 let rest : Turned = next then_play.playing.world b in
                 let is_tail : tail ≡ rest =
                 ap (λ (o : Option TurnEnd).
-                tail_of c o (next (after c.records play.playing.world) c.asks))
+                tail_of c o (next (world_after c.records play.playing.world) c.asks))
                 (ap (end_by batch) (sym made.came) ∙ none)
                 ∙ ap (λ (w : World). next w c.asks) (sym then_world)
                 ∙ ap (next then_play.playing.world) (sym made.asks) in
-                let whole : turn t batch (suc m) (drop i over) play.playing.world a ≡ before c rest =
+                let whole : turn t batch (suc m) (drop i over) play.playing.world a
+                ≡ before c rest =
                 here ∙ ap (before c) is_tail in
                 record {
                   left = m;
@@ -291,7 +294,7 @@ module _ {D : Type 0} {t : Terms} {batch : ℕ} {d : Ghosts D} {old : D} {first 
       → pending_in then_play.playing.world t.name ≡ Some 0
   then_none {new} {then_play} {b} {x} {o} made some is =
       let c : Course = course t batch x play.playing.world a in
-      let then_world : then_play.playing.world ≡ after c.records play.playing.world =
+      let then_world : then_play.playing.world ≡ world_after c.records play.playing.world =
       ap (λ (s : Session). s.world) made.session ∙ written-world c.records play.playing in
       subst (λ (w : World). pending_in w t.name ≡ Some 0) (sym then_world)
       (course_pulled t batch some x play.playing.world a on.may
@@ -348,4 +351,5 @@ module _ {D : Type 0} {t : Terms} {batch : ℕ} {d : Ghosts D} {old : D} {first 
   kept_so {b} told bodies at =
       all_safe d old now first total.records play all.way
       (λ (made : Made). IsPlayAt d now made.play)
-      (record { play = play; exchanges = es; ended = end; pulled = b }) (λ bodies held. held) told bodies at
+      (record { play = play; exchanges = es; ended = end; pulled = b })
+      (λ bodies held. held) told bodies at

@@ -8,7 +8,7 @@ use Rattle.rx_reply.specs.Answer.{turn}
 use Rattle.rx_reply.specs.Emission.{emission_line, rows_fields}
 use Rattle.rx_reply.specs.Reply.{answer_lines, is_refusal}
 use Rattle.rx_reply.specs.declared.turn.TurnEnd.{TurnEnd}
-use Rattle.rx_session.specs.Doing.{Doing, write, restart, after}
+use Rattle.rx_session.specs.Doing.{Doing, write, restart, session_after}
 use Rattle.rx_session.specs.Emissions.{emissions, settled_session}
 use Rattle.rx_sync.specs.Asks.{Asks}
 use Rattle.rx_sync.specs.Turn.{Turned}
@@ -51,12 +51,12 @@ asks_kept other asks = asks
 abbrev pub meaning_of : ℕ → Outcome → Standing → Meaning
 meaning_of number o s = record {
   records = records_of o.doing;
-  reply = answer_lines number o.answer ++ lines_of (emissions (after o.doing s.session));
-  emissions = length (emissions (after o.doing s.session));
+  reply = answer_lines number o.answer ++ lines_of (emissions (session_after o.doing s.session));
+  emissions = length (emissions (session_after o.doing s.session));
   refused = is_refusal o.answer;
   ended = None;
   next = record s {
-    session = settled_session (after o.doing s.session);
+    session = settled_session (session_after o.doing s.session);
     asks = asks_kept o.doing s.asks;
   };
 }

@@ -4,7 +4,7 @@ use Rattle.serde_json.specs.Data.{Data}
 use Rattle.rx_value.specs.Due.{◌>>◌, demand, lifted, or_fault}
 use Rattle.rx_value.specs.Fields.{Pairs}
 use Rattle.rx_schema.specs.Writing.{kinds_of}
-use Rattle.rx_query.specs.Asked.{Asked}
+use Rattle.rx_query.specs.QuerySpec.{QuerySpec}
 use Rattle.rx_query.specs.Reading.{query_of}
 use Rattle.rx_query.specs.Result.{fresh_rows}
 use Rattle.rx_collection.specs.Held.{Held}
@@ -25,11 +25,11 @@ get_line coll key s =
     collection_at coll s >> λ c. document_at c key >> λ d. Ok (answer_alone (get d))
 
 -- the fields of the rows that a query gives from scratch
-abbrev pub rows_found : Asked → Documents → List Pairs
+abbrev pub rows_found : QuerySpec → Documents → List Pairs
 rows_found q documents = rows_fields (fresh_rows q documents)
 
 -- what a query asks of a collection
-abbrev pub query_on : Held → Data → Result Asked Fault
+abbrev pub query_on : Held → Data → Result QuerySpec Fault
 query_on c d = lifted of_query (query_of (kinds_of c.schema.properties) c.schema.primary d)
 
 abbrev pub find_line : List ℕ → Data → Session → Result Outcome Fault

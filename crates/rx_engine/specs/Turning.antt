@@ -9,7 +9,7 @@ use Rattle.rx_record.specs.Content.{Content}
 use Rattle.rx_reply.specs.declared.refusal.Refusal.TheVariants.{NoReplication, NoHandler}
 use Rattle.rx_script.specs.declared.happening.Happening.{Happening}
 use Rattle.rx_script.specs.declared.happening.Happening.TheVariants as link
-use Rattle.rx_session.specs.Doing.{write, after}
+use Rattle.rx_session.specs.Doing.{write, session_after}
 use Rattle.rx_session.specs.Session.{Session}
 use Rattle.rx_sync.specs.Exchange.{Terms}
 use Rattle.rx_sync.specs.Laws.{HasMasterHere}
@@ -52,7 +52,7 @@ turn_here name batch budget link =
 -- a session after records, one after another
 abbrev pub written : List Content → Session → Session
 written [] s = s
-written (c ∷ cs) s = written cs (after (write c) s)
+written (c ∷ cs) s = written cs (session_after (write c) s)
 
 -- what stays through a turn
 abbrev pub terms : List ℕ → ℕ → Kinds → Terms

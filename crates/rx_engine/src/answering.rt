@@ -5,7 +5,7 @@ ghost use Rattle.rx_outside.specs.declared.stop.Stop.TheVariants as Stop;
 ghost use Rattle.rx_reply.specs.Answer.{turn};
 ghost use Rattle.rx_reply.specs.Reply.{answer_lines};
 ghost use Rattle.rx_reply.specs.declared.turn.TurnEnd.TheVariants.{Quiet};
-ghost use Rattle.rx_session.specs.Doing.{nothing, restart, after, MayDo};
+ghost use Rattle.rx_session.specs.Doing.{nothing, restart, session_after, MayDo};
 ghost use Rattle.rx_session.specs.Emissions.{emissions, settled_session};
 ghost use Rattle.rx_store.specs.Safe.{HasDiskCause, IsCrashSafe};
 ghost use Rattle.rx_sync.specs.Laws.{IsLevel};
@@ -40,13 +40,13 @@ impl Engine {
         requires may { MayDo (doing_of printed.doing) (session_of self) }
         requires apart { WritesNoExchange (doing_of printed.doing) }
         ensures session { IfOk result (λ p. session_of p.0
-            ≡ settled_session (after (doing_of printed.doing) (session_of self))) }
+            ≡ settled_session (session_after (doing_of printed.doing) (session_of self))) }
         ensures asks { IfOk result (λ p. asks_in p.0
             ≡ asks_kept (doing_of printed.doing) (asks_in self)) }
         ensures text { IfOk result (λ p. string_bytes p.1.text ≡ string_bytes printed.text
-            ++ lines_of (emissions (after (doing_of printed.doing) (session_of self)))) }
+            ++ lines_of (emissions (session_after (doing_of printed.doing) (session_of self)))) }
         ensures emitted { IfOk result (λ p. p.1.emissions
-            ≡ length (emissions (after (doing_of printed.doing) (session_of self)))) }
+            ≡ length (emissions (session_after (doing_of printed.doing) (session_of self)))) }
         ensures refused { IfOk result (λ p. p.1.refused ≡ printed.refused) }
         ensures end { IfOk result (λ p. p.1.end ≡ None) }
         ensures limit { IfOk result (λ p. limit_of p.0 ≡ limit_of self) }

@@ -3,7 +3,7 @@ ghost use Rattle.std.specs.Prelude.{◌≡◌, ◌≤◌, ℕ, List, [], IfOk, O
 ghost use Rattle.rx_handler.specs.Shown.{kinds_of};
 ghost use Rattle.rx_outside.specs.declared.stop.Stop.TheVariants as Stop;
 ghost use Rattle.rx_reply.specs.declared.turn.TurnEnd.TheVariants.{Quiet};
-ghost use Rattle.rx_session.specs.Doing.{nothing, restart, after, MayDo};
+ghost use Rattle.rx_session.specs.Doing.{nothing, restart, session_after, MayDo};
 ghost use Rattle.rx_session.specs.Emissions.{emissions, settled_session};
 ghost use Rattle.rx_session.specs.Shown.{done_by};
 ghost use Rattle.rx_store.specs.Safe.{HasDiskCause, IsCrashSafe};
@@ -54,9 +54,9 @@ impl Engine {
         requires may { MayDo (doing_of doing) (session_of self) }
         requires apart { WritesNoExchange (doing_of doing) }
         ensures session { IfOk result (λ p. session_of p.0
-            ≡ settled_session (after (doing_of doing) (session_of self))) }
+            ≡ settled_session (session_after (doing_of doing) (session_of self))) }
         ensures emissions { IfOk result (λ p. p.1.items
-            ≡ emissions (after (doing_of doing) (session_of self))) }
+            ≡ emissions (session_after (doing_of doing) (session_of self))) }
         ensures asks { IfOk result (λ p. asks_in p.0 ≡ asks_kept (doing_of doing) (asks_in self)) }
         ensures limit { IfOk result (λ p. limit_of p.0 ≡ limit_of self) }
         ensures safe { D.tells → (bodies : List (List ℕ)) → IsAt D.Disk disk.old self bodies
@@ -86,9 +86,9 @@ impl Engine {
         requires may { MayDo (done_by doing) (session_of self) }
         requires apart { WritesNoExchange (done_by doing) }
         ensures session { IfOk result (λ p. session_of p.0
-            ≡ settled_session (after (done_by doing) (session_of self))) }
+            ≡ settled_session (session_after (done_by doing) (session_of self))) }
         ensures emissions { IfOk result (λ p. p.1.items
-            ≡ emissions (after (done_by doing) (session_of self))) }
+            ≡ emissions (session_after (done_by doing) (session_of self))) }
         ensures asks { IfOk result (λ p. asks_in p.0 ≡ asks_in self) }
         ensures limit { IfOk result (λ p. limit_of p.0 ≡ limit_of self) }
         ensures safe { D.tells → (bodies : List (List ℕ)) → IsAt D.Disk disk.old self bodies
@@ -122,8 +122,8 @@ impl Engine {
         requires at { D.tells → (bodies : List (List ℕ)) × IsAt D.Disk disk.old self bodies }
         requires next { MayDo (restart epoch) (session_of self) }
         ensures session { IfOk result (λ e. session_of e
-            ≡ settled_session (after (restart epoch) (session_of self))) }
-        ensures quiet { OnOk result (emissions (after (restart epoch) (session_of self)) ≡ []) }
+            ≡ settled_session (session_after (restart epoch) (session_of self))) }
+        ensures quiet { OnOk result (emissions (session_after (restart epoch) (session_of self)) ≡ []) }
         ensures asks { IfOk result (λ e. asks_in e ≡ []) }
         ensures limit { IfOk result (λ e. limit_of e ≡ limit_of self) }
         ensures safe { D.tells → (bodies : List (List ℕ)) → IsAt D.Disk disk.old self bodies

@@ -1,7 +1,7 @@
 // Puts what a line writes on the disk.
 ghost use Rattle.std.specs.Prelude.{◌≡◌, ℕ, List, IfOk, IsErrOf};
 ghost use Rattle.rx_outside.specs.declared.stop.Stop.TheVariants as Stop;
-ghost use Rattle.rx_session.specs.Doing.{nothing, after, MayDo};
+ghost use Rattle.rx_session.specs.Doing.{nothing, session_after, MayDo};
 ghost use Rattle.rx_session.specs.Session.{Session};
 ghost use Rattle.rx_session.specs.Shown.{done_by};
 ghost use Rattle.rx_store.specs.Holds.{Holds};
@@ -30,10 +30,11 @@ pub(crate) fn keep_doing<D: Disk>(
     requires ordered { HasOrder (done_by doing.now) }
     ensures safe { D.tells → (bodies : List (List ℕ)) (s : Session)
         → Holds D.Disk disk.old journal bodies s.world → MayDo (done_by doing.now) s
-        → IsSoundWorld (after (done_by doing.now) s).world
+        → IsSoundWorld (session_after (done_by doing.now) s).world
         → IsCrashSafe D.Disk disk.old disk.new bodies (bodies_of (records_of (done_by doing.now)))
         journal.limit
-        (λ kept all. Holds D.Disk disk.new kept all (after (done_by doing.now) s).world) result }
+        (λ kept all. Holds D.Disk disk.new kept all (session_after (done_by doing.now) s).world)
+        result }
     ensures limit { IfOk result (λ kept. kept.limit ≡ journal.limit) }
     ensures idle { done_by doing.now ≡ nothing → disk.new ≡ disk.old }
     ensures not_journal { IsErrOf result Stop.NotJournal → ⊥ }

@@ -3,7 +3,7 @@ ghost use Rattle.std.specs.Prelude.{◌≡◌, ℕ, List, [], ◌∷◌, map, If
 ghost use Rattle.rx_outside.specs.declared.stop.Stop.TheVariants as Stop;
 ghost use Rattle.rx_record.specs.Content.{content_bytes};
 ghost use Rattle.rx_record.specs.Shown.{content};
-ghost use Rattle.rx_session.specs.Doing.{write, after};
+ghost use Rattle.rx_session.specs.Doing.{write, session_after};
 ghost use Rattle.rx_store.specs.Safe.{HasDiskCause, IsCrashSafe};
 ghost use Rattle.rx_sync.specs.Laws.{ComeSoundly};
 ghost use Rattle.rx_sync.specs.Shown.{record_in};
@@ -37,7 +37,7 @@ impl Play {
         requires at { D.tells → (bodies : List (List ℕ)) × IsPlayAt D.Disk disk.old self bodies }
         requires comes { ComeSoundly self.playing.world (content entry ∷ []) }
         ensures session { IfOk result
-            (λ p. p.playing ≡ after (write (content entry)) self.playing) }
+            (λ p. p.playing ≡ session_after (write (content entry)) self.playing) }
         ensures safe { D.tells → (bodies : List (List ℕ)) → IsPlayAt D.Disk disk.old self bodies
             → IsCrashSafe D.Disk disk.old disk.new bodies (content_bytes (content entry) ∷ [])
             self.journal.limit (IsPlayAt D.Disk disk.new) result }

@@ -2,7 +2,7 @@
 ghost use Rattle.std.specs.Prelude.{◌≡◌, IfOk};
 ghost use Rattle.serde_json.specs.View.{view};
 ghost use Rattle.rx_value.specs.Due.{DueBy};
-ghost use Rattle.rx_query.specs.Asked.{asked};
+ghost use Rattle.rx_query.specs.QuerySpec.{asked};
 ghost use Rattle.rx_reply.specs.Answer.{answer_of};
 ghost use Rattle.rx_session.specs.Doing.{MayDo};
 ghost use Rattle.rx_engine.specs.Outcome.{answer_alone};

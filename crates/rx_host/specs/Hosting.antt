@@ -18,9 +18,9 @@ abbrev pub collection_in : Work → Held
 collection_in (Going m) = collection_of m
 collection_in (Stopped why) = no_collection
 
-abbrev pub name_in : Work → List ℕ
-name_in (Going m) = name_of m
-name_in (Stopped why) = []
+abbrev pub served_name : Work → List ℕ
+served_name (Going m) = name_of m
+served_name (Stopped why) = []
 
 abbrev pub limit_in : Work → ℕ
 limit_in (Going m) = limit_of m
@@ -44,13 +44,13 @@ pub record Hosts
     (disk disk' : D)
     (work work' : Work)
     (sure more : Commits) : Type 0 where
-  pub name : stop_in work' ≡ None → name_in work' ≡ name_in work
+  pub name : stop_in work' ≡ None → served_name work' ≡ served_name work
   pub limit : stop_in work' ≡ None → limit_in work' ≡ limit_in work
   pub keeps : d.tells → (bodies : List (List ℕ)) → IsWorking d disk work bodies
-      → Keeps d disk disk' bodies (name_in work) (limit_in work) sure more (stop_in work')
+      → Keeps d disk disk' bodies (served_name work) (limit_in work) sure more (stop_in work')
   pub goes_on : d.tells → (bodies : List (List ℕ)) → IsWorking d disk work bodies
       → stop_in work' ≡ None
-      → IsWorking d disk' work' (bodies ++ bodies_of (name_in work) sure)
+      → IsWorking d disk' work' (bodies ++ bodies_of (served_name work) sure)
   pub count : d.faults disk ≤ d.faults disk'
   pub disk_only : stop_in work' ≡ Some Disk → Rises (d.faults disk) (d.faults disk')
   pub lawful : stop_in work' ≡ Some NotJournal → ⊥

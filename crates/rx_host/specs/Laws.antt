@@ -11,7 +11,7 @@ use Rattle.rx_store.specs.Holds.{GrowsLegally, Leaves}
 use Rattle.rx_store.specs.Safe.{IsFull}
 use Rattle.rx_store.proofs.Growing.{grows_on, held, stays}
 use Rattle.rx_host.specs.Engine.{IsAt, limit_of, name_of, world_at}
-use Rattle.rx_host.specs.Hosting.{Hosts, IsWorking, limit_in, name_in, stop_in}
+use Rattle.rx_host.specs.Hosting.{Hosts, IsWorking, limit_in, served_name, stop_in}
 use Rattle.rx_host.specs.Keeping.{Keeps}
 use Rattle.rx_host.specs.Moments.{GivesMoments, Ticks}
 use Rattle.rx_host.specs.Records.{bodies_of, body_of}
@@ -164,20 +164,20 @@ module _ {D : Type 0} (d : Ghosts D) where
     name = λ still. k.name still ∙ h.name going;
     limit = λ still. k.limit still ∙ h.limit going;
     keeps = λ told bodies at.
-        let mid = bodies ++ bodies_of (name_in wa) first in
-        let next : Keeps d b c mid (name_in wb) (limit_in wb) second more (stop_in wc) =
+        let mid = bodies ++ bodies_of (served_name wa) first in
+        let next : Keeps d b c mid (served_name wb) (limit_in wb) second more (stop_in wc) =
         k.keeps told mid (h.goes_on told bodies at going) in
-        let named : Keeps d b c mid (name_in wa) (limit_in wb) second more (stop_in wc) =
+        let named : Keeps d b c mid (served_name wa) (limit_in wb) second more (stop_in wc) =
         subst (λ v. Keeps d b c mid v (limit_in wb) second more (stop_in wc)) (h.name going) next in
-        let limited : Keeps d b c mid (name_in wa) (limit_in wa) second more (stop_in wc) =
-        subst (λ v. Keeps d b c mid (name_in wa) v second more (stop_in wc)) (h.limit going) named
+        let limited : Keeps d b c mid (served_name wa) (limit_in wa) second more (stop_in wc) =
+        subst (λ v. Keeps d b c mid (served_name wa) v second more (stop_in wc)) (h.limit going) named
         in
-        keeps_on a b c bodies (name_in wa) (limit_in wa) first second more (stop_in wb) (stop_in wc)
+        keeps_on a b c bodies (served_name wa) (limit_in wa) first second more (stop_in wb) (stop_in wc)
         (h.keeps told bodies at) limited;
     goes_on = λ told bodies at still.
-        let name = name_in wa in
+        let name = served_name wa in
         let mid = bodies ++ bodies_of name first in
-        let next : IsWorking d c wc (mid ++ bodies_of (name_in wb) second) =
+        let next : IsWorking d c wc (mid ++ bodies_of (served_name wb) second) =
         k.goes_on told mid (h.goes_on told bodies at going) still in
         let named : IsWorking d c wc (mid ++ bodies_of name second) =
         subst (λ v. IsWorking d c wc (mid ++ bodies_of v second)) (h.name going) next in

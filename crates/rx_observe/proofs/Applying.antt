@@ -13,7 +13,7 @@ use Rattle.rx_table.specs.declared.action.Action.TheVariants.{DoNothing, RunFull
 use Rattle.rx_table.specs.declared.counts.Counts.{Counts}
 use Rattle.rx_query.proofs.Numbers.{table_of-number_of}
 use Rattle.rx_query.specs.After.{after, AreThere}
-use Rattle.rx_query.specs.Asked.{Asked}
+use Rattle.rx_query.specs.QuerySpec.{QuerySpec}
 use Rattle.rx_query.specs.Result.{fresh_rows, IsCollection}
 use Rattle.rx_query.specs.States.{bits_of, state_of, OnlyMatchingInside}
 use Rattle.rx_query.specs.declared.results.Row.{Row}
@@ -25,7 +25,7 @@ use Rattle.rx_observe.specs.Watched.{Watched, unknown, action_at, asked_at, coun
 use Rattle.rx_observe.specs.declared.observed.Applied.TheVariants.{Patched}
 
 -- a cold query runs in full
-pub cold_full : (q : Asked) (c : Change) → action_at q c None ≡ RunFullQueryAgain
+pub cold_full : (q : QuerySpec) (c : Change) → action_at q c None ≡ RunFullQueryAgain
 cold_full q c = table_of-number_of (state_of q (unknown c) [])
 
 -- another action is none that runs in full
@@ -38,11 +38,11 @@ full_run RunFullQueryAgain is = refl
 full_run _ is = absurd (false≢true is)
 
 -- unless it runs in full, the action is right
-abbrev pub ActsRightly : Asked → Change → Documents → List Row → Type 0
+abbrev pub ActsRightly : QuerySpec → Change → Documents → List Row → Type 0
 ActsRightly q c new rows = table_of (bits_of q c rows) ≢ RunFullQueryAgain
     → right.IsRight (table_of (bits_of q c rows)) q c new rows
 
-module _ (q : Asked) (limited : q.limit ≢ Some 0) (c : Change) (old new : Documents)
+module _ (q : QuerySpec) (limited : q.limit ≢ Some 0) (c : Change) (old new : Documents)
     (col : IsCollection q.primary old) (col' : IsCollection q.primary new)
     (differ : DifferAt c.id old new) (change : c ≡ change_of c.id old new) where
   -- on rows from scratch
@@ -83,7 +83,7 @@ fresh_ready q c old new limited col col' differ change =
     ready q limited c old new col col' differ change
 
 -- rows from scratch stay so
-pub stays_fresh : (q : Asked) → q.limit ≢ Some 0 → (c : Change) (rows : Option (List Row))
+pub stays_fresh : (q : QuerySpec) → q.limit ≢ Some 0 → (c : Change) (rows : Option (List Row))
     → StaysFresh q c rows (rows_after (action_at q c rows) q c rows)
 stays_fresh q limited c rows old new col col' differ change is after at =
     let Goal : Option (List Row) → Type 0 = λ x. rows_after (action_at q c x) q c x ≡ Some after
@@ -100,7 +100,7 @@ answer_patched RunFullQueryAgain known = absurd (known refl)
 answer_patched _ known = refl
 
 -- and leaves the rows that it gives
-pub rows_patched : (a : Action) → a ≢ RunFullQueryAgain → (q : Asked) (c : Change)
+pub rows_patched : (a : Action) → a ≢ RunFullQueryAgain → (q : QuerySpec) (c : Change)
     (rows : Option (List Row)) → option_map (after a q c) rows ≡ rows_after a q c rows
 rows_patched RunFullQueryAgain known q c rows = absurd (known refl)
 rows_patched _ known q c rows = refl
@@ -172,14 +172,14 @@ module _ (w now : Watched) (c : Change) (a : Action) (asked : ℕ) (rows : Optio
       applied_is (none ∙ ap (λ x. rows_after x w.query c w.rows) (sym full))
 
 -- an action that changes no rows leaves them
-still_rows : (a : Action) (q : Asked) (c : Change) (rows : Option (List Row))
+still_rows : (a : Action) (q : QuerySpec) (c : Change) (rows : Option (List Row))
     → changes_rows a ≡ false → option_map (after a q c) rows ≡ rows
 still_rows DoNothing q c None is = refl
 still_rows DoNothing q c (Some rows) is = refl
 still_rows _ q c rows is = absurd (false≢true (sym is))
 
 -- rows that weren't touched are those emitted last
-pub untouched : (t n : Bool) (a : Action) (q : Asked) (c : Change)
+pub untouched : (t n : Bool) (a : Action) (q : QuerySpec) (c : Change)
     (old rows emitted : Option (List Row)) → n ≡ changes_rows a
     → rows ≡ option_map (after a q c) old
     → (t ≡ false → (r : List Row) → old ≡ Some r → emitted ≡ Some r) → (t || n) ≡ false
@@ -189,7 +189,8 @@ untouched t n a q c old rows emitted is rows_is before none r at =
     before never.0 r (sym (still_rows a q c old (sym is ∙ never.1)) ∙ sym rows_is ∙ at)
 
 -- the rows that the action needs are there
-pub there_for : (a : Action) (c : Change) (q : Asked) (old rows : Option (List Row)) → rows ≡ old
+pub there_for : (a : Action) (c : Change) (q : QuerySpec) (old rows : Option (List Row)) → rows
+    ≡ old
     → a ≢ RunFullQueryAgain → a ≡ action_at q c old → IfSome old (IsReady q c)
     → IfSome rows (AreThere a c)
 there_for a c q old None same known is given = tt

@@ -7,7 +7,7 @@ use Rattle.rx_value.proofs.Lists.{all_weaker}
 use Rattle.rx_document.specs.Documents.{Documents}
 use Rattle.rx_document.specs.declared.stored.Stored.{Stored}
 use Rattle.rx_query.proofs.Rows.{one_result, are_keyed}
-use Rattle.rx_query.specs.Asked.{Asked}
+use Rattle.rx_query.specs.QuerySpec.{QuerySpec}
 use Rattle.rx_query.specs.Result.{result_of, row_of, fresh_rows, AreKeyed, IsCollection}
 use Rattle.rx_collection.specs.Held.{Held}
 use Rattle.rx_collection.specs.Lawful.{IsHeldAt, IsLawful}
@@ -34,7 +34,7 @@ keyed_for primary c same lawful =
     are_keyed primary c.documents (is_collection_for primary c same lawful)
 
 -- the rows of what is found are those from scratch
-pub found_fresh : (q : Asked) (ds : Documents) (docs : List Stored)
+pub found_fresh : (q : QuerySpec) (ds : Documents) (docs : List Stored)
     → docs ≡ result_of q (values_of ds) → map row_of docs ≡ fresh_rows q ds
 unfolding fresh_rows
 found_fresh q ds docs is = ap (map row_of) is

@@ -10,7 +10,7 @@ use Rattle.rx_document.specs.declared.stored.Stored.{Stored}
 use Rattle.rx_table.specs.Rows.{table_of}
 use Rattle.rx_table.specs.declared.action.Action.{Action}
 use Rattle.rx_table.specs.declared.action.Action.TheVariants.{RunFullQueryAgain}
-use Rattle.rx_query.specs.Asked.{Asked}
+use Rattle.rx_query.specs.QuerySpec.{QuerySpec}
 use Rattle.rx_query.specs.Result.{fresh_rows, IsCollection}
 use Rattle.rx_query.specs.States.{bits_of}
 use Rattle.rx_query.specs.declared.results.Row.{Row}
@@ -31,13 +31,13 @@ use Rattle.rx_observe.proofs.Fresh.{is_collection_for}
 known_patched : (a : Action) → answer_for a ≡ Patched → a ≢ RunFullQueryAgain
 known_patched a answer run = let bad : NeedsFull ≡ Patched = ap answer_for (sym run) ∙ answer in cc
 
-full_rows : (a : Action) → answer_for a ≡ NeedsFull → (q : Asked) (c : Change)
+full_rows : (a : Action) → answer_for a ≡ NeedsFull → (q : QuerySpec) (c : Change)
     (rows : Option (List Row)) → rows_after a q c rows ≡ None
 full_rows RunFullQueryAgain answer q c rows = refl
 full_rows _ answer q c rows = cc
 
 -- a cold query isn't patched
-cold_needs_full : (q : Asked) (c : Change) → answer_for (action_at q c None) ≡ NeedsFull
+cold_needs_full : (q : QuerySpec) (c : Change) → answer_for (action_at q c None) ≡ NeedsFull
 cold_needs_full q c = ap answer_for (cold_full q c)
 
 -- a query that keeps no rows is cold
@@ -48,7 +48,7 @@ no_rows shown rows (Some y) same none = cc
 
 -- ---- a query that was right
 
-module _ (q : Asked) (limited : q.limit ≢ Some 0) (c : Change) (old new : Held)
+module _ (q : QuerySpec) (limited : q.limit ≢ Some 0) (c : Change) (old new : Held)
     (becomes : Becomes c old new) (keyed : q.primary ≡ old.schema.primary) where
   col : IsCollection q.primary old.documents
   col = is_collection_for q.primary old keyed becomes.lawful_old

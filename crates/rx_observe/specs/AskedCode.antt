@@ -6,7 +6,7 @@ use Rattle.rx_value.specs.declared.value.Value.{Value}
 use Rattle.rx_selector.specs.Tree.{Test, Tests, Clause, Clauses, compared, differs, one_of, none_of, exists, remainder, negated, no_tests, test, all, any, nor, on_field, no_clauses, clause}
 use Rattle.rx_selector.specs.contracts.tree.Compare as compare
 use Rattle.rx_selector.specs.declared.tree.Compare.{Compare}
-use Rattle.rx_query.specs.Asked.{Asked, Sorts}
+use Rattle.rx_query.specs.QuerySpec.{QuerySpec, Sorts}
 
 -- a test that holds no others
 abbrev Leaf : Type 0
@@ -161,7 +161,7 @@ abbrev sorts_code : Coded Sorts
 sorts_code = coded_list (coded× (coded_list coded_ℕ) coded_bool)
 
 -- what is asked for, as the tuple of its parts
-abbrev pub asked_code : Coded Asked
+abbrev pub asked_code : Coded QuerySpec
 asked_code =
     code_by (Clauses × (Sorts × (ℕ × (Option ℕ × List ℕ))))
     (coded× clauses_code

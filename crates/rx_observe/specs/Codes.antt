@@ -1,7 +1,7 @@
 -- How observed queries are told apart.
 use Rattle.std.specs.Prelude.{Bool, List, Option, refl}
 use Rattle.std.specs.Coded.{Coded, code_by, coded×, coded_list, coded_option, coded_ℕ, coded_bool}
-use Rattle.rx_query.specs.Asked.{Asked}
+use Rattle.rx_query.specs.QuerySpec.{QuerySpec}
 use Rattle.rx_query.specs.contracts.results.Row as row
 use Rattle.rx_query.specs.declared.results.Row.{Row}
 use Rattle.rx_collection.specs.Held.{Held}
@@ -19,7 +19,7 @@ rows_code = coded_option (coded_list row.the_row.coded)
 -- an observed query, as the tuple of its parts
 abbrev pub watched_code : Coded Watched
 watched_code =
-    code_by (Asked × (Option (List Row) × (Option (List Row) × Counts)))
+    code_by (QuerySpec × (Option (List Row) × (Option (List Row) × Counts)))
     (coded× asked_code (coded× rows_code (coded× rows_code counts.the_row.coded)))
     (λ w. (w.query, (w.rows, (w.emitted, w.counts))))
     (λ p. record { query = p.0; rows = p.1.0; emitted = p.1.1.0; counts = p.1.1.1 })

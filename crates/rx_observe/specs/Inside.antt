@@ -1,6 +1,6 @@
 -- How the fields of an observed query are seen.
 use Rattle.std.specs.Prelude.{◌≡◌, false, List, Some}
-use Rattle.rx_query.specs.Asked.{asked}
+use Rattle.rx_query.specs.QuerySpec.{asked}
 use Rattle.rx_query.specs.declared.results.Row.{Row}
 use Rattle.rx_observe.specs.Watched.{Watched}
 use Rattle.rx_observe.specs.declared.observed.Observed.TheInside.{Inside}

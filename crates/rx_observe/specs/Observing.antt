@@ -6,7 +6,7 @@ use Rattle.rx_document.specs.Change.{change_of}
 use Rattle.rx_document.specs.Documents.{Documents}
 use Rattle.rx_document.specs.declared.change.Change.{Change}
 use Rattle.rx_document.specs.declared.stored.Stored.{Stored}
-use Rattle.rx_query.specs.Asked.{Asked}
+use Rattle.rx_query.specs.QuerySpec.{QuerySpec}
 use Rattle.rx_collection.specs.Commit.{with_row, with_rows}
 use Rattle.rx_collection.specs.Held.{Held}
 use Rattle.rx_table.specs.Counts.{no_counts}
@@ -66,7 +66,7 @@ abbrev pub with_queries : Observing → Queries → Observing
 with_queries o qs = record { collection = o.collection; queries = qs; broken = o.broken }
 
 -- a query that has run once and of which nothing was emitted
-abbrev pub new_watch : Asked → Documents → Watched
+abbrev pub new_watch : QuerySpec → Documents → Watched
 new_watch q documents = record {
   query = q;
   rows = Some (fresh_rows q documents);

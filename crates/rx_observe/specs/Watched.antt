@@ -9,7 +9,7 @@ use Rattle.rx_table.specs.Rows.{table_of}
 use Rattle.rx_table.specs.declared.action.Action.{Action}
 use Rattle.rx_table.specs.declared.action.Action.TheVariants.{RunFullQueryAgain}
 use Rattle.rx_query.specs.After.{after, AreThere}
-use Rattle.rx_query.specs.Asked.{Asked}
+use Rattle.rx_query.specs.QuerySpec.{QuerySpec}
 use Rattle.rx_query.specs.States.{bits_of, OnlyMatchingInside}
 use Rattle.rx_query.specs.declared.results.Row.{Row}
 use Rattle.rx_query.specs.Result.{IsCollection}
@@ -21,13 +21,13 @@ use Rattle.rx_table.specs.declared.counts.Counts.{Counts}
 -- a query, its rows where they are kept, the rows that were emitted last, and its counts; a query
 -- without rows is cold, one with rows is warm
 pub record Watched : Type 0 where
-  pub query : Asked
+  pub query : QuerySpec
   pub rows : Option (List Row)
   pub emitted : Option (List Row)
   pub counts : Counts
 
 -- a cold query that nothing has happened to
-abbrev pub cold : Asked → Watched
+abbrev pub cold : QuerySpec → Watched
 cold q = record { query = q; rows = None; emitted = None; counts = no_counts }
 
 -- the change as a cold query gets it
@@ -36,24 +36,24 @@ unknown c = record { id = c.id; before = Unknown; after = c.after }
 
 -- the answers about a change; a cold query counts as one without any row that isn't told what was
 -- before
-abbrev pub bits_at : Asked → Change → Option (List Row) → ℕ
+abbrev pub bits_at : QuerySpec → Change → Option (List Row) → ℕ
 bits_at q c None = bits_of q (unknown c) []
 bits_at q c (Some rows) = bits_of q c rows
 
 -- the table's action
-abbrev pub action_at : Asked → Change → Option (List Row) → Action
+abbrev pub action_at : QuerySpec → Change → Option (List Row) → Action
 action_at q c rows = table_of (bits_at q c rows)
 
 -- how many questions are asked for it
-abbrev pub asked_at : Asked → Change → Option (List Row) → ℕ
+abbrev pub asked_at : QuerySpec → Change → Option (List Row) → ℕ
 asked_at q c rows = asked_count (bits_at q c rows)
 
 -- with it counted
-abbrev pub counted_at : Asked → Change → Option (List Row) → Counts → Counts
+abbrev pub counted_at : QuerySpec → Change → Option (List Row) → Counts → Counts
 counted_at q c rows = counted (action_at q c rows) (asked_at q c rows)
 
 -- the rows after the action; to run in full leaves none
-abbrev pub rows_after : Action → Asked → Change → Option (List Row) → Option (List Row)
+abbrev pub rows_after : Action → QuerySpec → Change → Option (List Row) → Option (List Row)
 rows_after a q c rows = if is_full a then None else option_map (after a q c) rows
 
 -- after a change, before the query runs in full
@@ -67,13 +67,13 @@ applied c w = record {
 
 -- the rows are as the result's are: those that the action needs are there, and the document's is
 -- there only where the document was live and matched
-pub record IsReady (q : Asked) (c : Change) (rows : List Row) : Type 0 where
+pub record IsReady (q : QuerySpec) (c : Change) (rows : List Row) : Type 0 where
   pub there : table_of (bits_of q c rows) ≢ RunFullQueryAgain
       → AreThere (table_of (bits_of q c rows)) c rows
   pub inside : OnlyMatchingInside q c rows
 
 -- rows from scratch before a change are so after it, where they are kept
-abbrev pub StaysFresh : Asked → Change → Option (List Row) → Option (List Row) → Type 0
+abbrev pub StaysFresh : QuerySpec → Change → Option (List Row) → Option (List Row) → Type 0
 StaysFresh q c old_rows new_rows = (old new : Documents) → IsCollection q.primary old
     → IsCollection q.primary new → DifferAt c.id old new → c ≡ change_of c.id old new
     → old_rows ≡ Some (fresh_rows q old) → (rows : List Row) → new_rows ≡ Some rows

@@ -1,6 +1,6 @@
 ghost use Rattle.std.specs.Prelude.{◌<◌, ◌^◌, ◌≡◌, filter, length, map, IfOk};
 ghost use Rattle.std.specs.Map.{values_of};
-ghost use Rattle.rx_query.specs.Asked.{asked};
+ghost use Rattle.rx_query.specs.QuerySpec.{asked};
 ghost use Rattle.rx_query.specs.Result.{is_due, result_of, row_of, fresh_rows};
 ghost use Rattle.rx_observe.specs.Indexes.{AreIndexesOf};
 

@@ -1,7 +1,7 @@
 ghost use Rattle.std.specs.Prelude.{◌≡◌, [], None, true, false, is_some, IfSome, IfOk, OnOk, OnErr, option_map, length, map};
 ghost use Rattle.std.specs.Map.{values_of};
 ghost use Rattle.rx_value.specs.Named.{named};
-ghost use Rattle.rx_query.specs.Asked.{asked};
+ghost use Rattle.rx_query.specs.QuerySpec.{asked};
 ghost use Rattle.rx_collection.specs.Commit.{AreNext, with_rows};
 ghost use Rattle.rx_query.specs.Result.{result_of};
 ghost use Rattle.rx_observe.specs.Observing.{AllRight, HaveDistinctNames, AllCold, each, put_all, with_queries, new_watch, and_query, without, settled, cooled};

@@ -5,7 +5,7 @@ ghost use Rattle.rx_table.specs.Counts.{is_full};
 ghost use Rattle.rx_table.specs.Rows.{table_of};
 ghost use Rattle.rx_table.specs.declared.action.Action.TheVariants.{RunFullQueryAgain};
 ghost use Rattle.rx_query.specs.After.{after, AreThere};
-ghost use Rattle.rx_query.specs.Asked.{asked};
+ghost use Rattle.rx_query.specs.QuerySpec.{asked};
 ghost use Rattle.rx_query.specs.States.{bits_of, OnlyMatchingInside};
 ghost use Rattle.rx_observe.specs.Applied.{answer_for, changes_rows};
 ghost use Rattle.rx_observe.specs.Rows.{unseen, emitted};

@@ -4,7 +4,7 @@ ghost use Rattle.rx_document.specs.Change.{before_of};
 ghost use Rattle.rx_document.specs.Documents.{live};
 ghost use Rattle.rx_collection.specs.Commit.{IsNext, with_row};
 ghost use Rattle.rx_collection.specs.Lawful.{IsLawful};
-ghost use Rattle.rx_query.specs.Asked.{asked};
+ghost use Rattle.rx_query.specs.QuerySpec.{asked};
 ghost use Rattle.rx_observe.specs.Applied.{answer_for};
 ghost use Rattle.rx_observe.specs.Following.{Follows, AllFollow};
 ghost use Rattle.rx_observe.specs.Indexes.{AreIndexesOf};

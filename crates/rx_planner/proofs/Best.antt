@@ -4,12 +4,13 @@ use Rattle.std.proofs.Math.ListN.{get_or-map}
 use Rattle.std.proofs.lemmas.Bool.{cases_lt}
 use Rattle.std.proofs.lemmas.List.{get_or_default, length-map}
 use Rattle.rx_index.specs.Index.{Indexed}
-use Rattle.rx_query.specs.Asked.{Asked}
+use Rattle.rx_query.specs.QuerySpec.{QuerySpec}
 use Rattle.rx_planner.specs.Choice.{IsBest}
 use Rattle.rx_planner.specs.Plan.{Names, score, path_of, path_at}
 
 -- what the index at a place orders by
-pub path_read : (q : Asked) (indexes : List Indexed) (i : ℕ) (x : Indexed) → x ≡ get_or indexes i x
+pub path_read : (q : QuerySpec) (indexes : List Indexed) (i : ℕ) (x : Indexed) → x
+    ≡ get_or indexes i x
     → i < length indexes
     → path_at q (map (λ k. k.fields) indexes) i ≡ path_of q x.fields
 path_read q indexes i x is h =
@@ -18,7 +19,7 @@ path_read q indexes i x is h =
     (let long = length-map indexes (λ (k : Indexed). k.fields) in omega (arith, h, long))
     ∙ get_or-map (λ (k : Indexed). k.fields) indexes i x ∙ ap (λ (k : Indexed). k.fields) (sym is))
 
-module _ (q : Asked) (indexes : List Names) where
+module _ (q : QuerySpec) (indexes : List Names) where
   abbrev scored : ℕ → ℕ
   scored k = score q (path_at q indexes k)
 
@@ -41,7 +42,8 @@ module _ (q : Asked) (indexes : List Names) where
     within = omega arith;
     greatest = λ k l. elim (cases_lt k n) [
       | inl below ↦ let g = wins.greatest k below in omega (arith, g, h)
-      | inr up ↦ let here : n ≡ k = omega arith in subst (λ m. scored m ≤ scored n) here (omega arith)
+      | inr up ↦ let here : n
+          ≡ k = omega arith in subst (λ m. scored m ≤ scored n) here (omega arith)
     ];
     first = λ k l. let g = wins.greatest k l in omega (arith, g, h);
   }

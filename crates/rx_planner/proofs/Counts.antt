@@ -10,7 +10,7 @@ use Rattle.rx_value.specs.Named.{named}
 use Rattle.rx_document.specs.Documents.{Documents}
 use Rattle.rx_document.specs.declared.stored.Stored.{Stored}
 use Rattle.rx_query.proofs.Sorting.{In, sorted-permutes}
-use Rattle.rx_query.specs.Asked.{Asked}
+use Rattle.rx_query.specs.QuerySpec.{QuerySpec}
 use Rattle.rx_query.specs.Lists.{sorted}
 use Rattle.rx_query.specs.Result.{is_due, stored_before, at_most, result_of, IsCollection}
 use Rattle.rx_index.proofs.Positions.{position_eq-Decides}
@@ -43,7 +43,7 @@ cut_length None rows = refl
 cut_length (Some limit) rows = length-take limit rows
 
 -- as many rows as the window takes in
-pub window_length : (q : Asked) (docs : List Stored)
+pub window_length : (q : QuerySpec) (docs : List Stored)
     → length (result_of q docs) ≡ in_window q (length (filter (is_due q) docs))
 window_length q docs =
     let due = filter (is_due q) docs in
@@ -54,7 +54,7 @@ window_length q docs =
 
 -- ---- what stands between the closed bounds
 
-module _ (q : Asked) (documents : Documents) (fields : Names) (keys : List Position)
+module _ (q : QuerySpec) (documents : Documents) (fields : Names) (keys : List Position)
     (collection : IsCollection q.primary documents) (up : IsStrictlySortedBy position_cmp keys)
     (held_wide : HoldsWhere
     (is_between (bound_of q false (path_of q fields)) (bound_of q true (path_of q fields)))
@@ -74,9 +74,12 @@ module _ (q : Asked) (documents : Documents) (fields : Names) (keys : List Posit
   as_many =
       let met = due_among q documents (ids_between low high keys) in
       let due = filter (is_due q) (values_of documents) in
-      sym (length_permutation met (sorted (stored_before q) met) (sorted-permutes (stored_before q) met))
-      ∙ ap length (met_sorted q documents fields keys low high collection up held (due_closed q fields))
-      ∙ length_permutation due (sorted (stored_before q) due) (sorted-permutes (stored_before q) due)
+      sym (length_permutation met (sorted (stored_before q) met)
+      (sorted-permutes (stored_before q) met))
+      ∙ ap length
+      (met_sorted q documents fields keys low high collection up held (due_closed q fields))
+      ∙ length_permutation due (sorted (stored_before q) due)
+      (sorted-permutes (stored_before q) due)
 
   pub walked_length : length (result_of q (values_of documents))
       ≡ in_window q (length (due_among q documents (ids_between low high keys)))
@@ -115,7 +118,8 @@ module _ (q : Asked) (documents : Documents) (fields : Names) (keys : List Posit
 
 -- ---- by a plan
 
-module _ (q : Asked) (documents : Documents) (indexes : List Indexed) (plan : Plan) (i : Indexed)
+module _ (q : QuerySpec) (documents : Documents) (indexes : List Indexed) (plan : Plan)
+    (i : Indexed)
     (is : i ≡ get_or indexes plan.index i) (planned : IsPlan q (map (λ k. k.fields) indexes) plan)
     (collection : IsCollection q.primary documents)
     (held : IfSome (slice_get indexes plan.index)
@@ -134,7 +138,8 @@ module _ (q : Asked) (documents : Documents) (indexes : List Indexed) (plan : Pl
   module _ (path : Names) (low high : Position) (ids : List (List ℕ))
       (path_is : path ≡ path_of q i.fields) (low_is : low ≡ closed_of q false path)
       (high_is : high ≡ closed_of q true path) (ids_are : ids ≡ ids_between low high i.keys) where
-    ids_so : ids ≡ ids_between (closed_of q false (path_of q i.fields)) (closed_of q true (path_of q i.fields))
+    ids_so : ids ≡ ids_between (closed_of q false (path_of q i.fields))
+        (closed_of q true (path_of q i.fields))
         i.keys
     ids_so =
         ids_are ∙ ap (λ p. ids_between p high i.keys) (low_is ∙ ap (closed_of q false) path_is)

@@ -14,7 +14,7 @@ use Rattle.rx_document.specs.declared.stored.Stored.{Stored}
 use Rattle.rx_selector.specs.Holding.{same_kind, stands, compares, all_hold}
 use Rattle.rx_selector.specs.declared.tree.Compare.{Compare}
 use Rattle.rx_selector.specs.declared.tree.Compare.TheVariants.{Eq}
-use Rattle.rx_query.specs.Asked.{Asked}
+use Rattle.rx_query.specs.QuerySpec.{QuerySpec}
 use Rattle.rx_query.specs.Result.{is_due}
 use Rattle.rx_index.specs.Index.{is_between}
 use Rattle.rx_index.specs.Position.{Position, position_with, values_cmp, precedes, key_of}
@@ -63,10 +63,12 @@ at_closed_end : (up : Bool) (o l p m x : Option Value) (xs : List (Option Value)
 at_closed_end up (Some v) l p m x xs s h t k = at_end up (Some v) l x xs s h
 at_closed_end up None (Some v) p m x xs s h t k = at_end up None (Some v) x xs s h
 at_closed_end up None None (Some v) m x xs s h t k = by_kind up (strict (not up)) x v xs (t v refl)
-at_closed_end up None None None (Some v) x xs s h t k = by_kind up (loose (not up)) x v xs (k v refl)
+at_closed_end up None None None (Some v) x xs s h t k =
+    by_kind up (loose (not up)) x v xs (k v refl)
 at_closed_end up None None None None x xs s h t k = at_end up None None x xs s h
 
-module _ (q : Asked) (fields : Pairs) (holds : all_hold q.clauses fields ≡ true) (up : Bool) where
+module _ (q : QuerySpec) (fields : Pairs) (holds : all_hold q.clauses fields ≡ true)
+    (up : Bool) where
   at_closed : (fs : Names) → meets (closed_at q up fs) (map (λ f. named fields f) fs) false ≡ not up
   at_closed [] = past up []
   at_closed (f ∷ fs) =
@@ -76,7 +78,8 @@ module _ (q : Asked) (fields : Pairs) (holds : all_hold q.clauses fields ≡ tru
       (elim (operand q f Eq) as (λ o. operand q f Eq ≡ o
       → meets (fixed_or o inner outer) (named fields f ∷ rest) false ≡ not up) [
         | Some v ↦ (λ is.
-            ap (λ x. is_le (ordering_then (order_of (Some v) x) (values_cmp inner.values inner.after rest false)))
+            ap (λ x. is_le (ordering_then (order_of (Some v) x)
+            (values_cmp inner.values inner.after rest false)))
             (fixed_value q f v fields is holds)
             ∙ ap (λ o. is_le (ordering_then o (values_cmp inner.values inner.after rest false)))
             (tied_itself order_total (Some v))
@@ -90,14 +93,15 @@ module _ (q : Asked) (fields : Pairs) (holds : all_hold q.clauses fields ≡ tru
       ]) refl
 
 -- the key of a due document stands between the closed bounds of each path
-pub due_closed : (q : Asked) (fields : Names) (d : Stored) → is_due q d ≡ true
+pub due_closed : (q : QuerySpec) (fields : Names) (d : Stored) → is_due q d ≡ true
     → named d.state.fields q.primary ≡ Some (Text d.state.key)
     → is_between (closed_of q false (path_of q fields)) (closed_of q true (path_of q fields))
     (key_of fields d) ≡ true
 due_closed q fields d due carried =
     let path = path_of q fields in
     let parts = due_parts q d due in
-    ap (is_between (closed_of q false path) (closed_of q true path)) (key_is q fields d parts.0 carried)
+    ap (is_between (closed_of q false path) (closed_of q true path))
+    (key_is q fields d parts.0 carried)
     ∙ ap (λ b. b && not (precedes (closed_of q true path)
     (position_with (Some (Flag false) ∷ map (λ f. named d.state.fields f) path) false)))
     (at_closed q d.state.fields parts.1 false path)
@@ -138,14 +142,16 @@ front_wider : (v : Option Value) (p r : Position) (ys : List (Option Value)) (b 
     → meets (position_with (v ∷ r.values) r.after) ys b ≡ c
 front_wider v p r [] b c f h = h
 front_wider v p r (y ∷ ys) b c f h =
-    behind_wider (order_of v y) (values_cmp p.values p.after ys b) (values_cmp r.values r.after ys b)
+    behind_wider (order_of v y) (values_cmp p.values p.after ys b)
+    (values_cmp r.values r.after ys b)
     c (f ys) h
 
-wider : (q : Asked) (up : Bool) (fs : Names) (ys : List (Option Value)) (b : Bool)
+wider : (q : QuerySpec) (up : Bool) (fs : Names) (ys : List (Option Value)) (b : Bool)
     → meets (closed_at q up fs) ys b ≡ not up → meets (bound_at q up fs) ys b ≡ not up
 wider q up [] ys b h = h
 wider q up (f ∷ fs) ys b h =
-    (elim (operand q f Eq) as (λ o. meets (fixed_or o (closed_at q up fs) (closed_end q up f)) ys b ≡ not up
+    (elim (operand q f Eq) as
+    (λ o. meets (fixed_or o (closed_at q up fs) (closed_end q up f)) ys b ≡ not up
     → meets (fixed_or o (bound_at q up fs) (end_at q up f)) ys b ≡ not up) [
       | Some v ↦ front_wider (Some v) (closed_at q up fs) (bound_at q up fs) ys b (not up)
           (λ zs. wider q up fs zs b)
@@ -160,13 +166,15 @@ between_parts low high k h =
     let parts = and_parts (precedes low k) (not (precedes high k)) h in
     (parts.0, not-true (precedes high k) parts.1)
 
-pub between_wider : (q : Asked) (path : Names) (k : Position)
+pub between_wider : (q : QuerySpec) (path : Names) (k : Position)
     → is_between (closed_of q false path) (closed_of q true path) k ≡ true
     → is_between (bound_of q false path) (bound_of q true path) k ≡ true
 between_wider q path k h =
     let parts = between_parts (closed_of q false path) (closed_of q true path) k h in
-    let so : (up : Bool) → precedes (closed_of q up path) k ≡ not up → precedes (bound_of q up path) k ≡ not up =
-    λ up. front_wider (Some (Flag false)) (closed_at q up path) (bound_at q up path) k.values k.after (not up)
+    let so : (up : Bool) → precedes (closed_of q up path) k ≡ not up
+    → precedes (bound_of q up path) k ≡ not up =
+    λ up. front_wider (Some (Flag false)) (closed_at q up path)
+    (bound_at q up path) k.values k.after (not up)
     (λ zs. wider q up path zs k.after) in
     ap (λ b. b && not (precedes (bound_of q true path) k)) (so false parts.0)
     ∙ ap not (so true parts.1)

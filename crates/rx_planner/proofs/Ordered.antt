@@ -15,7 +15,7 @@ use Rattle.rx_value.specs.declared.value.Value.TheVariants.{Flag, Text}
 use Rattle.rx_document.specs.declared.stored.Stored.{Stored}
 use Rattle.rx_selector.specs.Holding.{all_hold}
 use Rattle.rx_selector.specs.declared.tree.Compare.TheVariants.{Eq}
-use Rattle.rx_query.specs.Asked.{Sorts, Asked}
+use Rattle.rx_query.specs.QuerySpec.{Sorts, QuerySpec}
 use Rattle.rx_query.specs.Order.{field_cmp, sort_cmp, sorts_cmp, query_cmp}
 use Rattle.rx_query.specs.Result.{is_due, stored_cmp}
 use Rattle.rx_index.specs.Position.{position_with, values_cmp, position_cmp, key_of}
@@ -31,7 +31,8 @@ then_equal Less = refl
 then_equal Equal = refl
 then_equal Greater = refl
 
-then_assoc : (o p r : Ordering) → ordering_then o (ordering_then p r) ≡ ordering_then (ordering_then o p) r
+then_assoc : (o p r : Ordering) → ordering_then o (ordering_then p r)
+    ≡ ordering_then (ordering_then o p) r
 then_assoc Less p r = refl
 then_assoc Equal p r = refl
 then_assoc Greater p r = refl
@@ -46,7 +47,8 @@ module _ (x y : Pairs) where
   given_is (f ∷ fs) = ap (ordering_then (field_cmp f x y)) (given_is fs)
 
   -- fixed fields tie
-  given_rest : (q : Asked) → all_hold q.clauses x ≡ true → all_hold q.clauses y ≡ true → (fs : Names)
+  given_rest : (q : QuerySpec) → all_hold q.clauses x ≡ true → all_hold q.clauses y ≡ true
+      → (fs : Names)
       → given fs ≡ given (rest_of q fs)
   given_rest q hx hy [] = refl
   given_rest q hx hy (f ∷ fs) =
@@ -61,7 +63,7 @@ module _ (x y : Pairs) where
       ]) refl
 
   -- a sort none of whose fields is reversed
-  sorts_rise : (q : Asked) (ss : Sorts) → list_all (rises_freely q) ss ≡ true
+  sorts_rise : (q : QuerySpec) (ss : Sorts) → list_all (rises_freely q) ss ≡ true
       → sorts_cmp ss x y ≡ sorts_cmp (rising (map (λ s. s.0) ss)) x y
   sorts_rise q [] h = refl
   sorts_rise q (s ∷ ss) h =
@@ -74,7 +76,8 @@ module _ (x y : Pairs) where
 
   -- and then one more
   sorts_more : (fs : Names) (p : List ℕ)
-      → sorts_cmp (rising (fs ++ p ∷ [])) x y ≡ ordering_then (sorts_cmp (rising fs) x y) (field_cmp p x y)
+      → sorts_cmp (rising (fs ++ p ∷ [])) x y
+      ≡ ordering_then (sorts_cmp (rising fs) x y) (field_cmp p x y)
   sorts_more [] p = then_equal (field_cmp p x y)
   sorts_more (f ∷ fs) p =
       ap (ordering_then (field_cmp f x y)) (sorts_more fs p)
@@ -85,12 +88,13 @@ module _ (x y : Pairs) where
   nothing_more (f ∷ fs) = ap (ordering_then (field_cmp f x y)) (nothing_more fs)
 
   -- the order of the query is by its path
-  query_is : (q : Asked) → list_all (rises_freely q) q.sorts ≡ true
+  query_is : (q : QuerySpec) → list_all (rises_freely q) q.sorts ≡ true
       → query_cmp q x y ≡ sorts_cmp (rising (sort_path q)) x y
   query_is q h =
       let names = map (λ s. s.0) q.sorts in
       elim (is_some (named q.sorts q.primary)) as (λ b.
-      cond b (sorts_cmp q.sorts x y) (ordering_then (sorts_cmp q.sorts x y) (field_cmp q.primary x y))
+      cond b (sorts_cmp q.sorts x y)
+      (ordering_then (sorts_cmp q.sorts x y) (field_cmp q.primary x y))
       ≡ sorts_cmp (rising (names ++ cond b [] (q.primary ∷ []))) x y) [
         | true ↦ sorts_rise q q.sorts h ∙ sym (nothing_more names)
         | false ↦ ap (λ o. ordering_then o (field_cmp q.primary x y)) (sorts_rise q q.sorts h)
@@ -98,7 +102,7 @@ module _ (x y : Pairs) where
       ]
 
 -- documents of lower keys come first
-pub keys_in_order : (q : Asked) (fields : Names) (d e : Stored)
+pub keys_in_order : (q : QuerySpec) (fields : Names) (d e : Stored)
     → is_ordered q (path_of q fields) ≡ true → is_due q d ≡ true → is_due q e ≡ true
     → named d.state.fields q.primary ≡ Some (Text d.state.key)
     → named e.state.fields q.primary ≡ Some (Text e.state.key)
@@ -118,6 +122,7 @@ keys_in_order q fields d e ordered due_d due_e carried_d carried_e less =
     ∙ ap (λ fs. sorts_cmp (rising fs) x y) same
     ∙ sym (given_is x y (rest_of q path))
     ∙ sym (given_rest x y q live_d.1 live_e.1 path)
-    ∙ ap (λ p. position_cmp p (position_with (Some (Flag false) ∷ map (λ f. named y f) path) false)) (sym (key_is q fields d live_d.0 carried_d))
+    ∙ ap (λ p. position_cmp p (position_with (Some (Flag false) ∷ map (λ f. named y f) path)
+    false)) (sym (key_is q fields d live_d.0 carried_d))
     ∙ ap (position_cmp (key_of fields d)) (sym (key_is q fields e live_e.0 carried_e))
     ∙ less

@@ -13,7 +13,7 @@ use Rattle.rx_document.specs.declared.stored.Stored.{Stored}
 use Rattle.rx_query.proofs.Orders.{query_total}
 use Rattle.rx_query.proofs.Rows.{lent_cmp}
 use Rattle.rx_query.proofs.Sorting.{sorted-permutes, one_order, ordered-sorted, strict_from_sort}
-use Rattle.rx_query.specs.Asked.{Asked}
+use Rattle.rx_query.specs.QuerySpec.{QuerySpec}
 use Rattle.rx_query.specs.Lists.{insert_in_order, sorted}
 use Rattle.rx_query.specs.Result.{stored_cmp, stored_before}
 use Rattle.rx_planner.proofs.Lists.{take_placed}
@@ -76,18 +76,18 @@ module _ {X : Type 0} (cmp : X → X → Ordering) (o : IsTotalOrder cmp) where
 
 -- ---- documents
 
-pub stored_total : (q : Asked) → IsTotalOrder (stored_cmp q)
+pub stored_total : (q : QuerySpec) → IsTotalOrder (stored_cmp q)
 stored_total q = on_total (λ (d : Stored). d.state.fields) (query_total q)
 
 -- ---- one document after another
 
 -- each placed in turn among rows in order
-abbrev pub all_placed : Asked → List Stored → List Stored → List Stored
+abbrev pub all_placed : QuerySpec → List Stored → List Stored → List Stored
 all_placed q rows [] = rows
 all_placed q rows (d ∷ ds) = all_placed q (insert_in_order (stored_before q) d rows) ds
 
 -- the first n don't depend on rows behind them
-pub take_all_placed : (q : Asked) (n : ℕ) (rows ds : List Stored)
+pub take_all_placed : (q : QuerySpec) (n : ℕ) (rows ds : List Stored)
     → take n (all_placed q (take n rows) ds) ≡ take n (all_placed q rows ds)
 take_all_placed q n rows [] = take-take n n rows (omega arith)
 take_all_placed q n rows (d ∷ ds) =
@@ -101,7 +101,7 @@ abbrev pub turned_onto : List Stored → List Stored → List Stored
 turned_onto [] xs = xs
 turned_onto (d ∷ ds) xs = turned_onto ds (d ∷ xs)
 
-pub all_placed-sorted : (q : Asked) (xs ds : List Stored)
+pub all_placed-sorted : (q : QuerySpec) (xs ds : List Stored)
     → all_placed q (sorted (stored_before q) xs) ds ≡ sorted (stored_before q) (turned_onto ds xs)
 all_placed-sorted q xs [] = refl
 all_placed-sorted q xs (d ∷ ds) = all_placed-sorted q (d ∷ xs) ds
@@ -114,24 +114,24 @@ turned_permutes (d ∷ ds) xs =
 
 -- ---- sorted alike
 
-abbrev pub differ : Asked → List Stored → Type 0
+abbrev pub differ : QuerySpec → List Stored → Type 0
 differ q = IsDistinct (eq_by_cmp (stored_cmp q))
 
 -- a tie is one either way round
-pub flips : (q : Asked) (x y : Stored)
+pub flips : (q : QuerySpec) (x y : Stored)
     → eq_by_cmp (stored_cmp q) x y ≡ eq_by_cmp (stored_cmp q) y x
 flips q x y =
     ap is_eq ((stored_total q).antisymm x y)
     ∙ (elim (stored_cmp q y x) as (λ r. is_eq (ordering_reverse r) ≡ is_eq r)
     [ Less ↦ refl | Equal ↦ refl | Greater ↦ refl ])
 
-pub differ_moved : (q : Asked) (xs ys : List Stored) → IsPermutation xs ys → differ q xs
+pub differ_moved : (q : QuerySpec) (xs ys : List Stored) → IsPermutation xs ys → differ q xs
     → differ q ys
 differ_moved q xs ys moved h =
     IsDistinct-IsPermutation (eq_by_cmp (stored_cmp q)) (flips q) xs ys moved h
 
 -- rows that don't tie are sorted alike, however they stand
-pub sorted_alike : (q : Asked) (xs ys : List Stored) → IsPermutation xs ys → differ q xs
+pub sorted_alike : (q : QuerySpec) (xs ys : List Stored) → IsPermutation xs ys → differ q xs
     → sorted (stored_before q) xs ≡ sorted (stored_before q) ys
 sorted_alike q xs ys moved h =
     let before = stored_before q in
@@ -143,7 +143,7 @@ sorted_alike q xs ys moved h =
     (IsPermutation-trans xs ys (sorted before ys) moved (sorted-permutes before ys)))
 
 -- rows in order are sorted
-pub sorted_already : (q : Asked) (xs : List Stored) → IsStrictlySortedBy (stored_cmp q) xs
+pub sorted_already : (q : QuerySpec) (xs : List Stored) → IsStrictlySortedBy (stored_cmp q) xs
     → differ q xs → sorted (stored_before q) xs ≡ xs
 sorted_already q xs up h =
     one_order (stored_cmp q) (stored_total q) (sorted (stored_before q) xs) xs
@@ -151,7 +151,7 @@ sorted_already q xs up h =
     (IsPermutation-sym xs (sorted (stored_before q) xs) (sorted-permutes (stored_before q) xs))
 
 -- to place some among others sorted is to sort all
-pub placed_sorted : (q : Asked) (xs ds : List Stored) → differ q (xs ++ ds)
+pub placed_sorted : (q : QuerySpec) (xs ds : List Stored) → differ q (xs ++ ds)
     → all_placed q (sorted (stored_before q) xs) ds ≡ sorted (stored_before q) (xs ++ ds)
 placed_sorted q xs ds h =
     all_placed-sorted q xs ds
@@ -183,7 +183,7 @@ strict_lent cmp (r ∷ rs) h = (others rs h.0, strict_lent cmp rs h.1)
     others (x ∷ xs) k = (k.0, others xs k.1)
 
 -- lent rows that don't tie, once they are sorted
-pub sort_is : (q : Asked) (rows all : List (Bor Stored))
+pub sort_is : (q : QuerySpec) (rows all : List (Bor Stored))
     → IsDistinct (eq_by_cmp (stored_cmp q)) (map (λ r. r.now) rows) → IsPermutation rows all
     → IsSortedBy (λ a b. is_lt (lent_cmp q a b)) all
     → map (λ r. r.now) all ≡ sorted (stored_before q) (map (λ r. r.now) rows)

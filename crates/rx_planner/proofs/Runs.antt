@@ -21,7 +21,7 @@ use Rattle.rx_document.specs.declared.stored.Stored.{Stored}
 use Rattle.rx_query.proofs.Orders.{keys_decide}
 use Rattle.rx_query.proofs.Rows.{one_result, are_keyed, other_key}
 use Rattle.rx_query.proofs.Sorting.{In, in-permutation, sorted-permutes, ordered-sorted, same_members}
-use Rattle.rx_query.specs.Asked.{Asked}
+use Rattle.rx_query.specs.QuerySpec.{QuerySpec}
 use Rattle.rx_query.specs.Lists.{sorted}
 use Rattle.rx_query.specs.Result.{is_due, stored_cmp, stored_before, at_most, result_of, IsCollection}
 use Rattle.rx_index.proofs.Positions.{position_eq-Decides, id_of-key_of, itself}
@@ -43,7 +43,8 @@ pub named_in : {X : Type 0} (es : List (List ℕ × X)) (k : List ℕ) (x : X) �
     → In x (values_of es)
 named_in [] k x at = absurd (cc)
 named_in (e ∷ es) k x at =
-    (elim (bytes_eq k e.0) as (λ b. cond b (Some e.1) (named es k) ≡ Some x → In x (values_of (e ∷ es))) [
+    (elim (bytes_eq k e.0) as
+    (λ b. cond b (Some e.1) (named es k) ≡ Some x → In x (values_of (e ∷ es))) [
       | true ↦ (λ h. inl (let same : e.1 ≡ x = cc in sym same))
       | false ↦ (λ h. inr (named_in es k x h))
     ]) at
@@ -80,7 +81,7 @@ carried_in primary (e ∷ es) all z (inl is) =
 carried_in primary (e ∷ es) all z (inr i) = carried_in primary es all.1 z i
 
 -- a document that is due is what was named
-due_named : (q : Asked) (o : Option Stored) (d : Stored) → if_due q o ≡ Some d
+due_named : (q : QuerySpec) (o : Option Stored) (d : Stored) → if_due q o ≡ Some d
     → (o ≡ Some d) × (is_due q d ≡ true)
 due_named q None d h = absurd (cc)
 due_named q (Some e) d h =
@@ -90,7 +91,7 @@ due_named q (Some e) d h =
       | false ↦ (λ is at. absurd (cc))
     ]) refl h
 
-pub due_is : (q : Asked) (o : Option Stored) (d : Stored) → o ≡ Some d → is_due q d ≡ true
+pub due_is : (q : QuerySpec) (o : Option Stored) (d : Stored) → o ≡ Some d → is_due q d ≡ true
     → if_due q o ≡ Some d
 due_is q o d is h = ap (if_due q) is ∙ ap (λ b. cond b (Some d) None) h
 
@@ -119,12 +120,12 @@ in_has (x ∷ xs) k h =
 -- ---- what a walk meets
 
 -- the keys of due documents that carry their primary keys stand between the bounds
-abbrev pub Encloses : Asked → Names → Position → Position → Type 0
+abbrev pub Encloses : QuerySpec → Names → Position → Position → Type 0
 Encloses q fields low high = (d : Stored) → is_due q d ≡ true
     → named d.state.fields q.primary ≡ Some (Text d.state.key)
     → is_between low high (key_of fields d) ≡ true
 
-module _ (q : Asked) (documents : Documents) (fields : Names) (keys : List Position)
+module _ (q : QuerySpec) (documents : Documents) (fields : Names) (keys : List Position)
     (low high : Position) (collection : IsCollection q.primary documents)
     (up : IsStrictlySortedBy position_cmp keys)
     (held : HoldsWhere (is_between low high) (indexed_by fields keys) documents)
@@ -175,7 +176,8 @@ module _ (q : Asked) (documents : Documents) (fields : Names) (keys : List Posit
       let at = in_named documents collection.rising collection.keyed z r.0 in
       let bears = carried_in q.primary documents collection.carried z r.0 in
       let k = key_of fields z in
-      let here : named documents (id_of k) ≡ Some z = ap (named documents) (id_of-key_of fields z) ∙ at in
+      let here : named documents (id_of k) ≡ Some z = ap (named documents) (id_of-key_of fields z)
+      ∙ at in
       let stands : is_between low high k ≡ true = encloses z r.1 bears in
       let has : has_key keys k ≡ true =
       held k stands ∙ ap (λ o. is_key_of fields o k) here ∙ ap is_eq (itself k) in
@@ -229,8 +231,9 @@ module _ (q : Asked) (documents : Documents) (fields : Names) (keys : List Posit
 
   strict_order : IsStrictlySortedBy (stored_cmp q) in_order
   strict_order =
-      let plain : Asked = record q { skip = 0; limit = None } in
-      let r = (one_result plain (values_of documents) (are_keyed q.primary documents collection)).is_result in
+      let plain : QuerySpec = record q { skip = 0; limit = None } in
+      let r = (one_result plain (values_of documents)
+      (are_keyed q.primary documents collection)).is_result in
       subst (IsStrictlySortedBy (stored_cmp q)) (sym r.window) r.in_order
 
   order_due : (z : Stored) → In z in_order → In z all_due
@@ -265,13 +268,14 @@ module _ (q : Asked) (documents : Documents) (fields : Names) (keys : List Posit
       let moved = sorted-permutes (stored_before q) met in
       same_members (stored_cmp q) (stored_total q) all in_order
       (ordered-sorted (stored_cmp q) (stored_total q) met met_distinct) strict_order
-      (λ z i. due_order z (met_due z (in-permutation all met z (IsPermutation-sym met all moved) i)))
+      (λ z i. due_order z
+      (met_due z (in-permutation all met z (IsPermutation-sym met all moved) i)))
       (λ z i. in-permutation met all z moved (due_met z (order_due z i)))
 
 -- ---- the window
 
 -- what is wanted, without what is skipped
-pub window : (q : Asked) (rows : List Stored)
+pub window : (q : QuerySpec) (rows : List Stored)
     → drop q.skip (at_most (most_rows q) rows) ≡ at_most q.limit (drop q.skip rows)
 window q rows =
     elim q.limit as (λ o. drop q.skip (at_most (option_map (λ limit. q.skip + limit) o) rows)
@@ -289,7 +293,7 @@ wanted (Some m) n ids rows (inr h) long =
     let le : n ≤ m = h.0 in
     take_all n rows (omega (arith, l)) ∙ sym (take_all m rows (omega (arith, l, le)))
 
-module _ (q : Asked) (documents : Documents) (fields : Names) (keys : List Position)
+module _ (q : QuerySpec) (documents : Documents) (fields : Names) (keys : List Position)
     (low high : Position) (collection : IsCollection q.primary documents)
     (up : IsStrictlySortedBy position_cmp keys)
     (held : HoldsWhere (is_between low high) (indexed_by fields keys) documents)
@@ -301,8 +305,10 @@ module _ (q : Asked) (documents : Documents) (fields : Names) (keys : List Posit
       → drop q.skip rows ≡ result_of q (values_of documents)
   run_ordered rows ids parts full ordered =
       ap (drop q.skip)
-      (cut_front (most_rows q) rows (due_among q documents ids) ids full (λ e. ap (due_among q documents) e)
-      ∙ ap (at_most (most_rows q)) (parts ∙ met_ordered q documents fields keys low high collection up held encloses ordered))
+      (cut_front (most_rows q) rows (due_among q documents ids) ids full
+      (λ e. ap (due_among q documents) e)
+      ∙ ap (at_most (most_rows q)) (parts
+      ∙ met_ordered q documents fields keys low high collection up held encloses ordered))
       ∙ window q (sorted (stored_before q) (filter (is_due q) (values_of documents)))
 
   -- some in order, and the others
@@ -356,7 +362,8 @@ module _ (q : Asked) (documents : Documents) (fields : Names) (keys : List Posit
 
 -- ---- by a plan
 
-module _ (q : Asked) (documents : Documents) (indexes : List Indexed) (plan : Plan) (i : Indexed)
+module _ (q : QuerySpec) (documents : Documents) (indexes : List Indexed) (plan : Plan)
+    (i : Indexed)
     (is : i ≡ get_or indexes plan.index i) (planned : IsPlan q (map (λ k. k.fields) indexes) plan)
     (collection : IsCollection q.primary documents)
     (held : IfSome (slice_get indexes plan.index)
@@ -399,7 +406,8 @@ module _ (q : Asked) (documents : Documents) (indexes : List Indexed) (plan : Pl
     first_distinct =
         distinct_front (eq_by_cmp (stored_cmp q)) rows (due_among q documents ids)
         (subst (IsDistinct (eq_by_cmp (stored_cmp q))) (sym all_parts)
-        (met_distinct q documents i.fields i.keys plan.low plan.high collection up held_there encloses))
+        (met_distinct q documents i.fields i.keys plan.low plan.high collection up held_there
+        encloses))
 
     -- in order they are so strictly
     pub first_strict : (first : List Stored) → first ≡ sorted (stored_before q) rows
@@ -412,14 +420,17 @@ module _ (q : Asked) (documents : Documents) (indexes : List Indexed) (plan : Pl
     pub first_apart : (first : List Stored) → first ≡ sorted (stored_before q) rows
         → differ q (first ++ due_among q documents ids)
     first_apart first first_is =
-        apart_so q documents i.fields i.keys plan.low plan.high collection up held_there encloses rows first ids all_parts first_is
+        apart_so q documents i.fields i.keys plan.low plan.high collection up held_there encloses
+        rows first ids all_parts first_is
 
     module _ (most : Option ℕ) (wanted_so : most ≡ most_rows q)
         (full : IsFull most (length rows) ids) where
       -- where the plan is ordered they are the result
-      pub ordered_result : plan.ordered ≡ true → drop q.skip rows ≡ result_of q (values_of documents)
+      pub ordered_result : plan.ordered ≡ true → drop q.skip rows
+          ≡ result_of q (values_of documents)
       ordered_result ordered =
-          run_ordered q documents i.fields i.keys plan.low plan.high collection up held_there encloses rows ids all_parts (subst (λ m. IsFull m (length rows) ids) wanted_so full)
+          run_ordered q documents i.fields i.keys plan.low plan.high collection up held_there
+          encloses rows ids all_parts (subst (λ m. IsFull m (length rows) ids) wanted_so full)
           (ap (is_ordered q) (sym path) ∙ sym planned.ordered ∙ ordered)
 
       -- else as many first ones of those in order and of the others
@@ -428,4 +439,6 @@ module _ (q : Asked) (documents : Documents) (indexes : List Indexed) (plan : Pl
           ≡ take (length first) (sorted (stored_before q) (first ++ due_among q documents ids))
           → drop q.skip last ≡ result_of q (values_of documents)
       sorted_result first last =
-          run_sorted q documents i.fields i.keys plan.low plan.high collection up held_there encloses rows first last ids all_parts (subst (λ m. IsFull m (length rows) ids) wanted_so full)
+          run_sorted q documents i.fields i.keys plan.low plan.high collection up held_there
+          encloses rows first last ids all_parts
+          (subst (λ m. IsFull m (length rows) ids) wanted_so full)

@@ -21,7 +21,7 @@ use Rattle.rx_selector.specs.Operand.{operand_of, operand_among, tests_on}
 use Rattle.rx_selector.specs.Tree.{Test, compared, Tests, no_tests, test, all, any, nor, on_field, Clauses, no_clauses, clause}
 use Rattle.rx_selector.specs.declared.tree.Compare.{Compare}
 use Rattle.rx_selector.specs.declared.tree.Compare.TheVariants.{Eq, Gt, Gte, Lt, Lte}
-use Rattle.rx_query.specs.Asked.{Asked}
+use Rattle.rx_query.specs.QuerySpec.{QuerySpec}
 use Rattle.rx_query.specs.Result.{is_due}
 use Rattle.rx_index.specs.Index.{is_between}
 use Rattle.rx_index.specs.Position.{position_with, values_cmp, precedes, key_of}
@@ -65,7 +65,8 @@ of_clauses name (clause (on_field n us) cs) fields ts is h =
       | true ↦ (λ e at.
           let same : us ≡ ts = cc in
           subst (λ z. tests_hold z (named fields name) ≡ true) same
-          (subst (λ m. tests_hold us (named fields m) ≡ true) ((bytes_eq-Decides n name).0 e) parts.0))
+          (subst (λ m. tests_hold us (named fields m) ≡ true)
+          ((bytes_eq-Decides n name).0 e) parts.0))
       | false ↦ (λ e at. of_clauses name cs fields ts at parts.1)
     ]) refl is
 of_clauses name (clause (all ds) cs) fields ts is h =
@@ -79,7 +80,7 @@ of_clauses name (clause (nor ds) cs) fields ts is h =
     (and_parts (clause_holds (nor ds) fields) (all_hold cs fields) h).1
 
 -- a field stands to each operand as its operator says
-pub of_operand : (q : Asked) (field : List ℕ) (which : Compare) (v : Value) (fields : Pairs)
+pub of_operand : (q : QuerySpec) (field : List ℕ) (which : Compare) (v : Value) (fields : Pairs)
     → operand q field which ≡ Some v → all_hold q.clauses fields ≡ true
     → compares which (named fields field) v ≡ true
 of_operand q field which v fields is h =
@@ -98,7 +99,7 @@ value_at which (Some w) v h =
     (w, refl, (and_parts (same_kind w v) (stands which (value_cmp w v)) h).1)
 
 -- a fixed field has the value that is asked for
-pub fixed_value : (q : Asked) (field : List ℕ) (v : Value) (fields : Pairs)
+pub fixed_value : (q : QuerySpec) (field : List ℕ) (v : Value) (fields : Pairs)
     → operand q field Eq ≡ Some v → all_hold q.clauses fields ≡ true
     → named fields field ≡ Some v
 fixed_value q field v fields is h =
@@ -167,7 +168,8 @@ at_end true None (Some v) x xs s h =
 at_end true None None x xs s h = refl
 at_end false None None x xs s h = refl
 
-module _ (q : Asked) (fields : Pairs) (holds : all_hold q.clauses fields ≡ true) (up : Bool) where
+module _ (q : QuerySpec) (fields : Pairs) (holds : all_hold q.clauses fields ≡ true)
+    (up : Bool) where
   -- the bound precedes what the fields give where it is the low one
   at_bound : (fs : Names)
       → is_le (values_cmp (bound_at q up fs).values (bound_at q up fs).after
@@ -181,12 +183,14 @@ module _ (q : Asked) (fields : Pairs) (holds : all_hold q.clauses fields ≡ tru
       → is_le (values_cmp (fixed_or o inner outer).values (fixed_or o inner outer).after
       (named fields f ∷ rest) false) ≡ not up) [
         | Some v ↦ (λ is.
-            ap (λ x. is_le (ordering_then (order_of (Some v) x) (values_cmp inner.values inner.after rest false)))
+            ap (λ x. is_le (ordering_then (order_of (Some v) x)
+            (values_cmp inner.values inner.after rest false)))
             (fixed_value q f v fields is holds)
             ∙ ap (λ o. is_le (ordering_then o (values_cmp inner.values inner.after rest false)))
             (tied_itself order_total (Some v))
             ∙ at_bound fs)
-        | None ↦ (λ is. at_end up (operand q f (strict up)) (operand q f (loose up)) (named fields f) rest
+        | None ↦ (λ is.
+            at_end up (operand q f (strict up)) (operand q f (loose up)) (named fields f) rest
             (λ v at. of_operand q f (strict up) v fields at holds)
             (λ v at. of_operand q f (loose up) v fields at holds))
       ]) refl
@@ -194,29 +198,32 @@ module _ (q : Asked) (fields : Pairs) (holds : all_hold q.clauses fields ≡ tru
 -- ---- keys
 
 -- the key of a document that carries its primary key, by the path
-pub key_with : (q : Asked) (fields : Names) (d : Stored)
+pub key_with : (q : QuerySpec) (fields : Names) (d : Stored)
     → named d.state.fields q.primary ≡ Some (Text d.state.key)
     → key_of fields d
-    ≡ position_with (Some (Flag d.state.deleted) ∷ map (λ f. named d.state.fields f) (path_of q fields))
+    ≡ position_with
+    (Some (Flag d.state.deleted) ∷ map (λ f. named d.state.fields f) (path_of q fields))
     false
 key_with q fields d carried =
     let at : List ℕ → Option Value = λ f. named d.state.fields f in
-    ap (λ x. position_with (Some (Flag d.state.deleted) ∷ (map at fields ++ x ∷ [])) false) (sym carried)
+    ap (λ x. position_with (Some (Flag d.state.deleted) ∷ (map at fields ++ x ∷ [])) false)
+    (sym carried)
     ∙ ap (λ xs. position_with (Some (Flag d.state.deleted) ∷ xs) false)
     (sym (map-append at fields (q.primary ∷ [])))
 
 -- of a live one
-pub key_is : (q : Asked) (fields : Names) (d : Stored) → d.state.deleted ≡ false
+pub key_is : (q : QuerySpec) (fields : Names) (d : Stored) → d.state.deleted ≡ false
     → named d.state.fields q.primary ≡ Some (Text d.state.key)
     → key_of fields d
     ≡ position_with (Some (Flag false) ∷ map (λ f. named d.state.fields f) (path_of q fields)) false
 key_is q fields d live carried =
     key_with q fields d carried
-    ∙ ap (λ b. position_with (Some (Flag b) ∷ map (λ f. named d.state.fields f) (path_of q fields)) false)
+    ∙ ap (λ b.
+    position_with (Some (Flag b) ∷ map (λ f. named d.state.fields f) (path_of q fields)) false)
     live
 
 -- a due document isn't deleted, and the selector holds of it
-pub due_parts : (q : Asked) (d : Stored) → is_due q d ≡ true
+pub due_parts : (q : QuerySpec) (d : Stored) → is_due q d ≡ true
     → (d.state.deleted ≡ false) × (all_hold q.clauses d.state.fields ≡ true)
 due_parts q d h =
     let parts = and_parts (not d.state.deleted) (all_hold q.clauses d.state.fields) h in (
@@ -226,7 +233,7 @@ due_parts q d h =
     )
 
 -- it stands between the bounds of each path
-pub due_between : (q : Asked) (fields : Names) (d : Stored) → is_due q d ≡ true
+pub due_between : (q : QuerySpec) (fields : Names) (d : Stored) → is_due q d ≡ true
     → named d.state.fields q.primary ≡ Some (Text d.state.key)
     → is_between (bound_of q false (path_of q fields)) (bound_of q true (path_of q fields))
     (key_of fields d) ≡ true
@@ -237,5 +244,6 @@ due_between q fields d due carried =
     ap (is_between (bound_of q false (path_of q fields)) (bound_of q true (path_of q fields)))
     (key_is q fields d parts.0 carried)
     ∙ ap (λ b. b && not (precedes (bound_of q true (path_of q fields))
-    (position_with (Some (Flag false) ∷ map (λ f. named d.state.fields f) (path_of q fields)) false))) low
+    (position_with
+    (Some (Flag false) ∷ map (λ f. named d.state.fields f) (path_of q fields)) false))) low
     ∙ ap not high

@@ -11,7 +11,7 @@ use Rattle.std.specs.Prelude.{option_to_list}
 use Rattle.std.specs.Str.{bytes_eq}
 use Rattle.rx_document.specs.Documents.{Documents}
 use Rattle.rx_document.specs.declared.stored.Stored.{Stored}
-use Rattle.rx_query.specs.Asked.{Asked}
+use Rattle.rx_query.specs.QuerySpec.{QuerySpec}
 use Rattle.rx_query.specs.Lists.{sorted, some_passes}
 use Rattle.rx_query.specs.Result.{IsCollection, is_due, at_most, stored_before, result_of}
 use Rattle.rx_selector.specs.Holding.{all_hold}
@@ -29,12 +29,13 @@ abbrev none_of : (X : Type 0) → List X
 none_of X = []
 
 abbrev Carry : List ℕ → Documents → Type 0
-Carry primary es = AllByRecursion (λ e. named e.1.state.fields primary ≡ Some (Text e.1.state.key)) es
+Carry primary es =
+    AllByRecursion (λ e. named e.1.state.fields primary ≡ Some (Text e.1.state.key)) es
 
 abbrev Keyed : Documents → Type 0
 Keyed es = AllByRecursion (λ e. e.1.state.key ≡ e.0) es
 
-module _ (q : Asked) (v : Value) (fixed : operand q q.primary Eq ≡ Some v) where
+module _ (q : QuerySpec) (v : Value) (fixed : operand q q.primary Eq ≡ Some v) where
   -- a due document has the key that is asked for
   asked_key : (d : Stored) → named d.state.fields q.primary ≡ Some (Text d.state.key)
       → is_due q d ≡ true → v ≡ Text d.state.key
@@ -69,14 +70,16 @@ others id (e ∷ es) keyed up = (
   others id es keyed.1 up.1,
 )
 
-text_due : (q : Asked) (id : List ℕ) → operand q q.primary Eq ≡ Some (Text id) → (es : Documents)
+text_due : (q : QuerySpec) (id : List ℕ) → operand q q.primary Eq ≡ Some (Text id)
+    → (es : Documents)
     → AreRising es → Keyed es → Carry q.primary es
     → filter (is_due q) (values_of es) ≡ option_to_list (if_due q (named es id))
 unfolding IsStrictlySortedBy
 text_due q id fixed [] up keyed carried = refl
 text_due q id fixed (e ∷ es) up keyed carried =
     (elim (bytes_eq id e.0) as (λ b. bytes_eq id e.0 ≡ b
-    → cond (is_due q e.1) (e.1 ∷ filter (is_due q) (values_of es)) (filter (is_due q) (values_of es))
+    → cond (is_due q e.1) (e.1 ∷ filter (is_due q) (values_of es))
+    (filter (is_due q) (values_of es))
     ≡ option_to_list (if_due q (cond b (Some e.1) (named es id)))) [
       | true ↦ (λ is.
           let above : AllByRecursion (λ k. text_cmp id k ≡ Less) (keys_of es) =
@@ -89,7 +92,8 @@ text_due q id fixed (e ∷ es) up keyed carried =
           [ true ↦ refl | false ↦ refl ]))
       | false ↦ (λ is.
           let not_due : is_due q e.1 ≡ false = not_this is in
-          ap (λ b. cond b (e.1 ∷ filter (is_due q) (values_of es)) (filter (is_due q) (values_of es)))
+          ap (λ b.
+          cond b (e.1 ∷ filter (is_due q) (values_of es)) (filter (is_due q) (values_of es)))
           not_due
           ∙ text_due q id fixed es up.1 keyed.1 carried.1)
     ]) refl
@@ -111,7 +115,7 @@ no_text v never [] = tt
 no_text v never (e ∷ es) = (never e.1.state.key, no_text v never es)
 
 -- the due documents are the one of that key, if it is due
-one_due : (q : Asked) (v : Value) (es : Documents) → operand q q.primary Eq ≡ Some v
+one_due : (q : QuerySpec) (v : Value) (es : Documents) → operand q q.primary Eq ≡ Some v
     → IsCollection q.primary es
     → filter (is_due q) (values_of es) ≡ option_to_list (due_at q es v)
 one_due q (Text id) es fixed all = text_due q id fixed es all.rising all.keyed all.carried
@@ -125,7 +129,8 @@ one_due q (Int z) es fixed all =
 not_zero : (n : ℕ) → (suc n == 0) ≡ false
 not_zero n =
     (elim (suc n == 0) as (λ b. (suc n == 0) ≡ b → b ≡ false)
-    [ true ↦ (λ h. absurd (omega (arith, (Decides-eqb (suc n) 0).0 h))) | false ↦ (λ _. refl) ]) refl
+    [ true ↦ (λ h. absurd (omega (arith, (Decides-eqb (suc n) 0).0 h))) | false ↦ (λ _. refl) ])
+    refl
 
 take_none : {X : Type 0} (n : ℕ) → take n (none_of X) ≡ []
 take_none zero = refl
@@ -157,21 +162,22 @@ windowed (suc k) limit (Some d) =
     ap (at_most limit) (drop_none k) ∙ most_none limit
     ∙ ap (λ b. cond (b && not (some_passes (λ n. n == 0) limit)) (d ∷ []) []) (sym (not_zero k))
 
-alone : (q : Asked) (o : Option Stored)
+alone : (q : QuerySpec) (o : Option Stored)
     → sorted (stored_before q) (option_to_list o) ≡ option_to_list o
 alone q None = refl
 alone q (Some d) = refl
 
 -- the result is that document, if it is due and shown
-one_result : (q : Asked) (v : Value) (es : Documents) → operand q q.primary Eq ≡ Some v
+one_result : (q : QuerySpec) (v : Value) (es : Documents) → operand q q.primary Eq ≡ Some v
     → IsCollection q.primary es
     → result_of q (values_of es) ≡ cond (shows_first q) (option_to_list (due_at q es v)) []
 one_result q v es fixed all =
-    ap (λ ds. at_most q.limit (drop q.skip (sorted (stored_before q) ds))) (one_due q v es fixed all)
+    ap (λ ds. at_most q.limit (drop q.skip (sorted (stored_before q) ds)))
+    (one_due q v es fixed all)
     ∙ ap (λ ds. at_most q.limit (drop q.skip ds)) (alone q (due_at q es v))
     ∙ windowed q.skip q.limit (due_at q es v)
 
-pub one_shown : (q : Asked) (v : Value) (es : Documents) → operand q q.primary Eq ≡ Some v
+pub one_shown : (q : QuerySpec) (v : Value) (es : Documents) → operand q q.primary Eq ≡ Some v
     → IsCollection q.primary es → shows_first q ≡ true → (o : Option Stored) → o ≡ due_at q es v
     → option_to_list o ≡ result_of q (values_of es)
 one_shown q v es fixed all shows o is =
@@ -179,7 +185,7 @@ one_shown q v es fixed all shows o is =
     ∙ sym (one_result q v es fixed all
     ∙ ap (λ b. cond b (option_to_list (due_at q es v)) []) shows)
 
-pub one_hidden : (q : Asked) (v : Value) (es : Documents) → operand q q.primary Eq ≡ Some v
+pub one_hidden : (q : QuerySpec) (v : Value) (es : Documents) → operand q q.primary Eq ≡ Some v
     → IsCollection q.primary es → shows_first q ≡ false → [] ≡ result_of q (values_of es)
 one_hidden q v es fixed all hides =
     sym (one_result q v es fixed all

@@ -13,7 +13,7 @@ use Rattle.rx_value.proofs.Lists.{all_taken}
 use Rattle.rx_document.specs.Documents.{Documents}
 use Rattle.rx_document.specs.declared.stored.Stored.{Stored}
 use Rattle.rx_query.proofs.Sorting.{sorted-permutes, ordered-sorted}
-use Rattle.rx_query.specs.Asked.{Asked}
+use Rattle.rx_query.specs.QuerySpec.{QuerySpec}
 use Rattle.rx_query.specs.Lists.{insert_in_order, sorted}
 use Rattle.rx_query.specs.Result.{stored_cmp, stored_before}
 use Rattle.rx_planner.specs.Rows.{if_due, due_among, StandsFor}
@@ -59,7 +59,7 @@ module _ {X : Type 0} where
 
 -- ---- rows
 
-module _ (q : Asked) where
+module _ (q : QuerySpec) where
   abbrev before : Stored → Stored → Bool
   before = stored_before q
 
@@ -162,7 +162,7 @@ module _ (q : Asked) where
 -- ---- what they stand for
 
 -- rows in order stand for themselves
-pub stand : (q : Asked) (n : ℕ) (rows rest : List Stored) → n ≡ length rows
+pub stand : (q : QuerySpec) (n : ℕ) (rows rest : List Stored) → n ≡ length rows
     → IsStrictlySortedBy (stored_cmp q) rows → differ q (rows ++ rest)
     → StandsFor q n (rows ++ rest) rows rest
 stand q n rows rest many up apart = record {
@@ -173,7 +173,7 @@ stand q n rows rest many up apart = record {
 }
 
 -- of the primary keys to come the next is one of a due document, or of none
-module _ (q : Asked) (documents : Documents) (n : ℕ) (all rows : List Stored)
+module _ (q : QuerySpec) (documents : Documents) (n : ℕ) (all rows : List Stored)
     (ids : List (List ℕ)) (id : List ℕ) (rest : List (List ℕ)) (step : ids ≡ id ∷ rest)
     (s : StandsFor q n all rows (due_among q documents ids)) where
   next : StandsFor q n all rows (due_among q documents (id ∷ rest))
@@ -184,7 +184,7 @@ module _ (q : Asked) (documents : Documents) (n : ℕ) (all rows : List Stored)
   next_some d is =
       subst (λ o. StandsFor q n all rows (cons_option o (due_among q documents rest))) is next
 
-module _ (q : Asked) (n : ℕ) (all rows rest : List Stored) (d : Stored)
+module _ (q : QuerySpec) (n : ℕ) (all rows rest : List Stored) (d : Stored)
     (s : StandsFor q n all rows (d ∷ rest)) where
   -- they do without one that comes after the first n
   pub stand_without : ((k : ℕ) (e : Stored) → k < n
@@ -220,7 +220,7 @@ module _ (q : Asked) (n : ℕ) (all rows rest : List Stored) (d : Stored)
       }
 
 -- settled, the first n stand for them
-pub stand_settled : (q : Asked) (n : ℕ) (all rows now rest : List Stored)
+pub stand_settled : (q : QuerySpec) (n : ℕ) (all rows now rest : List Stored)
     → StandsFor q n all rows rest → now ≡ take n (sorted (stored_before q) rows)
     → StandsFor q n all now rest
 stand_settled q n all rows now rest s is =

@@ -17,7 +17,7 @@ use Rattle.rx_selector.specs.Holding.{same_kind, stands, compares, tests_hold, a
 use Rattle.rx_selector.specs.Tree.{compared, differs, one_of, none_of, exists, remainder, negated, Tests, no_tests, test, all, any, nor, on_field, Clauses, no_clauses, clause}
 use Rattle.rx_selector.specs.declared.tree.Compare.{Compare}
 use Rattle.rx_selector.specs.declared.tree.Compare.TheVariants.{Eq, Gt, Gte, Lt, Lte}
-use Rattle.rx_query.specs.Asked.{Asked}
+use Rattle.rx_query.specs.QuerySpec.{QuerySpec}
 use Rattle.rx_query.specs.Result.{is_due}
 use Rattle.rx_index.specs.Index.{is_between}
 use Rattle.rx_index.specs.Position.{position_with, values_cmp, key_of}
@@ -120,11 +120,13 @@ module _ (e w : Value) (xs : List (Option Value)) where
   turned : (b c : Bool) → meets (position_with (Some e ∷ []) b) (Some w ∷ xs) false ≡ c
       → is_le (ordering_then (ordering_reverse (value_cmp w e)) (values_cmp [] b xs false)) ≡ c
   turned b c h =
-      ap (λ o. is_le (ordering_then o (values_cmp [] b xs false))) (sym (value_total.antisymm e w)) ∙ h
+      ap (λ o. is_le (ordering_then o (values_cmp [] b xs false))) (sym (value_total.antisymm e w))
+      ∙ h
 
   is_above : meets (position_with (Some e ∷ []) true) (Some w ∷ xs) false ≡ true
       → is_gt (value_cmp w e) ≡ true
-  is_above h = over (value_cmp w e) (values_cmp [] true xs false) (turned true true h) (past true xs)
+  is_above h =
+      over (value_cmp w e) (values_cmp [] true xs false) (turned true true h) (past true xs)
 
   is_from : meets (position_with (Some e ∷ []) false) (Some w ∷ xs) false ≡ true
       → is_ge (value_cmp w e) ≡ true
@@ -132,7 +134,8 @@ module _ (e w : Value) (xs : List (Option Value)) where
 
   is_below : meets (position_with (Some e ∷ []) false) (Some w ∷ xs) false ≡ false
       → is_lt (value_cmp w e) ≡ true
-  is_below h = under (value_cmp w e) (values_cmp [] false xs false) (turned false false h) (past false xs)
+  is_below h =
+      under (value_cmp w e) (values_cmp [] false xs false) (turned false false h) (past false xs)
 
   is_to : meets (position_with (Some e ∷ []) true) (Some w ∷ xs) false ≡ false
       → is_le (value_cmp w e) ≡ true
@@ -167,7 +170,8 @@ kind_to (Text t) (Int n) xs h = omega arith
 kind_to (Text t) (Text s) xs h = omega arith
 
 -- a missing value stands before them
-not_missing : (e : Value) (xs : List (Option Value)) → meets (kind_end false e) (None ∷ xs) false ≡ true
+not_missing : (e : Value) (xs : List (Option Value)) → meets (kind_end false e) (None ∷ xs) false
+    ≡ true
     → ⊥
 not_missing (Flag b) xs h = false≢true h
 not_missing (Int n) xs h = false≢true h
@@ -177,7 +181,8 @@ not_missing (Text t) xs h = false≢true h
 low_kind : (o l t x : Option Value) (v : Value) (xs : List (Option Value))
     → is_some (option_or (option_or o l) t) ≡ true → has_kind o v ≡ true → has_kind l v ≡ true
     → has_kind t v ≡ true
-    → meets (closed_by false (option_or o l) t (end_by false o l)) (x ∷ xs) false ≡ true → AtLeast v x
+    → meets (closed_by false (option_or o l) t (end_by false o l)) (x ∷ xs) false ≡ true
+    → AtLeast v x
 low_kind (Some e) l t None v xs is ho hl ht h = absurd (false≢true h)
 low_kind (Some e) l t (Some w) v xs is ho hl ht h =
     subst (λ n. n ≤ rank w) (same_rank e v ho)
@@ -213,7 +218,8 @@ some_first : (o l : Option Value) (v : Value) → is_value o v ≡ true → is_s
 some_first (Some e) l v h = refl
 some_first None l v h = absurd (false≢true h)
 
-some_second : (o l : Option Value) (v : Value) → is_value l v ≡ true → is_some (option_or o l) ≡ true
+some_second : (o l : Option Value) (v : Value) → is_value l v ≡ true → is_some (option_or o l)
+    ≡ true
 some_second (Some e) l v h = refl
 some_second None l v h =
     elim l as (λ l. is_value l v ≡ true → is_some l ≡ true)
@@ -263,7 +269,7 @@ module _ (w v : Value) (xs : List (Option Value)) where
   to_it None (Some e) t h is =
       subst (λ z. is_le (value_cmp w z) ≡ true) (is_that e v is) (is_to e w xs h)
 
-module _ (q : Asked) (f : List ℕ) (v : Value) (xs : List (Option Value)) where
+module _ (q : QuerySpec) (f : List ℕ) (v : Value) (xs : List (Option Value)) where
   abbrev lows : Option Value
   lows = option_or (operand q f Gt) (operand q f Gte)
 
@@ -318,14 +324,16 @@ module _ (q : Asked) (f : List ℕ) (v : Value) (xs : List (Option Value)) where
         → meets (closed_end q false f) (x ∷ xs) false ≡ true → AtLeast v x
     at_least which x h =
         low_kind (operand q f Gt) (operand q f Gte) highs x v xs
-        (elim (one_side which h) [ inl a ↦ some_front lows highs a | inr b ↦ some_back lows highs b ])
+        (elim (one_side which h)
+        [ inl a ↦ some_front lows highs a | inr b ↦ some_back lows highs b ])
         of_gt of_gte (kind_or (operand q f Lt) (operand q f Lte) v of_lt of_lte)
 
     at_most : (which : Compare) (w : Value) → bounds q f which v ≡ true
         → meets (closed_end q true f) (Some w ∷ xs) false ≡ false → rank w ≤ rank v
     at_most which w h =
         high_kind (operand q f Lt) (operand q f Lte) lows w v xs
-        (elim (one_side which h) [ inl a ↦ some_back highs lows a | inr b ↦ some_front highs lows b ])
+        (elim (one_side which h)
+        [ inl a ↦ some_back highs lows a | inr b ↦ some_front highs lows b ])
         of_lt of_lte (kind_or (operand q f Gt) (operand q f Gte) v of_gt of_gte)
 
     -- the next field compares with each of its bounds as the selector asks
@@ -349,7 +357,7 @@ level Equal r s h k = (refl, h, k)
 level Greater r s h k = cc
 
 -- a fixed field has the value that the selector asks for
-fixed_holds : (q : Asked) (f : List ℕ) (e v : Value) (which : Compare) (x : Option Value)
+fixed_holds : (q : QuerySpec) (f : List ℕ) (e v : Value) (which : Compare) (x : Option Value)
     → operand q f Eq ≡ Some e → x ≡ Some e → fixes q f which v ≡ true → compares which x v ≡ true
 fixed_holds q f e v Eq x is at h =
     let same : is_eq (value_cmp e v) ≡ true = ap (λ o. is_value o v) (sym is) ∙ h in
@@ -360,7 +368,7 @@ fixed_holds q f e v Gte x is at h = absurd (false≢true h)
 fixed_holds q f e v Lt x is at h = absurd (false≢true h)
 fixed_holds q f e v Lte x is at h = absurd (false≢true h)
 
-module _ (q : Asked) (fields : Pairs) (name : List ℕ) (which : Compare) (v : Value) where
+module _ (q : QuerySpec) (fields : Pairs) (name : List ℕ) (which : Compare) (v : Value) where
   told_holds : (fs : Names)
       → meets (closed_at q false fs) (map (λ f. named fields f) fs) false ≡ true
       → meets (closed_at q true fs) (map (λ f. named fields f) fs) false ≡ false
@@ -369,8 +377,10 @@ module _ (q : Asked) (fields : Pairs) (name : List ℕ) (which : Compare) (v : V
   told_holds (f ∷ fs) low high told =
       let xs = map (λ g. named fields g) fs in
       (elim (operand q f Eq) as (λ o. operand q f Eq ≡ o
-      → meets (fixed_or o (closed_at q false fs) (closed_end q false f)) (named fields f ∷ xs) false ≡ true
-      → meets (fixed_or o (closed_at q true fs) (closed_end q true f)) (named fields f ∷ xs) false ≡ false
+      → meets (fixed_or o (closed_at q false fs) (closed_end q false f))
+      (named fields f ∷ xs) false ≡ true
+      → meets (fixed_or o (closed_at q true fs) (closed_end q true f)) (named fields f ∷ xs) false
+      ≡ false
       → cond (is_some o) (cond (bytes_eq f name) (fixes q f which v) (is_told q fs name which v))
       (bytes_eq f name && bounds q f which v && have_kind q f v) ≡ true
       → compares which (named fields name) v ≡ true) [
@@ -383,18 +393,20 @@ module _ (q : Asked) (fields : Pairs) (name : List ℕ) (which : Compare) (v : V
             → cond b (fixes q f which v) (is_told q fs name which v) ≡ true
             → compares which (named fields name) v ≡ true) [
               | true ↦ (λ same k.
-                  subst (λ n. compares which (named fields n) v ≡ true) ((bytes_eq-Decides f name).0 same)
+                  subst (λ n. compares which (named fields n) v ≡ true)
+                  ((bytes_eq-Decides f name).0 same)
                   (fixed_holds q f e v which (named fields f) is at k))
               | false ↦ (λ same k. told_holds fs r.1 r.2 k)
             ]) refl t)
         | None ↦ (λ is l h t.
             let first = and_parts (bytes_eq f name && bounds q f which v) (have_kind q f v) t in
             let second = and_parts (bytes_eq f name) (bounds q f which v) first.0 in
-            subst (λ n. compares which (named fields n) v ≡ true) ((bytes_eq-Decides f name).0 second.0)
+            subst (λ n. compares which (named fields n) v ≡ true)
+            ((bytes_eq-Decides f name).0 second.0)
             (next_holds q f v xs first.1 which (named fields f) l h second.1))
       ]) refl low high told
 
-module _ (q : Asked) (fields : Pairs) (path : Names)
+module _ (q : QuerySpec) (fields : Pairs) (path : Names)
     (low : meets (closed_at q false path) (map (λ f. named fields f) path) false ≡ true)
     (high : meets (closed_at q true path) (map (λ f. named fields f) path) false ≡ false) where
   tests_told : (name : List ℕ) (ts : Tests) → are_told q path name ts ≡ true
@@ -428,7 +440,8 @@ kept false h = refl
 kept true h = cc
 
 -- a document whose key stands between the closed bounds is due, where they say all
-pub closed_due : (q : Asked) (fields : Names) (d : Stored) → is_exact q (path_of q fields) ≡ true
+pub closed_due : (q : QuerySpec) (fields : Names) (d : Stored) → is_exact q (path_of q fields)
+    ≡ true
     → named d.state.fields q.primary ≡ Some (Text d.state.key)
     → is_between (closed_of q false (path_of q fields)) (closed_of q true (path_of q fields))
     (key_of fields d) ≡ true

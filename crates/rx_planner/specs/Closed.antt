@@ -4,7 +4,7 @@ use Rattle.std.specs.Option.{option_or}
 use Rattle.rx_value.specs.declared.value.Value.{Value}
 use Rattle.rx_value.specs.declared.value.Value.TheVariants.{Flag, Int, Text}
 use Rattle.rx_selector.specs.declared.tree.Compare.TheVariants.{Eq}
-use Rattle.rx_query.specs.Asked.{Asked}
+use Rattle.rx_query.specs.QuerySpec.{QuerySpec}
 use Rattle.rx_index.specs.Position.{Position, position_with}
 use Rattle.rx_planner.specs.Plan.{Names, operand, strict, loose, end_at, fixed_or, behind}
 
@@ -17,7 +17,7 @@ kind_end false (Text t) = position_with (Some (Text []) ∷ []) false
 kind_end true (Text t) = position_with [] true
 
 -- the operand that bounds the field on that side, if there is one
-abbrev pub bounding : Asked → Bool → List ℕ → Option Value
+abbrev pub bounding : QuerySpec → Bool → List ℕ → Option Value
 bounding q up field = option_or (operand q field (strict up)) (operand q field (loose up))
 
 -- where the other side alone has an operand, the end of its kind
@@ -27,15 +27,15 @@ closed_by up None None end = end
 closed_by up (Some v) other end = end
 
 -- the bound of a field that isn't fixed
-abbrev pub closed_end : Asked → Bool → List ℕ → Position
+abbrev pub closed_end : QuerySpec → Bool → List ℕ → Position
 closed_end q up field =
     closed_by up (bounding q up field) (bounding q (not up) field) (end_at q up field)
 
 -- the values of the first fields that are fixed, and the bound of the next one
-abbrev pub closed_at : Asked → Bool → Names → Position
+abbrev pub closed_at : QuerySpec → Bool → Names → Position
 closed_at q up [] = position_with [] up
 closed_at q up (f ∷ fs) = fixed_or (operand q f Eq) (closed_at q up fs) (closed_end q up f)
 
 -- among documents that aren't deleted
-abbrev pub closed_of : Asked → Bool → Names → Position
+abbrev pub closed_of : QuerySpec → Bool → Names → Position
 closed_of q up path = behind (Some (Flag false)) (closed_at q up path)

@@ -9,7 +9,7 @@ use Rattle.rx_value.specs.declared.value.Value.TheVariants.{Flag}
 use Rattle.rx_selector.specs.Operand.{operand_in}
 use Rattle.rx_selector.specs.declared.tree.Compare.{Compare}
 use Rattle.rx_selector.specs.declared.tree.Compare.TheVariants.{Eq, Gt, Gte, Lt, Lte}
-use Rattle.rx_query.specs.Asked.{Asked}
+use Rattle.rx_query.specs.QuerySpec.{QuerySpec}
 use Rattle.rx_query.specs.Lists.{some_passes}
 use Rattle.rx_index.specs.Position.{Position, position_with}
 use Rattle.rx_planner.specs.declared.planned.Plan.{Plan}
@@ -19,34 +19,34 @@ abbrev pub Names : Type 0
 Names = List (List ℕ)
 
 -- what an index orders by: its fields, and then the primary key
-abbrev pub path_of : Asked → Names → Names
+abbrev pub path_of : QuerySpec → Names → Names
 path_of q fields = fields ++ q.primary ∷ []
 
 -- the operand of that operator in the field's direct member of the selector
-abbrev pub operand : Asked → List ℕ → Compare → Option Value
+abbrev pub operand : QuerySpec → List ℕ → Compare → Option Value
 operand q field which = operand_in field which q.clauses
 
 -- the selector asks for one value of the field
-abbrev pub is_fixed : Asked → List ℕ → Bool
+abbrev pub is_fixed : QuerySpec → List ℕ → Bool
 is_fixed q field = is_some (operand q field Eq)
 
 -- how many first fields are fixed
-abbrev pub leading : Asked → Names → ℕ
+abbrev pub leading : QuerySpec → Names → ℕ
 leading q [] = 0
 leading q (f ∷ fs) = if is_fixed q f then suc (leading q fs) else 0
 
 -- the fields after these
-abbrev pub rest_of : Asked → Names → Names
+abbrev pub rest_of : QuerySpec → Names → Names
 rest_of q path = drop (leading q path) path
 
 -- the selector bounds the field
-abbrev pub is_bounded : Asked → List ℕ → Bool
+abbrev pub is_bounded : QuerySpec → List ℕ → Bool
 is_bounded q field =
     is_some (operand q field Gt) || is_some (operand q field Gte)
     || is_some (operand q field Lt) || is_some (operand q field Lte)
 
 -- 2 for each of the first fields that are fixed, and 1 where the next one is bounded
-abbrev pub score : Asked → Names → ℕ
+abbrev pub score : QuerySpec → Names → ℕ
 score q path =
     2 * leading q path
     + (if some_passes (is_bounded q) (slice_get path (leading q path)) then 1 else 0)
@@ -69,7 +69,7 @@ end_by up None (Some v) = position_with (Some v ∷ []) up
 end_by up None None = position_with [] up
 
 -- the bound of a field that isn't fixed
-abbrev pub end_at : Asked → Bool → List ℕ → Position
+abbrev pub end_at : QuerySpec → Bool → List ℕ → Position
 end_at q up field = end_by up (operand q field (strict up)) (operand q field (loose up))
 
 -- with a value in front
@@ -82,39 +82,39 @@ fixed_or (Some v) p end = behind (Some v) p
 fixed_or None p end = end
 
 -- the values of the first fields that are fixed, and the bound of the next one
-abbrev pub bound_at : Asked → Bool → Names → Position
+abbrev pub bound_at : QuerySpec → Bool → Names → Position
 bound_at q up [] = position_with [] up
 bound_at q up (f ∷ fs) = fixed_or (operand q f Eq) (bound_at q up fs) (end_at q up f)
 
 -- among documents that aren't deleted
-abbrev pub bound_of : Asked → Bool → Names → Position
+abbrev pub bound_of : QuerySpec → Bool → Names → Position
 bound_of q up path = behind (Some (Flag false)) (bound_at q up path)
 
 -- ---- order
 
 -- what the query orders by: the fields of its sort, and the primary key where they lack it
-abbrev pub sort_path : Asked → Names
+abbrev pub sort_path : QuerySpec → Names
 sort_path q =
     map (λ s. s.0) q.sorts
     ++ (if is_some (named q.sorts q.primary) then [] else q.primary ∷ [])
 
 -- a field of the sort that isn't reversed, and isn't fixed
-abbrev pub rises_freely : Asked → (List ℕ × Bool) → Bool
+abbrev pub rises_freely : QuerySpec → (List ℕ × Bool) → Bool
 rises_freely q s = not s.1 && not (is_fixed q s.0)
 
 -- an index of this path has the rows in the query's order
-abbrev pub is_ordered : Asked → Names → Bool
+abbrev pub is_ordered : QuerySpec → Names → Bool
 is_ordered q path =
     list_all (rises_freely q) q.sorts && pointwise bytes_eq (sort_path q) (rest_of q path)
 
 -- ---- plans
 
 -- what the k-th index orders by
-abbrev pub path_at : Asked → List Names → ℕ → Names
+abbrev pub path_at : QuerySpec → List Names → ℕ → Names
 path_at q indexes k = path_of q (slice_index_or indexes k [])
 
 -- the index with the greatest score, the first of those, with its bounds
-pub record IsPlan (q : Asked) (indexes : List Names) (plan : Plan) : Type 0 where
+pub record IsPlan (q : QuerySpec) (indexes : List Names) (plan : Plan) : Type 0 where
   pub within : plan.index < length indexes
   pub greatest : (k : ℕ) → k < length indexes
       → score q (path_at q indexes k) ≤ score q (path_at q indexes plan.index)

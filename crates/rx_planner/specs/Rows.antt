@@ -9,30 +9,30 @@ use Rattle.rx_value.specs.declared.value.Value.{Value}
 use Rattle.rx_value.specs.declared.value.Value.TheVariants.{Text}
 use Rattle.rx_document.specs.Documents.{Documents}
 use Rattle.rx_document.specs.declared.stored.Stored.{Stored}
-use Rattle.rx_query.specs.Asked.{Asked}
+use Rattle.rx_query.specs.QuerySpec.{QuerySpec}
 use Rattle.rx_query.specs.Lists.{sorted, some_passes}
 use Rattle.rx_query.specs.Result.{is_due, stored_before, stored_cmp}
 
 -- the document, if it is due
-abbrev pub if_due : Asked → Option Stored → Option Stored
+abbrev pub if_due : QuerySpec → Option Stored → Option Stored
 if_due q None = None
 if_due q (Some d) = only_if (is_due q d) (Some d)
 
 -- the due documents of those primary keys
-abbrev pub due_among : Asked → Documents → List (List ℕ) → List Stored
+abbrev pub due_among : QuerySpec → Documents → List (List ℕ) → List Stored
 due_among q documents ids = filter_map (λ id. if_due q (named documents id)) ids
 
 -- the due document of a primary key, which is a text
-abbrev pub due_at : Asked → Documents → Value → Option Stored
+abbrev pub due_at : QuerySpec → Documents → Value → Option Stored
 due_at q documents (Text id) = if_due q (named documents id)
 due_at q documents _ = None
 
 -- the window takes in a first row
-abbrev pub shows_first : Asked → Bool
+abbrev pub shows_first : QuerySpec → Bool
 shows_first q = q.skip == 0 && not (some_passes (λ limit. limit == 0) q.limit)
 
 -- how many rows the window and what is skipped are, if that is limited
-abbrev pub most_rows : Asked → Option ℕ
+abbrev pub most_rows : QuerySpec → Option ℕ
 most_rows q = option_map (λ limit. q.skip + limit) q.limit
 
 -- no more than are wanted
@@ -47,7 +47,7 @@ IsFull (Some most) n ids = (n ≡ most) ⊎ ((n ≤ most) × (ids ≡ []))
 
 -- the first n of all in order are the first n of these rows and the rest in order; n rows or more
 -- are there, of which the first n are in order, and none tie
-pub record StandsFor (q : Asked) (n : ℕ) (all rows rest : List Stored) : Type 0 where
+pub record StandsFor (q : QuerySpec) (n : ℕ) (all rows rest : List Stored) : Type 0 where
   pub as_many : n ≤ length rows
   pub in_order : IsStrictlySortedBy (stored_cmp q) (take n rows)
   pub apart : IsDistinct (eq_by_cmp (stored_cmp q)) (rows ++ rest)

@@ -1,5 +1,5 @@
 ghost use Rattle.std.specs.Prelude.{◌≡◌, map, IfOk};
-ghost use Rattle.rx_query.specs.Asked.{asked};
+ghost use Rattle.rx_query.specs.QuerySpec.{asked};
 ghost use Rattle.rx_planner.specs.Plan.{strict, loose, end_at, bound_of};
 ghost use Rattle.rx_planner.specs.Onto.{onto};
 

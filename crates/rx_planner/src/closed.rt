@@ -1,5 +1,5 @@
 ghost use Rattle.std.specs.Prelude.{◌≡◌, map, not, IfOk, option_map};
-ghost use Rattle.rx_query.specs.Asked.{asked};
+ghost use Rattle.rx_query.specs.QuerySpec.{asked};
 ghost use Rattle.rx_planner.specs.Closed.{kind_end, bounding, closed_end, closed_of};
 ghost use Rattle.rx_planner.specs.Onto.{onto};
 

@@ -1,7 +1,7 @@
 ghost use Rattle.std.specs.Prelude.{◌≡◌, ◌<◌, ◌^◌, length, map, slice_get, IfOk, IfSome};
 ghost use Rattle.std.specs.Map.{values_of};
 ghost use Rattle.rx_index.specs.Index.{HoldsWhere, is_between, ids_between};
-ghost use Rattle.rx_query.specs.Asked.{asked};
+ghost use Rattle.rx_query.specs.QuerySpec.{asked};
 ghost use Rattle.rx_query.specs.Result.{IsCollection, result_of};
 ghost use Rattle.rx_planner.specs.Count.{in_window};
 ghost use Rattle.rx_planner.specs.Plan.{IsPlan};

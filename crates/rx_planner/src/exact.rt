@@ -1,5 +1,5 @@
 ghost use Rattle.std.specs.Prelude.{◌≡◌, map, option_map};
-ghost use Rattle.rx_query.specs.Asked.{asked};
+ghost use Rattle.rx_query.specs.QuerySpec.{asked};
 ghost use Rattle.rx_selector.specs.Tree.{tests_view, clauses_view};
 ghost use Rattle.rx_planner.specs.Exact.{is_value, has_kind, have_kind, fixes, bounds, is_told, are_told, all_told, is_exact};
 

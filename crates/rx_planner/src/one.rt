@@ -1,6 +1,6 @@
 ghost use Rattle.std.specs.Prelude.{◌≡◌, map, Some, IfOk, option_map};
 ghost use Rattle.std.specs.Map.{values_of};
-ghost use Rattle.rx_query.specs.Asked.{asked};
+ghost use Rattle.rx_query.specs.QuerySpec.{asked};
 ghost use Rattle.rx_query.specs.Result.{IsCollection, result_of};
 ghost use Rattle.rx_planner.specs.Plan.{operand};
 ghost use Rattle.rx_planner.specs.Rows.{due_at, shows_first};

@@ -4,7 +4,7 @@ ghost use Rattle.std.specs.List.Sorted.{IsStrictlySortedBy};
 ghost use Rattle.std.specs.Ordering.{eq_by_cmp};
 ghost use Rattle.rx_value.specs.Named.{named};
 ghost use Rattle.rx_document.specs.declared.stored.Stored.{Stored};
-ghost use Rattle.rx_query.specs.Asked.{asked};
+ghost use Rattle.rx_query.specs.QuerySpec.{asked};
 ghost use Rattle.rx_query.specs.Lists.{sorted, some_passes};
 ghost use Rattle.rx_query.specs.Result.{stored_before, stored_cmp};
 ghost use Rattle.rx_planner.specs.Rows.{if_due, due_among, IsFull, StandsFor};

@@ -1,7 +1,7 @@
 ghost use Rattle.std.specs.Prelude.{◌≡◌, map, drop, slice_get, IfOk, IfSome, option_map};
 ghost use Rattle.std.specs.Map.{values_of};
 ghost use Rattle.rx_index.specs.Index.{HoldsWhere, is_between};
-ghost use Rattle.rx_query.specs.Asked.{asked};
+ghost use Rattle.rx_query.specs.QuerySpec.{asked};
 ghost use Rattle.rx_query.specs.Result.{IsCollection, result_of};
 ghost use Rattle.rx_planner.specs.Plan.{IsPlan};
 ghost use Rattle.rx_planner.specs.Rows.{most_rows};

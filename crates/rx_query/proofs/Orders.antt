@@ -14,7 +14,7 @@ use Rattle.rx_value.specs.Named.{named}
 use Rattle.rx_value.specs.Order.{order_of, text_cmp}
 use Rattle.rx_value.specs.declared.value.Value.TheVariants.{Text}
 use Rattle.rx_value.proofs.Orderings.{both_tie, then_first}
-use Rattle.rx_query.specs.Asked.{Sorts, Asked}
+use Rattle.rx_query.specs.QuerySpec.{Sorts, QuerySpec}
 use Rattle.rx_query.specs.Order.{field_cmp, sort_cmp, sorts_cmp, query_cmp, QueriesOrder, KeysDecide}
 
 -- ---- it is total
@@ -92,19 +92,19 @@ tie_is Equal h = refl
 tie_is Greater h = cc
 
 -- the order of a query, as a test of its sort tells
-abbrev by_sorts : Bool → Asked → Pairs → Pairs → Ordering
+abbrev by_sorts : Bool → QuerySpec → Pairs → Pairs → Ordering
 by_sorts b q x y =
     cond b (sorts_cmp q.sorts x y) (ordering_then (sorts_cmp q.sorts x y) (field_cmp q.primary x y))
 
 -- it is by the sort's fields where these decide
-pub sorts_decide : (q : Asked) (x y : Pairs) → is_ne (sorts_cmp q.sorts x y) ≡ true
+pub sorts_decide : (q : QuerySpec) (x y : Pairs) → is_ne (sorts_cmp q.sorts x y) ≡ true
     → query_cmp q x y ≡ sorts_cmp q.sorts x y
 sorts_decide q x y h =
     elim (is_some (named q.sorts q.primary)) as (λ b. by_sorts b q x y ≡ sorts_cmp q.sorts x y)
     [ true ↦ refl | false ↦ then_first (sorts_cmp q.sorts x y) (field_cmp q.primary x y) h ]
 
 -- and else by the primary key
-pub key_decides : (q : Asked) (x y : Pairs) → is_ne (sorts_cmp q.sorts x y) ≡ false
+pub key_decides : (q : QuerySpec) (x y : Pairs) → is_ne (sorts_cmp q.sorts x y) ≡ false
     → query_cmp q x y ≡ field_cmp q.primary x y
 key_decides q x y h =
     let tie = tie_is (sorts_cmp q.sorts x y) h in
@@ -115,7 +115,7 @@ key_decides q x y h =
     ]) refl
 
 -- what ties has one primary key
-key_tie : (q : Asked) (x y : Pairs) → query_cmp q x y ≡ Equal → field_cmp q.primary x y ≡ Equal
+key_tie : (q : QuerySpec) (x y : Pairs) → query_cmp q x y ≡ Equal → field_cmp q.primary x y ≡ Equal
 key_tie q x y =
     (elim (is_some (named q.sorts q.primary)) as (λ b. is_some (named q.sorts q.primary) ≡ b
     → by_sorts b q x y ≡ Equal → field_cmp q.primary x y ≡ Equal) [

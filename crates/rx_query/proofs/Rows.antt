@@ -17,7 +17,7 @@ use Rattle.rx_value.specs.declared.value.Value.TheVariants.{Text}
 use Rattle.rx_value.proofs.Lists.{map-filter}
 use Rattle.rx_document.specs.Documents.{Documents}
 use Rattle.rx_document.specs.declared.stored.Stored.{Stored}
-use Rattle.rx_query.specs.Asked.{Asked}
+use Rattle.rx_query.specs.QuerySpec.{QuerySpec}
 use Rattle.rx_query.specs.Lists.{sorted}
 use Rattle.rx_query.specs.Result.{is_due, stored_cmp, stored_before, at_most, result_of, AreKeyed, ResultsAreDetermined, CollectionsAreKeyed}
 use Rattle.rx_query.proofs.Orders.{query_total, keys_decide}
@@ -36,7 +36,8 @@ module _ {A B : Type 0} (f : A → B) where
   map-drop (suc n) [] = refl
   map-drop (suc n) (x ∷ xs) = map-drop n xs
 
-  pub map-cut : (limit : Option ℕ) (xs : List A) → map f (at_most limit xs) ≡ at_most limit (map f xs)
+  pub map-cut : (limit : Option ℕ) (xs : List A) → map f (at_most limit xs)
+      ≡ at_most limit (map f xs)
   map-cut None xs = refl
   map-cut (Some n) xs = map-take n xs
 
@@ -67,7 +68,7 @@ module _ {A B : Type 0} (f : A → B) where
 -- ---- documents with distinct keys don't tie
 
 -- one that carries another key
-apart : (q : Asked) (x y : Stored) → named x.state.fields q.primary ≡ Some (Text x.state.key)
+apart : (q : QuerySpec) (x y : Stored) → named x.state.fields q.primary ≡ Some (Text x.state.key)
     → named y.state.fields q.primary ≡ Some (Text y.state.key)
     → bytes_eq x.state.key y.state.key ≡ false → eq_by_cmp (stored_cmp q) x y ≡ false
 apart q x y at_x at_y differ =
@@ -77,7 +78,7 @@ apart q x y at_x at_y differ =
     ((Equal-is (stored_cmp q x y)).0 tie))
 
 -- one and all others
-apart_due : (q : Asked) (x : Stored) (docs : List Stored)
+apart_due : (q : QuerySpec) (x : Stored) (docs : List Stored)
     → named x.state.fields q.primary ≡ Some (Text x.state.key)
     → AllByRecursion (λ k. bytes_eq x.state.key k ≡ false) (map (λ d. d.state.key) docs)
     → AllByRecursion (λ d. named d.state.fields q.primary ≡ Some (Text d.state.key)) docs
@@ -90,7 +91,8 @@ apart_due q x (d ∷ docs) at differ carried =
     [ true ↦ (apart q x d at carried.0 differ.0, rest) | false ↦ rest ]
 
 -- all that are due
-distinct_due : (q : Asked) (docs : List Stored) → IsDistinct bytes_eq (map (λ d. d.state.key) docs)
+distinct_due : (q : QuerySpec) (docs : List Stored)
+    → IsDistinct bytes_eq (map (λ d. d.state.key) docs)
     → AllByRecursion (λ d. named d.state.fields q.primary ≡ Some (Text d.state.key)) docs
     → IsDistinct (eq_by_cmp (stored_cmp q)) (filter (is_due q) docs)
 unfolding IsDistinct
@@ -104,7 +106,7 @@ distinct_due q (d ∷ docs) differ carried =
 -- ---- there is one result
 
 -- documents in the order of a query are in total order
-stored_total : (q : Asked) → IsTotalOrder (stored_cmp q)
+stored_total : (q : QuerySpec) → IsTotalOrder (stored_cmp q)
 stored_total q = on_total (λ (d : Stored). d.state.fields) (query_total q)
 
 pub one_result : ResultsAreDetermined
@@ -130,10 +132,11 @@ abbrev pub lent : List (Bor Stored) → List Stored
 lent = map (λ d. d.now)
 
 -- and their order
-abbrev pub lent_cmp : Asked → Bor Stored → Bor Stored → Ordering
+abbrev pub lent_cmp : QuerySpec → Bor Stored → Bor Stored → Ordering
 lent_cmp q a b = stored_cmp q a.now b.now
 
-pub sort_gives : (q : Asked) (docs all rows : List (Bor Stored)) → AreKeyed q.primary (lent docs)
+pub sort_gives : (q : QuerySpec) (docs all rows : List (Bor Stored))
+    → AreKeyed q.primary (lent docs)
     → IsPermutation (filter (λ d. is_due q d.now) docs) all
     → IsSortedBy (λ a b. is_lt (lent_cmp q a b)) all → rows ≡ at_most q.limit (drop q.skip all)
     → lent rows ≡ result_of q (lent docs)

@@ -20,7 +20,7 @@ use Rattle.rx_table.specs.declared.action.Action.TheVariants.{
   RunFullQueryAgain,
   InsertAtSortPositionRemoveLast,
 }
-use Rattle.rx_query.specs.Asked.{Asked}
+use Rattle.rx_query.specs.QuerySpec.{QuerySpec}
 use Rattle.rx_query.specs.Lists.{insert_in_order, without_last, without_first, replaced_first}
 use Rattle.rx_query.specs.States.{precedes, is_changed}
 use Rattle.rx_query.specs.declared.results.Row.{Row}
@@ -42,7 +42,7 @@ abbrev pub with_last : Change → List Row → List Row
 with_last = with_row (λ row rows. rows ++ row ∷ [])
 
 -- with it before the first row that it precedes, or at the end
-abbrev pub with_placed : Asked → Change → List Row → List Row
+abbrev pub with_placed : QuerySpec → Change → List Row → List Row
 with_placed q = with_row (insert_in_order (λ x y. precedes q x.fields y.fields))
 
 -- with it in the place of the document's old row
@@ -54,7 +54,7 @@ abbrev pub without_changed : Change → List Row → List Row
 without_changed c = without_first (is_changed c)
 
 -- the rows after the action. To query again is no change of rows.
-abbrev pub after : Action → Asked → Change → List Row → List Row
+abbrev pub after : Action → QuerySpec → Change → List Row → List Row
 after DoNothing q c rows = rows
 after InsertFirst q c rows = with_first c rows
 after InsertLast q c rows = with_last c rows

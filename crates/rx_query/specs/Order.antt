@@ -8,7 +8,7 @@ use Rattle.rx_value.specs.Fields.{Pairs}
 use Rattle.rx_value.specs.Named.{named}
 use Rattle.rx_value.specs.Order.{order_of}
 use Rattle.rx_value.specs.declared.value.Value.TheVariants.{Text}
-use Rattle.rx_query.specs.Asked.{Sorts, Asked}
+use Rattle.rx_query.specs.QuerySpec.{Sorts, QuerySpec}
 
 -- by the field of that name
 abbrev pub field_cmp : List ℕ → Pairs → Pairs → Ordering
@@ -25,16 +25,16 @@ sorts_cmp [] x y = Equal
 sorts_cmp (s ∷ ss) x y = ordering_then (sort_cmp s.0 s.1 x y) (sorts_cmp ss x y)
 
 -- by the sort's fields in turn, and then by the primary key where the sort lacks it
-abbrev pub query_cmp : Asked → Pairs → Pairs → Ordering
+abbrev pub query_cmp : QuerySpec → Pairs → Pairs → Ordering
 query_cmp q x y =
     if is_some (named q.sorts q.primary) then sorts_cmp q.sorts x y
     else ordering_then (sorts_cmp q.sorts x y) (field_cmp q.primary x y)
 
 -- it is a total order
 abbrev pub QueriesOrder : Type 0
-QueriesOrder = (q : Asked) → IsTotalOrder (query_cmp q)
+QueriesOrder = (q : QuerySpec) → IsTotalOrder (query_cmp q)
 
 -- and decides between documents that carry different keys
 abbrev pub KeysDecide : Type 0
-KeysDecide = (q : Asked) (x y : Pairs) (k l : List ℕ) → named x q.primary ≡ Some (Text k)
+KeysDecide = (q : QuerySpec) (x y : Pairs) (k l : List ℕ) → named x q.primary ≡ Some (Text k)
     → named y q.primary ≡ Some (Text l) → k ≢ l → query_cmp q x y ≢ Equal

@@ -9,7 +9,7 @@ use Rattle.rx_value.specs.Named.{named}
 use Rattle.rx_selector.specs.Reading.{KindPairs, selector_of}
 use Rattle.rx_selector.specs.Tree.{Clauses, no_clauses}
 use Rattle.rx_selector.specs.declared.fault.SelectorFault.{SelectorFault}
-use Rattle.rx_query.specs.Asked.{Sorts, Asked}
+use Rattle.rx_query.specs.QuerySpec.{Sorts, QuerySpec}
 use Rattle.rx_query.specs.Faults.{of_selector}
 use Rattle.rx_query.specs.declared.fault.QueryFault.{QueryFault}
 use Rattle.rx_query.specs.declared.fault.QueryFault.TheVariants.{NotObject, Member, Sort, Skip, Limit}
@@ -71,7 +71,7 @@ abbrev pub limit_of : ℕ → Option ℕ
 limit_of limit = only_if (nat_lt 0 limit) (Some limit)
 
 -- the query that a JSON value says, or the first fault
-abbrev pub query_of : KindPairs → List ℕ → Data → Result Asked QueryFault
+abbrev pub query_of : KindPairs → List ℕ → Data → Result QuerySpec QueryFault
 query_of kinds primary d =
     or_fault NotObject (as_object d)
     >> λ _. unless Member (unexpected [] query_members d)

@@ -31,7 +31,7 @@ use Rattle.rx_table.specs.declared.states.StateName.TheVariants.{
   WasMatching,
   DoesMatchNow,
 }
-use Rattle.rx_query.specs.Asked.{Asked}
+use Rattle.rx_query.specs.QuerySpec.{QuerySpec}
 use Rattle.rx_query.specs.Lists.{some_passes, first_passes, last_passes}
 use Rattle.rx_query.specs.Order.{sorts_cmp, query_cmp}
 use Rattle.rx_query.specs.declared.results.Row.{Row}
@@ -49,15 +49,15 @@ is_unknown Absent = false
 is_unknown (Live fields) = false
 
 -- the selector holds of such fields
-abbrev pub is_match : Asked → Pairs → Bool
+abbrev pub is_match : QuerySpec → Pairs → Bool
 is_match q x = all_hold q.clauses x
 
 -- one precedes the other in the order of the query
-abbrev pub precedes : Asked → Pairs → Pairs → Bool
+abbrev pub precedes : QuerySpec → Pairs → Pairs → Bool
 precedes q x y = is_lt (query_cmp q x y)
 
 -- no field of the sort tells them apart
-abbrev pub ties : Asked → Pairs → Pairs → Bool
+abbrev pub ties : QuerySpec → Pairs → Pairs → Bool
 ties q x y = is_eq (sorts_cmp q.sorts x y)
 
 -- the row is the changed document's
@@ -65,15 +65,15 @@ abbrev pub is_changed : Change → Row → Bool
 is_changed c row = bytes_eq row.id c.id
 
 -- the first row is the changed document's, or stands after such fields
-abbrev pub before_first : Asked → Change → List Row → Pairs → Bool
+abbrev pub before_first : QuerySpec → Change → List Row → Pairs → Bool
 before_first q c rows x = first_passes (λ row. is_changed c row || precedes q x row.fields) rows
 
 -- the last row is the changed document's, or stands before such fields
-abbrev pub after_last : Asked → Change → List Row → Pairs → Bool
+abbrev pub after_last : QuerySpec → Change → List Row → Pairs → Bool
 after_last q c rows x = last_passes (λ row. is_changed c row || precedes q row.fields x) rows
 
 -- whether a state holds
-abbrev pub state_of : Asked → Change → List Row → StateName → Bool
+abbrev pub state_of : QuerySpec → Change → List Row → StateName → Bool
 state_of q c rows IsInsert = not (is_some (live_before c.before)) && is_some c.after
 state_of q c rows IsUpdate = is_some (live_before c.before) && is_some c.after
 state_of q c rows IsDelete = is_some (live_before c.before) && not (is_some c.after)
@@ -105,10 +105,10 @@ unfoldable pub number_of : (StateName → Bool) → ℕ
 number_of is = number (map is all_states)
 
 -- the number whose bits are the states
-abbrev pub bits_of : Asked → Change → List Row → ℕ
+abbrev pub bits_of : QuerySpec → Change → List Row → ℕ
 bits_of q c rows = number_of (state_of q c rows)
 
 -- a row of the document is there only where the document was live and matched
-abbrev pub OnlyMatchingInside : Asked → Change → List Row → Type 0
+abbrev pub OnlyMatchingInside : QuerySpec → Change → List Row → Type 0
 OnlyMatchingInside q c rows =
     state_of q c rows WasInResult ≡ true → state_of q c rows WasMatching ≡ true

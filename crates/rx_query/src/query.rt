@@ -19,7 +19,7 @@ pub struct Query {
 }
 
 impl Query {
-    ghost use Rattle.rx_query.specs.Asked.{asked};
+    ghost use Rattle.rx_query.specs.QuerySpec.{asked};
     ghost use Rattle.rx_query.specs.Order.{query_cmp};
 
     /// How two documents stand in the order of the query.

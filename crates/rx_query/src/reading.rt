@@ -4,7 +4,7 @@ ghost use Rattle.serde_json.specs.View.{view, items_view};
 ghost use Rattle.rx_value.specs.Due.{Due, DueBy};
 ghost use Rattle.rx_value.specs.Named.{named};
 ghost use Rattle.rx_selector.specs.Tree.{selector_clauses};
-ghost use Rattle.rx_query.specs.Asked.{asked};
+ghost use Rattle.rx_query.specs.QuerySpec.{asked};
 ghost use Rattle.rx_query.specs.Reading.{selector_in, is_desc, only_member, sort_of, items_sorts, sorts_in, count_at, query_of};
 ghost use Rattle.rx_query.specs.declared.fault.QueryFault.TheVariants.{Memory};
 

@@ -4,7 +4,7 @@ use Rattle.rx_document.specs.declared.place.Place.{Place}
 use Rattle.rx_record.specs.Reading.{Reading, ◌▸◌}
 use Rattle.rx_record.specs.Parts.{flag_bytes, flag_of, option_bytes, option_of, number_bytes, number_of, text_bytes, text_of}
 use Rattle.rx_record.specs.Rows.{state_bytes, state_key, state_of, states_bytes, states_of, row_bytes, key_of, row_of, rows_bytes, rows_of}
-use Rattle.rx_record.specs.Places.{is_time, time_of, place_bytes, place_of}
+use Rattle.rx_record.specs.Places.{is_time, time_of, place_bytes, read_place}
 use Rattle.rx_record.specs.Masters.{master_bytes, master_of}
 use Rattle.rx_record.specs.Writable.{Fits, IsWritablePlace, MasterFits, AreWritableRows, AreWritableStates}
 use Rattle.rx_record.specs.declared.record.MasterName.TheVariants.{Local, Port}
@@ -195,7 +195,7 @@ time_format = record {
       subst (λ k. is_time k ≡ true) (same_parts p.part n p.more rest held.1).0 held.0;
 }
 
-pub place_format : IsFormat place_bytes place_of IsWritablePlace
+pub place_format : IsFormat place_bytes read_place IsWritablePlace
 place_format = whole_format place_bytes IsWritablePlace
     (next place_bytes IsWritablePlace time_format (λ l. l) _ (λ lwt time.
     last place_bytes IsWritablePlace text_format (λ l. number_bytes w64 lwt ++ l)

@@ -1,6 +1,6 @@
 -- Things one after another by rising name.
 use Rattle.std.proofs.Common.{◌≡◌, ℕ, zero, suc, ◌-◌, ◌<◌, List, [], ◌∷◌, ◌++◌, length, Option, Some, None, Ok, Err, refl, ap, sym, ◌∙◌, arith, append_assoc, w32, subst}
-use Rattle.rx_record.specs.Reading.{Reading, ◌▸◌, after}
+use Rattle.rx_record.specs.Reading.{Reading, ◌▸◌, rest_after}
 use Rattle.rx_record.specs.Parts.{number_bytes, number_of}
 use Rattle.rx_record.specs.Fields.{all_bytes, rising_of, list_bytes, list_of}
 use Rattle.rx_record.proofs.Steps.{parted, joined, same_parts, read_as, IsRead, AreBytes, bytes_behind}
@@ -8,14 +8,16 @@ use Rattle.rx_record.proofs.Numbers.{digits_32, number_is_read}
 
 module _ {A : Type 0} (bytes name : A → List ℕ) (part : Option (List ℕ) → List ℕ → Reading A) where
   -- what stands before does not change the end
-  after_cons : (x : A) (m : Reading (List A)) → after (m ▸ λ xs rest. Ok (x ∷ xs, rest)) ≡ after m
+  after_cons : (x : A) (m : Reading (List A)) → rest_after (m ▸ λ xs rest. Ok (x ∷ xs, rest))
+      ≡ rest_after m
   after_cons x (Ok p) = refl
   after_cons x (Err left) = refl
 
   -- past one thing
   pub after_step : (n : ℕ) (last : Option (List ℕ)) (bs : List ℕ) (x : A) (more : List ℕ) → 0 < n
       → part last bs ≡ Ok (x, more)
-      → after (rising_of name part n last bs) ≡ after (rising_of name part (n - 1) (Some (name x)) more)
+      → rest_after (rising_of name part n last bs)
+      ≡ rest_after (rising_of name part (n - 1) (Some (name x)) more)
   after_step zero last bs x more some h = absurd (omega arith)
   after_step (suc n) last bs x more some h =
       let less : suc n - 1 ≡ n = omega arith in
@@ -44,11 +46,13 @@ module _ {A : Type 0} (bytes name : A → List ℕ) (part : Option (List ℕ) �
       → part last bs ≡ Ok (x, rest) → IsRead bytes (part last) bs x rest
 
   -- so many things were read
-  pub record AreRead (n : ℕ) (last : Option (List ℕ)) (bs : List ℕ) (xs : List A) (rest : List ℕ) : Type 0 where
+  pub record AreRead (n : ℕ) (last : Option (List ℕ)) (bs : List ℕ) (xs : List A)
+      (rest : List ℕ) : Type 0 where
     pub many : length xs ≡ n
     pub read : IsRead (all_bytes bytes) (rising_of name part n last) bs xs rest
 
-  pub rising_are_read : PartIsRead → (n : ℕ) (last : Option (List ℕ)) (bs : List ℕ) (xs : List A) (rest : List ℕ)
+  pub rising_are_read : PartIsRead
+      → (n : ℕ) (last : Option (List ℕ)) (bs : List ℕ) (xs : List A) (rest : List ℕ)
       → AreBytes bs → rising_of name part n last bs ≡ Ok (xs, rest) → AreRead n last bs xs rest
   rising_are_read law zero last bs xs rest small h =
       let parts = same_parts [] xs bs rest h in
@@ -58,7 +62,8 @@ module _ {A : Type 0} (bytes name : A → List ℕ) (part : Option (List ℕ) �
         many = ap length (sym none);
         read = record {
           spelled = left ∙ ap (λ l. all_bytes bytes l ++ rest) none;
-          again = λ more. ap (λ l. Ok (l, all_bytes bytes xs ++ more)) none ∙ ap (λ l. Ok (xs, all_bytes bytes l ++ more)) (sym none);
+          again = λ more. ap (λ l. Ok (l, all_bytes bytes xs ++ more)) none
+              ∙ ap (λ l. Ok (xs, all_bytes bytes l ++ more)) (sym none);
         };
       }
   rising_are_read law (suc n) last bs xs rest small h =
@@ -71,7 +76,8 @@ module _ {A : Type 0} (bytes name : A → List ℕ) (part : Option (List ℕ) �
       record {
         many = ap length (sym all) ∙ ap suc others.many;
         read = read_as (p.part ∷ q.part) xs q.more rest (record {
-          spelled = joined (bytes p.part) (all_bytes bytes q.part) q.more p.more bs one.spelled others.read.spelled;
+          spelled = joined (bytes p.part)
+              (all_bytes bytes q.part) q.more p.more bs one.spelled others.read.spelled;
           again = λ more. rising_back n last p.part q.part more
               (one.again (all_bytes bytes q.part ++ more)) (others.read.again more);
         }) q.second;
@@ -79,7 +85,8 @@ module _ {A : Type 0} (bytes name : A → List ℕ) (part : Option (List ℕ) �
 
   -- what a list reads stands in the bytes
   pub list_is_read : PartIsRead → (bs : List ℕ) (xs : List A) (rest : List ℕ) → AreBytes bs
-      → list_of name part bs ≡ Ok (xs, rest) → IsRead (list_bytes bytes) (list_of name part) bs xs rest
+      → list_of name part bs ≡ Ok (xs, rest)
+      → IsRead (list_bytes bytes) (list_of name part) bs xs rest
   list_is_read law bs xs rest small h =
       let p = parted (number_of w32 bs) _ (xs, rest) h in
       let count = number_is_read w32 digits_32 bs p.part p.more small p.first in
@@ -90,7 +97,9 @@ module _ {A : Type 0} (bytes name : A → List ℕ) (part : Option (List ℕ) �
         spelled = joined (number_bytes w32 (length xs)) (all_bytes bytes xs) rest p.more bs
             (count.spelled ∙ ap (λ k. number_bytes w32 k ++ p.more) (sym many)) things.read.spelled;
         again = λ more. list_back xs more
-            (subst (λ k. number_of w32 (number_bytes w32 k ++ (all_bytes bytes xs ++ more)) ≡ Ok (k, all_bytes bytes xs ++ more))
+            (subst (λ k. number_of w32 (number_bytes w32 k ++ (all_bytes bytes xs ++ more))
+            ≡ Ok (k, all_bytes bytes xs ++ more))
             (sym many) (count.again (all_bytes bytes xs ++ more)))
-            (subst (λ k. rising_of name part k None (all_bytes bytes xs ++ more) ≡ Ok (xs, more)) (sym many) (things.read.again more));
+            (subst (λ k. rising_of name part k None (all_bytes bytes xs ++ more) ≡ Ok (xs, more))
+            (sym many) (things.read.again more));
       }

@@ -1,6 +1,6 @@
 -- What was passed over is lent.
 use Rattle.std.proofs.Common.{◌≡◌, ℕ, ◌-◌, ◌≤◌, List, [], length, take, true, Ok, Err, None, ap, sym, ◌∙◌, w32}
-use Rattle.rx_record.specs.Reading.{Reading, after, read_or, is_whole}
+use Rattle.rx_record.specs.Reading.{Reading, rest_after, read_or, is_whole}
 use Rattle.rx_record.specs.Parts.{number_of}
 use Rattle.rx_record.specs.Fields.{pairs_of, fields_of, fields_bytes, all_bytes}
 use Rattle.rx_record.specs.Rows.{state_bytes, state_of, state_key, states_from, row_bytes, row_of, key_of, rows_from}
@@ -9,19 +9,20 @@ use Rattle.rx_record.proofs.Steps.{done, IsRead, AreBytes, rest_within, read_alo
 use Rattle.rx_record.proofs.States.{fields_are_read, state_is_read, row_is_read}
 
 -- what was passed over was read
-passed : {A : Type 0} (none : A) (m : Reading A) (rest : List ℕ) → after m ≡ Ok rest
+passed : {A : Type 0} (none : A) (m : Reading A) (rest : List ℕ) → rest_after m ≡ Ok rest
     → m ≡ done (read_or none m) rest
 passed none (Ok p) rest h = let e : p.1 ≡ rest = cc in ap (λ r. done p.0 r) e
 passed none (Err left) rest h = cc
 
 -- the bytes that it took show what was read
-pub record IsLent {A : Type 0} (none : A) (of : List ℕ → Reading A) (bs rest : List ℕ) : Type 0 where
+pub record IsLent {A : Type 0} (none : A) (of : List ℕ → Reading A)
+    (bs rest : List ℕ) : Type 0 where
   pub within : length rest ≤ length bs
   pub exact : of bs ≡ Ok (read_or none (of (take (length bs - length rest) bs)), rest)
   pub whole : is_whole (of (take (length bs - length rest) bs)) ≡ true
 
 lent : {A : Type 0} (none : A) (bytes : A → List ℕ) (of : List ℕ → Reading A) (bs rest : List ℕ)
-    → ((x : A) → of bs ≡ Ok (x, rest) → IsRead bytes of bs x rest) → after (of bs) ≡ Ok rest
+    → ((x : A) → of bs ≡ Ok (x, rest) → IsRead bytes of bs x rest) → rest_after (of bs) ≡ Ok rest
     → IsLent none of bs rest
 lent none bytes of bs rest law h =
     let all = passed none (of bs) rest h in
@@ -35,20 +36,24 @@ lent none bytes of bs rest law h =
 
 -- so fields are lent by their bytes
 pub fields_lent : (bs pairs rest : List ℕ) (n : ℕ) → AreBytes bs → number_of w32 bs ≡ Ok (n, pairs)
-    → after (pairs_of n None pairs) ≡ Ok rest → IsLent [] fields_of bs rest
+    → rest_after (pairs_of n None pairs) ≡ Ok rest → IsLent [] fields_of bs rest
 fields_lent bs pairs rest n small count h =
     lent [] fields_bytes fields_of bs rest (λ ps. fields_are_read bs ps rest small) (rw count h)
 
 -- and rows
-pub rows_lent : (bs rest : List ℕ) (n : ℕ) → AreBytes bs → after (rows_from n None bs) ≡ Ok rest
+pub rows_lent : (bs rest : List ℕ) (n : ℕ) → AreBytes bs → rest_after (rows_from n None bs)
+    ≡ Ok rest
     → IsLent [] (rows_from n None) bs rest
 rows_lent bs rest n small h =
     lent [] (all_bytes row_bytes) (rows_from n None) bs rest
-    (λ rows read. (rising_are_read row_bytes key_of row_of row_is_read n None bs rows rest small read).read) h
+    (λ rows read.
+    (rising_are_read row_bytes key_of row_of row_is_read n None bs rows rest small read).read) h
 
 -- and states
-pub states_lent : (bs rest : List ℕ) (n : ℕ) → AreBytes bs → after (states_from n None bs) ≡ Ok rest
+pub states_lent : (bs rest : List ℕ) (n : ℕ) → AreBytes bs → rest_after (states_from n None bs)
+    ≡ Ok rest
     → IsLent [] (states_from n None) bs rest
 states_lent bs rest n small h =
     lent [] (all_bytes state_bytes) (states_from n None) bs rest
-    (λ states read. (rising_are_read state_bytes state_key state_of state_is_read n None bs states rest small read).read) h
+    (λ states read. (rising_are_read state_bytes state_key state_of state_is_read n None bs states
+    rest small read).read) h

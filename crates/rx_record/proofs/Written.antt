@@ -14,7 +14,7 @@ use Rattle.rx_record.specs.Reading.{Reading, ◌▸◌}
 use Rattle.rx_record.specs.Parts.{flag_bytes, option_bytes, option_of, number_bytes, number_of, text_bytes, text_of, is_above}
 use Rattle.rx_record.specs.Fields.{value_bytes, value_of, pair_bytes, pair_of, all_bytes, rising_of, list_bytes, list_of, fields_bytes, fields_of}
 use Rattle.rx_record.specs.Rows.{row_bytes, row_of, key_of, rows_bytes, rows_of, state_bytes, state_of, state_key, states_bytes, states_of}
-use Rattle.rx_record.specs.Places.{place_bytes, place_of}
+use Rattle.rx_record.specs.Places.{place_bytes, read_place}
 use Rattle.rx_record.specs.Masters.{master_bytes, master_of}
 use Rattle.rx_record.specs.Content.{Content, rows, replication, exchange, rows_kind, replication_kind, exchange_kind, content_bytes, content_of}
 use Rattle.rx_record.specs.declared.record.MasterName.{MasterName}
@@ -42,26 +42,32 @@ second_fits a b fits = omega (arith, length-append a b)
 pub text_reads_back : (t : List ℕ) → IsUtf8 t → ShortReadsBack text_bytes text_of t
 text_reads_back t text fits more =
     text_back t more (is_utf8-from_IsUtf8 t text)
-    (number_back w32 digits_32 (length t) (t ++ more) (second_fits (number_bytes w32 (length t)) t fits))
+    (number_back w32 digits_32 (length t) (t ++ more)
+    (second_fits (number_bytes w32 (length t)) t fits))
 
 -- a pair is, where its name is above the last
 abbrev pub PairReadsBack : Pair → Type 0
-PairReadsBack p = (last : Option (List ℕ)) → is_above last p.0 ≡ true → ShortReadsBack pair_bytes (pair_of last) p
+PairReadsBack p = (last : Option (List ℕ)) → is_above last p.0 ≡ true
+    → ShortReadsBack pair_bytes (pair_of last) p
 
-pub pair_reads_back : (p : Pair) → ShortReadsBack text_bytes text_of p.0 → ShortReadsBack value_bytes value_of p.1
+pub pair_reads_back : (p : Pair) → ShortReadsBack text_bytes text_of p.0
+    → ShortReadsBack value_bytes value_of p.1
     → PairReadsBack p
 pair_reads_back p name value last above fits more =
     let name_back = name (first_fits (text_bytes p.0) (value_bytes p.1) fits) in
     let value_back = value (second_fits (text_bytes p.0) (value_bytes p.1) fits) in
     pair_back last p more
-    (above_back last p.0 (value_bytes p.1 ++ more) above (name_back (value_bytes p.1 ++ more))) (value_back more)
+    (above_back last p.0 (value_bytes p.1 ++ more) above (name_back (value_bytes p.1 ++ more)))
+    (value_back more)
 
 -- a row is, where its key is above the last
 abbrev pub RowReadsBack : RowOut → Type 0
-RowReadsBack r = (last : Option (List ℕ)) → is_above last (key_of r) ≡ true → ShortReadsBack row_bytes (row_of last) r
+RowReadsBack r = (last : Option (List ℕ)) → is_above last (key_of r) ≡ true
+    → ShortReadsBack row_bytes (row_of last) r
 
 pub row_reads_back : (r : RowOut) → ReadsBack (number_bytes w64) (number_of w64) r.height
-    → ((last : Option (List ℕ)) → is_above last (key_of r) ≡ true → ShortReadsBack state_bytes (state_of last) r.state)
+    → ((last : Option (List ℕ)) → is_above last (key_of r) ≡ true
+    → ShortReadsBack state_bytes (state_of last) r.state)
     → RowReadsBack r
 row_reads_back r height state last above fits more =
     row_back last r more (height (state_bytes r.state ++ more))
@@ -69,46 +75,55 @@ row_reads_back r height state last above fits more =
 
 -- a state is, where its key is above the last
 abbrev pub StateReadsBack : State → Type 0
-StateReadsBack s = (last : Option (List ℕ)) → is_above last s.key ≡ true → ShortReadsBack state_bytes (state_of last) s
+StateReadsBack s = (last : Option (List ℕ)) → is_above last s.key ≡ true
+    → ShortReadsBack state_bytes (state_of last) s
 
 module _ {A : Type 0} (bytes name : A → List ℕ) (part : Option (List ℕ) → List ℕ → Reading A) where
   -- a thing is, where its name is above the last
   abbrev ThingReadsBack : A → Type 0
-  ThingReadsBack x = (last : Option (List ℕ)) → is_above last (name x) ≡ true → ShortReadsBack bytes (part last) x
+  ThingReadsBack x = (last : Option (List ℕ)) → is_above last (name x) ≡ true
+      → ShortReadsBack bytes (part last) x
 
   -- the first name is above the last
   abbrev BeginsAbove : Option (List ℕ) → List A → Type 0
   BeginsAbove last [] = Unit {0}
   BeginsAbove last (x ∷ xs) = is_above last (name x) ≡ true
 
-  begins_above : (x : A) (xs : List A) → AllByRecursion (λ k. text_cmp (name x) k ≡ Less) (map name xs) → BeginsAbove (Some (name x)) xs
+  begins_above : (x : A) (xs : List A) → AllByRecursion (λ k. text_cmp (name x) k ≡ Less)
+      (map name xs) → BeginsAbove (Some (name x)) xs
   begins_above x [] all = tt
   begins_above x (y ∷ ys) all = ap is_lt all.0
 
   -- so many things with rising names
-  things_read_back : (xs : List A) (last : Option (List ℕ)) → BeginsAbove last xs → IsStrictlySortedBy text_cmp (map name xs)
+  things_read_back : (xs : List A) (last : Option (List ℕ)) → BeginsAbove last xs
+      → IsStrictlySortedBy text_cmp (map name xs)
       → AllByRecursion ThingReadsBack xs → Fits (all_bytes bytes xs) → (more : List ℕ)
       → rising_of name part (length xs) last (all_bytes bytes xs ++ more) ≡ Ok (xs, more)
   unfolding IsStrictlySortedBy
   things_read_back [] last above rising back fits more = refl
   things_read_back (x ∷ xs) last above rising back fits more =
       rising_back bytes name part (length xs) last x xs more
-      (back.0 last above (first_fits (bytes x) (all_bytes bytes xs) fits) (all_bytes bytes xs ++ more))
+      (back.0 last above (first_fits (bytes x) (all_bytes bytes xs) fits)
+      (all_bytes bytes xs ++ more))
       (things_read_back xs (Some (name x)) (begins_above x xs rising.0) rising.1 back.1
       (second_fits (bytes x) (all_bytes bytes xs) fits) more)
 
   -- each thing has a byte, so there are no more things than bytes
   many : ((x : A) → 0 < length (bytes x)) → (xs : List A) → length xs ≤ length (all_bytes bytes xs)
   many some [] = omega arith
-  many some (x ∷ xs) = omega (arith, some x, many some xs, length-append (bytes x) (all_bytes bytes xs))
+  many some (x ∷ xs) =
+      omega (arith, some x, many some xs, length-append (bytes x) (all_bytes bytes xs))
 
   -- a list
-  list_reads_back : ((x : A) → 0 < length (bytes x)) → (xs : List A) → IsStrictlySortedBy text_cmp (map name xs)
+  list_reads_back : ((x : A) → 0 < length (bytes x)) → (xs : List A)
+      → IsStrictlySortedBy text_cmp (map name xs)
       → AllByRecursion ThingReadsBack xs → ShortReadsBack (list_bytes bytes) (list_of name part) xs
   list_reads_back some xs rising back fits more =
-      let short : Fits (all_bytes bytes xs) = second_fits (number_bytes w32 (length xs)) (all_bytes bytes xs) fits in
+      let short : Fits (all_bytes bytes xs) =
+      second_fits (number_bytes w32 (length xs)) (all_bytes bytes xs) fits in
       list_back bytes name part xs more
-      (number_back w32 digits_32 (length xs) (all_bytes bytes xs ++ more) (omega (arith, short, many some xs)))
+      (number_back w32 digits_32 (length xs) (all_bytes bytes xs ++ more)
+      (omega (arith, short, many some xs)))
       (things_read_back xs None (begins xs) rising back short more)
     where
       begins : (ys : List A) → BeginsAbove None ys
@@ -119,10 +134,12 @@ module _ {A : Type 0} (bytes name : A → List ℕ) (part : Option (List ℕ) �
   pub one_more : (xs : List A) (i : ℕ) (x : A) → slice_get xs i ≡ Some x
       → all_bytes bytes (take (i + 1) xs) ≡ all_bytes bytes (take i xs) ++ bytes x
   one_more [] i x h = cc
-  one_more (w ∷ xs) zero x h = let e : w ≡ x = cc in ap (λ v. bytes v ++ []) e ∙ append-nil (bytes x)
+  one_more (w ∷ xs) zero x h = let e : w ≡ x = cc in ap (λ v. bytes v ++ []) e
+      ∙ append-nil (bytes x)
   one_more (w ∷ xs) (suc i) x h =
       let n : suc i + 1 ≡ suc (i + 1) = omega arith in
-      rw n (ap (λ l. bytes w ++ l) (one_more xs i x h) ∙ sym (append_assoc (bytes w) (all_bytes bytes (take i xs)) (bytes x)))
+      rw n (ap (λ l. bytes w ++ l) (one_more xs i x h)
+      ∙ sym (append_assoc (bytes w) (all_bytes bytes (take i xs)) (bytes x)))
 
 -- and what all keep
 pub all_more : {A : Type 0} (P : A → Type 0) (xs : List A) (i : ℕ) (x : A) → slice_get xs i ≡ Some x
@@ -138,7 +155,13 @@ pub fields_read_back : (ps : Pairs) (i : ℕ) → length ps ≤ i → AreRising 
     → AllByRecursion PairReadsBack (take i ps) → ShortReadsBack fields_bytes fields_of ps
 fields_read_back ps i long rising back =
     list_reads_back pair_bytes (λ p. p.0) pair_of
-    (λ p. omega (arith, digits_32.long (length p.0), length-append (number_bytes w32 (length p.0)) p.0, length-append (text_bytes p.0) (value_bytes p.1)))
+    (λ p. omega (
+      arith,
+      digits_32.long (length p.0),
+      length-append
+          (number_bytes w32 (length p.0)) p.0,
+      length-append (text_bytes p.0) (value_bytes p.1),
+    ))
     ps rising (subst (AllByRecursion PairReadsBack) (take_all i ps long) back)
 
 -- rows
@@ -146,7 +169,12 @@ pub rows_read_back : (rs : List RowOut) (i : ℕ) → length rs ≤ i → KeysRi
     → AllByRecursion RowReadsBack (take i rs) → ShortReadsBack rows_bytes rows_of rs
 rows_read_back rs i long rising back =
     list_reads_back row_bytes key_of row_of
-    (λ r. omega (arith, digits_64.long r.height, length-append (number_bytes w64 r.height) (state_bytes r.state)))
+    (λ r. omega (
+      arith,
+      digits_64.long r.height,
+      length-append (number_bytes w64 r.height)
+          (state_bytes r.state),
+    ))
     rs rising (subst (AllByRecursion RowReadsBack) (take_all i rs long) back)
 
 -- states
@@ -154,7 +182,12 @@ pub states_read_back : (ss : List State) (i : ℕ) → length ss ≤ i → State
     → AllByRecursion StateReadsBack (take i ss) → ShortReadsBack states_bytes states_of ss
 states_read_back ss i long rising back =
     list_reads_back state_bytes state_key state_of
-    (λ s. omega (arith, digits_32.long (length s.key), length-append (number_bytes w32 (length s.key)) s.key, length-append (text_bytes s.key) (flag_bytes s.deleted ++ fields_bytes s.fields)))
+    (λ s. omega (
+      arith,
+      digits_32.long (length s.key),
+      length-append (number_bytes w32 (length s.key)) s.key,
+      length-append (text_bytes s.key) (flag_bytes s.deleted ++ fields_bytes s.fields),
+    ))
     ss rising (subst (AllByRecursion StateReadsBack) (take_all i ss long) back)
 
 -- ---- parts one after another
@@ -164,8 +197,10 @@ abbrev pub AreReadAs : {B : Type 0} → (List ℕ → Reading B) → List ℕ �
 AreReadAs of tail y = Fits tail → (more : List ℕ) → of (tail ++ more) ≡ Ok (y, more)
 
 -- a part, and the others behind it
-pub then : {A B : Type 0} (bytes : A → List ℕ) (of : List ℕ → Reading A) (x : A) (f : A → List ℕ → Reading B) (tail : List ℕ) (y : B)
-    → ShortReadsBack bytes of x → AreReadAs (f x) tail y → AreReadAs (λ bs. of bs ▸ f) (bytes x ++ tail) y
+pub then : {A B : Type 0} (bytes : A → List ℕ) (of : List ℕ → Reading A) (x : A)
+    (f : A → List ℕ → Reading B) (tail : List ℕ) (y : B)
+    → ShortReadsBack bytes of x → AreReadAs (f x) tail y
+    → AreReadAs (λ bs. of bs ▸ f) (bytes x ++ tail) y
 then bytes of x f tail y part others fits more =
     ap (λ l. of l ▸ f) (append_assoc (bytes x) tail more)
     ∙ ap (λ m. m ▸ f) (part (first_fits (bytes x) tail fits) (tail ++ more))
@@ -173,7 +208,8 @@ then bytes of x f tail y part others fits more =
 
 -- the last part
 pub lastly : {A B : Type 0} (bytes : A → List ℕ) (of : List ℕ → Reading A) (x : A) (made : A → B)
-    → ShortReadsBack bytes of x → AreReadAs (λ bs. of bs ▸ λ z rest. Ok (made z, rest)) (bytes x) (made x)
+    → ShortReadsBack bytes of x
+    → AreReadAs (λ bs. of bs ▸ λ z rest. Ok (made z, rest)) (bytes x) (made x)
 lastly bytes of x made part fits more = ap (λ m. m ▸ λ z rest. Ok (made z, rest)) (part fits more)
 
 -- behind the byte of a kind
@@ -181,12 +217,14 @@ behind_byte : (byte : ℕ) (tail : List ℕ) → Fits (byte ∷ tail) → Fits t
 behind_byte byte tail fits = omega arith
 
 -- what always reads back does if it is short
-abbrev long_back : (n : ℕ) → ReadsBack (number_bytes w64) (number_of w64) n → ShortReadsBack (number_bytes w64) (number_of w64) n
+abbrev long_back : (n : ℕ) → ReadsBack (number_bytes w64) (number_of w64) n
+    → ShortReadsBack (number_bytes w64) (number_of w64) n
 long_back n back fits = back
 
 -- ---- records
 
-pub written_reads_back : (name : List ℕ) (lwt : ℕ) (written : List RowOut) → ShortReadsBack text_bytes text_of name
+pub written_reads_back : (name : List ℕ) (lwt : ℕ) (written : List RowOut)
+    → ShortReadsBack text_bytes text_of name
     → ReadsBack (number_bytes w64) (number_of w64) lwt → ShortReadsBack rows_bytes rows_of written
     → ShortReadsBack content_bytes content_of (rows name lwt written)
 written_reads_back name lwt written name_back lwt_back written_back fits =
@@ -196,32 +234,47 @@ written_reads_back name lwt written name_back lwt_back written_back fits =
     (lastly rows_bytes rows_of written (rows name lwt) written_back))
     (behind_byte rows_kind (text_bytes name ++ (number_bytes w64 lwt ++ rows_bytes written)) fits)
 
-pub replication_reads_back : (name fork : List ℕ) (master : MasterName) (handler : List ℕ) (field : Option (List ℕ))
-    → ShortReadsBack text_bytes text_of name → ShortReadsBack text_bytes text_of fork → ShortReadsBack master_bytes master_of master
-    → ShortReadsBack text_bytes text_of handler → ShortReadsBack (option_bytes text_bytes) (option_of text_of) field
+pub replication_reads_back : (name fork : List ℕ) (master : MasterName) (handler : List ℕ)
+    (field : Option (List ℕ))
+    → ShortReadsBack text_bytes text_of name → ShortReadsBack text_bytes text_of fork
+    → ShortReadsBack master_bytes master_of master
+    → ShortReadsBack text_bytes text_of handler
+    → ShortReadsBack (option_bytes text_bytes) (option_of text_of) field
     → ShortReadsBack content_bytes content_of (replication name fork master handler field)
-replication_reads_back name fork master handler field name_back fork_back master_back handler_back field_back fits =
+replication_reads_back name fork master handler field name_back fork_back master_back handler_back
+    field_back fits =
     let c : Content = replication name fork master handler field in
     let last_bytes : List ℕ = text_bytes handler ++ option_bytes text_bytes field in
-    then text_bytes text_of name _ (text_bytes fork ++ (master_bytes master ++ last_bytes)) c name_back
+    then text_bytes text_of name _
+    (text_bytes fork ++ (master_bytes master ++ last_bytes)) c name_back
     (then text_bytes text_of fork _ (master_bytes master ++ last_bytes) c fork_back
     (then master_bytes master_of master _ last_bytes c master_back
     (then text_bytes text_of handler _ (option_bytes text_bytes field) c handler_back
-    (lastly (option_bytes text_bytes) (option_of text_of) field (replication name fork master handler) field_back))))
-    (behind_byte replication_kind (text_bytes name ++ (text_bytes fork ++ (master_bytes master ++ last_bytes))) fits)
+    (lastly (option_bytes text_bytes) (option_of text_of) field
+    (replication name fork master handler) field_back))))
+    (behind_byte replication_kind
+    (text_bytes name ++ (text_bytes fork ++ (master_bytes master ++ last_bytes))) fits)
 
-pub exchange_reads_back : (name : List ℕ) (lwt : ℕ) (written : List RowOut) (known : List State) (up down : Option Place)
+pub exchange_reads_back : (name : List ℕ) (lwt : ℕ) (written : List RowOut) (known : List State)
+    (up down : Option Place)
     → ShortReadsBack text_bytes text_of name → ReadsBack (number_bytes w64) (number_of w64) lwt
     → ShortReadsBack rows_bytes rows_of written → ShortReadsBack states_bytes states_of known
-    → ShortReadsBack (option_bytes place_bytes) (option_of place_of) up → ShortReadsBack (option_bytes place_bytes) (option_of place_of) down
+    → ShortReadsBack (option_bytes place_bytes) (option_of read_place) up
+    → ShortReadsBack (option_bytes place_bytes) (option_of read_place) down
     → ShortReadsBack content_bytes content_of (exchange name lwt written known up down)
-exchange_reads_back name lwt written known up down name_back lwt_back written_back known_back up_back down_back fits =
+exchange_reads_back name lwt written known up down name_back lwt_back written_back known_back
+    up_back down_back fits =
     let c : Content = exchange name lwt written known up down in
     let places : List ℕ = option_bytes place_bytes up ++ option_bytes place_bytes down in
-    then text_bytes text_of name _ (number_bytes w64 lwt ++ (rows_bytes written ++ (states_bytes known ++ places))) c name_back
-    (then (number_bytes w64) (number_of w64) lwt _ (rows_bytes written ++ (states_bytes known ++ places)) c (long_back lwt lwt_back)
+    then text_bytes text_of name _
+    (number_bytes w64 lwt ++ (rows_bytes written ++ (states_bytes known ++ places))) c name_back
+    (then (number_bytes w64) (number_of w64) lwt _
+    (rows_bytes written ++ (states_bytes known ++ places)) c (long_back lwt lwt_back)
     (then rows_bytes rows_of written _ (states_bytes known ++ places) c written_back
     (then states_bytes states_of known _ places c known_back
-    (then (option_bytes place_bytes) (option_of place_of) up _ (option_bytes place_bytes down) c up_back
-    (lastly (option_bytes place_bytes) (option_of place_of) down (exchange name lwt written known up) down_back)))))
-    (behind_byte exchange_kind (text_bytes name ++ (number_bytes w64 lwt ++ (rows_bytes written ++ (states_bytes known ++ places)))) fits)
+    (then (option_bytes place_bytes) (option_of read_place) up _
+    (option_bytes place_bytes down) c up_back
+    (lastly (option_bytes place_bytes) (option_of read_place) down
+    (exchange name lwt written known up) down_back)))))
+    (behind_byte exchange_kind (text_bytes name
+    ++ (number_bytes w64 lwt ++ (rows_bytes written ++ (states_bytes known ++ places)))) fits)

@@ -6,7 +6,7 @@ use Rattle.rx_document.specs.declared.place.Place.{Place}
 use Rattle.rx_record.specs.Reading.{Reading, ◌▸◌}
 use Rattle.rx_record.specs.Parts.{byte_of, number_bytes, number_of, text_bytes, text_of, option_bytes, option_of}
 use Rattle.rx_record.specs.Rows.{rows_bytes, rows_of, states_bytes, states_of}
-use Rattle.rx_record.specs.Places.{place_bytes, place_of}
+use Rattle.rx_record.specs.Places.{place_bytes, read_place}
 use Rattle.rx_record.specs.Masters.{master_bytes, master_of}
 use Rattle.rx_record.specs.declared.at.At.{At}
 use Rattle.rx_record.specs.declared.record.MasterName.{MasterName}
@@ -80,8 +80,8 @@ exchange_of bs =
     number_of w64 more ▸ λ lwt more.
     rows_of more ▸ λ written more.
     states_of more ▸ λ known more.
-    option_of place_of more ▸ λ up more.
-    option_of place_of more ▸ λ down rest.
+    option_of read_place more ▸ λ up more.
+    option_of read_place more ▸ λ down rest.
     Ok (exchange name lwt written known up down, rest)
 
 abbrev pub epoch_of : List ℕ → Reading Content

@@ -17,8 +17,8 @@ time_of bs = number_of w64 bs ▸ λ lwt more. if is_time lwt then Ok (lwt, more
 abbrev pub place_bytes : Place → List ℕ
 place_bytes p = number_bytes w64 p.lwt ++ text_bytes p.id
 
-abbrev pub place_of : List ℕ → Reading Place
-place_of bs =
+abbrev pub read_place : List ℕ → Reading Place
+read_place bs =
     time_of bs ▸ λ lwt more.
     text_of more ▸ λ id rest.
     Ok (record { lwt = lwt; id = id }, rest)

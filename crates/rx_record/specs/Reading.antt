@@ -18,13 +18,13 @@ Reads view (Ok p) due = due ≡ Ok (view p.0, p.1.now)
 Reads view (Err left) due = due ≡ Err left
 
 -- the bytes after what is read, or the fault
-abbrev pub after : {A : Type 0} → Reading A → Result (List ℕ) ℕ
-after (Ok p) = Ok p.1
-after (Err left) = Err left
+abbrev pub rest_after : {A : Type 0} → Reading A → Result (List ℕ) ℕ
+rest_after (Ok p) = Ok p.1
+rest_after (Err left) = Err left
 
 -- it was passed over
 abbrev pub Skips : {A : Type 0} → Result (Bor (List ℕ)) ℕ → Reading A → Type 0
-Skips (Ok rest) due = after due ≡ Ok rest.now
+Skips (Ok rest) due = rest_after due ≡ Ok rest.now
 Skips (Err left) due = due ≡ Err left
 
 -- it was read to the end of the bytes

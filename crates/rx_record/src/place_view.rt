@@ -1,7 +1,7 @@
 ghost use Rattle.std.specs.Prelude.{◌≡◌, option_map};
 ghost use Rattle.rx_record.specs.Reading.{Reads};
 ghost use Rattle.rx_record.specs.Parts.{option_of};
-ghost use Rattle.rx_record.specs.Places.{time_of, place_of};
+ghost use Rattle.rx_record.specs.Places.{time_of, read_place};
 ghost use Rattle.rx_record.specs.Views.{place_in};
 
 use crate::reading::{Read, read_flag, read_long, read_text};
@@ -44,7 +44,7 @@ fn read_time(bytes: &[u8]) -> Read<'_, u64>
 }
 
 fn read_place(bytes: &[u8]) -> Read<'_, PlaceView<'_>>
-    ensures { Reads place_in result (place_of bytes.now) }
+    ensures { Reads place_in result (read_place bytes.now) }
 {
     let (lwt, rest) = read_time(bytes)?;
     let (id, rest) = read_text(rest)?;
@@ -53,7 +53,7 @@ fn read_place(bytes: &[u8]) -> Read<'_, PlaceView<'_>>
 
 // A place, if there is one.
 pub(crate) fn read_place_if_there(bytes: &[u8]) -> Read<'_, Option<PlaceView<'_>>>
-    ensures { Reads (option_map place_in) result (option_of place_of bytes.now) }
+    ensures { Reads (option_map place_in) result (option_of read_place bytes.now) }
 {
     let (there, rest) = read_flag(bytes)?;
     if !there {

@@ -4,7 +4,7 @@ ghost use Rattle.rx_value.specs.Value.{is_value};
 ghost use Rattle.rx_record.specs.Parts.{flag_bytes, number_bytes, number_of, text_bytes, text_of, is_above, option_bytes, option_of};
 ghost use Rattle.rx_record.specs.Fields.{value_bytes, value_of, fields_bytes, fields_of};
 ghost use Rattle.rx_record.specs.Rows.{state_bytes, state_of, states_bytes, states_of, row_bytes, row_of, rows_bytes, rows_of};
-ghost use Rattle.rx_record.specs.Places.{place_bytes, place_of};
+ghost use Rattle.rx_record.specs.Places.{place_bytes, read_place};
 ghost use Rattle.rx_record.specs.Masters.{master_bytes, master_of};
 ghost use Rattle.rx_record.specs.Content.{replication, exchange, content_bytes, content_of};
 ghost use Rattle.rx_record.specs.Shown.{content};
@@ -78,7 +78,7 @@ fn put_text_if_there(out: &mut Vec<u8>, text: &Option<RxText>) -> Result<(), All
 fn put_place(out: &mut Vec<u8>, place: &Place) -> Result<(), AllocError>
     ensures bytes { IfOk result (λ _. out.new.items ≡ out.old.items ++ place_bytes place.now) }
     ensures back { HasTime place.now
-        → IfOk result (λ _. ShortReadsBack place_bytes place_of place.now) }
+        → IfOk result (λ _. ShortReadsBack place_bytes read_place place.now) }
 {
     put_long(out, place.lwt)?;
     put_text(out, place.id.as_str())
@@ -89,7 +89,7 @@ fn put_place_if_there(out: &mut Vec<u8>, place: &Option<Place>) -> Result<(), Al
     ensures bytes { IfOk result
         (λ _. out.new.items ≡ out.old.items ++ option_bytes place_bytes place.now) }
     ensures back { IfSome place.now HasTime → IfOk result
-        (λ _. ShortReadsBack (option_bytes place_bytes) (option_of place_of) place.now) }
+        (λ _. ShortReadsBack (option_bytes place_bytes) (option_of read_place) place.now) }
 {
     match place {
         Some(place) => {

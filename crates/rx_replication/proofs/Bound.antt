@@ -17,7 +17,7 @@ use Rattle.rx_collection.specs.Held.{Held}
 use Rattle.rx_collection.specs.Since.{place_of, by_place, since}
 use Rattle.rx_wire.specs.declared.message.AskKind.TheVariants.{Push}
 use Rattle.rx_wire.specs.declared.message.PushRow.{PushRow}
-use Rattle.rx_replication.specs.Exchange.{Link, Exchange, IsLink, IsQuiet, exchange, link_with, answered_by, HaveBatches, GoOn, pushes_of}
+use Rattle.rx_replication.specs.Exchange.{Link, Exchange, IsLink, IsQuiet, exchange_over_link, link_with, answered_by, HaveBatches, GoOn, pushes_of}
 use Rattle.rx_replication.specs.Known.{KnownStates, with_learnt, is_state, is_pending, pending}
 use Rattle.rx_replication.specs.Left.{behind, left_in, key_count, LowersPushesLeft, PushesAtMostTwice, IsQuietInTime, QuietIsEqual}
 use Rattle.rx_replication.specs.Master.{conflicts, writes, last_place, master_then}
@@ -250,7 +250,7 @@ module _ (resolve : Resolve) (l : Link) (x : Exchange) (next : Link) where
       })
 
   -- an exchange is a push or a pull
-  pub exchange_is : exchange resolve l x ≡ Some next
+  pub exchange_is : exchange_over_link resolve l x ≡ Some next
       → IsPushTo resolve l x next ⊎ IsPullTo l x next
   exchange_is e =
       is_by (rows_of l.known (pushed l.fork.documents l.known x.batch)) refl e
@@ -560,7 +560,7 @@ module _ (resolve : Resolve) (law : KeepsKey resolve) (k : List ℕ) where
   AreLink o = (l : Link) → o ≡ Some l → IsLink l
 
   first_by : (l : Link) (x : Exchange) (o : Option Link) (n : ℕ) → IsLink l → 1 ≤ x.batch
-      → exchange resolve l x ≡ o → n ≤ left_at o
+      → exchange_over_link resolve l x ≡ o → n ≤ left_at o
       → hits k (pushed l.fork.documents l.known x.batch) + n
       ≤ weight_at l.fork.documents l.known l.master.documents k
   unfolding left_at
@@ -580,9 +580,11 @@ module _ (resolve : Resolve) (law : KeepsKey resolve) (k : List ℕ) where
   pushes-le None xs keys some = omega arith
   pushes-le (Some l) [] keys some = omega arith
   pushes-le (Some l) (x ∷ xs) keys some =
-      first_by l x (exchange resolve l x) (pushes_of resolve k (exchange resolve l x) xs)
+      first_by l x (exchange_over_link resolve l x)
+      (pushes_of resolve k (exchange_over_link resolve l x) xs)
       (keys l refl) some.0 refl
-      (pushes-le (exchange resolve l x) xs (λ next e. link_by resolve law l (keys l refl) x some.0
+      (pushes-le (exchange_over_link resolve l x) xs
+      (λ next e. link_by resolve law l (keys l refl) x some.0
       next (exchange_is resolve l x next e)) some.1)
 
   pub pushes_within : (l : Link) (xs : List Exchange) → IsLink l → HaveBatches xs

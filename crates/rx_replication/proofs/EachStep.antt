@@ -26,7 +26,7 @@ use Rattle.rx_replication.specs.Master.{writes, body_of, master_then, reply_with
 use Rattle.rx_replication.specs.Member.{Member}
 use Rattle.rx_replication.specs.Request.{push_or_pull, IsCurrent}
 use Rattle.rx_replication.specs.Sound.{IsSoundSide, Reach}
-use Rattle.rx_replication.specs.Steps.{System, OpenRequest, MadeReply, Step, after, with_fork, with_master, request_of, with_request, with_reply, handled_in, with_taking, taken_in, arrived_in, is_awaited, IsLawfulStep}
+use Rattle.rx_replication.specs.Steps.{System, OpenRequest, MadeReply, Step, system_after, with_fork, with_master, request_of, with_request, with_reply, handled_in, with_taking, taken_in, arrived_in, is_awaited, IsLawfulStep}
 use Rattle.rx_replication.specs.Steps.Step.{CommitFork, CommitMaster, Ask, Handle, Arrive, Restart}
 use Rattle.rx_replication.specs.Taking.{Resolve, KeepsKey, taking, real_state, resolutions, pushed_place, differences}
 use Rattle.rx_replication.specs.Write.{write}
@@ -424,7 +424,7 @@ module _ (resolve : Resolve) (law : KeepsKey resolve) (w : System) (k : IsKept w
   kept_master_by ss now (Some c) e = kept_master w ss c k (write_wrote w.master ss now c e)
 
   -- each step keeps it
-  pub kept_after : (s : Step) → IsLawfulStep s → IsKept (after resolve w s)
+  pub kept_after : (s : Step) → IsLawfulStep s → IsKept (system_after resolve w s)
   kept_after (CommitFork ss now) l = kept_fork_by ss now (write w.fork ss now) refl
   kept_after (CommitMaster ss now) l = kept_master_by ss now (write w.master ss now) refl
   kept_after (Ask batch) l = kept_made w batch l k

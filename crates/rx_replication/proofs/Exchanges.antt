@@ -3,10 +3,10 @@ use Rattle.std.proofs.Common.{◌≡◌, ℕ, ◌+◌, Bool, true, cond, ◌&&�
 use Rattle.rx_value.proofs.Outcomes.{some_same, not_none}
 use Rattle.rx_collection.specs.Held.{Held}
 use Rattle.rx_collection.specs.Time.{last_lwt}
-use Rattle.rx_replication.specs.Exchange.{Link, Exchange, asked, link_with, taken_by, answered_by}
+use Rattle.rx_replication.specs.Exchange.{Link, Exchange, asked, link_with, link_after_taking, answered_by}
 use Rattle.rx_replication.specs.Left.{link_of, ExchangesAreSteps}
 use Rattle.rx_replication.specs.Master.{body_of, master_then}
-use Rattle.rx_replication.specs.Steps.{System, request_of, with_request, with_reply, with_taking, taken_in, after}
+use Rattle.rx_replication.specs.Steps.{System, request_of, with_request, with_reply, with_taking, taken_in, system_after}
 use Rattle.rx_replication.specs.Steps.Step.{Arrive}
 use Rattle.rx_replication.specs.Taking.{Resolve, Taking, taking}
 use Rattle.rx_replication.specs.Write.{write}
@@ -28,14 +28,15 @@ module _ (resolve : Resolve) (w : System) (x : Exchange) (next : Link) where
   taken_step m t (Some fork) e = some_same e
 
   arrived_step : (m : Held) (o : Option Taking)
-      → taken_by (link_of w) m o x.taken ≡ Some next
+      → link_after_taking (link_of w) m o x.taken ≡ Some next
       → link_of (taken_in (handled m) o x.taken) ≡ next
   arrived_step m None e = not_none e
   arrived_step m (Some t) e = taken_step m t (write w.fork t.rows x.taken) e
 
   handled_step : (o : Option Held)
       → answered_by resolve (link_of w) (asked (link_of w) x.batch) o x.taken ≡ Some next
-      → link_of (after resolve (with_reply requested (request_of w x.batch) o) (Arrive 0 x.taken))
+      → link_of
+      (system_after resolve (with_reply requested (request_of w x.batch) o) (Arrive 0 x.taken))
       ≡ next
   handled_step None e = not_none e
   handled_step (Some m) e =

@@ -12,7 +12,7 @@ use Rattle.rx_wire.specs.declared.message.Body.TheVariants.{Conflicts, Docs}
 use Rattle.rx_replication.specs.Interleaving.{Always, IsQuietThen}
 use Rattle.rx_replication.specs.Member.{Member}
 use Rattle.rx_replication.specs.Request.{IsCurrent}
-use Rattle.rx_replication.specs.Steps.{System, OpenRequest, MadeReply, Step, after, with_taking, taken_in, arrived_in, is_awaited, run, start, AreLawfulSteps}
+use Rattle.rx_replication.specs.Steps.{System, OpenRequest, MadeReply, Step, system_after, with_taking, taken_in, arrived_in, is_awaited, run, start, AreLawfulSteps}
 use Rattle.rx_replication.specs.Taking.{Resolve, KeepsKey, taking, differences}
 use Rattle.rx_replication.specs.Write.{write, state_at, AreByKey}
 use Rattle.rx_replication.proofs.Commits.{write_wrote}
@@ -132,7 +132,7 @@ pub kept_run : (resolve : Resolve) → KeepsKey resolve → (steps : List Step) 
     → AreLawfulSteps steps → IsKept w → IsKept (run resolve steps w)
 kept_run resolve law [] w l k = k
 kept_run resolve law (s ∷ ss) w l k =
-    kept_run resolve law ss (after resolve w s) l.1 (kept_after resolve law w k s l.0)
+    kept_run resolve law ss (system_after resolve w s) l.1 (kept_after resolve law w k s l.0)
 
 -- what follows of what is kept holds always
 pub always : (P : Resolve → System → Type 0)

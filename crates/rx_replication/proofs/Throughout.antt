@@ -18,7 +18,7 @@ use Rattle.rx_replication.specs.Known.{KnownStates, with_learnt}
 use Rattle.rx_replication.specs.Master.{writes, body_of, master_then}
 use Rattle.rx_replication.specs.Member.{Member}
 use Rattle.rx_replication.specs.Request.{push_row, push_or_pull, ask_of}
-use Rattle.rx_replication.specs.Steps.{System, OpenRequest, MadeReply, Step, after, with_fork, with_master, with_reply, handled_in, with_taking, taken_in, arrived_in, is_awaited, run, start, AreLawfulSteps}
+use Rattle.rx_replication.specs.Steps.{System, OpenRequest, MadeReply, Step, system_after, with_fork, with_master, with_reply, handled_in, with_taking, taken_in, arrived_in, is_awaited, run, start, AreLawfulSteps}
 use Rattle.rx_replication.specs.Steps.Step.{CommitFork, CommitMaster, Ask, Handle, Arrive, Restart}
 use Rattle.rx_replication.specs.Taking.{Resolve, KeepsKey, Taking, taking, conflict_at, real_or, real_state}
 use Rattle.rx_replication.specs.Throughout.{AllPass, DocumentsPass, KnownPass, RowPasses, AskPasses, BodyPasses, SystemPasses, StepPasses, StepsPass, KeepsPassing, HoldsThroughout}
@@ -238,7 +238,7 @@ module _ (test : State → Bool) where
           ]
 
       passes_after : (step : Step) → StepPasses test step
-          → SystemPasses test (after resolve w step)
+          → SystemPasses test (system_after resolve w step)
       passes_after (CommitFork ss now) all = fork_by ss now (write w.fork ss now) all refl
       passes_after (CommitMaster ss now) all = master_by ss now (write w.master ss now) all refl
       passes_after (Ask batch) all = record {
@@ -270,7 +270,7 @@ module _ (test : State → Bool) where
         → SystemPasses test (run resolve steps w)
     passes_run keeps [] w l all k s = s
     passes_run keeps (step ∷ steps) w l all k s =
-        passes_run keeps steps (after resolve w step) l.1 all.1
+        passes_run keeps steps (system_after resolve w step) l.1 all.1
         (kept_after resolve keeps w k step l.0) (passes_after w k s step all.0)
 
 pub throughout : HoldsThroughout

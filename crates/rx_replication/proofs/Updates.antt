@@ -19,7 +19,7 @@ use Rattle.rx_replication.specs.Known.{KnownStates, with_learnt, is_state, is_pe
 use Rattle.rx_replication.specs.Master.{master_then}
 use Rattle.rx_replication.specs.Member.{Member}
 use Rattle.rx_replication.specs.Request.{push_row, IsCurrent}
-use Rattle.rx_replication.specs.Steps.{System, OpenRequest, MadeReply, Step, after, with_fork, with_master, with_reply, handled_in, with_taking, taken_in, arrived_in, is_awaited}
+use Rattle.rx_replication.specs.Steps.{System, OpenRequest, MadeReply, Step, system_after, with_fork, with_master, with_reply, handled_in, with_taking, taken_in, arrived_in, is_awaited}
 use Rattle.rx_replication.specs.Steps.Step.{CommitFork, CommitMaster, Ask, Handle, Arrive, Restart}
 use Rattle.rx_replication.specs.Taking.{Resolve, KeepsKey, Taking, taking, conflict_at, real_or, real_state, resolutions, pushed_place}
 use Rattle.rx_replication.specs.Updates.{IsResolvedBy, KeepsPending}
@@ -259,7 +259,7 @@ module _ (resolve : Resolve) (law : KeepsKey resolve) (w : System) (k : IsKept w
     had_handled None now settled = no_less w.known d e same pending settled
     had_handled (Some q) now settled = had_reply q (master_then w.master q.ask now) settled
 
-    had : (s : Step) → is_pending (after resolve w s).known e ≡ false
+    had : (s : Step) → is_pending (system_after resolve w s).known e ≡ false
         → ArrivesFromOneWith w s key d.state
     had (CommitFork ss now) settled = had_fork (write w.fork ss now) settled
     had (CommitMaster ss now) settled = had_master (write w.master ss now) settled

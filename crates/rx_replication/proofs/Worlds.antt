@@ -8,7 +8,7 @@ use Rattle.rx_document.specs.declared.place.Place.{Place}
 use Rattle.rx_collection.specs.Held.{Held}
 use Rattle.rx_replication.specs.Known.{KnownStates}
 use Rattle.rx_replication.specs.Sound.{IsForkSound, IsMasterSound}
-use Rattle.rx_replication.specs.Worlds.{Collections, Linked, HasSoundFork, HasSoundMaster, IsSoundIn}
+use Rattle.rx_replication.specs.Worlds.{Collections, Linked, HasSoundFork, HasSoundMaster, HasSoundSides}
 use Rattle.rx_replication.proofs.Commits.{Wrote}
 use Rattle.rx_replication.proofs.Sides.{side_after}
 
@@ -52,7 +52,7 @@ module _ (before after : Collections) (name : List ℕ) (ss : List State)
 
   -- a commit on any collection keeps each replication sound, whether it is of its fork, of its
   -- master or of neither
-  pub commit_keeps : (r : Linked) → IsSoundIn before r → IsSoundIn after r
+  pub commit_keeps : (r : Linked) → HasSoundSides before r → HasSoundSides after r
   commit_keeps r s = record {
     fork_side = fork_after r s.fork_side (bytes_cases r.fork name);
     master_side = master_after r.master r.known r.down s.master_side;

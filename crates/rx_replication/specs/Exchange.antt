@@ -52,19 +52,19 @@ link_with l master t (Some fork) = Some (record {
   down = t.down;
 })
 
-abbrev pub taken_by : Link → Held → Option Taking → ℕ → Option Link
-taken_by l master None now = None
-taken_by l master (Some t) now = link_with l master t (write l.fork t.rows now)
+abbrev pub link_after_taking : Link → Held → Option Taking → ℕ → Option Link
+link_after_taking l master None now = None
+link_after_taking l master (Some t) now = link_with l master t (write l.fork t.rows now)
 
 abbrev pub answered_by : Resolve → Link → AskKind → Option Held → ℕ → Option Link
 answered_by resolve l ask None now = None
 answered_by resolve l ask (Some master) now =
-    taken_by l master
+    link_after_taking l master
     (taking resolve l.fork.documents l.up l.down ask (body_of l.master.documents ask)) now
 
 -- the link after an exchange; none where a commit finds no write time
-abbrev pub exchange : Resolve → Link → Exchange → Option Link
-exchange resolve l x =
+abbrev pub exchange_over_link : Resolve → Link → Exchange → Option Link
+exchange_over_link resolve l x =
     answered_by resolve l (asked l x.batch) (master_then l.master (asked l x.batch) x.handled)
     x.taken
 
@@ -83,7 +83,7 @@ HaveBatches xs = AllByRecursion (λ x. 1 ≤ x.batch) xs
 abbrev pub GoOn : Resolve → Link → List Exchange → Type 0
 GoOn resolve l [] = Unit {0}
 GoOn resolve l (x ∷ xs) =
-    (next : Link) × (exchange resolve l x ≡ Some next) × (IsQuiet l x.batch → ⊥)
+    (next : Link) × (exchange_over_link resolve l x ≡ Some next) × (IsQuiet l x.batch → ⊥)
     × GoOn resolve next xs
 
 -- how often a document is pushed
@@ -92,4 +92,4 @@ pushes_of resolve key None xs = 0
 pushes_of resolve key (Some l) [] = 0
 pushes_of resolve key (Some l) (x ∷ xs) =
     length (filter (λ d. bytes_eq d.state.key key) (pushed l x.batch))
-    + pushes_of resolve key (exchange resolve l x) xs
+    + pushes_of resolve key (exchange_over_link resolve l x) xs

@@ -13,7 +13,7 @@ use Rattle.rx_replication.specs.Answered.{IsAnswered}
 use Rattle.rx_replication.specs.Known.{is_pending}
 use Rattle.rx_replication.specs.Member.{Member}
 use Rattle.rx_replication.specs.Sound.{IsSound}
-use Rattle.rx_replication.specs.Steps.{System, Step, OpenRequest, MadeReply, after, run, start, AreLawfulSteps}
+use Rattle.rx_replication.specs.Steps.{System, Step, OpenRequest, MadeReply, system_after, run, start, AreLawfulSteps}
 use Rattle.rx_replication.specs.Steps.Step.{Arrive}
 use Rattle.rx_replication.specs.Taking.{Resolve, KeepsKey}
 use Rattle.rx_replication.specs.Updates.{KeepsPending}
@@ -72,13 +72,13 @@ pub record IsLastPull (resolve : Resolve) (w : System) (which now : ℕ) (r : Ma
   pub to : Option Place
   pub page : r.reply.body ≡ Docs states to
   pub few : length states < batch
-  pub taken : (after resolve w (Arrive which now)).waiting ≡ None
+  pub taken : (system_after resolve w (Arrive which now)).waiting ≡ None
 
 -- then the fork's documents are those that the master had when the reply was made
 abbrev pub IsQuietThen : Resolve → System → Type 0
 IsQuietThen resolve w =
     (which now : ℕ) (r : MadeReply) → IsLastPull resolve w which now r → (key : List ℕ)
-    → state_at (after resolve w (Arrive which now)).fork.documents key
+    → state_at (system_after resolve w (Arrive which now)).fork.documents key
     ≡ state_at r.master.documents key
 
 -- ---- no lost update
@@ -89,7 +89,7 @@ abbrev pub LosesNoUpdate : Resolve → System → Type 0
 LosesNoUpdate resolve w =
     (which now : ℕ) (r : MadeReply) → slice_get w.replies which ≡ Some r
     → KeepsPending resolve w.known r.reply.body w.fork.documents
-    (after resolve w (Arrive which now)).fork.documents
+    (system_after resolve w (Arrive which now)).fork.documents
 
 -- a reply arrives that was made when the master had that state of the key
 pub record ArrivesFromOneWith (w : System) (s : Step) (key : List ℕ) (state : State)
@@ -105,6 +105,6 @@ pub record ArrivesFromOneWith (w : System) (s : Step) (key : List ℕ) (state : 
 abbrev pub IsPendingUntilHeld : Resolve → System → Type 0
 IsPendingUntilHeld resolve w =
     (s : Step) (key : List ℕ) (d e : Stored) → named w.fork.documents key ≡ Some d
-    → is_pending w.known d ≡ true → named (after resolve w s).fork.documents key ≡ Some e
-    → e.state ≡ d.state → is_pending (after resolve w s).known e ≡ false
+    → is_pending w.known d ≡ true → named (system_after resolve w s).fork.documents key ≡ Some e
+    → e.state ≡ d.state → is_pending (system_after resolve w s).known e ≡ false
     → ArrivesFromOneWith w s key d.state

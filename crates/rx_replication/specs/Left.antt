@@ -6,7 +6,7 @@ use Rattle.rx_value.specs.Named.{named}
 use Rattle.rx_value.specs.declared.state.State.{State}
 use Rattle.rx_document.specs.Documents.{Documents}
 use Rattle.rx_document.specs.declared.stored.Stored.{Stored}
-use Rattle.rx_replication.specs.Exchange.{Link, Exchange, IsLink, IsQuiet, exchange, pushed, pushes_of, HaveBatches, GoOn}
+use Rattle.rx_replication.specs.Exchange.{Link, Exchange, IsLink, IsQuiet, exchange_over_link, pushed, pushes_of, HaveBatches, GoOn}
 use Rattle.rx_replication.specs.Known.{KnownStates, is_state, is_pending, pending}
 use Rattle.rx_replication.specs.Sound.{IsSound}
 use Rattle.rx_replication.specs.Steps.{System, run}
@@ -44,7 +44,7 @@ EveryLink P = (resolve : Resolve) → KeepsKey resolve → (l : Link) → IsLink
 -- pushes none, doesn't raise them
 abbrev pub LowersPushesLeft : Resolve → Link → Type 0
 LowersPushesLeft resolve l =
-    (x : Exchange) → 1 ≤ x.batch → (next : Link) → exchange resolve l x ≡ Some next
+    (x : Exchange) → 1 ≤ x.batch → (next : Link) → exchange_over_link resolve l x ≡ Some next
     → left_in next + length (pushed l x.batch) ≤ left_in l
 
 -- a document is pushed at most twice, and only if it is pending before the first exchange
@@ -66,7 +66,8 @@ IsQuietInTime resolve l =
 abbrev pub QuietIsEqual : Resolve → Link → Type 0
 QuietIsEqual resolve l =
     IsSound l.fork.documents l.master.documents l.known l.up l.down → (x : Exchange)
-    → IsQuiet l x.batch → (next : Link) → exchange resolve l x ≡ Some next → (key : List ℕ)
+    → IsQuiet l x.batch → (next : Link) → exchange_over_link resolve l x ≡ Some next
+    → (key : List ℕ)
     → state_at next.fork.documents key ≡ state_at next.master.documents key
 
 -- ---- of any moment of a fork and its master
@@ -79,5 +80,5 @@ link_of w =
 abbrev pub ExchangesAreSteps : Type 0
 ExchangesAreSteps =
     (resolve : Resolve) (w : System) (x : Exchange) (next : Link)
-    → exchange resolve (link_of w) x ≡ Some next
+    → exchange_over_link resolve (link_of w) x ≡ Some next
     → link_of (run resolve (Ask x.batch ∷ Handle 0 x.handled ∷ Arrive 0 x.taken ∷ []) w) ≡ next

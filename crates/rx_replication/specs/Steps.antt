@@ -118,19 +118,19 @@ arrived_in resolve w (Some o) (Some r) now =
 -- ---- all
 
 -- what a step makes of the system
-abbrev pub after : Resolve → System → Step → System
-after resolve w (CommitFork states now) = with_fork w (write w.fork states now)
-after resolve w (CommitMaster states now) = with_master w (write w.master states now)
-after resolve w (Ask batch) = with_request w (request_of w batch)
-after resolve w (Handle which now) = handled_in w (slice_get w.requests which) now
-after resolve w (Arrive which now) =
+abbrev pub system_after : Resolve → System → Step → System
+system_after resolve w (CommitFork states now) = with_fork w (write w.fork states now)
+system_after resolve w (CommitMaster states now) = with_master w (write w.master states now)
+system_after resolve w (Ask batch) = with_request w (request_of w batch)
+system_after resolve w (Handle which now) = handled_in w (slice_get w.requests which) now
+system_after resolve w (Arrive which now) =
     arrived_in resolve w w.waiting (slice_get w.replies which) now
-after resolve w Restart = record w { epoch = w.epoch + 1; n = 0; waiting = None }
+system_after resolve w Restart = record w { epoch = w.epoch + 1; n = 0; waiting = None }
 
 -- one step after another
 abbrev pub run : Resolve → List Step → System → System
 run resolve [] w = w
-run resolve (s ∷ ss) w = run resolve ss (after resolve w s)
+run resolve (s ∷ ss) w = run resolve ss (system_after resolve w s)
 
 -- nothing is known, asked or answered
 abbrev pub start : Held → Held → ℕ → System

@@ -30,6 +30,6 @@ HasSoundMaster cs (Some name) known down =
     (c : Held) × (named cs name ≡ Some c) × IsMasterSound c.documents known down
 
 -- both
-pub record IsSoundIn (cs : Collections) (r : Linked) : Type 0 where
+pub record HasSoundSides (cs : Collections) (r : Linked) : Type 0 where
   pub fork_side : HasSoundFork cs r
   pub master_side : HasSoundMaster cs r.master r.known r.down

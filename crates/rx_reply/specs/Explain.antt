@@ -21,7 +21,7 @@ use Rattle.rx_table.specs.declared.action.Action.TheVariants.{
   InsertAtSortPositionRemoveLast,
 }
 use Rattle.rx_table.specs.declared.counts.Counts.{Counts}
-use Rattle.rx_table.specs.Counts.{place_of}
+use Rattle.rx_table.specs.Counts.{action_number}
 use Rattle.rx_reply.specs.Writing.{number_data, optional_member}
 
 -- what each action is called, in the order of the names
@@ -50,7 +50,7 @@ actions_by_name = map (λ a. (a.0.now, a.1))
 
 -- how many changes were answered by that action
 abbrev pub count_of : Counts → Action → ℕ
-count_of counts action = slice_index counts.by_action (place_of action)
+count_of counts action = slice_index counts.by_action (action_number action)
 
 -- a count above 0
 abbrev pub count_data : ℕ → Option Data

@@ -14,7 +14,7 @@ use Rattle.std.specs.Str.{bytes_eq}
 use Rattle.rx_value.specs.Named.{named, change_named}
 use Rattle.rx_value.proofs.Lists.{all_weaker}
 use Rattle.rx_value.proofs.Bytes.{bytes_itself, bytes_apart_turned, bytes_differ}
-use Rattle.rx_query.specs.Asked.{Asked}
+use Rattle.rx_query.specs.QuerySpec.{QuerySpec}
 use Rattle.rx_collection.specs.Held.{Held}
 use Rattle.rx_collection.proofs.Named.{at_name}
 use Rattle.rx_table.specs.Counts.{no_counts}
@@ -176,7 +176,7 @@ watched_at-change ls coll f p same =
 
 -- ---- one query more
 
-module _ (ls : Lives) (coll name : List ℕ) (q : Asked) where
+module _ (ls : Lives) (coll name : List ℕ) (q : QuerySpec) where
   -- the collections stay
   pub added_colls : colls (change_named ls coll (with_query name q)) ≡ colls ls
   added_colls = colls-change_named (with_query name q) (λ l. refl) ls coll
@@ -219,7 +219,7 @@ live_of w ls coll primary is keyed =
     (ap (λ cs. named cs coll) is ∙ named-map (λ (l : Observing). l.collection) ls coll) keyed)
 
 -- a query that was run once on that collection
-abbrev observed_on : List ℕ → List ℕ → Asked → Option Held → Observed
+abbrev observed_on : List ℕ → List ℕ → QuerySpec → Option Held → Observed
 observed_on name coll q o = record {
   name = name;
   coll = coll;
@@ -268,7 +268,7 @@ module _ (ls : Lives) (ps : List QueryPlace) (name coll : List ℕ) (placed : Ar
       (IsDistinct-push nat_list_eq_equiv (map (λ p. p.name) ps) name placed.distinct (none_of name ps free))
 
   -- once there is one, all others are as before, and the one of the place is there
-  module _ (q : Asked) where
+  module _ (q : QuerySpec) where
     others_stay : AllByRecursion
         (λ p. watched_at (change_named ls coll (with_query name q)) p ≡ watched_at ls p) ps
     others_stay =

@@ -11,7 +11,7 @@ use Rattle.rx_observe.specs.Rows.{emissions_due}
 use Rattle.rx_world.specs.Holders.{Holders, IsWhole, holders_in}
 use Rattle.rx_world.specs.Valid.{AreDistinct}
 use Rattle.rx_world.specs.World.{World}
-use Rattle.rx_session.specs.Doing.{after, restart}
+use Rattle.rx_session.specs.Doing.{session_after, restart}
 use Rattle.rx_session.specs.Emissions.{emission_due, emissions, settled_session, settled_query}
 use Rattle.rx_session.specs.Lives.{bare, with_cooled, each_live}
 use Rattle.rx_session.specs.Placed.{ArePlaced, AreUnwatched, IsQuiet, Lives, queries_of, world_of}
@@ -81,7 +81,8 @@ next_by old ls done (e ∷ rest) l left all lives is =
       name = e.0;
       rest = rest;
       all = subst (λ (x : Observing). old ≡ done ++ (e.0, x) ∷ rest) same all;
-      lives = subst (λ (x : Observing). ls ≡ each_live with_cooled done ++ each_live bare ((e.0, x) ∷ rest))
+      lives = subst
+          (λ (x : Observing). ls ≡ each_live with_cooled done ++ each_live bare ((e.0, x) ∷ rest))
           same lives;
       are_left = parts.1;
     }
@@ -97,7 +98,8 @@ module _ (old : Holders Observing) (ls : Lives) (l : Observing) (left : List Obs
   next_whole : AreWholeLives (holders_in old)
       → IsWhole (λ (x : Observing). x.collection) (λ x. x.broken) n.name l
   next_whole whole =
-      all_at (λ (e : List ℕ × Observing). IsWhole (λ (x : Observing). x.collection) (λ x. x.broken) e.0 e.1)
+      all_at (λ (e : List ℕ × Observing).
+      IsWhole (λ (x : Observing). x.collection) (λ x. x.broken) e.0 e.1)
       n.done (n.name, l) n.rest (subst AreWholeLives n.all whole)
 
   -- so it isn't broken
@@ -105,13 +107,16 @@ module _ (old : Holders Observing) (ls : Lives) (l : Observing) (left : List Obs
   next_unbroken whole = (next_whole whole).unbroken
 
   -- it is quiet where all are
-  pub next_quiet : AllByRecursion IsQuiet (holders_in old) → emissions_due l.collection l.queries ≡ []
+  pub next_quiet : AllByRecursion IsQuiet (holders_in old) → emissions_due l.collection l.queries
+      ≡ []
   next_quiet quiet =
       all_at IsQuiet n.done (n.name, l) n.rest (subst (AllByRecursion IsQuiet) n.all quiet)
 
   -- no name comes twice
-  apart : AreDistinct (world_of old) → IsDistinct bytes_eq (keys_of (n.done ++ (n.name, l) ∷ n.rest))
-  apart distinct = subst (λ (xs : Lives). IsDistinct bytes_eq (keys_of xs)) n.all (distinct_in old distinct)
+  apart : AreDistinct (world_of old)
+      → IsDistinct bytes_eq (keys_of (n.done ++ (n.name, l) ∷ n.rest))
+  apart distinct =
+      subst (λ (xs : Lives). IsDistinct bytes_eq (keys_of xs)) n.all (distinct_in old distinct)
 
   module _ (whole : AreWholeLives (holders_in old)) (distinct : AreDistinct (world_of old)) where
     -- the collection of its name has no query yet
@@ -121,10 +126,11 @@ module _ (old : Holders Observing) (ls : Lives) (l : Observing) (left : List Obs
         ∙ next_is_bare ls n.done n.name l n.rest n.lives (apart distinct)
 
     -- and once it has them, the following one is next
-    pub carrying_next : (after : Lives)
-        → after ≡ change_named ls l.collection.name (λ x. with_queries x (each cooled l.queries))
-        → IsCarrying (holders_in old) after left
-    carrying_next after is = record {
+    pub carrying_next : (session_after : Lives)
+        → session_after
+        ≡ change_named ls l.collection.name (λ x. with_queries x (each cooled l.queries))
+        → IsCarrying (holders_in old) session_after left
+    carrying_next session_after is = record {
       done = n.done ++ (n.name, l) ∷ [];
       rest = n.rest;
       all = n.all ∙ sym (append_assoc n.done ((n.name, l) ∷ []) n.rest);
@@ -147,17 +153,21 @@ module _ (old new : Holders Observing)
   -- so no name comes twice
   pub carried_distinct : AreDistinct (world_of old) → AreDistinct (world_of new)
   carried_distinct distinct =
-      subst (λ (cs : List (List ℕ × Held)). IsDistinct bytes_eq (keys_of cs)) (sym carried_collections)
+      subst (λ (cs : List (List ℕ × Held)). IsDistinct bytes_eq (keys_of cs))
+      (sym carried_collections)
       distinct
 
   -- the queries stay at their places
-  pub carried_placed : (ps : List QueryPlace) → ArePlaced (holders_in old) ps → ArePlaced (holders_in new) ps
+  pub carried_placed : (ps : List QueryPlace) → ArePlaced (holders_in old) ps
+      → ArePlaced (holders_in new) ps
   carried_placed ps placed =
       subst (λ (ls : Lives). ArePlaced ls ps) (sym lives) (moved_placed (holders_in old) ps placed)
 
   -- and all are quiet
-  pub carried_quiet : AllByRecursion IsQuiet (holders_in old) → AllByRecursion IsQuiet (holders_in new)
-  carried_quiet quiet = subst (AllByRecursion IsQuiet) (sym lives) (moved_quiet (holders_in old) quiet)
+  pub carried_quiet : AllByRecursion IsQuiet (holders_in old)
+      → AllByRecursion IsQuiet (holders_in new)
+  carried_quiet quiet =
+      subst (AllByRecursion IsQuiet) (sym lives) (moved_quiet (holders_in old) quiet)
 
 module _ (old : Holders Observing) (moment number : ℕ) (ps : List QueryPlace)
     (quiet : AllByRecursion IsQuiet (holders_in old)) where
@@ -179,7 +189,7 @@ module _ (old : Holders Observing) (moment number : ℕ) (ps : List QueryPlace)
   same_again = world_colls old ∙ sym (moved_colls (holders_in old))
 
   -- nothing is to be emitted
-  pub carried_emissions : emissions (after (restart number) before) ≡ []
+  pub carried_emissions : emissions (session_after (restart number) before) ≡ []
   carried_emissions =
       ap (flat_map (emission_due again)) (sym (moved_queries (holders_in old) ps))
       ∙ quiet_due again (each_live with_cooled (holders_in old)) same_again ps
@@ -190,7 +200,7 @@ module _ (old : Holders Observing) (moment number : ℕ) (ps : List QueryPlace)
       → holders_in new ≡ each_live with_cooled (holders_in old)
       → new.replications ≡ old.replications → new.epoch ≡ number
       → record { world = world_of new; moment = moment; queries = queries_of (holders_in new) ps }
-      ≡ settled_session (after (restart number) before)
+      ≡ settled_session (session_after (restart number) before)
   carried_session new lives replications epoch =
       let moved = each_live with_cooled (holders_in old) in
       let collections = carried_collections old new lives in
@@ -201,7 +211,8 @@ module _ (old : Holders Observing) (moment number : ℕ) (ps : List QueryPlace)
       ∙ sym (quiet_queries again moved same_again ps (moved_quiet (holders_in old) quiet))
       ∙ ap (map (settled_query again)) (moved_queries (holders_in old) ps) in
       λ i. record {
-        world = record { collections = collections i; replications = replications i; epoch = epoch i };
+        world = record
+            { collections = collections i; replications = replications i; epoch = epoch i };
         moment = moment;
         queries = queries i;
       }

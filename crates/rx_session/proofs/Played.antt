@@ -18,7 +18,7 @@ use Rattle.rx_world.specs.Valid.{AreDistinct}
 use Rattle.rx_world.proofs.Looked.{all_change_named, all_put_named}
 use Rattle.rx_world.proofs.Valid.{distinct_step}
 use Rattle.rx_session.specs.Applied.{IsAfter, coll_written, with_written}
-use Rattle.rx_session.specs.Doing.{after, query_after, write}
+use Rattle.rx_session.specs.Doing.{session_after, query_after, write}
 use Rattle.rx_session.specs.Emissions.{emission_due, emissions, settled_query, settled_session}
 use Rattle.rx_session.specs.Placed.{Lives, ArePlaced, IsListed, IsQuiet, queries_of, world_of}
 use Rattle.rx_session.specs.Playing.{AreQuietUnless, coll_to_note, due_in_all, add_written, settled_each}
@@ -32,14 +32,16 @@ use Rattle.rx_session.proofs.Writing.{queries_after, legal_unheld, placed_after}
 
 -- all that were written before are still noted
 still_noted : (o : Option (List ℕ)) (written : List (List ℕ)) (name : List ℕ)
-    → list_any (bytes_eq name) (add_written o written) ≡ false → list_any (bytes_eq name) written ≡ false
+    → list_any (bytes_eq name) (add_written o written) ≡ false → list_any (bytes_eq name) written
+    ≡ false
 still_noted None written name none = none
 still_noted (Some coll) written name none =
     elim (list_any (bytes_eq coll) written)
     as (λ b. list_any (bytes_eq name) (cond b written (written ++ coll ∷ [])) ≡ false
     → list_any (bytes_eq name) written ≡ false) [
       | true ↦ (λ n. n)
-      | false ↦ (λ n. (or_parts (list_any (bytes_eq name) written) (list_any (bytes_eq name) (coll ∷ []))
+      | false ↦
+          (λ n. (or_parts (list_any (bytes_eq name) written) (list_any (bytes_eq name) (coll ∷ []))
           (sym (list_any-append (bytes_eq name) written (coll ∷ [])) ∙ n)).0)
     ] none
 
@@ -51,7 +53,8 @@ now_noted coll written none =
     → list_any (bytes_eq coll) (cond b written (written ++ coll ∷ [])) ≡ false → true ≡ false) [
       | true ↦ (λ is n. sym is ∙ n)
       | false ↦ (λ is n.
-          let last = (or_parts (list_any (bytes_eq coll) written) (list_any (bytes_eq coll) (coll ∷ []))
+          let last =
+          (or_parts (list_any (bytes_eq coll) written) (list_any (bytes_eq coll) (coll ∷ []))
           (sym (list_any-append (bytes_eq coll) written (coll ∷ [])) ∙ n)).1 in
           sym (bytes_itself coll) ∙ (or_parts (bytes_eq coll coll) false last).0)
     ] refl none
@@ -59,20 +62,22 @@ now_noted coll written none =
 -- a record leaves all quiet but the collections that were written, with its own
 quiet_noted : (t : Touch) (written : List (List ℕ)) (ls new : Lives) → IsAfter t ls new
     → AreQuietUnless written ls → AreQuietUnless (add_written (coll_written t) written) new
-quiet_noted no_collection written ls new after quiet = subst (AreQuietUnless written) (sym after) quiet
-quiet_noted (new_collection name schema) written ls new after quiet =
-    subst (AreQuietUnless written) (sym after.2)
+quiet_noted no_collection written ls new session_after quiet =
+    subst (AreQuietUnless written) (sym session_after) quiet
+quiet_noted (new_collection name schema) written ls new session_after quiet =
+    subst (AreQuietUnless written) (sym session_after.2)
     (all_put_named (λ n (l : Observing).
-    list_any (bytes_eq n) written ≡ false → emissions_due l.collection l.queries ≡ []) ls name after.0
-    (λ none. ap (λ (l : Observing). emissions_due l.collection l.queries) after.1) quiet)
-quiet_noted (new_rows name lwt rows) written ls new after quiet =
+    list_any (bytes_eq n) written ≡ false → emissions_due l.collection l.queries ≡ []) ls name
+    session_after.0
+    (λ none. ap (λ (l : Observing). emissions_due l.collection l.queries) session_after.1) quiet)
+quiet_noted (new_rows name lwt rows) written ls new session_after quiet =
     let now : List (List ℕ) = add_written (Some name) written in
     let P = λ (n : List ℕ) (l : Observing).
     (list_any (bytes_eq n) now ≡ false → emissions_due l.collection l.queries ≡ []) in
     let each : AllByRecursion (λ e. P e.0 e.1) ls =
     all_weaker (λ (e : List ℕ × Observing). list_any (bytes_eq e.0) written ≡ false → IsQuiet e)
     (λ e. P e.0 e.1) (λ e is none. is (still_noted (Some name) written e.0 none)) ls quiet in
-    subst (AreQuietUnless now) (sym after)
+    subst (AreQuietUnless now) (sym session_after)
     (all_change_named P ls name (with_written lwt rows)
     (λ l at was none. absurd (true≢false (now_noted name written none))) each)
 
@@ -89,7 +94,8 @@ quiet_unobserved written (l ∷ ls) listed =
     (λ none. none_due_of l.1.collection l.1.queries listed.0, quiet_unobserved written ls listed.1)
 
 -- so none need be noted there
-quiet_to_note : (ps : List QueryPlace) (t : Touch) (written : List (List ℕ)) (ls : Lives) → ArePlaced ls ps
+quiet_to_note : (ps : List QueryPlace) (t : Touch) (written : List (List ℕ)) (ls : Lives)
+    → ArePlaced ls ps
     → AreQuietUnless (add_written (coll_written t) written) ls
     → AreQuietUnless (add_written (coll_to_note ps t) written) ls
 quiet_to_note [] t written ls placed quiet = quiet_unobserved written ls placed.listed
@@ -111,33 +117,40 @@ module _ (content : Content) (old new : Holders Observing) (moment : ℕ) (ps : 
   -- all are in their places
   pub played_placed : ArePlaced (holders_in new) ps
   played_placed =
-      placed_after (touch content (world_of old)) (world_of old) (holders_in old) (holders_in new) ps
+      placed_after (touch content (world_of old)) (world_of old) (holders_in old)
+      (holders_in new) ps
       (world_colls old) so.placed (legal_unheld content (world_of old) so.allowed) so.applied
 
   -- the queries have followed the record
   followed : queries_of (holders_in new) ps
-      ≡ map (query_after (world_of old) (touch content (world_of old))) (queries_of (holders_in old) ps)
+      ≡ map (query_after (world_of old) (touch content (world_of old)))
+      (queries_of (holders_in old) ps)
   followed =
-      queries_after (touch content (world_of old)) (world_of old) (holders_in old) (holders_in new) ps
+      queries_after (touch content (world_of old)) (world_of old) (holders_in old)
+      (holders_in new) ps
       (world_colls old) so.placed (legal_unheld content (world_of old) so.allowed) so.applied
 
   pub played_distinct : AreDistinct (world_of new)
-  played_distinct = subst AreDistinct (sym so.stepped) (distinct_step content (world_of old) so.distinct)
+  played_distinct =
+      subst AreDistinct (sym so.stepped) (distinct_step content (world_of old) so.distinct)
 
   pub played_quiet
-      : AreQuietUnless (add_written (coll_to_note ps (touch content (world_of old))) written) (holders_in new)
+      : AreQuietUnless (add_written (coll_to_note ps (touch content (world_of old))) written)
+      (holders_in new)
   played_quiet =
       let t = touch content (world_of old) in
       quiet_to_note ps t written (holders_in new) played_placed
       (quiet_noted t written (holders_in old) (holders_in new) so.applied so.quiet)
 
-  pub played_session : session_of new moment ps ≡ after (write content) (session_of old moment ps)
+  pub played_session : session_of new moment ps
+      ≡ session_after (write content) (session_of old moment ps)
   played_session =
       λ i. record { world = so.stepped i; moment = moment; queries = followed i }
 
 -- ---- once all is emitted
 
-pub record IsTaken (old new : Holders Observing) (ps : List QueryPlace) (written : List (List ℕ)) : Type 0 where
+pub record IsTaken (old new : Holders Observing) (ps : List QueryPlace)
+    (written : List (List ℕ)) : Type 0 where
   pub placed : ArePlaced (holders_in old) ps
   pub distinct : AreDistinct (world_of old)
   pub quiet : AreQuietUnless written (holders_in old)
@@ -149,11 +162,13 @@ module _ (old new : Holders Observing) (moment : ℕ) (ps : List QueryPlace) (wr
     (so : IsTaken old new ps written) where
   taken_world : world_of new ≡ world_of old
   taken_world =
-      same_world new old (ap colls so.emitted ∙ colls_each written (holders_in old)) so.replications so.epochs
+      same_world new old
+      (ap colls so.emitted ∙ colls_each written (holders_in old)) so.replications so.epochs
 
   pub taken_placed : ArePlaced (holders_in new) ps
   taken_placed =
-      subst (λ ls. ArePlaced ls ps) (sym so.emitted) (placed_each written (holders_in old) ps so.placed)
+      subst (λ ls. ArePlaced ls ps) (sym so.emitted)
+      (placed_each written (holders_in old) ps so.placed)
 
   pub taken_distinct : AreDistinct (world_of new)
   taken_distinct = subst AreDistinct (sym taken_world) so.distinct

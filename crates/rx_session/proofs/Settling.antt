@@ -4,7 +4,7 @@ use Rattle.std.specs.List.{AllByRecursion, IsDistinct, flat_map, list_any}
 use Rattle.std.specs.Map.{keys_of}
 use Rattle.std.specs.Str.{bytes_eq}
 use Rattle.rx_value.specs.Named.{named}
-use Rattle.rx_query.specs.Asked.{Asked}
+use Rattle.rx_query.specs.QuerySpec.{QuerySpec}
 use Rattle.rx_record.specs.Content.{Content}
 use Rattle.rx_observe.specs.Observing.{Observing, each, put_all, watch_after}
 use Rattle.rx_world.specs.Holders.{Holders, holders_in}
@@ -15,7 +15,7 @@ use Rattle.rx_world.proofs.Holding.{after_all}
 use Rattle.rx_world.proofs.Looked.{keys-change_named}
 use Rattle.rx_world.proofs.Valid.{distinct_step}
 use Rattle.rx_session.specs.Applied.{IsAfter, IsMadeFor, coll_written, settled_in, due_in, without_observed, watched_in}
-use Rattle.rx_session.specs.Doing.{after, query_after, new_query, has_key, set_clock, write, watch, unwatch}
+use Rattle.rx_session.specs.Doing.{session_after, query_after, new_query, has_key, set_clock, write, watch, unwatch}
 use Rattle.rx_session.specs.Emissions.{emissions, emission_due, settled_session, settled_query, IsSettled}
 use Rattle.rx_session.specs.Lives.{with_query}
 use Rattle.rx_session.specs.Placed.{ArePlaced, AreQuietBut, AreUnwatched, IsUnwatched, IsQuiet, Lives, place_named, queries_of, world_of}
@@ -31,7 +31,7 @@ use Rattle.rx_session.proofs.Dropping.{all_in_first, dropped_colls, dropped_plac
 -- none is after a record
 pub unwatched_after : (t : Touch) (ls new : Lives) → IsAfter t ls new → AreUnwatched ls
     → AreUnwatched new
-unwatched_after t ls new after none =
+unwatched_after t ls new session_after none =
     after_all IsUnwatched (λ (l : Observing). l.collection) put_all IsMadeFor
     (λ c l is. record {
       none = ap (λ (x : Observing). x.queries) is;
@@ -41,14 +41,15 @@ unwatched_after t ls new after none =
       none = ap (each (watch_after l.collection rows)) so.none;
       unbroken = so.unbroken;
     })
-    t ls new after none
+    t ls new session_after none
 
 -- the same of what may have failed
 pub unwatched_in : {W E : Type 0} (lives : W → Lives) (t : Touch) (ls : Lives) (made : Result W E)
     → IfOk made (λ w. IsAfter t ls (lives w)) → AreUnwatched ls
     → IfOk made (λ w. AreUnwatched (lives w))
-unwatched_in lives t ls (Ok w) after none = unwatched_after t ls (lives w) after none
-unwatched_in lives t ls (Err e) after none = tt
+unwatched_in lives t ls (Ok w) session_after none =
+    unwatched_after t ls (lives w) session_after none
+unwatched_in lives t ls (Err e) session_after none = tt
 
 -- ---- sessions
 
@@ -64,7 +65,8 @@ same_world h g same replications epochs =
     let collections = world_colls h ∙ same ∙ sym (world_colls g) in
     λ i. record { collections = collections i; replications = replications i; epoch = epochs i }
 
-module _ (h : Holders Observing) (ps : List QueryPlace) (quiet : AllByRecursion IsQuiet (holders_in h))
+module _ (h : Holders Observing) (ps : List QueryPlace)
+    (quiet : AllByRecursion IsQuiet (holders_in h))
   where
     -- where all is quiet, all is settled
     pub all_settled : map (settled_query (world_of h)) (queries_of (holders_in h) ps)
@@ -84,7 +86,8 @@ module _ (h : Holders Observing) (ps : List QueryPlace) (quiet : AllByRecursion 
 
     -- so it is at another moment
     pub at_session : (moment at : ℕ)
-        → session_of h at ps ≡ settled_session (after (set_clock at) (session_of h moment ps))
+        → session_of h at ps
+        ≡ settled_session (session_after (set_clock at) (session_of h moment ps))
     at_session moment at =
         ap (λ qs. record { world = world_of h; moment = at; queries = qs }) (sym all_settled)
 
@@ -97,7 +100,8 @@ pub free_place : (name : List ℕ) (h : Holders Observing) (moment : ℕ) (ps : 
 free_place name h moment ps placed free = sym (any-queries_of name (holders_in h) ps placed) ∙ free
 
 -- a query was observed in settled collections, and the emissions that are due were written
-pub record IsWatched (name coll : List ℕ) (q : Asked) (old last : Holders Observing) (ps : List QueryPlace)
+pub record IsWatched (name coll : List ℕ) (q : QuerySpec) (old last : Holders Observing)
+    (ps : List QueryPlace)
     : Type 0 where
   pub placed : ArePlaced (holders_in old) ps
   pub distinct : AreDistinct (world_of old)
@@ -108,7 +112,8 @@ pub record IsWatched (name coll : List ℕ) (q : Asked) (old last : Holders Obse
   pub replications : last.replications ≡ old.replications
   pub epochs : last.epoch ≡ old.epoch
 
-module _ (name coll : List ℕ) (q : Asked) (old last : Holders Observing) (moment : ℕ) (ps : List QueryPlace)
+module _ (name coll : List ℕ) (q : QuerySpec) (old last : Holders Observing) (moment : ℕ)
+    (ps : List QueryPlace)
     (so : IsWatched name coll q old last ps) where
   -- the collections with the query
   abbrev more : Lives
@@ -121,14 +126,16 @@ module _ (name coll : List ℕ) (q : Asked) (old last : Holders Observing) (mome
   -- there is a place more
   added_then : ArePlaced more (ps ++ place_in coll name ∷ [])
   added_then =
-      added_placed (holders_in old) ps name coll so.placed so.free q (world_of old) (world_colls old)
+      added_placed (holders_in old) ps name coll so.placed so.free q (world_of old)
+      (world_colls old)
       so.keyed (distinct_in old so.distinct)
 
   -- and a query more
   query_then : queries_of more (ps ++ place_in coll name ∷ [])
       ≡ queries_of (holders_in old) ps ++ new_query (world_of old) name coll q ∷ []
   query_then =
-      added_queries (holders_in old) ps name coll so.placed so.free q (world_of old) (world_colls old)
+      added_queries (holders_in old) ps name coll so.placed so.free q (world_of old)
+      (world_colls old)
       so.keyed
 
   -- all others are quiet
@@ -138,11 +145,12 @@ module _ (name coll : List ℕ) (q : Asked) (old last : Holders Observing) (mome
   -- no name of a collection comes twice
   distinct_more : IsDistinct bytes_eq (keys_of more)
   distinct_more =
-      subst (IsDistinct bytes_eq) (sym (keys-change_named (with_query name q) (holders_in old) coll))
+      subst (IsDistinct bytes_eq)
+      (sym (keys-change_named (with_query name q) (holders_in old) coll))
       (distinct_in old so.distinct)
 
   pub watched_due : due_in (Some coll) more
-      ≡ emissions (after (watch name coll q) (session_of old moment ps))
+      ≡ emissions (session_after (watch name coll q) (session_of old moment ps))
   watched_due =
       sym (due_of_one (world_of old) more same_then coll quiet_rest (ps ++ place_in coll name ∷ [])
       added_then)
@@ -161,11 +169,12 @@ module _ (name coll : List ℕ) (q : Asked) (old last : Holders Observing) (mome
       (queries_of (holders_in old) ps ++ new_query (world_of old) name coll q ∷ [])
   watched_queries =
       ap (λ ls. queries_of ls (ps ++ place_in coll name ∷ [])) so.emitted
-      ∙ settled_queries (world_of old) more same_then coll quiet_rest (ps ++ place_in coll name ∷ [])
+      ∙ settled_queries (world_of old) more same_then coll quiet_rest
+      (ps ++ place_in coll name ∷ [])
       ∙ ap (map (settled_query (world_of old))) query_then
 
   pub watched_session : session_of last moment (ps ++ place_in coll name ∷ [])
-      ≡ settled_session (after (watch name coll q) (session_of old moment ps))
+      ≡ settled_session (session_after (watch name coll q) (session_of old moment ps))
   watched_session =
       λ i. record { world = watched_world i; moment = moment; queries = watched_queries i }
 
@@ -185,7 +194,8 @@ module _ (name coll : List ℕ) (q : Asked) (old last : Holders Observing) (mome
 -- ---- once a query is observed no more
 
 -- the query of a name was left out of settled collections
-pub record IsLeft (name : List ℕ) (old new : Holders Observing) (ps : List QueryPlace) : Type 0 where
+pub record IsLeft (name : List ℕ) (old new : Holders Observing)
+    (ps : List QueryPlace) : Type 0 where
   pub placed : ArePlaced (holders_in old) ps
   pub distinct : AreDistinct (world_of old)
   pub quiet : AllByRecursion IsQuiet (holders_in old)
@@ -196,11 +206,13 @@ pub record IsLeft (name : List ℕ) (old new : Holders Observing) (ps : List Que
 module _ (name : List ℕ) (old new : Holders Observing) (moment : ℕ) (ps : List QueryPlace)
     (so : IsLeft name old new ps) where
   -- by its place
-  left_colls : (o : Option QueryPlace) → colls (without_observed name o (holders_in old)) ≡ colls (holders_in old)
+  left_colls : (o : Option QueryPlace) → colls (without_observed name o (holders_in old))
+      ≡ colls (holders_in old)
   left_colls None = refl
   left_colls (Some p) = dropped_colls (holders_in old) p.coll name
 
-  left_queries : (o : Option QueryPlace) → queries_of (without_observed name o (holders_in old)) (rest_of name ps)
+  left_queries : (o : Option QueryPlace)
+      → queries_of (without_observed name o (holders_in old)) (rest_of name ps)
       ≡ filter (λ x. not (bytes_eq name x.name)) (queries_of (holders_in old) ps)
   left_queries None = undropped_queries name (holders_in old) ps
   left_queries (Some p) = dropped_queries name (holders_in old) ps p.coll
@@ -208,18 +220,21 @@ module _ (name : List ℕ) (old new : Holders Observing) (moment : ℕ) (ps : Li
   left_placed : (o : Option QueryPlace) → place_named name ps ≡ o
       → ArePlaced (without_observed name o (holders_in old)) (rest_of name ps)
   left_placed None is =
-      undropped_placed (holders_in old) ps name so.placed (none_found (λ p. bytes_eq name p.name) ps is)
+      undropped_placed (holders_in old) ps name so.placed
+      (none_found (λ p. bytes_eq name p.name) ps is)
   left_placed (Some p) is =
       dropped_placed (holders_in old) ps name p.coll so.placed (distinct_in old so.distinct)
       (all_in_first name ps p so.placed.distinct is)
 
-  left_quiet : (o : Option QueryPlace) → AllByRecursion IsQuiet (without_observed name o (holders_in old))
+  left_quiet : (o : Option QueryPlace)
+      → AllByRecursion IsQuiet (without_observed name o (holders_in old))
   left_quiet None = so.quiet
   left_quiet (Some p) = dropped_quiet (holders_in old) p.coll name so.quiet
 
   -- the world stays
   without_world : world_of new ≡ world_of old
-  without_world = same_world new old (ap colls so.dropped ∙ left_colls (place_named name ps)) so.replications so.epochs
+  without_world = same_world new old
+      (ap colls so.dropped ∙ left_colls (place_named name ps)) so.replications so.epochs
 
   -- the other queries stay
   without_queries : queries_of (holders_in new) (rest_of name ps)
@@ -229,7 +244,8 @@ module _ (name : List ℕ) (old new : Holders Observing) (moment : ℕ) (ps : Li
 
   pub without_placed : ArePlaced (holders_in new) (rest_of name ps)
   without_placed =
-      subst (λ ls. ArePlaced ls (rest_of name ps)) (sym so.dropped) (left_placed (place_named name ps) refl)
+      subst (λ ls. ArePlaced ls (rest_of name ps)) (sym so.dropped)
+      (left_placed (place_named name ps) refl)
 
   pub without_distinct : AreDistinct (world_of new)
   without_distinct = subst AreDistinct (sym without_world) so.distinct
@@ -237,7 +253,7 @@ module _ (name : List ℕ) (old new : Holders Observing) (moment : ℕ) (ps : Li
   pub without_quiet : AllByRecursion IsQuiet (holders_in new)
   without_quiet = subst (AllByRecursion IsQuiet) (sym so.dropped) (left_quiet (place_named name ps))
 
-  pub without_due : emissions (after (unwatch name) (session_of old moment ps)) ≡ []
+  pub without_due : emissions (session_after (unwatch name) (session_of old moment ps)) ≡ []
   without_due =
       sym (ap (λ qs. flat_map (emission_due (world_of old)) qs) without_queries)
       ∙ sym (ap (λ w. flat_map (emission_due w) (queries_of (holders_in new) (rest_of name ps)))
@@ -255,6 +271,6 @@ module _ (name : List ℕ) (old new : Holders Observing) (moment : ℕ) (ps : Li
       (filter (λ x. not (bytes_eq name x.name)) (queries_of (holders_in old) ps))) without_world
 
   pub without_session : session_of new moment (rest_of name ps)
-      ≡ settled_session (after (unwatch name) (session_of old moment ps))
+      ≡ settled_session (session_after (unwatch name) (session_of old moment ps))
   without_session =
       λ i. record { world = without_world i; moment = moment; queries = without_settled i }

@@ -1,7 +1,7 @@
 -- What a line does to collections with observed queries.
 use Rattle.std.specs.Prelude.{◌≡◌, false, ℕ, List, [], Option, Some, None}
 use Rattle.rx_value.specs.Named.{named, change_named}
-use Rattle.rx_query.specs.Asked.{Asked}
+use Rattle.rx_query.specs.QuerySpec.{QuerySpec}
 use Rattle.rx_collection.specs.Held.{Held}
 use Rattle.rx_record.specs.declared.record.RowOut.{RowOut}
 use Rattle.rx_observe.specs.Observing.{Observing, put_all}
@@ -33,7 +33,7 @@ abbrev pub IsAfter : Touch → Lives → Lives → Type 0
 IsAfter t old new = After (λ (l : Observing). l.collection) put_all IsMadeFor t old new
 
 -- with a query more in a collection
-abbrev pub watched_in : List ℕ → List ℕ → Asked → Lives → Lives
+abbrev pub watched_in : List ℕ → List ℕ → QuerySpec → Lives → Lives
 watched_in name coll q ls = change_named ls coll (with_query name q)
 
 -- with all rows emitted in the collection whose documents were written, if there is one

@@ -2,7 +2,7 @@
 use Rattle.std.specs.Prelude.{⊤, ◌≡◌, ℕ, ◌+◌, List, [], ◌∷◌, ◌++◌, map, filter, Bool, true, false, not, Option, Some, None, if◌then◌else◌}
 use Rattle.std.specs.Str.{bytes_eq}
 use Rattle.rx_value.specs.Named.{named}
-use Rattle.rx_query.specs.Asked.{Asked}
+use Rattle.rx_query.specs.QuerySpec.{QuerySpec}
 use Rattle.rx_collection.specs.Held.{Held}
 use Rattle.rx_record.specs.Content.{Content, epoch}
 use Rattle.rx_record.specs.Writable.{IsOrdered}
@@ -21,7 +21,7 @@ pub data Doing : Type 0 where
   nothing : Doing
   set_clock : ℕ → Doing
   write : Content → Doing
-  watch : List ℕ → List ℕ → Asked → Doing
+  watch : List ℕ → List ℕ → QuerySpec → Doing
   unwatch : List ℕ → Doing
   restart : ℕ → Doing
 
@@ -39,7 +39,7 @@ query_after w (new_rows name lwt written) o =
     then with_watched (watch_in (named w.collections name) lwt written o.watched) o else o
 
 -- a query that was run once, and of which nothing was emitted
-abbrev pub new_query : World → List ℕ → List ℕ → Asked → Observed
+abbrev pub new_query : World → List ℕ → List ℕ → QuerySpec → Observed
 new_query w name coll q = record {
   name = name;
   coll = coll;
@@ -47,18 +47,19 @@ new_query w name coll q = record {
 }
 
 -- the session after what a line does
-abbrev pub after : Doing → Session → Session
-after nothing s = s
-after (set_clock at) s = record s { moment = at }
-after (write content) s =
+abbrev pub session_after : Doing → Session → Session
+session_after nothing s = s
+session_after (set_clock at) s = record s { moment = at }
+session_after (write content) s =
     record s {
       world = step content s.world;
       queries = map (query_after s.world (touch content s.world)) s.queries;
     }
-after (watch name coll q) s =
+session_after (watch name coll q) s =
     record s { queries = s.queries ++ new_query s.world name coll q ∷ [] }
-after (unwatch name) s = record s { queries = filter (λ o. not (bytes_eq name o.name)) s.queries }
-after (restart number) s = record s {
+session_after (unwatch name) s =
+    record s { queries = filter (λ o. not (bytes_eq name o.name)) s.queries }
+session_after (restart number) s = record s {
   world = step (epoch number) s.world;
   queries = map (λ o. with_watched (cooled o.watched) o) s.queries;
 }

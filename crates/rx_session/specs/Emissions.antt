@@ -3,7 +3,7 @@ use Rattle.std.specs.Prelude.{◌≡◌, List, [], map, Option, Some, None}
 use Rattle.std.specs.List.{flat_map}
 use Rattle.rx_value.specs.Named.{named}
 use Rattle.rx_document.specs.Documents.{Documents}
-use Rattle.rx_query.specs.Asked.{Asked}
+use Rattle.rx_query.specs.QuerySpec.{QuerySpec}
 use Rattle.rx_query.specs.Result.{fresh_rows}
 use Rattle.rx_query.specs.declared.results.Row.{Row}
 use Rattle.rx_collection.specs.Held.{Held}
@@ -19,7 +19,7 @@ documents_at None = []
 documents_at (Some c) = c.documents
 
 -- the rows of a query on a collection, from scratch
-abbrev pub rows_on : Asked → Option Held → List Row
+abbrev pub rows_on : QuerySpec → Option Held → List Row
 rows_on q o = fresh_rows q (documents_at o)
 
 -- the result of an observed query on the collection that it is observed in

@@ -1,7 +1,7 @@
 -- What is done to the observed queries of one collection.
 use Rattle.std.specs.Prelude.{⊤, ◌≡◌, ℕ, List, [], map, Option, Some, None}
 use Rattle.rx_value.specs.Named.{named}
-use Rattle.rx_query.specs.Asked.{Asked}
+use Rattle.rx_query.specs.QuerySpec.{QuerySpec}
 use Rattle.rx_observe.specs.Observing.{Observing, each, settled, with_queries, new_watch, and_query, without, cooled}
 use Rattle.rx_observe.specs.Rows.{emissions_due}
 use Rattle.rx_observe.specs.declared.emission.Emission.{Emission}
@@ -16,7 +16,7 @@ abbrev pub with_settled : Observing → Observing
 with_settled l = with_queries l (each (settled l.collection) l.queries)
 
 -- with a query more
-abbrev pub with_query : List ℕ → Asked → Observing → Observing
+abbrev pub with_query : List ℕ → QuerySpec → Observing → Observing
 with_query name q l = with_queries l (and_query l.queries name (new_watch q l.collection.documents))
 
 -- without the query of a name

@@ -1,5 +1,5 @@
 -- What is to be done.
-use Rattle.rx_query.specs.Asked.{asked}
+use Rattle.rx_query.specs.QuerySpec.{asked}
 use Rattle.rx_record.specs.Shown.{content}
 use Rattle.rx_session.specs.Doing.{Doing, nothing, set_clock, write, watch, unwatch}
 use Rattle.rx_session.specs.declared.doing.Doing.{Doing as Done}

@@ -1,6 +1,6 @@
 // What is done to the observed queries of one collection.
 ghost use Rattle.std.specs.Prelude.{◌≡◌, None, true, false, IfOk, OnOk};
-ghost use Rattle.rx_query.specs.Asked.{asked};
+ghost use Rattle.rx_query.specs.QuerySpec.{asked};
 ghost use Rattle.rx_value.specs.Named.{named, change_named};
 ghost use Rattle.rx_world.specs.Holders.{holders_in};
 ghost use Rattle.rx_session.specs.Doing.{has_key};

@@ -2,12 +2,12 @@
 ghost use Rattle.std.specs.Prelude.{◌≡◌, ◌++◌, [], ◌∷◌, Some, true, filter, not, option_map, IfOk, OnOk};
 ghost use Rattle.std.specs.Str.{bytes_eq};
 ghost use Rattle.rx_value.specs.Named.{named};
-ghost use Rattle.rx_query.specs.Asked.{asked};
+ghost use Rattle.rx_query.specs.QuerySpec.{asked};
 ghost use Rattle.rx_record.specs.Shown.{content};
 ghost use Rattle.rx_world.specs.Holders.{holders_in};
 ghost use Rattle.rx_session.specs.Applied.{due_in, settled_in, without_observed, watched_in};
 ghost use Rattle.rx_session.specs.Doing as doing;
-ghost use Rattle.rx_session.specs.Doing.{after, has_key, MayDo};
+ghost use Rattle.rx_session.specs.Doing.{session_after, has_key, MayDo};
 ghost use Rattle.rx_session.specs.Emissions.{emissions, settled_session, IsSettled};
 ghost use Rattle.rx_session.specs.Lives.{IsFree};
 ghost use Rattle.rx_session.specs.Placed.{world_of};
@@ -28,8 +28,8 @@ impl Session {
     /// The session after what a line does, and the emissions that are due then, which are emitted.
     pub fn next(self, alloc: Global, doing: Doing) -> Result<(Session, Vec<Emission>), AllocError>
         requires { MayDo (done_by doing) self }
-        ensures session { IfOk result (λ p. p.0 ≡ settled_session (after (done_by doing) self)) }
-        ensures emissions { IfOk result (λ p. p.1.items ≡ emissions (after (done_by doing) self)) }
+        ensures session { IfOk result (λ p. p.0 ≡ settled_session (session_after (done_by doing) self)) }
+        ensures emissions { IfOk result (λ p. p.1.items ≡ emissions (session_after (done_by doing) self)) }
 
         // Nothing of any session is to be emitted, so one to which nothing is done stays.
         ensures before { IsSettled self }
@@ -47,8 +47,8 @@ impl Session {
 impl Session {
     // The same session: nothing of it is to be emitted.
     fn keep(self) -> Session
-        ensures session { result ≡ settled_session (after doing.nothing self) }
-        ensures emissions { emissions (after doing.nothing self) ≡ [] }
+        ensures session { result ≡ settled_session (session_after doing.nothing self) }
+        ensures emissions { emissions (session_after doing.nothing self) ≡ [] }
         ensures before { IsSettled self }
     {
         let moment = self.moment;
@@ -56,8 +56,8 @@ impl Session {
     }
 
     fn set_clock(self, moment: u64) -> Session
-        ensures session { result ≡ settled_session (after (doing.set_clock moment) self) }
-        ensures emissions { emissions (after (doing.set_clock moment) self) ≡ [] }
+        ensures session { result ≡ settled_session (session_after (doing.set_clock moment) self) }
+        ensures emissions { emissions (session_after (doing.set_clock moment) self) ≡ [] }
         ensures before { IsSettled self }
     {
         Session {
@@ -72,9 +72,9 @@ impl Session {
     fn write(self, alloc: Global, entry: Record) -> Result<(Session, Vec<Emission>), AllocError>
         requires { MayDo (doing.write (content entry)) self }
         ensures session { IfOk result
-            (λ p. p.0 ≡ settled_session (after (doing.write (content entry)) self)) }
+            (λ p. p.0 ≡ settled_session (session_after (doing.write (content entry)) self)) }
         ensures emissions { IfOk result
-            (λ p. p.1.items ≡ emissions (after (doing.write (content entry)) self)) }
+            (λ p. p.1.items ≡ emissions (session_after (doing.write (content entry)) self)) }
         ensures before { IsSettled self }
     {
         let played = self.begin(alloc).write(alloc, entry)?;
@@ -86,10 +86,11 @@ impl Session {
     fn watch(self, alloc: Global, watch: Watch) -> Result<(Session, Vec<Emission>), AllocError>
         requires { MayDo (doing.watch watch.name watch.coll (asked watch.query)) self }
         ensures session { IfOk result (λ p. p.0
-            ≡ settled_session (after (doing.watch watch.name watch.coll (asked watch.query))
+            ≡ settled_session (session_after (doing.watch watch.name watch.coll (asked watch.query))
             self)) }
         ensures emissions { IfOk result (λ p. p.1.items
-            ≡ emissions (after (doing.watch watch.name watch.coll (asked watch.query)) self)) }
+            ≡ emissions
+            (session_after (doing.watch watch.name watch.coll (asked watch.query)) self)) }
         ensures before { IsSettled self }
     {
         let Session {
@@ -112,8 +113,8 @@ impl Session {
 
     // The session without the query of that name.
     fn unwatch(self, name: &RxText) -> Session
-        ensures session { result ≡ settled_session (after (doing.unwatch name.now) self) }
-        ensures emissions { emissions (after (doing.unwatch name.now) self) ≡ [] }
+        ensures session { result ≡ settled_session (session_after (doing.unwatch name.now) self) }
+        ensures emissions { emissions (session_after (doing.unwatch name.now) self) ≡ [] }
         ensures before { IsSettled self }
     {
         let mut world = self.world;

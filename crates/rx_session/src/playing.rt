@@ -8,7 +8,7 @@ ghost use Rattle.rx_world.specs.Holders.{holders_in};
 ghost use Rattle.rx_world.specs.Step.{legal};
 ghost use Rattle.rx_world.specs.Touch.{touch};
 ghost use Rattle.rx_session.specs.Doing as doing;
-ghost use Rattle.rx_session.specs.Doing.{after};
+ghost use Rattle.rx_session.specs.Doing.{session_after};
 ghost use Rattle.rx_session.specs.Emissions.{emissions, settled_session, IsSettled};
 ghost use Rattle.rx_session.specs.Placed.{world_of};
 ghost use Rattle.rx_session.specs.Playing.{coll_to_note, due_each, due_in_all, emission_of, in_places, add_written, settled_each, without_emission};
@@ -81,7 +81,7 @@ impl Playing {
     pub fn write(self, alloc: Global, entry: Record) -> Result<Playing, AllocError>
         requires legal { legal (content entry) self.world ≡ true }
         requires ordered { IsOrdered (content entry) }
-        ensures { IfOk result (λ p. p ≡ after (doing.write (content entry)) self) }
+        ensures { IfOk result (λ p. p ≡ session_after (doing.write (content entry)) self) }
     {
         let Playing {
             world,

@@ -6,7 +6,7 @@ ghost use Rattle.rx_observe.specs.Observing.{AllCold, AllRight, HaveDistinctName
 ghost use Rattle.rx_observe.specs.Rows.{emissions_due};
 ghost use Rattle.rx_world.specs.Holders.{holders_in};
 ghost use Rattle.rx_session.specs.Doing as doing;
-ghost use Rattle.rx_session.specs.Doing.{after};
+ghost use Rattle.rx_session.specs.Doing.{session_after};
 ghost use Rattle.rx_session.specs.Emissions.{emissions, settled_session, IsSettled};
 ghost use Rattle.rx_session.specs.Lives.{bare, with_cooled, each_live};
 ghost use Rattle.rx_session.specs.Placed.{AreUnwatched, IsQuiet, world_of};
@@ -25,8 +25,8 @@ impl Session {
         requires replications { (world_of world).replications ≡ self.world.replications }
         requires unwatched { AreUnwatched (holders_in world) }
         ensures session { IfOk result
-            (λ s. s ≡ settled_session (after (doing.restart (world_of world).epoch) self)) }
-        ensures emissions { emissions (after (doing.restart (world_of world).epoch) self) ≡ [] }
+            (λ s. s ≡ settled_session (session_after (doing.restart (world_of world).epoch) self)) }
+        ensures emissions { emissions (session_after (doing.restart (world_of world).epoch) self) ≡ [] }
         ensures before { IsSettled self }
     {
         let mut world = world;

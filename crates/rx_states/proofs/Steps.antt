@@ -7,7 +7,7 @@ use Rattle.std.specs.declared.cmp.Ordering.{Ordering}
 use Rattle.std.specs.declared.cmp.Ordering.TheVariants.{Less, Equal, Greater}
 use Rattle.rx_value.specs.Fields.{Pairs}
 use Rattle.rx_value.proofs.Lists.{drop_at}
-use Rattle.rx_query.specs.Asked.{Sorts}
+use Rattle.rx_query.specs.QuerySpec.{Sorts}
 use Rattle.rx_query.specs.Order.{field_cmp, sort_cmp, sorts_cmp}
 
 module _ {X : Type 0} (p : X → Bool) (xs : List X) (i : ℕ) (x : X) (at : slice_get xs i ≡ Some x)

@@ -1,6 +1,6 @@
 -- The answers of `Facts`.
 use Rattle.std.specs.Prelude.{ℕ, Bool}
-use Rattle.rx_query.specs.Asked.{asked}
+use Rattle.rx_query.specs.QuerySpec.{asked}
 use Rattle.rx_query.specs.States.{state_of, number_of}
 use Rattle.rx_states.specs.declared.facts.Facts.{Facts}
 use Rattle.rx_table.specs.declared.states.StateName.{StateName}

@@ -4,7 +4,7 @@ use Rattle.rx_frame.specs.File.{records}
 use Rattle.rx_frame.specs.Gate.{IsClosed, NextIs}
 use Rattle.rx_frame.proofs.Records.{length-records-push}
 use Rattle.rx_journal.specs.Hold.{Hold}
-use Rattle.rx_journal.specs.Windows.{WillLend, left, place_of}
+use Rattle.rx_journal.specs.Windows.{WillLend, left, gate_place}
 use Rattle.rx_journal.specs.declared.windows.Windows.{Windows}
 use Rattle.rx_journal.proofs.Holding.{one_before}
 use Rattle.rx_record.specs.Content.{record_of}
@@ -36,14 +36,14 @@ read_none content first w is = record {
 -- one more was lent
 pub read_one : (content : List ℕ) (first f f' : Windows) (body : List ℕ) (w w' : World)
     (count size : ℕ) → NextIs (left f content) body (left f' content)
-    → place_of f' ≡ place_of f + 5 + length body → after_body (record_of body) w ≡ Some w'
+    → gate_place f' ≡ gate_place f + 5 + length body → after_body (record_of body) w ≡ Some w'
     → HasRead content first f w count size
     → HasRead content first f' w' (count + 1) (size + (5 + length body))
 read_one content first f f' body w w' count size next moved is h = record {
   done = h.done ++ body ∷ [];
   before = λ rest will.
       let here : WillLend content f (body ∷ rest) =
-      one_before (place_of f) (left f content) body (left f' content) rest next
+      one_before (gate_place f) (left f content) body (left f' content) rest next
       (subst (λ (n : ℕ). Hold n (left f' content) rest) moved will) in
       subst (λ (bs : List (List ℕ)). WillLend content first bs)
       (sym (append_assoc h.done (body ∷ []) rest)) (h.before (body ∷ rest) here);
@@ -56,7 +56,7 @@ read_one content first f f' body w w' count size next moved is h = record {
 
 -- none is left
 pub read_all : (content : List ℕ) (first f : Windows) (w : World) (count size : ℕ)
-    → IsClosed (left f content) → place_of f + 1 < 2 ^ 32 → HasRead content first f w count size
+    → IsClosed (left f content) → gate_place f + 1 < 2 ^ 32 → HasRead content first f w count size
     → (bodies : List (List ℕ)) × WillLend content first bodies × AreCounted bodies w count size
 read_all content first f w count size closed short h =
     let none : WillLend content f [] = record {

@@ -31,7 +31,7 @@ use Rattle.rx_world.proofs.Steps.{lawful_at}
 use Rattle.rx_world.proofs.Valid.{valid_at}
 use Rattle.rx_sync.specs.AnyReply.{ChangesNothingElse, EveryTaking, LosesNoUpdate, LowersNoCheckpoint, MayBeKept, StaysForkSound, StaysMade, StaysSoundAtPort, StaysValid, Through}
 use Rattle.rx_sync.specs.Asking.{fork_in}
-use Rattle.rx_sync.specs.Exchange.{after}
+use Rattle.rx_sync.specs.Exchange.{world_after}
 use Rattle.rx_sync.specs.Laws.{ComeSoundly, HasAnswered, IsDueIn, IsLawfulReplyIn}
 use Rattle.rx_sync.specs.Taking.{resolve_for, taken, taken_by}
 use Rattle.rx_sync.proofs.Calls.{taken_keeps}
@@ -139,7 +139,7 @@ module _ (w : World) (kinds : Kinds) (name : List ℕ) (asked : Asked) (reply : 
       (down_risen by f.fork f.r.side.up f.r.side.down asked.request.ask reply.body tk
       leaves.taken_so.fits leaves.taken_so.of.is)
 
-  made_then : IsMadeWorld (after cs w)
+  made_then : IsMadeWorld (world_after cs w)
   made_then = made_after w cs made took.next
 
   same_schema : new.schema ≡ f.fork.schema
@@ -151,15 +151,15 @@ module _ (w : World) (kinds : Kinds) (name : List ℕ) (asked : Asked) (reply : 
   documents_valid =
       subst (λ (s : Shape). DocumentsPass (is_valid s) new.documents) same_schema
       (documents_pass new
-      (lawful_at (after cs w) f.r.fork new made_then.lawful leaves.leaves.there).lawful
-      (valid_at (after cs w) f.r.fork new made_then.valid leaves.leaves.there))
+      (lawful_at (world_after cs w) f.r.fork new made_then.lawful leaves.leaves.there).lawful
+      (valid_at (world_after cs w) f.r.fork new made_then.valid leaves.leaves.there))
 
   known_valid : KnownPass (is_valid f.fork.schema) next.side.known
   known_valid =
-      let l = linked_at (after cs w) made_then name next leaves.leaves.learnt in
+      let l = linked_at (world_after cs w) made_then name next leaves.leaves.learnt in
       subst (λ (s : Shape). KnownPass (is_valid s) next.side.known)
       (ap (λ (c : Held). c.schema) (some_same (sym l.held ∙ leaves.leaves.there)) ∙ same_schema)
-      (known_pass (after cs w) name next l)
+      (known_pass (world_after cs w) name next l)
 
   stays_sound : IsForkSound new.documents next.side.known next.side.up
   stays_sound =
@@ -227,8 +227,8 @@ taking_changes_nothing_else w kinds name asked reply now made sound due lawful c
     let l = leaves w kinds name asked reply now made sound due lawful cs f in
     through w kinds name asked reply now made sound due lawful cs f
     (λ r fork next new.
-    ((k : List ℕ) → k ≢ r.fork → named (after cs w).collections k ≡ named w.collections k)
-    × ((k : List ℕ) → k ≢ name → named (after cs w).replications k ≡ named w.replications k))
+    ((k : List ℕ) → k ≢ r.fork → named (world_after cs w).collections k ≡ named w.collections k)
+    × ((k : List ℕ) → k ≢ name → named (world_after cs w).replications k ≡ named w.replications k))
     (l.leaves.others, l.leaves.apart)
 
 pub taking_sound_at_port : EveryTaking StaysSoundAtPort

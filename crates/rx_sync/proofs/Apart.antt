@@ -36,7 +36,7 @@ use Rattle.rx_world.proofs.Sounds.{IsNoExchange}
 use Rattle.rx_sync.specs.Asking.{asked_in, fork_in}
 use Rattle.rx_sync.specs.Asks.{Asks, next_number, with_request}
 use Rattle.rx_sync.specs.Exchange as step
-use Rattle.rx_sync.specs.Exchange.{Course, Planned, Terms, after, comes_to, course, course_by, handled_again, handled_and_taken, if_taken, late_records, late_request, lost_by, once_handled, once_late, reply_lost, reply_taken, when_taken}
+use Rattle.rx_sync.specs.Exchange.{Course, Planned, Terms, world_after, comes_to, course, course_by, handled_again, handled_and_taken, if_taken, late_records, late_request, lost_by, once_handled, once_late, reply_lost, reply_taken, when_taken}
 use Rattle.rx_sync.specs.Handling.{Handled, commits_of, handled, handled_by, handled_for, local_name, written_by}
 use Rattle.rx_sync.specs.Remote.{Heard, RemoteTurned, no_dial, no_wire, no_line, line, first_heard, heard_course, heard_exchange, heard_later, heard_on, lost_as, lost_or_no_time, once_heard, once_read, once_taken, remote_turn, schema_in}
 use Rattle.rx_sync.specs.Taking.{changes_nothing, exchange_at, recorded, resolve_for, take_fault, taken, taken_by, write_time}
@@ -188,8 +188,8 @@ apart_once : (name : List ℕ) (next : Handled → World → Planned) (w : World
     → AreApart name (once_handled next w o).records
 apart_once name next w None is then = tt
 apart_once name next w (Some h) is then =
-    apart_both name h.records (next h (after h.records w)).records is
-    (then h (after h.records w))
+    apart_both name h.records (next h (world_after h.records w)).records is
+    (then h (world_after h.records w))
 
 module _ (t : Terms) (name : List ℕ) (other : t.name ≢ name) where
   apart_reply : (asked : Asked) (h : Handled) (w : World)
@@ -232,8 +232,8 @@ module _ (t : Terms) (name : List ℕ) (other : t.name ≢ name) where
       → IfSome o (AreApart name) → AreApart name (once_late t asked x w o).records
   apart_once_late asked x w None is = tt
   apart_once_late asked x w (Some cs) is =
-      apart_both name cs (step.exchange t asked x (after cs w)).records is
-      (apart_exchange asked x (after cs w))
+      apart_both name cs (step.exchange t asked x (world_after cs w)).records is
+      (apart_exchange asked x (world_after cs w))
 
   apart_course_by : (x : Happening) (w : World) (a : Asks) (o : Option Asked)
       → AreApart name (course_by t x w a o).records
@@ -255,9 +255,9 @@ module _ (t : Terms) (name : List ℕ) (other : t.name ≢ name) where
   apart_turn batch (suc budget) over w a =
       let c : Course = course t batch (first_of over) w a in
       apart_going c (end_by batch c.came)
-      (turn t batch budget (rest_of over) (after c.records w) c.asks)
+      (turn t batch budget (rest_of over) (world_after c.records w) c.asks)
       (apart_course_by (first_of over) w a (asked_in w t.name (next_number a) batch))
-      (apart_turn batch budget (rest_of over) (after c.records w) c.asks)
+      (apart_turn batch budget (rest_of over) (world_after c.records w) c.asks)
 
   -- ---- to a master elsewhere
 
@@ -310,6 +310,6 @@ module _ (t : Terms) (name : List ℕ) (other : t.name ≢ name) where
       let o = asked_in w t.name (next_number a) batch in
       let c : Course = heard_course t (first_heard hs) w a o in
       apart_heard_on c o (heard_later hs) (end_by batch c.came)
-      (remote_turn t batch budget (heard_later hs) (after c.records w) c.asks)
+      (remote_turn t batch budget (heard_later hs) (world_after c.records w) c.asks)
       (apart_heard_course (first_heard hs) w a o)
-      (apart_remote_turn batch budget (heard_later hs) (after c.records w) c.asks)
+      (apart_remote_turn batch budget (heard_later hs) (world_after c.records w) c.asks)

@@ -14,7 +14,7 @@ use Rattle.rx_wire.specs.declared.message.AskKind.{AskKind}
 use Rattle.rx_wire.specs.declared.message.AskKind.TheVariants.{Push, Pull}
 use Rattle.rx_wire.specs.declared.message.Body.{Body}
 use Rattle.rx_wire.specs.declared.message.Body.TheVariants.{Conflicts, Docs}
-use Rattle.rx_replication.specs.Exchange.{Link, Exchange, IsLink, IsQuiet, GoOn, HaveBatches, asked, exchange, pushed, pushes_of}
+use Rattle.rx_replication.specs.Exchange.{Link, Exchange, IsLink, IsQuiet, GoOn, HaveBatches, asked, exchange_over_link, pushed, pushes_of}
 use Rattle.rx_replication.specs.Known.{KnownStates, pending}
 use Rattle.rx_replication.specs.Left.{key_count}
 use Rattle.rx_replication.specs.Master.{body_of}
@@ -29,8 +29,8 @@ use Rattle.rx_script.specs.declared.happening.Happening.{Happening}
 use Rattle.rx_script.specs.declared.happening.Happening.TheVariants as happening
 use Rattle.rx_world.specs.World.{World}
 use Rattle.rx_sync.specs.Asks.{Asks}
-use Rattle.rx_sync.specs.Bound.{AreOk, EachExchange, EachLowersLeft, EndsInTime, EveryOkTurn, FallsBy, IsOkTurn, LowersLeft, NextTurn, PushesAtMostTwice, TurnsEndInTime, enough, exchanges_of, is_done, pushed_keys, pushes_in, turned}
-use Rattle.rx_sync.specs.Exchange.{Terms, Course, after, course, row_keys, state_keys, taken_as}
+use Rattle.rx_sync.specs.Bound.{AreOk, EachExchange, EachLowersLeft, EndsInTime, EveryOkTurn, FallsBy, IsOkTurn, LowersLeft, NextTurn, PushesAtMostTwice, TurnsEndInTime, enough, exchanges_of, is_done, pushed_keys, pushes_in, turn_of_line}
+use Rattle.rx_sync.specs.Exchange.{Terms, Course, world_after, course, row_keys, state_keys, taken_as}
 use Rattle.rx_sync.specs.Laws.{IsReady}
 use Rattle.rx_sync.specs.Taking.{resolve_for}
 use Rattle.rx_sync.specs.Turn.{Turned, end_by, first_of, going_on, rest_of, turn}
@@ -127,7 +127,8 @@ goes_none : (by : Resolve) (l : Link) → Goes by l 0 l
 goes_none by l = record { on = λ ys some go. (ys, some, go, omega arith) }
 
 goes_first : (by : Resolve) (l : Link) (x : Exchange) (next : Link) (n : ℕ) (last : Link)
-    → 1 ≤ x.batch → exchange by l x ≡ Some next → (IsQuiet l x.batch → ⊥) → Goes by next n last
+    → 1 ≤ x.batch → exchange_over_link by l x ≡ Some next → (IsQuiet l x.batch → ⊥)
+    → Goes by next n last
     → Goes by l (suc n) last
 goes_first by l x next n last some step loud rest = record {
   on = λ ys have go.
@@ -166,12 +167,13 @@ pushes_none by l key = record { xs = []; some = tt; count = refl }
 -- exchanges may go on, as many as there were to be have gone by
 pub record IsOver (name : List ℕ) (kinds : Kinds) (by : Resolve) (w : World) (last : Link)
     (budget n : ℕ) (u : Turned) : Type 0 where
-  pub stands : Stands name kinds by (after u.records w) last
+  pub stands : Stands name kinds by (world_after u.records w) last
   pub all : n ≡ budget
   pub count : length u.exchanges ≡ n
 
 -- how a turn has gone: at most its last exchange is quiet
-pub record HasGone (name : List ℕ) (kinds : Kinds) (by : Resolve) (w : World) (l : Link) (budget : ℕ)
+pub record HasGone (name : List ℕ) (kinds : Kinds) (by : Resolve) (w : World) (l : Link)
+    (budget : ℕ)
     (u : Turned) : Type 0 where
   pub n : ℕ
   pub last : Link
@@ -198,7 +200,7 @@ module _ (t : Terms) (batch : ℕ) (some : 1 ≤ batch) (by : Resolve) where
         (pushed_shown l batch e s.came)
         ∙ count_keys key (pushed l batch) in
         let there : pushes_in key es
-        ≡ pushes_of by key (exchange by l (at_once batch t.now)) rest.xs =
+        ≡ pushes_of by key (exchange_over_link by l (at_once batch t.now)) rest.xs =
         rest.count ∙ ap (λ (o : Option Link). pushes_of by key o rest.xs) (sym s.step) in
         ap (λ (n : ℕ). n + pushes_in key es) here
         ∙ ap (λ (n : ℕ). length (filter (λ d. bytes_eq d.state.key key) (pushed l batch)) + n)
@@ -241,7 +243,8 @@ module _ (t : Terms) (batch : ℕ) (some : 1 ≤ batch) (by : Resolve) where
             (sym goes_on ∙ ap (λ (e : Exchanged). end_by batch (Some e)) steps.came
             ∙ quiet_ends l batch quiet)
 
-        gone_on : end_by batch (Some e) ≡ None → gone (after c.records w) steps.next budget rest
+        gone_on : end_by batch (Some e) ≡ None
+            → gone (world_after c.records w) steps.next budget rest
             → gone w l (suc budget) (going_on (record c { came = Some e }) None rest)
         gone_on goes_on more = record {
           n = suc more.n;
@@ -262,7 +265,7 @@ module _ (t : Terms) (batch : ℕ) (some : 1 ≤ batch) (by : Resolve) where
         }
 
         gone_by : (q : Option TurnEnd) → end_by batch (Some e) ≡ q
-            → gone (after c.records w) steps.next budget rest
+            → gone (world_after c.records w) steps.next budget rest
             → gone w l (suc budget) (going_on (record c { came = Some e }) q rest)
         gone_by None is more = gone_on is more
         gone_by (Some end) is more =
@@ -273,7 +276,7 @@ module _ (t : Terms) (batch : ℕ) (some : 1 ≤ batch) (by : Resolve) where
     gone_came : (c : Course) (rest : Turned)
         (steps : (e : Exchanged) → c.came ≡ Some e → CourseSteps t batch by w l c e)
         → ((e : Exchanged) (is : c.came ≡ Some e)
-        → gone (after c.records w) (steps e is).next budget rest)
+        → gone (world_after c.records w) (steps e is).next budget rest)
         → (o : Option Exchanged) → c.came ≡ o
         → gone w l (suc budget) (going_on (record c { came = o }) (end_by batch o) rest)
     gone_came c rest steps more None is = gone_clock c rest
@@ -303,15 +306,16 @@ module _ (t : Terms) (batch : ℕ) (some : 1 ≤ batch) (by : Resolve) where
       let c : Course = course t batch (first_of link) w a in
       let steps : (e : Exchanged) → c.came ≡ Some e → CourseSteps t batch by w l c e =
       course_steps t batch some by w l a s (first_of link) (first_ok link ok) in
-      gone_came w l s budget c (turn t batch budget (rest_of link) (after c.records w) c.asks) steps
-      (λ e is. turn_goes budget (rest_of link) (rest_ok link ok) (after c.records w)
+      gone_came w l s budget c
+      (turn t batch budget (rest_of link) (world_after c.records w) c.asks) steps
+      (λ e is. turn_goes budget (rest_of link) (rest_ok link ok) (world_after c.records w)
       (steps e is).next c.asks (steps e is).stands) c.came refl
 
   -- ---- each exchange
 
   falls : (w : World) (l : Link) → Stands t.name t.kinds by w l → (c : Course) (e : Exchanged)
       → CourseSteps t batch by w l c e
-      → FallsBy w (after c.records w) t.name (length (pushed_keys e))
+      → FallsBy w (world_after c.records w) t.name (length (pushed_keys e))
   falls w l s c e steps =
       let lower = lowers by (keeps_key w t.name t.kinds by l s) l
       (is_link w t.name t.kinds by l s) (at_once batch t.now) some steps.next steps.step in
@@ -335,9 +339,9 @@ module _ (t : Terms) (batch : ℕ) (some : 1 ≤ batch) (by : Resolve) where
       let steps : (e : Exchanged) → c.came ≡ Some e → CourseSteps t batch by w l c e =
       course_steps t batch some by w l a s (first_of link) (first_ok link ok) in (
         λ e is. falls w l s c e (steps e is),
-        rest_by (EachExchange (LowersLeft t) t batch budget (rest_of link) (after c.records w)
+        rest_by (EachExchange (LowersLeft t) t batch budget (rest_of link) (world_after c.records w)
             c.asks) c
-            (λ e is. each_lowers budget (rest_of link) (rest_ok link ok) (after c.records w)
+            (λ e is. each_lowers budget (rest_of link) (rest_ok link ok) (world_after c.records w)
             (steps e is).next c.asks (steps e is).stands) c.came refl,
       )
 
@@ -412,7 +416,7 @@ module _ (name : List ℕ) (kinds : Kinds) (by : Resolve) where
 
   counts_on : (w : World) (l : Link) (budget : ℕ) (u : Turned)
       → HasGone name kinds by w l budget u → (k : ℕ)
-      → ((m : Link) → Stands name kinds by (after u.records w) m → CountsTo m k)
+      → ((m : Link) → Stands name kinds by (world_after u.records w) m → CountsTo m k)
       → (end : TurnEnd) → u.ended ≡ end
       → CountsTo l (length u.exchanges + cond (is_done end) 0 k)
   counts_on w l budget u g k rest Quiet is = (g.n, g.last, g.goes, omega (arith, g.few))
@@ -431,12 +435,12 @@ module _ (name : List ℕ) (kinds : Kinds) (by : Resolve) where
       → Stands name kinds by w l → CountsTo l (exchanges_of name kinds turns w)
   turns_go [] ok w l s = (0, l, goes_none by l, omega arith)
   turns_go (x ∷ xs) ok w l s =
-      let u : Turned = turned name kinds x w in
+      let u : Turned = turn_of_line name kinds x w in
       let g : HasGone name kinds by w l x.budget u =
       turn_goes (record { name = name; now = x.now; kinds = kinds }) x.batch ok.0.0 by x.budget
       x.link ok.0.1 w l x.asks s in
-      counts_on w l x.budget u g (exchanges_of name kinds xs (after u.records w))
-      (λ m stands. turns_go xs ok.1 (after u.records w) m stands) u.ended refl
+      counts_on w l x.budget u g (exchanges_of name kinds xs (world_after u.records w))
+      (λ m stands. turns_go xs ok.1 (world_after u.records w) m stands) u.ended refl
 
 pub turns_in_time : TurnsEndInTime
 turns_in_time name kinds w ready turns ok =

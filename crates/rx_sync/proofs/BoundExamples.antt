@@ -14,7 +14,7 @@ use Rattle.rx_world.specs.Replicating.{new_replication}
 use Rattle.rx_world.specs.World.{World}
 use Rattle.rx_sync.specs.Asks.{no_asks}
 use Rattle.rx_sync.specs.Bound.{ForLink, enough, pushes_in}
-use Rattle.rx_sync.specs.Exchange.{after}
+use Rattle.rx_sync.specs.Exchange.{world_after}
 use Rattle.rx_sync.specs.Turn.{Turned, turn}
 
 -- the names of the master, the fork and the replication, and the keys of the two documents
@@ -47,7 +47,7 @@ both at n =
 module _ (schema : Shape) where
   -- the master wrote 1 to both, and the fork 2, and nothing is known
   abbrev apart : World
-  apart = after (both master 1 ∷ both fork 2 ∷ []) (record {
+  apart = world_after (both master 1 ∷ both fork 2 ∷ []) (record {
     collections = (master, held_with master schema []) ∷ (fork, held_with fork schema []) ∷ [];
     replications = (name, new_replication name fork (Local master) (104 ∷ []) None) ∷ [];
     epoch = 1;

@@ -42,7 +42,7 @@ use Rattle.rx_world.specs.declared.replication.Replication.{Replication}
 use Rattle.rx_world.proofs.Steps.{lawful_at}
 use Rattle.rx_world.proofs.Valid.{valid_at}
 use Rattle.rx_sync.specs.Asks.{IsLawfulRequest}
-use Rattle.rx_sync.specs.Exchange.{after, behind, exchange, handled_and_taken, if_taken, once_handled, reply_taken, taken_as, when_taken}
+use Rattle.rx_sync.specs.Exchange.{world_after, behind, exchange, handled_and_taken, if_taken, once_handled, reply_taken, taken_as, when_taken}
 use Rattle.rx_sync.specs.Handling.{Handled, handled_by, handled_for}
 use Rattle.rx_sync.specs.Laws.{ComeSoundly, IsAnsweredIn, IsAskedIn, IsDueIn, IsDueOf, IsLawfulIn, IsLawfulReply, IsLawfulReplyIn, IsReady, KeepsPendingIn, PullLeavesNone}
 use Rattle.rx_sync.specs.Shown.{planned_of, record_in}
@@ -136,7 +136,7 @@ module _ (w : World) (made : IsMadeWorld w) (sound : IsSoundWorld w) (name : Lis
   taken_soundly answered = took.come (answered r at fork held)
 
   kept_by : (other : HandlerKind) → named kinds r.handler ≡ Some other → (new : Held)
-      → named (after cs w).collections r.fork ≡ Some new
+      → named (world_after cs w).collections r.fork ≡ Some new
       → KeepsPending (resolve_for other r) r.side.known reply.body fork.documents new.documents
   kept_by other there new new_held =
       let t = took.taken_so in
@@ -153,7 +153,7 @@ module _ (w : World) (made : IsMadeWorld w) (sound : IsSoundWorld w) (name : Lis
   pub taken_keeps : KeepsPendingIn w kinds name reply cs
   taken_keeps =
       for_fork w name r fork (λ r fork. (kind : HandlerKind) → named kinds r.handler ≡ Some kind
-      → (new : Held) → named (after cs w).collections r.fork ≡ Some new
+      → (new : Held) → named (world_after cs w).collections r.fork ≡ Some new
       → KeepsPending (resolve_for kind r) r.side.known reply.body fork.documents new.documents)
       at held kept_by
 
@@ -204,7 +204,7 @@ module _ (w : World) (name : List ℕ) (kinds : Kinds) (ready : IsReady w name k
 
     -- the fork takes a reply before the master's record as behind it
     pub taken_before : (h : Handled) → handled_for w name asked.request now ≡ Some h
-        → taken (after h.records w) kinds name asked h.reply now
+        → taken (world_after h.records w) kinds name asked h.reply now
         ≡ taken w kinds name asked h.reply now
     taken_before h is =
         let e : HasEnds w name ready.here.replication ready.here.master = ends_of w name kinds
@@ -212,7 +212,7 @@ module _ (w : World) (name : List ℕ) (kinds : Kinds) (ready : IsReady w name k
         let lawful = (due_here w name kinds ready now has.0 has.1 has.2 asked has.3).lawful in
         let hh = handled_well w name kinds ready now asked.request h lawful is in
         let r = ready.here.replication in
-        taken_is (after h.records w) kinds name asked h.reply now r e.fork ready.kind
+        taken_is (world_after h.records w) kinds name asked h.reply now r e.fork ready.kind
         (replication_then w name kinds ready now has.0 has.1 has.2 asked has.3 h hh)
         (fork_then w name kinds ready now has.0 has.1 has.2 asked has.3 h hh) ready.handler
         ∙ sym (taken_is w kinds name asked h.reply now r e.fork ready.kind ready.here.held e.held

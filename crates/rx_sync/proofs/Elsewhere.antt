@@ -37,7 +37,7 @@ use Rattle.rx_world.proofs.Steps.{lawful_at}
 use Rattle.rx_world.proofs.Valid.{valid_at}
 use Rattle.rx_sync.specs.Asking.{asked_in, fork_in}
 use Rattle.rx_sync.specs.Asks.{Asks, AsksAreLawful, next_number, with_request}
-use Rattle.rx_sync.specs.Exchange.{Course, Terms, after, lost_by}
+use Rattle.rx_sync.specs.Exchange.{Course, Terms, world_after, lost_by}
 use Rattle.rx_sync.specs.Laws.{ComeSoundly, IsDueIn, IsDueOf, IsLawfulReply, IsLawfulReplyIn, MayComeInTurn, RemembersLawful}
 use Rattle.rx_sync.specs.Remote.{Heard, no_dial, no_wire, no_line, line, RemoteTurned, first_heard, heard_course, heard_exchange, heard_later, heard_on, lost_as, lost_or_no_time, once_heard, once_read, once_taken, remote_turn, schema_in}
 use Rattle.rx_sync.specs.RemoteLaws.{EachIsUnharmed, EveryCall, IsCallSound, IsHeardReply, IsReadyElsewhere, IsTakenUnharmed, IsUnharmed, MayCall, MayCallAgain}
@@ -239,7 +239,8 @@ module _ (t : Terms) (w : World) (ready : IsReadyElsewhere w t.name t.kinds) (as
 
 -- exchanges may go on
 pub ready_there : (cs : List Content) (w : World) (name : List ℕ) (kinds : Kinds)
-    → IsReadyElsewhere w name kinds → ComeSoundly w cs → IsReadyElsewhere (after cs w) name kinds
+    → IsReadyElsewhere w name kinds → ComeSoundly w cs
+    → IsReadyElsewhere (world_after cs w) name kinds
 ready_there cs w name kinds ready come =
     let turn = soundly_in_turn w cs come in
     let s = still_after cs w name ready.there.replication turn ready.there.held in
@@ -259,7 +260,7 @@ ready_there cs w name kinds ready come =
 -- what is remembered stays lawful
 pub remembers_there : (cs : List Content) (w : World) (name : List ℕ) (kinds : Kinds) (a : Asks)
     → IsReadyElsewhere w name kinds → MayComeInTurn w cs → RemembersLawful w name a
-    → RemembersLawful (after cs w) name a
+    → RemembersLawful (world_after cs w) name a
 remembers_there cs w name kinds a ready come lawful = λ r at fork held.
     let old = ready.there.replication in
     let l = linked_at w ready.made name old ready.there.held in
@@ -268,24 +269,24 @@ remembers_there cs w name kinds a ready come lawful = λ r at fork held.
     let fork_is : r.fork ≡ old.fork =
     ap (λ (r : Replication). r.fork) (some_same (sym at ∙ s.held)) ∙ s.fork in
     let same : c.0 ≡ fork =
-    some_same (sym c.1 ∙ ap (named (after cs w).collections) (sym fork_is) ∙ held) in
+    some_same (sym c.1 ∙ ap (named (world_after cs w).collections) (sym fork_is) ∙ held) in
     subst (λ (schema : Shape). AsksAreLawful schema a)
     (sym c.2 ∙ ap (λ (x : Held). x.schema) same) (lawful old ready.there.held l.fork l.held)
 
 -- the schema of the fork stays
 pub schema_after : (cs : List Content) (w : World) (name : List ℕ) (kinds : Kinds)
     → IsReadyElsewhere w name kinds → ComeSoundly w cs
-    → schema_in (after cs w) name ≡ schema_in w name
+    → schema_in (world_after cs w) name ≡ schema_in w name
 unfolding ready_there
 schema_after cs w name kinds ready come =
     let turn = soundly_in_turn w cs come in
     let old = ready.there.replication in
     let s = still_after cs w name old turn ready.there.held in
     let f = fork_there w name kinds ready in
-    let then = fork_there (after cs w) name kinds (ready_there cs w name kinds ready come) in
+    let then = fork_there (world_after cs w) name kinds (ready_there cs w name kinds ready come) in
     let c = (stay_after cs w turn).held old.fork f.fork f.held in
     let same : then.fork ≡ c.0 =
-    some_same (sym then.held ∙ ap (named (after cs w).collections) s.fork ∙ c.1) in
+    some_same (sym then.held ∙ ap (named (world_after cs w).collections) s.fork ∙ c.1) in
     then.schema ∙ ap Some (ap (λ (x : Held). x.schema) same ∙ c.2) ∙ sym f.schema
 
 -- a turn goes on only where a line was heard
@@ -308,7 +309,7 @@ goes_on_by_line t batch (line l) w a (Some asked) is = (l, refl)
 
 pub record CourseIsSound (t : Terms) (w : World) (c : Course) : Type 0 where
   pub come : ComeSoundly w c.records
-  pub again : MayCall t (after c.records w) c.asks
+  pub again : MayCall t (world_after c.records w) c.asks
 
 pub heard_course_sound : (t : Terms) (batch : ℕ) → 1 ≤ batch → (h : Heard) (w : World) (a : Asks)
     → MayCall t w a
@@ -339,11 +340,11 @@ heard_course_sound t batch some h w a may = by (asked_in w t.name (next_number a
 
 pub record CallIsSound (t : Terms) (w : World) (u : RemoteTurned) : Type 0 where
   pub come : ComeSoundly w u.turned.records
-  pub again : MayCall t (after u.turned.records w) u.turned.asks
+  pub again : MayCall t (world_after u.turned.records w) u.turned.asks
 
 on_sound : (t : Terms) (w : World) (c : Course) (o : Option Asked) (hs : List Heard)
     (end : Option TurnEnd) (rest : RemoteTurned) → CourseIsSound t w c
-    → CallIsSound t (after c.records w) rest → CallIsSound t w (heard_on c o hs end rest)
+    → CallIsSound t (world_after c.records w) rest → CallIsSound t w (heard_on c o hs end rest)
 on_sound t w c o hs None rest sound more = record {
   come = soundly-append w c.records rest.turned.records sound.come more.come;
   again = subst (λ (v : World). MayCall t v rest.turned.asks)
@@ -351,7 +352,7 @@ on_sound t w c o hs None rest sound more = record {
 }
 on_sound t w c o hs (Some end) rest sound more = record {
   come = subst (λ (cs : List Content). ComeSoundly w cs) (sym (append-nil c.records)) sound.come;
-  again = subst (λ (cs : List Content). MayCall t (after cs w) c.asks)
+  again = subst (λ (cs : List Content). MayCall t (world_after cs w) c.asks)
       (sym (append-nil c.records)) sound.again;
 }
 
@@ -363,8 +364,8 @@ call_sound t batch (suc budget) hs w a some may =
     let c : Course = heard_course t (first_heard hs) w a o in
     let sound : CourseIsSound t w c = heard_course_sound t batch some (first_heard hs) w a may in
     on_sound t w c o (heard_later hs) (end_by batch c.came)
-    (remote_turn t batch budget (heard_later hs) (after c.records w) c.asks) sound
-    (call_sound t batch budget (heard_later hs) (after c.records w) c.asks some sound.again)
+    (remote_turn t batch budget (heard_later hs) (world_after c.records w) c.asks) sound
+    (call_sound t batch budget (heard_later hs) (world_after c.records w) c.asks some sound.again)
 
 -- ---- no exchange harms the fork
 
@@ -388,7 +389,7 @@ each_unharmed t batch (suc budget) hs w a some may =
     heard_course t (first_heard hs) w a (asked_in w t.name (next_number a) batch) in
     let sound : CourseIsSound t w c = heard_course_sound t batch some (first_heard hs) w a may in (
       course_unharmed t batch some (first_heard hs) w a may,
-      λ goes_on. each_unharmed t batch budget (heard_later hs) (after c.records w) c.asks some
+      λ goes_on. each_unharmed t batch budget (heard_later hs) (world_after c.records w) c.asks some
           sound.again,
     )
 
@@ -425,7 +426,7 @@ missed_turn t batch (suc m) w a asked is some later =
     on : Option Asked → Option TurnEnd → RemoteTurned
     on o end =
         heard_on (course o) o later end
-        (remote_turn t batch m later (after (course o).records w) (course o).asks)
+        (remote_turn t batch m later (world_after (course o).records w) (course o).asks)
 
 -- ---- the laws
 

@@ -17,7 +17,7 @@ use Rattle.rx_script.specs.declared.happening.Happening.TheVariants as link
 use Rattle.rx_world.specs.Replicating.{new_replication}
 use Rattle.rx_world.specs.World.{World}
 use Rattle.rx_sync.specs.Asks.{no_asks}
-use Rattle.rx_sync.specs.Exchange.{Terms, after}
+use Rattle.rx_sync.specs.Exchange.{Terms, world_after}
 use Rattle.rx_sync.specs.Turn.{Turned, turn}
 
 -- the names of the master, the fork and the replication, and the key of the one document
@@ -60,7 +60,7 @@ module _ (schema : Shape) where
   -- ---- a push whose reply is lost
 
   abbrev one_written : World
-  one_written = after (written fork 1 1 1 ∷ []) before
+  one_written = world_after (written fork 1 1 1 ∷ []) before
 
   abbrev lost : Turned
   lost = turned MasterWins (link.LoseReply ∷ []) one_written
@@ -77,7 +77,7 @@ module _ (schema : Shape) where
 
   -- the next turn makes it good: the pushed state is the master's by now
   abbrev made_good : Turned
-  made_good = turned MasterWins [] (after lost.records one_written)
+  made_good = turned MasterWins [] (world_after lost.records one_written)
 
   made_good_exchanges : made_good.exchanges
       ≡ Pushed (key ∷ []) (key ∷ []) ∷ Pulled (key ∷ []) (Some (place 1)) ∷ []
@@ -87,13 +87,13 @@ module _ (schema : Shape) where
   made_good_end = refl
 
   -- no handler was called, and the fork wrote nothing
-  untouched : (after made_good.records (after lost.records one_written)).collections
-      ≡ (after lost.records one_written).collections
+  untouched : (world_after made_good.records (world_after lost.records one_written)).collections
+      ≡ (world_after lost.records one_written).collections
   untouched = refl
 
   -- a reply that comes in place of the right one is dropped, and a turn without loss goes on
   abbrev stale : Turned
-  stale = turned MasterWins (link.Stale ∷ []) (after (written master 1 1 2 ∷ []) before)
+  stale = turned MasterWins (link.Stale ∷ []) (world_after (written master 1 1 2 ∷ []) before)
 
   stale_exchanges : stale.exchanges ≡ PullLost Stale ∷ []
   stale_exchanges = refl
@@ -105,7 +105,7 @@ module _ (schema : Shape) where
 
   -- the fork pulls 1 and writes 2 and then 1 again, while the master writes 3
   abbrev master_written : World
-  master_written = after (written master 1 1 1 ∷ []) before
+  master_written = world_after (written master 1 1 1 ∷ []) before
 
   abbrev pulled : Turned
   pulled = turned MasterWins [] master_written
@@ -115,8 +115,8 @@ module _ (schema : Shape) where
 
   abbrev went_back : World
   went_back =
-      after (written fork 2 2 2 ∷ written master 2 2 3 ∷ written fork 3 3 1 ∷ [])
-      (after pulled.records master_written)
+      world_after (written fork 2 2 2 ∷ written master 2 2 3 ∷ written fork 3 3 1 ∷ [])
+      (world_after pulled.records master_written)
 
   -- nothing is pending, as 1 is what the fork knows, so it pulls 3
   abbrev back : Turned
@@ -131,7 +131,7 @@ module _ (schema : Shape) where
   -- ---- a conflict that the fork wins
 
   abbrev apart : World
-  apart = after (written master 1 1 1 ∷ written fork 1 1 2 ∷ []) before
+  apart = world_after (written master 1 1 1 ∷ written fork 1 1 2 ∷ []) before
 
   abbrev won : Turned
   won = turned ForkWins [] apart

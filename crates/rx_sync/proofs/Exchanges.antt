@@ -37,7 +37,7 @@ use Rattle.rx_world.specs.declared.replication.Replication.{Replication}
 use Rattle.rx_world.proofs.Sounds.{exchange_fork}
 use Rattle.rx_sync.specs.Asking.{fork_in}
 use Rattle.rx_sync.specs.Asks.{IsLawfulRequest}
-use Rattle.rx_sync.specs.Exchange.{after}
+use Rattle.rx_sync.specs.Exchange.{world_after}
 use Rattle.rx_sync.specs.Handling.{Handled, commits_of, handled, handled_by, handled_for, local_name}
 use Rattle.rx_sync.specs.Laws.{ComeSoundly, HasAnswered, IsDueOf, IsLawfulReply, MayCome, MayComeInTurn}
 use Rattle.rx_sync.specs.Taking.{changes_nothing, exchange_at, is_known, is_same_place, recorded, resolve_for, take_fault, taken, taken_by, write_time}
@@ -97,10 +97,10 @@ pub record HasTaken (w : World) (name : List ℕ) (r : Replication) (fork : Held
   pub come : HasAnswered w.collections r.master r.side.down asked reply → ComeSoundly w cs
   pub next : MayComeInTurn w cs
   pub new : Held
-  pub there : named (after cs w).collections r.fork ≡ Some new
+  pub there : named (world_after cs w).collections r.fork ≡ Some new
   pub wrote : Wrote fork.documents taken_so.of.taken.rows new.documents
   pub others : (k : List ℕ) → k ≢ r.fork
-      → named (after cs w).collections k ≡ named w.collections k
+      → named (world_after cs w).collections k ≡ named w.collections k
 
 module _ (w : World) (made : IsMadeWorld w) (sound : IsSoundWorld w) (name : List ℕ)
     (r : Replication) (at : named w.replications name ≡ Some r) (fork : Held)

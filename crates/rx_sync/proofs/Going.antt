@@ -36,7 +36,7 @@ use Rattle.rx_world.specs.World.{World, Replications}
 use Rattle.rx_world.specs.declared.replication.Replication.{Replication}
 use Rattle.rx_sync.specs.Asking.{asked_in, pending_in}
 use Rattle.rx_sync.specs.Asks.{IsLawfulRequest}
-use Rattle.rx_sync.specs.Exchange.{Planned, after, behind, comes_to, handled_and_taken, if_taken, lost_by, no_time, once_handled, reply_lost, reply_taken, state_keys, taken_as, when_taken}
+use Rattle.rx_sync.specs.Exchange.{Planned, world_after, behind, comes_to, handled_and_taken, if_taken, lost_by, no_time, once_handled, reply_lost, reply_taken, state_keys, taken_as, when_taken}
 use Rattle.rx_sync.specs.Handling.{Handled, handled_for}
 use Rattle.rx_sync.specs.Laws.{ComeSoundly, HasAnswered, IsDueOf, IsLawfulReply, IsLevel, IsReady, PullLeavesNone}
 use Rattle.rx_sync.specs.Taking.{taken_by}
@@ -54,12 +54,13 @@ use Rattle.rx_sync.proofs.Worlds.{after-append, sound_after, soundly-append}
 -- pull nothing is to be pushed
 pub record GoesWell (w : World) (name : List ℕ) (batch : ℕ) (p : Planned) : Type 0 where
   pub come : ComeSoundly w p.records
-  pub quiet : end_by batch p.came ≡ Some Quiet → IsLevel (after p.records w) name
+  pub quiet : end_by batch p.came ≡ Some Quiet → IsLevel (world_after p.records w) name
   pub pulled : PullLeavesNone w name p.records p.came
 
 -- records before one that goes well
 pub behind_well : (w : World) (name : List ℕ) (batch : ℕ) (cs : List Content) (p : Planned)
-    → ComeSoundly w cs → GoesWell (after cs w) name batch p → GoesWell w name batch (behind cs p)
+    → ComeSoundly w cs → GoesWell (world_after cs w) name batch p
+    → GoesWell w name batch (behind cs p)
 behind_well w name batch cs p come well = record {
   come = soundly-append w cs p.records come well.come;
   quiet = λ is.
@@ -110,13 +111,14 @@ module _ (w : World) (name : List ℕ) (kinds : Kinds) (ready : IsReady w name k
       → IsLawfulRequest (ends_of w name kinds ready).fork.schema q
       → handled_for w name q now ≡ o
       → ((h : Handled) → HasHandled w ready.here.master (ends_of w name kinds ready).master now q h
-      → GoesWell (after h.records w) name batch (next h (after h.records w)))
+      → GoesWell (world_after h.records w) name batch (next h (world_after h.records w)))
       → GoesWell w name batch (once_handled next w o)
   once_well batch q next None lawful is well =
       no_time_well w name batch
   once_well batch q next (Some h) lawful is well =
       let hh = handled_well q h lawful is in
-      behind_well w name batch h.records (next h (after h.records w)) (handled_come q h hh) (well h
+      behind_well w name batch h.records (next h (world_after h.records w)) (handled_come q h hh)
+      (well h
       hh)
 
 -- ---- the reply is taken
@@ -184,13 +186,14 @@ module _ (w : World) (name : List ℕ) (kinds : Kinds) (ready : IsReady w name k
 
   module _ (h : Handled) (hh : HasHandled w ready.here.master ends.master now asked.request h) where
     abbrev then_world : World
-    then_world = after h.records w
+    then_world = world_after h.records w
 
-    pub replication_then : named (after h.records w).replications name ≡ Some ready.here.replication
+    pub replication_then : named (world_after h.records w).replications name
+        ≡ Some ready.here.replication
     replication_then = ap (λ (rs : Replications). named rs name) hh.leaves.replications
         ∙ ready.here.held
 
-    pub fork_then : named (after h.records w).collections ready.here.replication.fork
+    pub fork_then : named (world_after h.records w).collections ready.here.replication.fork
         ≡ Some ends.fork
     fork_then =
         hh.leaves.others ready.here.replication.fork (λ same. ends.other (sym same)) ∙ ends.held
@@ -205,12 +208,12 @@ module _ (w : World) (name : List ℕ) (kinds : Kinds) (ready : IsReady w name k
         ready.here.replication.side.down asked.request.ask due_here.lawful.apart from
         ends.link.down_has_time))
 
-    answered_here : HasAnswered (after h.records w).collections ready.here.replication.master
+    answered_here : HasAnswered (world_after h.records w).collections ready.here.replication.master
         ready.here.replication.side.down asked h.reply
     answered_here =
         let from = from_down ends.fork.documents ready.here.replication.side.known
         ready.here.replication.side.down asked.request.ask current_here in
-        subst (λ (m : MasterName). HasAnswered (after h.records w).collections m
+        subst (λ (m : MasterName). HasAnswered (world_after h.records w).collections m
         ready.here.replication.side.down asked h.reply) (sym ready.here.local)
         (λ master there.
         subst (λ (c : Held). IsAnswered c.documents ready.here.replication.side.down
@@ -225,11 +228,11 @@ module _ (w : World) (name : List ℕ) (kinds : Kinds) (ready : IsReady w name k
 
     taken_here : (cs : List Content)
         → taken_by name now asked h.reply ready.here.replication ends.fork ready.kind ≡ Ok cs
-        → HasTaken (after h.records w) name ready.here.replication ends.fork ready.kind asked
+        → HasTaken (world_after h.records w) name ready.here.replication ends.fork ready.kind asked
         h.reply cs
     taken_here cs taken =
         let come = handled_come w name kinds ready now asked.request h hh in
-        has_taken (after h.records w)
+        has_taken (world_after h.records w)
         (made_after w h.records ready.made (soundly_in_turn w h.records come))
         (sound_after w h.records ready.sound come) name ready.here.replication replication_then
         ends.fork
@@ -237,11 +240,12 @@ module _ (w : World) (name : List ℕ) (kinds : Kinds) (ready : IsReady w name k
 
     pub leaves_here : (cs : List Content)
         → taken_by name now asked h.reply ready.here.replication ends.fork ready.kind ≡ Ok cs
-        → LeavesReply (after h.records w) name ready.here.replication ends.fork ready.kind asked
+        → LeavesReply
+        (world_after h.records w) name ready.here.replication ends.fork ready.kind asked
         h.reply now cs
     leaves_here cs taken =
         let come = handled_come w name kinds ready now asked.request h hh in
-        leaves_reply (after h.records w)
+        leaves_reply (world_after h.records w)
         (made_after w h.records ready.made (soundly_in_turn w h.records come))
         (sound_after w h.records ready.sound come) name ready.here.replication replication_then
         ends.fork
@@ -249,12 +253,13 @@ module _ (w : World) (name : List ℕ) (kinds : Kinds) (ready : IsReady w name k
 
     -- a short page that is taken makes the turn quiet, and the fork the master's equal
     level_page : (cs : List Content)
-        → HasTaken (after h.records w) name ready.here.replication ends.fork ready.kind asked
+        → HasTaken (world_after h.records w) name ready.here.replication ends.fork ready.kind asked
         h.reply cs
         → (p : Option Place) (b : ℕ) → asked.request.ask ≡ Pull p b
-        → length (since ends.master.documents p b) < b → IsLevel (after cs (after h.records w)) name
+        → length (since ends.master.documents p b) < b
+        → IsLevel (world_after cs (world_after h.records w)) name
     level_page cs ht p b ask few =
-        let v = after h.records w in
+        let v = world_after h.records w in
         let r = ready.here.replication in
         let s = still_after cs v name r ht.next replication_then in
         let same : ends.master ≡ hh.leaves.new =
@@ -263,19 +268,19 @@ module _ (w : World) (name : List ℕ) (kinds : Kinds) (ready : IsReady w name k
         ap (λ (r : Reply). r.body) hh.reply ∙ ap (body_of ends.master.documents) ask in
         let current : IsCurrent ends.fork.documents r.side.known r.side.down (Pull p b) =
         subst (IsCurrent ends.fork.documents r.side.known r.side.down) ask current_here in
-        level_at (after cs v) name s.now ready.here.master ht.new ends.master s.held
+        level_at (world_after cs v) name s.now ready.here.master ht.new ends.master s.held
         (s.master ∙ ready.here.local)
-        (ap (named (after cs v).collections) s.fork ∙ ht.there)
+        (ap (named (world_after cs v).collections) s.fork ∙ ht.there)
         (ht.others ready.here.master ends.other ∙ hh.leaves.there ∙ ap Some (sym same))
         (page_levels v name r ends.fork ends.master ready.kind asked h.reply cs ends.fork_lawful
         ends.lawful ends.sound ht p b ask current body few)
 
     quiet_by : (cs : List Content)
-        → HasTaken (after h.records w) name ready.here.replication ends.fork ready.kind asked
+        → HasTaken (world_after h.records w) name ready.here.replication ends.fork ready.kind asked
         h.reply cs
         → (a : AskKind) → asked.request.ask ≡ a
         → end_by batch (Some (taken_as a (body_of ends.master.documents a))) ≡ Some Quiet
-        → IsLevel (after cs (after h.records w)) name
+        → IsLevel (world_after cs (world_after h.records w)) name
     quiet_by cs ht (Push rows) ask is = absurd (cc)
     quiet_by cs ht (Pull p b) ask is =
         let page = since ends.master.documents p b in
@@ -291,43 +296,45 @@ module _ (w : World) (name : List ℕ) (kinds : Kinds) (ready : IsReady w name k
         (subst (λ (n : ℕ). n < batch) (length-map page (λ (d : Stored). d.state)) short))
 
     pulled_here : (cs : List Content)
-        → LeavesReply (after h.records w) name ready.here.replication ends.fork ready.kind asked
+        → LeavesReply
+        (world_after h.records w) name ready.here.replication ends.fork ready.kind asked
         h.reply now cs
-        → PullLeavesNone (after h.records w) name cs
+        → PullLeavesNone (world_after h.records w) name cs
         (Some (taken_as asked.request.ask h.reply.body))
     pulled_here cs left =
         let come = handled_come w name kinds ready now asked.request h hh in
-        taken_leaves_none (after h.records w)
+        taken_leaves_none (world_after h.records w)
         (made_after w h.records ready.made (soundly_in_turn w h.records come)) name
         ready.here.replication ends.fork fork_then ready.kind now asked h.reply due_here
         reply_is_lawful cs left
 
     pub taken_well : (o : Result (List Content) TakeFault)
         → taken_by name now asked h.reply ready.here.replication ends.fork ready.kind ≡ o
-        → GoesWell (after h.records w) name batch
+        → GoesWell (world_after h.records w) name batch
         (when_taken asked.request.ask h.reply.body (if_taken (Some o)))
     taken_well (Ok cs) taken =
         let ht = taken_here cs taken in
         let shown : taken_as asked.request.ask h.reply.body
         ≡ taken_as asked.request.ask (body_of ends.master.documents asked.request.ask) =
         ap (λ (r : Reply). taken_as asked.request.ask r.body) hh.reply in
-        behind_well (after h.records w) name batch cs
+        behind_well (world_after h.records w) name batch cs
         (comes_to (taken_as asked.request.ask h.reply.body)) (ht.come answered_here) (record {
           come = tt;
           quiet = λ q. quiet_by cs ht asked.request.ask refl
               (ap (λ (e : Exchanged). end_by batch (Some e)) (sym shown) ∙ q);
           pulled = λ is. pulled_here cs (leaves_here cs taken) is;
         })
-    taken_well (Err e) is = no_time_well (after h.records w) name batch
+    taken_well (Err e) is = no_time_well (world_after h.records w) name batch
 
-    pub reply_well : GoesWell (after h.records w) name batch
-        (reply_taken (record { name = name; now = now; kinds = kinds }) asked h (after h.records w))
+    pub reply_well : GoesWell (world_after h.records w) name batch
+        (reply_taken (record { name = name; now = now; kinds = kinds }) asked h
+        (world_after h.records w))
     reply_well =
         let r = ready.here.replication in
         subst (λ (o : Option (Result (List Content) TakeFault)).
-        GoesWell (after h.records w) name batch
+        GoesWell (world_after h.records w) name batch
         (when_taken asked.request.ask h.reply.body (if_taken o)))
-        (sym (taken_is (after h.records w) kinds name asked h.reply now r ends.fork ready.kind
+        (sym (taken_is (world_after h.records w) kinds name asked h.reply now r ends.fork ready.kind
         replication_then fork_then ready.handler))
         (taken_well (taken_by name now asked h.reply r ends.fork ready.kind) refl)
 
@@ -344,4 +351,4 @@ module _ (w : World) (name : List ℕ) (kinds : Kinds) (ready : IsReady w name k
   lost_goes_well why =
       once_well w name kinds ready now batch asked.request (reply_lost why asked)
       (handled_for w name asked.request now) due_here.lawful refl
-      (λ h hh. lost_well (after h.records w) name batch why asked.request.ask)
+      (λ h hh. lost_well (world_after h.records w) name batch why asked.request.ask)

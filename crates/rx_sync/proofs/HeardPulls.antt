@@ -26,7 +26,7 @@ use Rattle.rx_world.specs.World.{World}
 use Rattle.rx_world.specs.declared.replication.Replication.{Replication}
 use Rattle.rx_sync.specs.Asking.{asked_in, pending_in}
 use Rattle.rx_sync.specs.Asks.{Asks, next_number}
-use Rattle.rx_sync.specs.Exchange.{Planned, Terms, after, asked_to_pull, has_pulled, lost_by, taken_as}
+use Rattle.rx_sync.specs.Exchange.{Planned, Terms, world_after, asked_to_pull, has_pulled, lost_by, taken_as}
 use Rattle.rx_sync.specs.Laws.{IsDueIn, IsLawfulReplyIn}
 use Rattle.rx_sync.specs.Remote.{Heard, no_dial, no_wire, no_line, line, heard_course, heard_exchange, lost_as, lost_or_no_time, once_heard, once_read, once_taken, schema_in}
 use Rattle.rx_sync.specs.RemoteLaws.{IsReadyElsewhere, MayCall}
@@ -81,7 +81,7 @@ module _ (t : Terms) (w : World) (ready : IsReadyElsewhere w t.name t.kinds) (n 
 
   -- after such records, where it asked for a pull, nothing is to be pushed
   abbrev NoneAfter : List Content → Option Exchanged → Type 0
-  NoneAfter cs came = asked_to_pull came ≡ true → pending_in (after cs w) t.name ≡ Some 0
+  NoneAfter cs came = asked_to_pull came ≡ true → pending_in (world_after cs w) t.name ≡ Some 0
 
   abbrev LeavesNone : Planned → Type 0
   LeavesNone p = NoneAfter p.records p.came
@@ -143,12 +143,12 @@ module _ (t : Terms) (w : World) (ready : IsReadyElsewhere w t.name t.kinds) (n 
 pub heard_course_pulled : (t : Terms) (batch : ℕ) → 1 ≤ batch → (h : Heard) (w : World) (a : Asks)
     → MayCall t w a
     → (let c = heard_course t h w a (asked_in w t.name (next_number a) batch) in
-    asked_to_pull c.came ≡ true → pending_in (after c.records w) t.name ≡ Some 0)
+    asked_to_pull c.came ≡ true → pending_in (world_after c.records w) t.name ≡ Some 0)
 heard_course_pulled t batch some h w a may = by (asked_in w t.name (next_number a) batch) refl
   where
     by : (o : Option Asked) → asked_in w t.name (next_number a) batch ≡ o
         → asked_to_pull (heard_course t h w a o).came ≡ true
-        → pending_in (after (heard_course t h w a o).records w) t.name ≡ Some 0
+        → pending_in (world_after (heard_course t h w a o).records w) t.name ≡ Some 0
     by None is = λ same. absurd (cc)
     by (Some asked) is =
         heard_leaves t w may.ready (next_number a) batch some asked is

@@ -33,7 +33,7 @@ use Rattle.rx_world.specs.World.{World}
 use Rattle.rx_world.specs.declared.replication.Replication.{Replication}
 use Rattle.rx_world.proofs.Looked.{named-change_same, named-change_other}
 use Rattle.rx_world.proofs.Sounds.{exchange_fork}
-use Rattle.rx_sync.specs.Exchange.{after}
+use Rattle.rx_sync.specs.Exchange.{world_after}
 use Rattle.rx_sync.specs.Laws.{IsDueOf, IsLawfulReply}
 use Rattle.rx_sync.specs.Taking.{changes_nothing, exchange_at, is_known, is_same_place, recorded, resolve_for, take_fault, taken_by, write_time}
 use Rattle.rx_sync.specs.declared.fault.TakeFault.TheVariants.{ClockEnd}
@@ -132,13 +132,13 @@ pub record LeavesTaken (w : World) (name : List ℕ) (r : Replication) (fork : H
     (taken : Taking) (now : ℕ) (cs : List Content) : Type 0 where
   pub new : Held
   pub wrote : write fork taken.rows now ≡ Some new
-  pub there : named (after cs w).collections r.fork ≡ Some new
+  pub there : named (world_after cs w).collections r.fork ≡ Some new
   pub others : (k : List ℕ) → k ≢ r.fork
-      → named (after cs w).collections k ≡ named w.collections k
-  pub learnt : named (after cs w).replications name
+      → named (world_after cs w).collections k ≡ named w.collections k
+  pub learnt : named (world_after cs w).replications name
       ≡ Some (with_side r (with_learnt r.side.known taken.known) taken.up taken.down)
   pub apart : (k : List ℕ) → k ≢ name
-      → named (after cs w).replications k ≡ named w.replications k
+      → named (world_after cs w).replications k ≡ named w.replications k
 
 module _ (w : World) (made : IsMadeWorld w) (sound : IsSoundWorld w) (name : List ℕ)
     (r : Replication) (at : named w.replications name ≡ Some r) (fork : Held)

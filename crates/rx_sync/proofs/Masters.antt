@@ -22,7 +22,7 @@ use Rattle.rx_world.proofs.Commits.{IsFit, fit_at}
 use Rattle.rx_world.proofs.Looked.{named-change_same, named-change_other}
 use Rattle.rx_world.proofs.Sounds.{IsNoExchange}
 use Rattle.rx_world.proofs.Steps.{lawful_at}
-use Rattle.rx_sync.specs.Exchange.{after}
+use Rattle.rx_sync.specs.Exchange.{world_after}
 use Rattle.rx_sync.specs.Handling.{written_by, commits_of}
 use Rattle.rx_sync.specs.Laws.{MayComeInTurn}
 use Rattle.rx_world.specs.Made.{IsMadeWorld}
@@ -45,11 +45,11 @@ pub record LeavesWritten (w : World) (m : List ℕ) (written : Option Held) (cs 
   pub next : MayComeInTurn w cs
   pub plain : AllByRecursion IsNoExchange cs
   pub new : Held
-  pub there : named (after cs w).collections m ≡ Some new
+  pub there : named (world_after cs w).collections m ≡ Some new
   pub is : written ≡ Some new
-  pub others : (k : List ℕ) → k ≢ m → named (after cs w).collections k ≡ named w.collections k
-  pub replications : (after cs w).replications ≡ w.replications
-  pub epoch : (after cs w).epoch ≡ w.epoch
+  pub others : (k : List ℕ) → k ≢ m → named (world_after cs w).collections k ≡ named w.collections k
+  pub replications : (world_after cs w).replications ≡ w.replications
+  pub epoch : (world_after cs w).epoch ≡ w.epoch
 
 module _ (w : World) (made : IsMadeWorld w) (m : List ℕ) (c : Held)
     (at : named w.collections m ≡ Some c) where

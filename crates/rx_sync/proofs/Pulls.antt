@@ -32,7 +32,7 @@ use Rattle.rx_world.specs.Made.{IsMadeWorld}
 use Rattle.rx_world.specs.World.{World}
 use Rattle.rx_world.specs.declared.replication.Replication.{Replication}
 use Rattle.rx_sync.specs.Asking.{fork_in, pending_in}
-use Rattle.rx_sync.specs.Exchange.{after, answer_states, has_pulled, taken_as}
+use Rattle.rx_sync.specs.Exchange.{world_after, answer_states, has_pulled, taken_as}
 use Rattle.rx_sync.specs.Laws.{IsDueOf, IsLawfulReply, PullLeavesNone}
 use Rattle.rx_sync.specs.Taking.{resolve_for}
 use Rattle.rx_sync.proofs.Leaves.{LeavesReply, with_side}
@@ -131,9 +131,9 @@ module _ (w : World) (made : IsMadeWorld w) (name : List ℕ) (r : Replication) 
         (current_pull fork.documents r.side.known r.side.down p b by_key current)) t.known
         (differ-agree t.known parts.1) l.leaves.new.documents wrote)
 
-    pull_leaves_none : pending_in (after cs w) name ≡ Some 0
+    pull_leaves_none : pending_in (world_after cs w) name ≡ Some 0
     pull_leaves_none =
-        pending_is (after cs w) name
+        pending_is (world_after cs w) name
         (with_side r (with_learnt r.side.known t.known) t.up t.down) l.leaves.new l.leaves.learnt
         l.leaves.there
         ∙ ap (λ (ds : List Stored). Some (length ds)) none

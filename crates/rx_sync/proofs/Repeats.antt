@@ -14,7 +14,7 @@ use Rattle.rx_replication.proofs.Commits.{lawful-by_key, write_wrote}
 use Rattle.rx_fork.specs.declared.ask.Asked.{Asked}
 use Rattle.rx_world.specs.World.{World, Replications}
 use Rattle.rx_sync.specs.Asking.{asked_in}
-use Rattle.rx_sync.specs.Exchange.{Terms, after, behind, handled_again, once_handled, reply_taken}
+use Rattle.rx_sync.specs.Exchange.{Terms, world_after, behind, handled_again, once_handled, reply_taken}
 use Rattle.rx_sync.specs.Handling.{Handled, commits_of, handled_for, written_by}
 use Rattle.rx_sync.specs.Laws.{IsReady, TwiceIsOnce}
 use Rattle.rx_sync.proofs.Ends.{HasEnds, ends_of}
@@ -43,7 +43,7 @@ module _ (w : World) (name : List ℕ) (kinds : Kinds) (ready : IsReady w name k
   again_handled : (h : Handled)
       → (hh : HasHandled w ready.here.master (ends_of w name kinds ready).master now asked.request
       h)
-      → handled_for (after h.records w) name asked.request now
+      → handled_for (world_after h.records w) name asked.request now
       ≡ Some (record {
         records = [];
         reply = reply_with asked.request (body_of hh.leaves.new.documents asked.request.ask);
@@ -52,7 +52,8 @@ module _ (w : World) (name : List ℕ) (kinds : Kinds) (ready : IsReady w name k
       let e : HasEnds w name ready.here.replication ready.here.master = ends_of w name kinds
       ready in
       let new = hh.leaves.new in
-      handled_is (after h.records w) name asked.request now ready.here.replication ready.here.master
+      handled_is
+      (world_after h.records w) name asked.request now ready.here.replication ready.here.master
       new
       (ap (λ (rs : Replications). named rs name) hh.leaves.replications ∙ ready.here.held)
       ready.here.local hh.leaves.there
@@ -73,7 +74,7 @@ module _ (w : World) (name : List ℕ) (kinds : Kinds) (ready : IsReady w name k
       let lawful = (due_here w name kinds ready now n batch some asked is).lawful in
       let hh = handled_well w name kinds ready now asked.request h lawful at in
       ap (λ (o : Option Handled). behind h.records
-      (once_handled (λ again v. reply_taken terms asked h v) (after h.records w) o))
+      (once_handled (λ again v. reply_taken terms asked h v) (world_after h.records w) o))
       (again_handled h hh)
 
 -- so the whole exchange is the same

@@ -19,7 +19,7 @@ use Rattle.rx_world.proofs.Looked.{named-put_other, named-change_same, named-cha
 use Rattle.rx_world.proofs.Making.{made_step}
 use Rattle.rx_world.proofs.Sounds.{IsNoExchange, sound_step}
 use Rattle.rx_sync.specs.Asks.{Asks, AsksAreLawful}
-use Rattle.rx_sync.specs.Exchange.{after}
+use Rattle.rx_sync.specs.Exchange.{world_after}
 use Rattle.rx_sync.specs.Laws.{ComeSoundly, IsReady, MayComeInTurn, RemembersLawful}
 use Rattle.rx_sync.proofs.Worlds.{linked_at, sound_after}
 
@@ -27,7 +27,7 @@ use Rattle.rx_sync.proofs.Worlds.{linked_at, sound_after}
 
 -- records that may come make a world of a made one
 pub made_after : (w : World) (cs : List Content) → IsMadeWorld w → MayComeInTurn w cs
-    → IsMadeWorld (after cs w)
+    → IsMadeWorld (world_after cs w)
 made_after w [] made come = made
 made_after w (c ∷ cs) made come =
     made_after (step c w) cs (made_step c w come.0.lawful come.0.ordered made) come.1
@@ -94,7 +94,8 @@ still_step (exchange k lwt written known up down) w name r is at =
 
 -- after several
 pub still_after : (cs : List Content) (w : World) (name : List ℕ) (r : Replication)
-    → MayComeInTurn w cs → named w.replications name ≡ Some r → IsStillThere (after cs w) name r
+    → MayComeInTurn w cs → named w.replications name ≡ Some r
+    → IsStillThere (world_after cs w) name r
 still_after [] w name r come at = still_same w name r at
 still_after (c ∷ cs) w name r come at =
     let first = still_step c w name r come.0.lawful at in
@@ -109,7 +110,7 @@ still_after (c ∷ cs) w name r come at =
 
 -- the collections stay held, with their schemas
 pub stay_after : (cs : List Content) (w : World) → MayComeInTurn w cs
-    → StayHeld w.collections (after cs w).collections
+    → StayHeld w.collections (world_after cs w).collections
 stay_after [] w come = record { held = λ k c at. (c, at, refl) }
 stay_after (c ∷ cs) w come =
     let first = stay_step c w come.0.lawful in
@@ -123,7 +124,7 @@ stay_after (c ∷ cs) w come =
 -- ---- exchanges may go on
 
 pub ready_after : (cs : List Content) (w : World) (name : List ℕ) (kinds : Kinds)
-    → IsReady w name kinds → ComeSoundly w cs → IsReady (after cs w) name kinds
+    → IsReady w name kinds → ComeSoundly w cs → IsReady (world_after cs w) name kinds
 ready_after cs w name kinds ready come =
     let turn = soundly_in_turn w cs come in
     let s = still_after cs w name ready.here.replication turn ready.here.held in
@@ -143,7 +144,7 @@ ready_after cs w name kinds ready come =
 -- what is remembered stays lawful
 pub remembers_after : (cs : List Content) (w : World) (name : List ℕ) (kinds : Kinds) (a : Asks)
     → IsReady w name kinds → MayComeInTurn w cs → RemembersLawful w name a
-    → RemembersLawful (after cs w) name a
+    → RemembersLawful (world_after cs w) name a
 remembers_after cs w name kinds a ready come lawful = λ r at fork held.
     let old = ready.here.replication in
     let l = linked_at w ready.made name old ready.here.held in
@@ -152,6 +153,6 @@ remembers_after cs w name kinds a ready come lawful = λ r at fork held.
     let fork_is : r.fork ≡ old.fork =
     ap (λ (r : Replication). r.fork) (some_same (sym at ∙ s.held)) ∙ s.fork in
     let same : c.0 ≡ fork =
-    some_same (sym c.1 ∙ ap (named (after cs w).collections) (sym fork_is) ∙ held) in
+    some_same (sym c.1 ∙ ap (named (world_after cs w).collections) (sym fork_is) ∙ held) in
     subst (λ (schema : Shape). AsksAreLawful schema a)
     (sym c.2 ∙ ap (λ (x : Held). x.schema) same) (lawful old ready.here.held l.fork l.held)

@@ -10,7 +10,7 @@ use Rattle.rx_handler.specs.declared.kind.HandlerKind.{HandlerKind}
 use Rattle.rx_wire.specs.declared.message.AskKind.{AskKind}
 use Rattle.rx_wire.specs.declared.message.Reply.{Reply}
 use Rattle.rx_replication.specs.Known.{with_learnt}
-use Rattle.rx_replication.specs.Exchange.{Link, Exchange, IsLink, answered_by, asked, exchange, link_with, taken_by as taken_into}
+use Rattle.rx_replication.specs.Exchange.{Link, Exchange, IsLink, answered_by, asked, exchange_over_link, link_with, link_after_taking as taken_into}
 use Rattle.rx_replication.specs.Master.{body_of, master_then}
 use Rattle.rx_replication.specs.Request.{ask_of}
 use Rattle.rx_replication.specs.Taking.{KeepsKey, Resolve, Taking, taking}
@@ -28,7 +28,7 @@ use Rattle.rx_world.specs.declared.replication.Replication.{Replication}
 use Rattle.rx_sync.specs.Asking.{asked_in, fork_in}
 use Rattle.rx_sync.specs.Asks.{Asks, next_number}
 use Rattle.rx_sync.specs.Bound.{link_in, link_of}
-use Rattle.rx_sync.specs.Exchange.{Course, Planned, Terms, after, behind, comes_to, course, course_by, handled_and_taken, if_taken, once_handled, reply_taken, taken_as, when_taken}
+use Rattle.rx_sync.specs.Exchange.{Course, Planned, Terms, world_after, behind, comes_to, course, course_by, handled_and_taken, if_taken, once_handled, reply_taken, taken_as, when_taken}
 use Rattle.rx_sync.specs.Handling.{Handled, handled_for, local_name}
 use Rattle.rx_sync.specs.Laws.{IsReady}
 use Rattle.rx_sync.specs.Taking.{resolve_for, taken_by}
@@ -107,10 +107,10 @@ at_once batch now = record { batch = batch; handled = now; taken = now }
 pub record IsStep (w : World) (name : List ℕ) (r : Replication) (by : Resolve) (l : Link)
     (batch now : ℕ) (p : Planned) (e : Exchanged) : Type 0 where
   pub next : Link
-  pub step : exchange by l (at_once batch now) ≡ Some next
-  pub there : link_in (after p.records w) name ≡ Some next
+  pub step : exchange_over_link by l (at_once batch now) ≡ Some next
+  pub there : link_in (world_after p.records w) name ≡ Some next
   pub replication : Replication
-  pub held : named (after p.records w).replications name ≡ Some replication
+  pub held : named (world_after p.records w).replications name ≡ Some replication
   pub handler : replication.handler ≡ r.handler
   pub field : replication.field ≡ r.field
   pub came : e ≡ taken_as (asked l batch) (body_of l.master.documents (asked l batch))
@@ -137,57 +137,59 @@ module _ (w : World) (name : List ℕ) (kinds : Kinds) (ready : IsReady w name k
 
   module _ (h : Handled) (hh : HasHandled w ready.here.master e.master now asked.request h)
       (cs : List Content)
-      (lr : LeavesReply (after h.records w) name r e.fork ready.kind asked h.reply now cs) where
-    abbrev tk : Taking
-    tk = lr.taken_so.of.taken
+      (lr : LeavesReply (world_after h.records w) name r e.fork ready.kind asked h.reply now cs)
+    where
+      abbrev tk : Taking
+      tk = lr.taken_so.of.taken
 
-    abbrev next : Link
-    next = record {
-      fork = lr.leaves.new;
-      master = hh.leaves.new;
-      known = with_learnt r.side.known tk.known;
-      up = tk.up;
-      down = tk.down;
-    }
+      abbrev next : Link
+      next = record {
+        fork = lr.leaves.new;
+        master = hh.leaves.new;
+        known = with_learnt r.side.known tk.known;
+        up = tk.up;
+        down = tk.down;
+      }
 
-    body_is : h.reply.body ≡ body_of e.master.documents asked.request.ask
-    body_is = ap (λ (r : Reply). r.body) hh.reply
+      body_is : h.reply.body ≡ body_of e.master.documents asked.request.ask
+      body_is = ap (λ (r : Reply). r.body) hh.reply
 
-    step_is : exchange by l (at_once batch now) ≡ Some next
-    step_is =
-        subst (λ (a : AskKind). answered_by by l a (master_then l.master a now) now ≡ Some next)
-        ask_is
-        (ap (λ (o : Option Held). answered_by by l asked.request.ask o now) hh.leaves.is
-        ∙ ap (λ (o : Option Taking). taken_into l hh.leaves.new o now)
-        (ap (taking by e.fork.documents r.side.up r.side.down asked.request.ask) (sym body_is)
-        ∙ lr.taken_so.of.is)
-        ∙ ap (link_with l hh.leaves.new tk) lr.leaves.wrote)
+      step_is : exchange_over_link by l (at_once batch now) ≡ Some next
+      step_is =
+          subst (λ (a : AskKind). answered_by by l a (master_then l.master a now) now ≡ Some next)
+          ask_is
+          (ap (λ (o : Option Held). answered_by by l asked.request.ask o now) hh.leaves.is
+          ∙ ap (λ (o : Option Taking). taken_into l hh.leaves.new o now)
+          (ap (taking by e.fork.documents r.side.up r.side.down asked.request.ask) (sym body_is)
+          ∙ lr.taken_so.of.is)
+          ∙ ap (link_with l hh.leaves.new tk) lr.leaves.wrote)
 
-    same_world : after (h.records ++ (cs ++ [])) w ≡ after cs (after h.records w)
-    same_world =
-        after-append h.records (cs ++ []) w ∙ after-append cs [] (after h.records w)
+      same_world : world_after (h.records ++ (cs ++ [])) w ≡ world_after cs (world_after h.records w)
+      same_world =
+          after-append h.records (cs ++ []) w ∙ after-append cs [] (world_after h.records w)
 
-    abbrev s : Replication
-    s = with_side r (with_learnt r.side.known tk.known) tk.up tk.down
+      abbrev s : Replication
+      s = with_side r (with_learnt r.side.known tk.known) tk.up tk.down
 
-    is_step : (ex : Exchanged) → Some (taken_as asked.request.ask h.reply.body) ≡ Some ex
-        → IsStep w name r by l batch now
-        (behind h.records (behind cs (comes_to (taken_as asked.request.ask h.reply.body)))) ex
-    is_step ex came = record {
-      next = next;
-      step = step_is;
-      there = ap (λ (v : World). link_in v name) same_world
-          ∙ link_at (after cs (after h.records w)) name s ready.here.master lr.leaves.new
-          hh.leaves.new lr.leaves.learnt ready.here.local lr.leaves.there
-          (lr.leaves.others ready.here.master e.other ∙ hh.leaves.there);
-      replication = s;
-      held = ap (λ (v : World). named v.replications name) same_world ∙ lr.leaves.learnt;
-      handler = refl;
-      field = refl;
-      came = sym (some_same came)
-          ∙ ap (taken_as asked.request.ask) body_is
-          ∙ ap (λ (a : AskKind). taken_as a (body_of e.master.documents a)) ask_is;
-    }
+      is_step : (ex : Exchanged) → Some (taken_as asked.request.ask h.reply.body) ≡ Some ex
+          → IsStep w name r by l batch now
+          (behind h.records (behind cs (comes_to (taken_as asked.request.ask h.reply.body)))) ex
+      is_step ex came = record {
+        next = next;
+        step = step_is;
+        there = ap (λ (v : World). link_in v name) same_world
+            ∙ link_at
+            (world_after cs (world_after h.records w)) name s ready.here.master lr.leaves.new
+            hh.leaves.new lr.leaves.learnt ready.here.local lr.leaves.there
+            (lr.leaves.others ready.here.master e.other ∙ hh.leaves.there);
+        replication = s;
+        held = ap (λ (v : World). named v.replications name) same_world ∙ lr.leaves.learnt;
+        handler = refl;
+        field = refl;
+        came = sym (some_same came)
+            ∙ ap (taken_as asked.request.ask) body_is
+            ∙ ap (λ (a : AskKind). taken_as a (body_of e.master.documents a)) ask_is;
+      }
 
   module _ (h : Handled) (at : handled_for w name asked.request now ≡ Some h) where
     abbrev hh : HasHandled w ready.here.master e.master now asked.request h
@@ -207,16 +209,16 @@ module _ (w : World) (name : List ℕ) (kinds : Kinds) (ready : IsReady w name k
 
     step_taken : (ex : Exchanged)
         → (reply_taken (record { name = name; now = now; kinds = kinds }) asked h
-        (after h.records w)).came ≡ Some ex
+        (world_after h.records w)).came ≡ Some ex
         → IsStep w name r by l batch now
         (behind h.records (reply_taken (record { name = name; now = now; kinds = kinds }) asked h
-        (after h.records w))) ex
+        (world_after h.records w))) ex
     step_taken ex =
         subst (λ (o : Option (Result (List Content) TakeFault)).
         (when_taken asked.request.ask h.reply.body (if_taken o)).came ≡ Some ex
         → IsStep w name r by l batch now
         (behind h.records (when_taken asked.request.ask h.reply.body (if_taken o))) ex)
-        (sym (taken_is (after h.records w) kinds name asked h.reply now r e.fork ready.kind
+        (sym (taken_is (world_after h.records w) kinds name asked h.reply now r e.fork ready.kind
         (replication_then w name kinds ready now n batch some asked is h hh)
         (fork_then w name kinds ready now n batch some asked is h hh) ready.handler))
         (step_by ex (taken_by name now asked h.reply r e.fork ready.kind) refl)
@@ -244,8 +246,8 @@ module _ (w : World) (name : List ℕ) (kinds : Kinds) (ready : IsReady w name k
 pub record CourseSteps (t : Terms) (batch : ℕ) (by : Resolve) (w : World) (l : Link) (c : Course)
     (e : Exchanged) : Type 0 where
   pub next : Link
-  pub step : exchange by l (at_once batch t.now) ≡ Some next
-  pub stands : Stands t.name t.kinds by (after c.records w) next
+  pub step : exchange_over_link by l (at_once batch t.now) ≡ Some next
+  pub stands : Stands t.name t.kinds by (world_after c.records w) next
   pub came : e ≡ taken_as (asked l batch) (body_of l.master.documents (asked l batch))
 
 module _ (t : Terms) (batch : ℕ) (some : 1 ≤ batch) (w : World) (a : Asks)
@@ -258,7 +260,7 @@ module _ (t : Terms) (batch : ℕ) (some : 1 ≤ batch) (w : World) (a : Asks)
   course_is asked is s =
       let come = (taken_goes_well w t.name t.kinds ready t.now (next_number a) batch some asked
       is).come in
-      let next : IsReady (after (handled_and_taken t asked w).records w) t.name t.kinds =
+      let next : IsReady (world_after (handled_and_taken t asked w).records w) t.name t.kinds =
       ready_after (handled_and_taken t asked w).records w t.name t.kinds ready come in
       let same : next.here.replication ≡ s.replication =
       some_same (sym next.here.held ∙ s.held) in

@@ -20,7 +20,7 @@ use Rattle.rx_world.specs.World.{World, Replications}
 use Rattle.rx_world.specs.declared.replication.Replication.{Replication}
 use Rattle.rx_sync.specs.Asking.{asked_by, asked_in}
 use Rattle.rx_sync.specs.Asks.{Asks, AsksAreLawful, IsLawfulRequest, next_number, with_request}
-use Rattle.rx_sync.specs.Exchange.{Terms, Course, after, course, course_by, exchange, late_records, late_request, once_late}
+use Rattle.rx_sync.specs.Exchange.{Terms, Course, world_after, course, course_by, exchange, late_records, late_request, once_late}
 use Rattle.rx_sync.specs.Handling.{Handled, handled_for}
 use Rattle.rx_sync.specs.Laws.{ComeSoundly, EveryTurn, IsLevel, IsReady, IsTurnSound, MayTurn, MayTurnAgain, PullLeavesNone, QuietIsLevel, RemembersLawful}
 use Rattle.rx_sync.specs.Turn.{Turned, before, end_by, ended_with, first_of, going_on, rest_of, turn}
@@ -51,9 +51,9 @@ module _ (t : Terms) (w : World) (ready : IsReady w t.name t.kinds) (n batch : �
   -- where an earlier request is handled first, it is still the one that was asked
   asked_then : (q : Request) (h : Handled)
       → HasHandled w ready.here.master (ends_of w t.name t.kinds ready).master t.now q h
-      → asked_in (after h.records w) t.name n batch ≡ Some asked
+      → asked_in (world_after h.records w) t.name n batch ≡ Some asked
   asked_then q h hh =
-      let v = after h.records w in
+      let v = world_after h.records w in
       let e : HasEnds w t.name ready.here.replication ready.here.master = ends_of w t.name t.kinds
       ready in
       let r = ready.here.replication in
@@ -87,8 +87,9 @@ module _ (t : Terms) (w : World) (ready : IsReady w t.name t.kinds) (n batch : �
   handled_late q (Some h) lawful at =
       let hh = handled_well w t.name t.kinds ready t.now q h lawful at in
       let come = handled_come w t.name t.kinds ready t.now q h hh in
-      behind_well w t.name batch h.records (exchange t asked x (after h.records w)) come
-      (exchange_well t (after h.records w) (ready_after h.records w t.name t.kinds ready come) n
+      behind_well w t.name batch h.records (exchange t asked x (world_after h.records w)) come
+      (exchange_well t (world_after h.records w)
+      (ready_after h.records w t.name t.kinds ready come) n
       batch
       some asked (asked_then t w ready n batch some asked is q h hh) x)
 
@@ -114,10 +115,10 @@ module _ (t : Terms) (w : World) (ready : IsReady w t.name t.kinds) (n batch : �
   once_handled_asked : (q : Request) (o : Option Handled) (cs : List Content)
       → IsLawfulRequest (ends_of w t.name t.kinds ready).fork.schema q
       → handled_for w t.name q t.now ≡ o → option_map (λ h. h.records) o ≡ Some cs
-      → asked_in (after cs w) t.name n batch ≡ Some asked
+      → asked_in (world_after cs w) t.name n batch ≡ Some asked
   once_handled_asked q None cs lawful at is' = not_none is'
   once_handled_asked q (Some h) cs lawful at is' =
-      subst (λ (cs : List Content). asked_in (after cs w) t.name n batch ≡ Some asked)
+      subst (λ (cs : List Content). asked_in (world_after cs w) t.name n batch ≡ Some asked)
       (some_same is')
       (asked_then t w ready n batch some asked is q h
       (handled_well w t.name t.kinds ready t.now q h lawful at))
@@ -126,16 +127,16 @@ module _ (t : Terms) (w : World) (ready : IsReady w t.name t.kinds) (n batch : �
       → ((q : Request) → o ≡ Some q
       → IsLawfulRequest (ends_of w t.name t.kinds ready).fork.schema q)
       → late_records t.name t.now w o ≡ Some cs
-      → asked_in (after cs w) t.name n batch ≡ Some asked
+      → asked_in (world_after cs w) t.name n batch ≡ Some asked
   late_asked_by None cs lawful at =
-      subst (λ (cs : List Content). asked_in (after cs w) t.name n batch ≡ Some asked)
+      subst (λ (cs : List Content). asked_in (world_after cs w) t.name n batch ≡ Some asked)
       (some_same at) is
   late_asked_by (Some q) cs lawful at =
       once_handled_asked q (handled_for w t.name q t.now) cs (lawful q refl) refl at
 
   pub late_asked : (a : Asks) → RemembersLawful w t.name a → (cs : List Content)
       → late_records t.name t.now w (late_request x a) ≡ Some cs
-      → asked_in (after cs w) t.name n batch ≡ Some asked
+      → asked_in (world_after cs w) t.name n batch ≡ Some asked
   late_asked a lawful cs at =
       let e : HasEnds w t.name ready.here.replication ready.here.master = ends_of w t.name t.kinds
       ready in
@@ -161,7 +162,7 @@ remembers_more w name r fork q a at held lawful all = λ s s_at c c_held.
 record CourseGoesWell (t : Terms) (batch : ℕ) (w : World) (c : Course) : Type 0 where
   pub come : ComeSoundly w c.records
   pub asks : RemembersLawful w t.name c.asks
-  pub quiet : end_by batch c.came ≡ Some Quiet → IsLevel (after c.records w) t.name
+  pub quiet : end_by batch c.came ≡ Some Quiet → IsLevel (world_after c.records w) t.name
   pub pulled : PullLeavesNone w t.name c.records c.came
 
 course_well : (t : Terms) (batch : ℕ) → 1 ≤ batch → (x : Happening) (w : World) (a : Asks)
@@ -197,7 +198,7 @@ course_pulled t batch some x w a may = (course_well t batch some x w a may).pull
 
 -- afterwards another one may follow
 course_again : (t : Terms) (batch : ℕ) (w : World) (a : Asks) (c : Course) → MayTurn t w a
-    → CourseGoesWell t batch w c → MayTurn t (after c.records w) c.asks
+    → CourseGoesWell t batch w c → MayTurn t (world_after c.records w) c.asks
 course_again t batch w a c may well = record {
   ready = ready_after c.records w t.name t.kinds may.ready well.come;
   asks = remembers_after c.records w t.name t.kinds c.asks may.ready
@@ -208,14 +209,15 @@ course_again t batch w a c may well = record {
 
 pub record TurnGoesWell (t : Terms) (w : World) (u : Turned) : Type 0 where
   pub come : ComeSoundly w u.records
-  pub again : MayTurn t (after u.records w) u.asks
-  pub quiet : u.ended ≡ Quiet → IsLevel (after u.records w) t.name
+  pub again : MayTurn t (world_after u.records w) u.asks
+  pub quiet : u.ended ≡ Quiet → IsLevel (world_after u.records w) t.name
 
 before_well : (t : Terms) (batch : ℕ) (w : World) (c : Course) (rest : Turned)
-    → CourseGoesWell t batch w c → TurnGoesWell t (after c.records w) rest
+    → CourseGoesWell t batch w c → TurnGoesWell t (world_after c.records w) rest
     → TurnGoesWell t w (before c rest)
 before_well t batch w c rest well more =
-    let same : after (c.records ++ rest.records) w ≡ after rest.records (after c.records w) =
+    let same : world_after (c.records ++ rest.records) w
+    ≡ world_after rest.records (world_after c.records w) =
     after-append c.records rest.records w in
     record {
       come = soundly-append w c.records rest.records well.come more.come;
@@ -225,7 +227,7 @@ before_well t batch w c rest well more =
 
 on_well : (t : Terms) (batch : ℕ) (w : World) (a : Asks) (c : Course) (rest : Turned)
     (o : Option TurnEnd) → MayTurn t w a → CourseGoesWell t batch w c → end_by batch c.came ≡ o
-    → TurnGoesWell t (after c.records w) rest → TurnGoesWell t w (going_on c o rest)
+    → TurnGoesWell t (world_after c.records w) rest → TurnGoesWell t w (going_on c o rest)
 on_well t batch w a c rest None may well is more = before_well t batch w c rest well more
 on_well t batch w a c rest (Some end) may well is more =
     before_well t batch w c (ended_with end c.asks) well (record {
@@ -241,9 +243,9 @@ turn_well t batch zero link w a some may =
 turn_well t batch (suc budget) link w a some may =
     let c : Course = course t batch (first_of link) w a in
     let well : CourseGoesWell t batch w c = course_well t batch some (first_of link) w a may in
-    on_well t batch w a c (turn t batch budget (rest_of link) (after c.records w) c.asks)
+    on_well t batch w a c (turn t batch budget (rest_of link) (world_after c.records w) c.asks)
     (end_by batch c.came) may well refl
-    (turn_well t batch budget (rest_of link) (after c.records w) c.asks some
+    (turn_well t batch budget (rest_of link) (world_after c.records w) c.asks some
     (course_again t batch w a c may well))
 
 -- ---- the laws

@@ -14,7 +14,7 @@ use Rattle.rx_world.specs.World.{World}
 use Rattle.rx_world.specs.declared.replication.Replication.{Replication}
 use Rattle.rx_world.proofs.Sounds.{to_link}
 use Rattle.rx_world.proofs.Steps.{lawful_at}
-use Rattle.rx_sync.specs.Exchange.{after}
+use Rattle.rx_sync.specs.Exchange.{world_after}
 use Rattle.rx_sync.specs.Laws.{ComeSoundly, ForFork}
 use Rattle.rx_world.specs.Linked.{IsLinked}
 use Rattle.rx_world.specs.Made.{IsMadeWorld}
@@ -61,19 +61,20 @@ for_fork w name r fork P at held here = λ s s_at c c_held.
 
 -- ---- worlds after records
 
-pub after-append : (cs ds : List Content) (w : World) → after (cs ++ ds) w ≡ after ds (after cs w)
+pub after-append : (cs ds : List Content) (w : World) → world_after (cs ++ ds) w
+    ≡ world_after ds (world_after cs w)
 after-append [] ds w = refl
 after-append (c ∷ cs) ds w = after-append cs ds (step c w)
 
 -- records that come soundly, and then others
 pub soundly-append : (w : World) (cs ds : List Content) → ComeSoundly w cs
-    → ComeSoundly (after cs w) ds → ComeSoundly w (cs ++ ds)
+    → ComeSoundly (world_after cs w) ds → ComeSoundly w (cs ++ ds)
 soundly-append w [] ds first rest = rest
 soundly-append w (c ∷ cs) ds first rest =
     (first.0, first.1, soundly-append (step c w) cs ds first.2 rest)
 
 -- the world after them is sound
 pub sound_after : (w : World) (cs : List Content) → IsSoundWorld w → ComeSoundly w cs
-    → IsSoundWorld (after cs w)
+    → IsSoundWorld (world_after cs w)
 sound_after w [] sound come = sound
 sound_after w (c ∷ cs) sound come = sound_after (step c w) cs come.1 come.2

@@ -16,7 +16,7 @@ use Rattle.rx_world.specs.Replicating.{stays_or_rises}
 use Rattle.rx_world.specs.Sound.{IsSoundWorld}
 use Rattle.rx_world.specs.World.{World}
 use Rattle.rx_world.specs.declared.replication.Replication.{Replication}
-use Rattle.rx_sync.specs.Exchange.{after}
+use Rattle.rx_sync.specs.Exchange.{world_after}
 use Rattle.rx_sync.specs.Laws.{ComeSoundly, IsDueIn, IsLawfulReplyIn, KeepsPendingIn, MayComeInTurn}
 use Rattle.rx_sync.specs.Taking.{taken}
 
@@ -37,10 +37,10 @@ pub record Through (w : World) (cs : List Content) (name : List ℕ)
   pub fork : Held
   pub fork_held : named w.collections before.fork ≡ Some fork
   pub next : Replication
-  pub then_held : named (after cs w).replications name ≡ Some next
+  pub then_held : named (world_after cs w).replications name ≡ Some next
   pub same_fork : next.fork ≡ before.fork
   pub new : Held
-  pub new_held : named (after cs w).collections next.fork ≡ Some new
+  pub new_held : named (world_after cs w).collections next.fork ≡ Some new
   pub kept : P before fork next new
 
 -- ---- what a taking keeps
@@ -75,12 +75,12 @@ LosesNoUpdate w kinds name reply cs = KeepsPendingIn w kinds name reply cs
 abbrev pub ChangesNothingElse : World → Kinds → List ℕ → Reply → List Content → Type 0
 ChangesNothingElse w kinds name reply cs =
     Through w cs name (λ r fork next new.
-    ((k : List ℕ) → k ≢ r.fork → named (after cs w).collections k ≡ named w.collections k)
-    × ((k : List ℕ) → k ≢ name → named (after cs w).replications k ≡ named w.replications k))
+    ((k : List ℕ) → k ≢ r.fork → named (world_after cs w).collections k ≡ named w.collections k)
+    × ((k : List ℕ) → k ≢ name → named (world_after cs w).replications k ≡ named w.replications k))
 
 -- the world is still one that records made
 abbrev pub StaysMade : World → Kinds → List ℕ → Reply → List Content → Type 0
-StaysMade w kinds name reply cs = IsMadeWorld (after cs w)
+StaysMade w kinds name reply cs = IsMadeWorld (world_after cs w)
 
 -- where the master is elsewhere, the world stays sound
 abbrev pub StaysSoundAtPort : World → Kinds → List ℕ → Reply → List Content → Type 0

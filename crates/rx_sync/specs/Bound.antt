@@ -20,7 +20,7 @@ use Rattle.rx_world.specs.World.{World}
 use Rattle.rx_world.specs.declared.replication.Replication.{Replication}
 use Rattle.rx_sync.specs.Asking.{fork_in}
 use Rattle.rx_sync.specs.Asks.{Asks}
-use Rattle.rx_sync.specs.Exchange.{Terms, Course, after, course}
+use Rattle.rx_sync.specs.Exchange.{Terms, Course, world_after, course}
 use Rattle.rx_sync.specs.Handling.{local_name}
 use Rattle.rx_sync.specs.Laws.{EveryTurn, IsReady}
 use Rattle.rx_sync.specs.Turn.{Turned, end_by, first_of, rest_of, turn}
@@ -80,7 +80,7 @@ EachExchange P t batch (suc budget) link w a =
     let c = course t batch (first_of link) w a in
     P w c
     × (end_by batch c.came ≡ None
-    → EachExchange P t batch budget (rest_of link) (after c.records w) c.asks)
+    → EachExchange P t batch budget (rest_of link) (world_after c.records w) c.asks)
 
 -- from one world to the next the pushes left fall by so many at least
 abbrev pub FallsBy : World → World → List ℕ → ℕ → Type 0
@@ -92,7 +92,7 @@ FallsBy w next name n =
 abbrev pub LowersLeft : Terms → World → Course → Type 0
 LowersLeft t w c =
     (e : Exchanged) → c.came ≡ Some e
-    → FallsBy w (after c.records w) t.name (length (pushed_keys e))
+    → FallsBy w (world_after c.records w) t.name (length (pushed_keys e))
 
 abbrev pub EachLowersLeft : Terms → ℕ → ℕ → List Happening → World → Asks → Type 0
 EachLowersLeft t batch budget link w a = EachExchange (LowersLeft t) t batch budget link w a
@@ -137,8 +137,8 @@ pub record NextTurn : Type 0 where
 abbrev pub IsOkTurn : NextTurn → Type 0
 IsOkTurn n = (1 ≤ n.batch) × AreOk n.link
 
-abbrev pub turned : List ℕ → Kinds → NextTurn → World → Turned
-turned name kinds n w =
+abbrev pub turn_of_line : List ℕ → Kinds → NextTurn → World → Turned
+turn_of_line name kinds n w =
     turn (record { name = name; now = n.now; kinds = kinds }) n.batch n.budget n.link w n.asks
 
 -- the turn needs no other, or finds no write time
@@ -153,9 +153,9 @@ is_done More = false
 abbrev pub exchanges_of : List ℕ → Kinds → List NextTurn → World → ℕ
 exchanges_of name kinds [] w = 0
 exchanges_of name kinds (n ∷ ns) w =
-    let u = turned name kinds n w in
+    let u = turn_of_line name kinds n w in
     length u.exchanges
-    + (if is_done u.ended then 0 else exchanges_of name kinds ns (after u.records w))
+    + (if is_done u.ended then 0 else exchanges_of name kinds ns (world_after u.records w))
 
 -- no more than are enough before the first of them
 abbrev pub TurnsEndInTime : Type 0

@@ -27,9 +27,9 @@ use Rattle.rx_sync.specs.declared.fault.TakeFault.{TakeFault}
 -- ---- worlds
 
 -- the world after records, one after another
-abbrev pub after : List Content → World → World
-after [] w = w
-after (c ∷ cs) w = after cs (step c w)
+abbrev pub world_after : List Content → World → World
+world_after [] w = w
+world_after (c ∷ cs) w = world_after cs (step c w)
 
 -- ---- what an exchange is answered with
 
@@ -89,7 +89,7 @@ behind cs p = record { records = cs ++ p.records; came = p.came }
 -- what comes once a request was handled, in the world after that
 abbrev pub once_handled : (Handled → World → Planned) → World → Option Handled → Planned
 once_handled next w None = no_time
-once_handled next w (Some h) = behind h.records (next h (after h.records w))
+once_handled next w (Some h) = behind h.records (next h (world_after h.records w))
 
 -- what stays the same through a turn: the name of its replication, the moment, and the handlers
 -- that
@@ -159,7 +159,7 @@ late_records name now w (Some q) = option_map (λ h. h.records) (handled_for w n
 -- they stand before those of the exchange
 abbrev pub once_late : Terms → Asked → Happening → World → Option (List Content) → Planned
 once_late t asked x w None = no_time
-once_late t asked x w (Some cs) = behind cs (exchange t asked x (after cs w))
+once_late t asked x w (Some cs) = behind cs (exchange t asked x (world_after cs w))
 
 -- what an exchange comes to, and which requests are remembered after it
 pub record Course : Type 0 where

@@ -34,7 +34,7 @@ use Rattle.rx_world.specs.World.{World, Collections}
 use Rattle.rx_world.specs.declared.replication.Replication.{Replication}
 use Rattle.rx_sync.specs.Asking.{asked_in, pending_in}
 use Rattle.rx_sync.specs.Asks.{Asks, AsksAreLawful, IsLawfulRequest}
-use Rattle.rx_sync.specs.Exchange.{Terms, after, answer_states, exchange, has_pulled, state_keys}
+use Rattle.rx_sync.specs.Exchange.{Terms, world_after, answer_states, exchange, has_pulled, state_keys}
 use Rattle.rx_world.specs.Made.{IsMadeWorld}
 use Rattle.rx_sync.specs.Handling.{Handled, handled_for}
 use Rattle.rx_sync.specs.Taking.{resolve_for, taken}
@@ -107,7 +107,7 @@ abbrev pub KeepsPendingIn : World → Kinds → List ℕ → Reply → List Cont
 KeepsPendingIn w kinds name reply cs =
     ForFork w name (λ r fork.
     (kind : HandlerKind) → named kinds r.handler ≡ Some kind
-    → (then_fork : Held) → named (after cs w).collections r.fork ≡ Some then_fork
+    → (then_fork : Held) → named (world_after cs w).collections r.fork ≡ Some then_fork
     → KeepsPending (resolve_for kind r) r.side.known reply.body fork.documents
     then_fork.documents)
 
@@ -141,7 +141,7 @@ IsLawfulIn w name q = ForFork w name (λ r fork. IsLawfulRequest fork.schema q)
 
 -- after the records of an exchange that has pulled nothing is to be pushed
 abbrev pub PullLeavesNone : World → List ℕ → List Content → Option Exchanged → Type 0
-PullLeavesNone w name cs came = has_pulled came ≡ true → pending_in (after cs w) name ≡ Some 0
+PullLeavesNone w name cs came = has_pulled came ≡ true → pending_in (world_after cs w) name ≡ Some 0
 
 -- the requests that are remembered of it are lawful
 abbrev pub RemembersLawful : World → List ℕ → Asks → Type 0
@@ -164,7 +164,8 @@ IsTurnSound t batch budget link w a = ComeSoundly w (turn t batch budget link w 
 -- afterwards another one may be made: the remembered requests stay lawful
 abbrev pub MayTurnAgain : Terms → ℕ → ℕ → List Happening → World → Asks → Type 0
 MayTurnAgain t batch budget link w a =
-    MayTurn t (after (turn t batch budget link w a).records w) (turn t batch budget link w a).asks
+    MayTurn t (world_after (turn t batch budget link w a).records w)
+    (turn t batch budget link w a).asks
 
 -- fork and master of a replication have the same state at each key
 abbrev pub IsLevel : World → List ℕ → Type 0
@@ -177,7 +178,7 @@ IsLevel w name =
 abbrev pub QuietIsLevel : Terms → ℕ → ℕ → List Happening → World → Asks → Type 0
 QuietIsLevel t batch budget link w a =
     (turn t batch budget link w a).ended ≡ Quiet
-    → IsLevel (after (turn t batch budget link w a).records w) t.name
+    → IsLevel (world_after (turn t batch budget link w a).records w) t.name
 
 -- a request that comes twice does what it does once
 abbrev pub TwiceIsOnce : Type 0
@@ -191,5 +192,5 @@ RefusedByTheClockAlone =
     (t : Terms) (w : World) → IsReady w t.name t.kinds → (asked : Asked)
     → IsAskedIn w t.name asked → (h : Handled)
     → handled_for w t.name asked.request t.now ≡ Some h → (fault : TakeFault)
-    → taken (after h.records w) t.kinds t.name asked h.reply t.now ≡ Some (Err fault)
+    → taken (world_after h.records w) t.kinds t.name asked h.reply t.now ≡ Some (Err fault)
     → fault ≡ ClockEnd

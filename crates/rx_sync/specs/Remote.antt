@@ -19,7 +19,7 @@ use Rattle.rx_reply.specs.declared.turn.TurnEnd.TheVariants.{More}
 use Rattle.rx_world.specs.World.{World}
 use Rattle.rx_sync.specs.Asking.{asked_in, fork_in}
 use Rattle.rx_sync.specs.Asks.{Asks, next_number, with_request}
-use Rattle.rx_sync.specs.Exchange.{Course, Planned, Terms, after, behind, comes_to, course_with, lost_by, no_time, taken_as}
+use Rattle.rx_sync.specs.Exchange.{Course, Planned, Terms, world_after, behind, comes_to, course_with, lost_by, no_time, taken_as}
 use Rattle.rx_sync.specs.Taking.{taken}
 use Rattle.rx_sync.specs.Turn.{Turned, before, end_by, ended_with}
 use Rattle.rx_sync.specs.declared.fault.TakeFault.{TakeFault}
@@ -129,4 +129,4 @@ remote_turn t batch (suc budget) hs w a =
     let o = asked_in w t.name (next_number a) batch in
     let c = heard_course t (first_heard hs) w a o in
     heard_on c o (heard_later hs) (end_by batch c.came)
-    (remote_turn t batch budget (heard_later hs) (after c.records w) c.asks)
+    (remote_turn t batch budget (heard_later hs) (world_after c.records w) c.asks)

@@ -15,7 +15,7 @@ use Rattle.rx_wire.specs.declared.message.Reply.{Reply}
 use Rattle.rx_sync.specs.AnyReply.{ChangesNothingElse, LosesNoUpdate, LowersNoCheckpoint, StaysForkSound, StaysValid}
 use Rattle.rx_sync.specs.Asking.{asked_in}
 use Rattle.rx_sync.specs.Asks.{Asks, next_number}
-use Rattle.rx_sync.specs.Exchange.{Course, Terms, after}
+use Rattle.rx_sync.specs.Exchange.{Course, Terms, world_after}
 use Rattle.rx_sync.specs.Laws.{ComeSoundly, RemembersLawful}
 use Rattle.rx_sync.specs.Remote.{Heard, line, first_heard, heard_course, heard_later, remote_turn, schema_in}
 use Rattle.rx_sync.specs.Turn.{end_by}
@@ -55,7 +55,7 @@ IsCallSound t batch budget heard w a =
 abbrev pub MayCallAgain : Terms → ℕ → ℕ → List Heard → World → Asks → Type 0
 MayCallAgain t batch budget heard w a =
     let u = (remote_turn t batch budget heard w a).turned in
-    MayCall t (after u.records w) u.asks
+    MayCall t (world_after u.records w) u.asks
 
 -- ---- what no master can do
 
@@ -94,7 +94,7 @@ EachHeard P t batch (suc budget) heard w a =
     let c = heard_course t (first_heard heard) w a (asked_in w t.name (next_number a) batch) in
     P w (first_heard heard) c
     × (end_by batch c.came ≡ None
-    → EachHeard P t batch budget (heard_later heard) (after c.records w) c.asks)
+    → EachHeard P t batch budget (heard_later heard) (world_after c.records w) c.asks)
 
 abbrev pub EachIsUnharmed : Terms → ℕ → ℕ → List Heard → World → Asks → Type 0
 EachIsUnharmed t batch budget heard w a = EachHeard (IsUnharmed t) t batch budget heard w a

@@ -9,7 +9,7 @@ use Rattle.rx_script.specs.declared.happening.Happening.{Happening}
 use Rattle.rx_script.specs.declared.happening.Happening.TheVariants as link
 use Rattle.rx_world.specs.World.{World}
 use Rattle.rx_sync.specs.Asks.{Asks}
-use Rattle.rx_sync.specs.Exchange.{Terms, Course, course, after}
+use Rattle.rx_sync.specs.Exchange.{Terms, Course, course, world_after}
 
 -- What a turn writes, which requests are remembered after it, what its exchanges came to, and how
 -- it
@@ -67,4 +67,4 @@ turn t batch zero link w a = ended_with More a
 turn t batch (suc budget) link w a =
     let c = course t batch (first_of link) w a in
     going_on c (end_by batch c.came)
-    (turn t batch budget (rest_of link) (after c.records w) c.asks)
+    (turn t batch budget (rest_of link) (world_after c.records w) c.asks)

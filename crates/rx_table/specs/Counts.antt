@@ -21,22 +21,22 @@ use Rattle.rx_table.specs.declared.action.Action.TheVariants.{
 use Rattle.rx_table.specs.declared.counts.Counts.{Counts}
 
 -- the place of an action's count
-abbrev pub place_of : Action → ℕ
-place_of DoNothing = 0
-place_of InsertFirst = 1
-place_of InsertLast = 2
-place_of RemoveFirstItem = 3
-place_of RemoveLastItem = 4
-place_of RemoveFirstInsertLast = 5
-place_of RemoveLastInsertFirst = 6
-place_of RemoveFirstInsertFirst = 7
-place_of RemoveLastInsertLast = 8
-place_of RemoveExisting = 9
-place_of ReplaceExisting = 10
-place_of InsertAtSortPosition = 11
-place_of RemoveExistingAndInsertAtSortPosition = 12
-place_of RunFullQueryAgain = 13
-place_of InsertAtSortPositionRemoveLast = 14
+abbrev pub action_number : Action → ℕ
+action_number DoNothing = 0
+action_number InsertFirst = 1
+action_number InsertLast = 2
+action_number RemoveFirstItem = 3
+action_number RemoveLastItem = 4
+action_number RemoveFirstInsertLast = 5
+action_number RemoveLastInsertFirst = 6
+action_number RemoveFirstInsertFirst = 7
+action_number RemoveLastInsertLast = 8
+action_number RemoveExisting = 9
+action_number ReplaceExisting = 10
+action_number InsertAtSortPosition = 11
+action_number RemoveExistingAndInsertAtSortPosition = 12
+action_number RunFullQueryAgain = 13
+action_number InsertAtSortPositionRemoveLast = 14
 
 -- the query runs in full
 abbrev pub is_full : Action → Bool
@@ -54,8 +54,8 @@ no_counts = record { by_action = replicate 15 0; changes = 0; full = 0; asked = 
 -- after a change with that action, for which so many questions were asked
 abbrev pub counted : Action → ℕ → Counts → Counts
 counted a asked n = record {
-  by_action = slice_set n.by_action (place_of a)
-      (more_by 1 (slice_index n.by_action (place_of a)));
+  by_action = slice_set n.by_action (action_number a)
+      (more_by 1 (slice_index n.by_action (action_number a)));
   changes = more_by 1 n.changes;
   full = if is_full a then more_by 1 n.full else n.full;
   asked = more_by asked n.asked;

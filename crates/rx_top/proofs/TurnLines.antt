@@ -10,7 +10,7 @@ use Rattle.rx_handler.specs.Handlers.{Kinds}
 use Rattle.rx_sync.proofs.Bound.{turns_in_time}
 use Rattle.rx_sync.specs.Bound.{ForLink, IsOkTurn, NextTurn, enough, exchanges_of, is_done}
 use Rattle.rx_sync.specs.Bound as bound
-use Rattle.rx_sync.specs.Exchange.{after}
+use Rattle.rx_sync.specs.Exchange.{world_after}
 use Rattle.rx_sync.specs.Turn.{Turned}
 use Rattle.rx_world.specs.World.{World}
 use Rattle.rx_top.specs.Lines.{is_blank}
@@ -28,7 +28,8 @@ as_next t s = record {
   asks = asks_of t.name s.asks;
 }
 
-abbrev next_turns : (name : List ℕ) (n : ℕ) (ls : List (List ℕ)) (s : Standing) → AreTurnsOf name n ls s
+abbrev next_turns : (name : List ℕ) (n : ℕ) (ls : List (List ℕ)) (s : Standing)
+    → AreTurnsOf name n ls s
     → List NextTurn
 next_turns name n [] s are = []
 next_turns name n (l ∷ ls) s are =
@@ -53,7 +54,8 @@ module _ (n : ℕ) (l : List ℕ) (s : Standing) (t : Turn) (full : is_blank l �
   same_kinds : (line_effect n l s).next.kinds ≡ s.kinds
   same_kinds = ap (λ (x : Standing). x.kinds) next_is
 
-  next_world : (line_effect n l s).next.session.world ≡ after (turned t s).records s.session.world
+  next_world : (line_effect n l s).next.session.world
+      ≡ world_after (turned t s).records s.session.world
   next_world = ap (λ (x : Standing). x.session.world) next_is
       ∙ written-world (turned t s).records s.session
 
@@ -69,7 +71,7 @@ same_count name n (l ∷ ls) s are =
     let ns = next_turns name (n + 1) ls then are.6 in
     let u = turned t s in
     let behind : exchanges_by (n + 1) ls then
-    ≡ exchanges_of name s.kinds ns (after u.records s.session.world) =
+    ≡ exchanges_of name s.kinds ns (world_after u.records s.session.world) =
     same_count name (n + 1) ls then are.6
     ∙ ap (λ (k : Kinds). exchanges_of name k ns then.session.world) (same_kinds n l s t are.1 are.2)
     ∙ ap (λ (w : World). exchanges_of name s.kinds ns w) (next_world n l s t are.1 are.2) in
@@ -78,7 +80,8 @@ same_count name n (l ∷ ls) s are =
     ∙ ap (λ (at : List ℕ).
     let v : Turned = bound.turned at s.kinds (as_next t s) s.session.world in
     length v.exchanges
-    + cond (is_done v.ended) 0 (exchanges_of name s.kinds ns (after v.records s.session.world))) are.3
+    + cond (is_done v.ended) 0
+    (exchanges_of name s.kinds ns (world_after v.records s.session.world))) are.3
 
 pub turn_lines_in_time : TurnLinesEndInTime
 turn_lines_in_time name n lines s ready are =

@@ -26,7 +26,7 @@ use Rattle.rx_record.specs.declared.record.MasterName.TheVariants.{Local, Port}
 use Rattle.rx_record.specs.declared.record.RowOut.{RowOut}
 use Rattle.rx_replication.specs.Known.{KnownStates}
 use Rattle.rx_replication.specs.Sound.{IsSoundSide, IsForkSound, IsMasterSound}
-use Rattle.rx_replication.specs.Worlds.{Linked, HasSoundMaster, IsSoundIn as IsSoundLink}
+use Rattle.rx_replication.specs.Worlds.{Linked, HasSoundMaster, HasSoundSides as IsSoundLink}
 use Rattle.rx_replication.proofs.Commits.{Wrote, commit_wrote}
 use Rattle.rx_replication.proofs.Worlds.{IsWrittenAt, commit_keeps}
 use Rattle.rx_world.specs.Linked.{HasMaster, IsLinked, AreLinked}

@@ -1,6 +1,6 @@
 use Rattle.std.proofs.Common.{◌-◌, ap, ◌∙◌}
 use Rattle.rx_query.specs.After.{removes_end}
-use Rattle.rx_query.specs.Asked.{asked}
+use Rattle.rx_query.specs.QuerySpec.{asked}
 use Rattle.rx_actions.proofs.Acted.{in_front, at_end, in_place, in_order, placed_anew, placed_for_last}
 use Rattle.rx_actions.proofs.acting.row_places.Goals as goal
 

@@ -1,4 +1,4 @@
-use Rattle.rx_query.specs.Asked.{asked}
+use Rattle.rx_query.specs.QuerySpec.{asked}
 use Rattle.rx_actions.proofs.Acted.{to_later, to_earlier}
 use Rattle.rx_actions.proofs.acting.sorted_place_for.Goals as goal
 

@@ -1,5 +1,5 @@
 use Rattle.std.proofs.Common.{◌≡◌, ◌≢◌, ℕ, ◌<◌, get_or, false}
-use Rattle.rx_query.specs.Asked.{asked}
+use Rattle.rx_query.specs.QuerySpec.{asked}
 use Rattle.rx_query.specs.States.{precedes}
 use Rattle.rx_query.specs.declared.results.Row.{Row}
 use Rattle.rx_actions.proofs.places.sorted_place.Given as goal

@@ -4,7 +4,7 @@ use Rattle.rx_record.specs.Content.{Content}
 use Rattle.rx_reply.specs.declared.turn.Exchanged.{Exchanged}
 use Rattle.rx_session.specs.Session.{Session}
 use Rattle.rx_store.specs.Safe.{IsCrashSafe}
-use Rattle.rx_sync.specs.Exchange.{exchange, late_records, late_request, once_late, after}
+use Rattle.rx_sync.specs.Exchange.{exchange, late_records, late_request, once_late, world_after}
 use Rattle.rx_sync.specs.Laws.{ComeSoundly, IsAskedIn, IsReady}
 use Rattle.rx_sync.specs.Shown.{record_in}
 use Rattle.rx_world.specs.Sound.{IsSoundWorld}
@@ -61,7 +61,7 @@ returns-in_err-play-clause-safe g c told bodies at =
     let late : late_records t.name t.now w (late_request x a) ≡ Some cs =
     subst (λ (v : World). late_records t.name t.now v (late_request x a) ≡ Some cs) c.world.ensures
     c.in-Ok.ensures.written in
-    let ps = (exchange t asked x (after cs w)).records in
+    let ps = (exchange t asked x (world_after cs w)).records in
     let begins : IsUnderWay g.D.Disk c.args.disk.now c.args.disk.now c.args.play all c.args.play
     (cs ++ ps) =
     subst (λ (rest : List Content).
@@ -140,7 +140,7 @@ returns-clause-session g c =
     ≡ Some cs) c.world.ensures c.in-Ok.ensures.written in
     let there = ap (λ (s : Session). s.world) c.in_ok-play.ensures.session
     ∙ written-world cs c.args.play.playing in
-    let ps = (exchange t c.args.asked.now c.args.happening (after cs w)).records in
+    let ps = (exchange t c.args.asked.now c.args.happening (world_after cs w)).records in
     subst (λ (s : Session). IfOk c.keep_exchange.result (λ p. p.0.playing ≡ s))
     (ap (λ (v : World).
     written (exchange t c.args.asked.now c.args.happening v).records c.in_ok-play.play.playing)
@@ -164,7 +164,7 @@ returns-clause-safe g c told bodies at =
     let late : late_records t.name t.now w (late_request x a) ≡ Some cs =
     subst (λ (v : World). late_records t.name t.now v (late_request x a) ≡ Some cs) c.world.ensures
     c.in-Ok.ensures.written in
-    let ps = (exchange t asked x (after cs w)).records in
+    let ps = (exchange t asked x (world_after cs w)).records in
     let begins : IsUnderWay g.D.Disk c.args.disk.now c.args.disk.now c.args.play all c.args.play
     (cs ++ ps) =
     subst (λ (rest : List Content).

@@ -1,5 +1,5 @@
 use Rattle.std.proofs.Common.{sym, subst}
-use Rattle.rx_session.specs.Doing.{after, MayDo}
+use Rattle.rx_session.specs.Doing.{session_after, MayDo}
 use Rattle.rx_session.specs.Shown.{done_by}
 use Rattle.rx_session.specs.declared.doing.Doing.{Doing}
 use Rattle.rx_store.specs.Holds.{Holds}
@@ -14,11 +14,12 @@ pub returns-in-Write-clause-safe : goal.returns-in-Write-clause-safe
 returns-in-Write-clause-safe g c told bodies s holds may sound =
     subst (λ (ch : Doing). IsCrashSafe g.D.Disk c.args.disk.now c.keep.new.disk bodies
     (bodies_of (records_of (done_by ch))) c.args.journal.limit
-    (λ kept all. Holds g.D.Disk c.keep.new.disk kept all (after (done_by ch) s).world) c.keep.result)
+    (λ kept all. Holds g.D.Disk c.keep.new.disk kept all (session_after (done_by ch) s).world)
+    c.keep.result)
     (sym c.in-Write.is)
     (c.keep.ensures.safe told bodies s.world holds
     (subst (λ (ch : Doing). MayDo (done_by ch) s) c.in-Write.is may).0
-    (subst (λ (ch : Doing). IsSoundWorld (after (done_by ch) s).world) c.in-Write.is sound))
+    (subst (λ (ch : Doing). IsSoundWorld (session_after (done_by ch) s).world) c.in-Write.is sound))
 
 pub returns-in-Nothing-clause-safe : goal.returns-in-Nothing-clause-safe
 returns-in-Nothing-clause-safe g c told bodies s holds may sound =

@@ -1,6 +1,6 @@
 use Rattle.std.proofs.Common.{sym, ap, ◌∙◌}
 use Rattle.serde_json.specs.View.{view}
-use Rattle.rx_query.specs.Asked.{asked}
+use Rattle.rx_query.specs.QuerySpec.{asked}
 use Rattle.rx_reply.specs.Answer.{rows_of}
 use Rattle.rx_engine.specs.Queries.{query_on}
 use Rattle.rx_engine.specs.Shown.{outcome_of}

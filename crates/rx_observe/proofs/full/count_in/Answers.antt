@@ -1,6 +1,6 @@
 use Rattle.std.proofs.Common.{length, filter, sym, ap, ◌∙◌}
 use Rattle.std.specs.Map.{values_of}
-use Rattle.rx_query.specs.Asked.{asked}
+use Rattle.rx_query.specs.QuerySpec.{asked}
 use Rattle.rx_query.specs.Result.{is_due}
 use Rattle.rx_planner.specs.Count.{in_window}
 use Rattle.rx_planner.proofs.Counts.{window_length}

@@ -1,7 +1,7 @@
 use Rattle.std.proofs.Common.{◌≡◌, rules, Bor, IfOk, map, sym, subst}
 use Rattle.std.specs.Map.{values_of}
 use Rattle.rx_document.specs.declared.stored.Stored.{Stored}
-use Rattle.rx_query.specs.Asked.{asked}
+use Rattle.rx_query.specs.QuerySpec.{asked}
 use Rattle.rx_query.specs.Result.{AreKeyed, result_of}
 use Rattle.rx_observe.proofs.Fresh.{keyed_for}
 use Rattle.rx_observe.proofs.full.find_in.Goals as goal

@@ -1,6 +1,6 @@
 use Rattle.std.proofs.Common.{◌≡◌, Bor, List, IfOk, map, ap, ◌∙◌, subst}
 use Rattle.rx_document.specs.declared.stored.Stored.{Stored}
-use Rattle.rx_query.specs.Asked.{asked}
+use Rattle.rx_query.specs.QuerySpec.{asked}
 use Rattle.rx_query.specs.Result.{row_of, fresh_rows}
 use Rattle.rx_query.specs.declared.results.Row.{Row}
 use Rattle.rx_observe.proofs.Fresh.{lent_rows, found_fresh}

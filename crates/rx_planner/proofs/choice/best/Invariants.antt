@@ -1,5 +1,5 @@
 use Rattle.std.proofs.Common.{◌≡◌, map}
-use Rattle.rx_query.specs.Asked.{asked}
+use Rattle.rx_query.specs.QuerySpec.{asked}
 use Rattle.rx_planner.specs.Choice.{IsBest}
 use Rattle.rx_planner.specs.Plan.{score, path_at}
 use Rattle.rx_planner.proofs.choice.best.Given as goal

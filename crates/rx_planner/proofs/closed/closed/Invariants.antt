@@ -1,5 +1,5 @@
 use Rattle.std.proofs.Common.{◌≡◌, map, drop}
-use Rattle.rx_query.specs.Asked.{asked}
+use Rattle.rx_query.specs.QuerySpec.{asked}
 use Rattle.rx_planner.specs.Closed.{closed_at, closed_of}
 use Rattle.rx_planner.specs.Onto.{onto}
 use Rattle.rx_planner.proofs.closed.closed.Given as goal

@@ -1,5 +1,5 @@
 use Rattle.std.proofs.Common.{◌≡◌, ◌+◌, ◌<◌, ◌^◌, length}
-use Rattle.rx_query.specs.Asked.{asked}
+use Rattle.rx_query.specs.QuerySpec.{asked}
 use Rattle.rx_planner.specs.Rows.{due_among}
 use Rattle.rx_planner.proofs.count.count_due.Given as goal
 

@@ -1,6 +1,6 @@
 use Rattle.std.proofs.Common.{◌≡◌, map, drop}
 use Rattle.rx_selector.specs.Tree.{tests_view}
-use Rattle.rx_query.specs.Asked.{asked}
+use Rattle.rx_query.specs.QuerySpec.{asked}
 use Rattle.rx_planner.specs.Exact.{are_told}
 use Rattle.rx_planner.proofs.exact.are_told.Given as goal
 

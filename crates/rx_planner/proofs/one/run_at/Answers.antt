@@ -1,6 +1,6 @@
 use Rattle.std.proofs.Common.{◌≡◌, Bor, [], ◌∷◌, ◌++◌, map, None, Some, option_map, sym, ap, ◌∙◌}
 use Rattle.rx_document.specs.declared.stored.Stored.{Stored}
-use Rattle.rx_query.specs.Asked.{asked}
+use Rattle.rx_query.specs.QuerySpec.{asked}
 use Rattle.rx_planner.proofs.Single.{one_shown, one_hidden}
 use Rattle.rx_planner.proofs.one.run_at.Goals as goal
 

@@ -1,7 +1,7 @@
 use Rattle.std.proofs.Common.{◌≡◌, ℕ, ◌+◌, ◌&&◌, Bool, List, true, false, drop, sym, ap, ◌∙◌}
 use Rattle.std.specs.List.{list_all}
 use Rattle.rx_value.proofs.Lists.{drop_at}
-use Rattle.rx_query.specs.Asked.{asked}
+use Rattle.rx_query.specs.QuerySpec.{asked}
 use Rattle.rx_planner.specs.Plan.{rises_freely}
 use Rattle.rx_planner.proofs.order.rises_freely.Goals as goal
 

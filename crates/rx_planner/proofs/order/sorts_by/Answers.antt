@@ -2,7 +2,7 @@ use Rattle.std.proofs.Common.{◌≡◌, ◌+◌, true, false, cond, drop, Some,
 use Rattle.std.specs.Str.{bytes_eq}
 use Rattle.rx_value.specs.Named.{named}
 use Rattle.rx_value.proofs.Lists.{drop_at}
-use Rattle.rx_query.specs.Asked.{asked}
+use Rattle.rx_query.specs.QuerySpec.{asked}
 use Rattle.rx_planner.proofs.order.sorts_by.Goals as goal
 
 pub returns-then-eq : goal.returns-then-eq

@@ -1,6 +1,6 @@
 use Rattle.std.proofs.Common.{◌≡◌, drop, is_some}
 use Rattle.rx_value.specs.Named.{named}
-use Rattle.rx_query.specs.Asked.{asked}
+use Rattle.rx_query.specs.QuerySpec.{asked}
 use Rattle.rx_planner.proofs.order.sorts_by.Given as goal
 
 -- the name is among those that are left, if at all

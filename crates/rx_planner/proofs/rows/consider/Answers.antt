@@ -3,7 +3,7 @@ use Rattle.std.proofs.Math.ListN.{get_or-map}
 use Rattle.std.proofs.lemmas.List.{map-append, get_or_default}
 use Rattle.std.specs.Ordering.{eq_by_cmp}
 use Rattle.rx_document.specs.declared.stored.Stored.{Stored}
-use Rattle.rx_query.specs.Asked.{asked}
+use Rattle.rx_query.specs.QuerySpec.{asked}
 use Rattle.rx_query.specs.Result.{stored_before, stored_cmp}
 use Rattle.rx_planner.specs.Rows.{StandsFor}
 use Rattle.rx_planner.proofs.Members.{distinct_front}

@@ -1,6 +1,6 @@
 use Rattle.std.proofs.Common.{◌≡◌, List, Bor, ◌∷◌, ◌++◌, map, length, option_map, rules, sym, ap, ◌∙◌, subst}
 use Rattle.rx_document.specs.declared.stored.Stored.{Stored}
-use Rattle.rx_query.specs.Asked.{asked}
+use Rattle.rx_query.specs.QuerySpec.{asked}
 use Rattle.rx_planner.specs.Rows.{due_among, StandsFor}
 use Rattle.rx_planner.proofs.Standing.{next_some}
 use Rattle.rx_planner.proofs.rows.improve.Goals as goal

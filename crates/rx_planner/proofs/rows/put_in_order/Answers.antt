@@ -5,7 +5,7 @@ use Rattle.std.specs.Ordering.{is_lt}
 use Rattle.rx_document.specs.declared.stored.Stored.{Stored}
 use Rattle.rx_query.proofs.Orders.{query_total}
 use Rattle.rx_query.proofs.Rows.{lent_cmp}
-use Rattle.rx_query.specs.Asked.{asked}
+use Rattle.rx_query.specs.QuerySpec.{asked}
 use Rattle.rx_planner.proofs.Rising.{sort_is}
 use Rattle.rx_planner.proofs.rows.put_in_order.Goals as goal
 

@@ -1,5 +1,5 @@
 use Rattle.std.proofs.Common.{◌≡◌, ◌∙◌, ap, sym, subst, rules, OnOk, Some}
-use Rattle.rx_query.specs.Asked.{asked}
+use Rattle.rx_query.specs.QuerySpec.{asked}
 use Rattle.rx_value.specs.Named.{named, change_named}
 use Rattle.rx_observe.specs.Observing.{Observing}
 use Rattle.rx_world.specs.Holders.{holders_in}

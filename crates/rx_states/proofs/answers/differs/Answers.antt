@@ -1,6 +1,6 @@
 use Rattle.std.proofs.Common.{◌≡◌, ℕ, Bool, true, false, not, List, rules, sym, ap, ◌∙◌}
 use Rattle.std.specs.Ordering.{is_ne}
-use Rattle.rx_query.specs.Asked.{asked}
+use Rattle.rx_query.specs.QuerySpec.{asked}
 use Rattle.rx_query.specs.Order.{field_cmp}
 use Rattle.rx_states.proofs.Steps.{ties_next, ties_not}
 use Rattle.rx_states.proofs.answers.differs.Goals as goal

@@ -1,6 +1,6 @@
 use Rattle.std.proofs.Common.{◌≡◌, drop}
 use Rattle.std.specs.Ordering.{is_eq}
-use Rattle.rx_query.specs.Asked.{asked}
+use Rattle.rx_query.specs.QuerySpec.{asked}
 use Rattle.rx_query.specs.Order.{sorts_cmp}
 use Rattle.rx_query.specs.States.{ties}
 use Rattle.rx_states.proofs.answers.differs.Given as goal

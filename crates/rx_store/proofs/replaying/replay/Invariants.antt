@@ -1,7 +1,7 @@
 use Rattle.std.proofs.Common.{◌≡◌, ◌≤◌, ◌+◌, ◌-◌, ◌^◌, [], Ok}
 use Rattle.rx_disk.specs.Calls.{OnlyReads}
 use Rattle.rx_journal.specs.Reading.{IsUntouched}
-use Rattle.rx_journal.specs.Windows.{HaveLent, limit_of, place_of}
+use Rattle.rx_journal.specs.Windows.{HaveLent, limit_of, gate_place}
 use Rattle.rx_world.specs.Holders.{holders_in, world_in}
 use Rattle.rx_store.specs.Made.{AreMade}
 use Rattle.rx_store.proofs.Counting.{HasRead}
@@ -18,13 +18,13 @@ invariant-loop-body g l = record {
       → HasPlayed g.D.Disk l.disk l.windows (world_in g.H.Holder.held l.world);
   counted : g.D.Disk.tells → HasRead (g.D.Disk.content l.initial.disk) l.initial.windows l.windows
       (world_in g.H.Holder.held l.world) l.records l.bytes;
-  epoch : l.world.epoch ≤ place_of l.windows;
-  fewer : l.records ≤ place_of l.windows;
-  size : l.bytes + place_of l.initial.windows ≡ place_of l.windows;
+  epoch : l.world.epoch ≤ gate_place l.windows;
+  fewer : l.records ≤ gate_place l.windows;
+  size : l.bytes + gate_place l.initial.windows ≡ gate_place l.windows;
   made : AreMade (λ c h. g.F.Fn.post l.make (c, tt) (Ok h)) g.H.Holder.written (holders_in l.world);
   limit : limit_of l.windows ≡ limit_of l.initial.windows;
   faults : g.D.Disk.faults l.initial.disk ≤ g.D.Disk.faults l.disk;
 }
 
 abbrev pub decreases-loop-body : goal.decreases-loop-body
-decreases-loop-body g l = 2 ^ 32 - place_of l.windows
+decreases-loop-body g l = 2 ^ 32 - gate_place l.windows

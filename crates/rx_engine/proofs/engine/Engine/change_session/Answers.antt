@@ -1,5 +1,5 @@
 use Rattle.std.proofs.Common.{◌++◌, sym, ap, ◌∙◌, subst}
-use Rattle.rx_session.specs.Doing.{Doing, after, MayDo}
+use Rattle.rx_session.specs.Doing.{Doing, session_after, MayDo}
 use Rattle.rx_session.specs.Emissions.{emissions, settled_session}
 use Rattle.rx_session.specs.Session.{Session}
 use Rattle.rx_session.specs.Shown.{done_by}
@@ -61,7 +61,7 @@ unfolding session_of asks_in
 new-requires-clause-made g c =
     let s = c.args.self.session.session in
     subst IsMadeWorld (sym (ap (λ (x : Session). x.world) (c.in_ok-session.ensures.session
-    ∙ ap (λ (x : Session). settled_session (after (done_by c.args.doing) x))
+    ∙ ap (λ (x : Session). settled_session (session_after (done_by c.args.doing) x))
     c.release-parts.ensures.same)))
     (made_then (done_by c.args.doing) s c.requires.may c.release-parts.ensures.made)
 
@@ -70,7 +70,7 @@ unfolding session_of asks_in
 new-requires-clause-sound g c =
     let s = c.args.self.session.session in
     subst IsSoundWorld (sym (ap (λ (x : Session). x.world) (c.in_ok-session.ensures.session
-    ∙ ap (λ (x : Session). settled_session (after (done_by c.args.doing) x))
+    ∙ ap (λ (x : Session). settled_session (session_after (done_by c.args.doing) x))
     c.release-parts.ensures.same)))
     (sound_then (done_by c.args.doing) s c.requires.may c.requires.apart
     c.release-parts.ensures.made
@@ -83,7 +83,7 @@ new-requires-clause-remembered g c =
     let asks = c.args.self.session.asks in
     subst (AreRemembered c.in_ok-session.session.world) (sym c.release-parts.ensures.asks)
     (subst (λ (x : Session). AreRemembered x.world asks) (sym (c.in_ok-session.ensures.session
-    ∙ ap (λ (x : Session). settled_session (after (done_by c.args.doing) x))
+    ∙ ap (λ (x : Session). settled_session (session_after (done_by c.args.doing) x))
     c.release-parts.ensures.same))
     (remembered_doing (done_by c.args.doing) s asks c.requires.may
     c.release-parts.ensures.remembered))
@@ -94,7 +94,7 @@ new-requires-clause-marked g c =
     let s = c.args.self.session.session in
     let marks = c.release-parts.result.2 in
     subst (λ (x : Session). AreMarked x.world marks) (sym (c.in_ok-session.ensures.session
-    ∙ ap (λ (x : Session). settled_session (after (done_by c.args.doing) x))
+    ∙ ap (λ (x : Session). settled_session (session_after (done_by c.args.doing) x))
     c.release-parts.ensures.same))
     (marked_doing (done_by c.args.doing) s marks c.requires.may c.requires.apart
     c.release-parts.ensures.marked)
@@ -108,14 +108,15 @@ pub returns-clause-session : goal.returns-clause-session
 unfolding session_of asks_in
 returns-clause-session g c =
     ap (λ (x : SessionWithAsks). x.session) c.new.ensures ∙ c.in_ok-session.ensures.session
-    ∙ ap (λ (x : Session). settled_session (after (done_by c.args.doing) x))
+    ∙ ap (λ (x : Session). settled_session (session_after (done_by c.args.doing) x))
     c.release-parts.ensures.same
 
 pub returns-clause-emissions : goal.returns-clause-emissions
 unfolding session_of asks_in
 returns-clause-emissions g c =
     c.in_ok-session.ensures.emissions
-    ∙ ap (λ (x : Session). emissions (after (done_by c.args.doing) x)) c.release-parts.ensures.same
+    ∙ ap (λ (x : Session). emissions (session_after (done_by c.args.doing) x))
+    c.release-parts.ensures.same
 
 pub returns-clause-safe : goal.returns-clause-safe
 unfolding session_of asks_in
@@ -129,7 +130,7 @@ returns-clause-safe g c told bodies at =
     (λ holds. subst (λ (x : Session). Holds g.D.Disk c.keep_doing.new.disk c.in_ok-journal.journal
     (bodies ++ more) x.world) (sym (ap (λ (x : SessionWithAsks). x.session) c.new.ensures
     ∙ c.in_ok-session.ensures.session
-    ∙ ap (λ (x : Session). settled_session (after (done_by c.args.doing) x))
+    ∙ ap (λ (x : Session). settled_session (session_after (done_by c.args.doing) x))
     c.release-parts.ensures.same)) holds)
 
 -- nothing was to be emitted before, so nothing is
@@ -138,9 +139,9 @@ unfolding session_of asks_in
 returns-clause-idle g c is =
     let s = c.release-parts.result.0 in (
       ap (λ (x : SessionWithAsks). x.session) c.new.ensures ∙ c.in_ok-session.ensures.session
-          ∙ ap (λ (d : Doing). settled_session (after d s)) is
+          ∙ ap (λ (d : Doing). settled_session (session_after d s)) is
           ∙ c.next.ensures.before.same ∙ c.release-parts.ensures.same,
-      c.in_ok-session.ensures.emissions ∙ ap (λ (d : Doing). emissions (after d s)) is
+      c.in_ok-session.ensures.emissions ∙ ap (λ (d : Doing). emissions (session_after d s)) is
           ∙ c.next.ensures.before.quiet,
     )
 

@@ -1,6 +1,6 @@
 use Rattle.std.proofs.Common.{◌≡◌, ℕ, [], ◌∷◌, ◌++◌, true, false, true≢false, Err, ◌∙◌, ap, sym, subst, rules}
 use Rattle.rx_record.specs.Content.{epoch, content_bytes}
-use Rattle.rx_session.specs.Doing.{restart, after}
+use Rattle.rx_session.specs.Doing.{restart, session_after}
 use Rattle.rx_session.specs.Emissions.{emissions, settled_session}
 use Rattle.rx_session.specs.Placed.{world_of}
 use Rattle.rx_session.specs.Session.{Session}
@@ -44,7 +44,8 @@ returns-then-not-is_next-clause-safe g c told bodies at =
     let opened = c.in_ok-journal.ensures.opened told bodies w legal in
     let goes : c.is_next.result ≡ true =
     c.is_next.ensures.1 (opened ∙ ap (λ (n : ℕ). step (epoch n) w) (sym c.requires.next)
-    ∙ sym (ap (λ (x : Session). step (epoch c.args.epoch) x.world) c.into_session-before.ensures.same)) in
+    ∙ sym (ap
+    (λ (x : Session). step (epoch c.args.epoch) x.world) c.into_session-before.ensures.same)) in
     let not : c.is_next.result ≡ false = search rules in
     absurd (true≢false (sym goes ∙ not))
 
@@ -73,8 +74,9 @@ new-requires-clause-made g c =
     let number : (world_of c.in_ok-journal.field-0.world).epoch ≡ c.args.epoch =
     ap (λ (x : World). x.epoch) (c.is_next.ensures.0 goes) in
     let is = ap (λ (x : Session). x.world) (c.in_ok-session.ensures.session
-    ∙ ap (λ (n : ℕ). settled_session (after (restart n) c.into_session-before.result)) number
-    ∙ ap (λ (x : Session). settled_session (after
+    ∙ ap (λ (n : ℕ). settled_session (session_after (restart n) c.into_session-before.result))
+    number
+    ∙ ap (λ (x : Session). settled_session (session_after
     (restart c.args.epoch) x)) c.into_session-before.ensures.same) in
     subst IsMadeWorld (sym is) (made_then (restart c.args.epoch) s c.requires.next
     c.into_session-before.ensures.made)
@@ -86,8 +88,9 @@ new-requires-clause-sound g c =
     let number : (world_of c.in_ok-journal.field-0.world).epoch ≡ c.args.epoch =
     ap (λ (x : World). x.epoch) (c.is_next.ensures.0 goes) in
     let is = ap (λ (x : Session). x.world) (c.in_ok-session.ensures.session
-    ∙ ap (λ (n : ℕ). settled_session (after (restart n) c.into_session-before.result)) number
-    ∙ ap (λ (x : Session). settled_session (after
+    ∙ ap (λ (n : ℕ). settled_session (session_after (restart n) c.into_session-before.result))
+    number
+    ∙ ap (λ (x : Session). settled_session (session_after
     (restart c.args.epoch) x)) c.into_session-before.ensures.same) in
     subst IsSoundWorld (sym is) c.into_session-before.ensures.sound
 
@@ -113,9 +116,10 @@ returns-clause-session g c =
     let number : (world_of c.in_ok-journal.field-0.world).epoch ≡ c.args.epoch =
     ap (λ (x : World). x.epoch) (c.is_next.ensures.0 goes) in
     ap (λ (x : SessionWithAsks). x.session) c.new.ensures ∙ c.in_ok-session.ensures.session
-    ∙ ap (λ (x : Session). settled_session (after (restart
+    ∙ ap (λ (x : Session). settled_session (session_after (restart
     (world_of c.in_ok-journal.field-0.world).epoch) x))
-    c.into_session-before.ensures.same ∙ ap (λ (n : ℕ). settled_session (after (restart n) s)) number
+    c.into_session-before.ensures.same
+    ∙ ap (λ (n : ℕ). settled_session (session_after (restart n) s)) number
 
 pub returns-clause-quiet : goal.returns-clause-quiet
 unfolding session_of asks_in
@@ -124,8 +128,8 @@ returns-clause-quiet g c =
     let goes : c.is_next.result ≡ true = search rules in
     let number : (world_of c.in_ok-journal.field-0.world).epoch ≡ c.args.epoch =
     ap (λ (x : World). x.epoch) (c.is_next.ensures.0 goes) in
-    sym (ap (λ (n : ℕ). emissions (after (restart n) s)) number)
-    ∙ sym (ap (λ (x : Session). emissions (after (restart
+    sym (ap (λ (n : ℕ). emissions (session_after (restart n) s)) number)
+    ∙ sym (ap (λ (x : Session). emissions (session_after (restart
     (world_of c.in_ok-journal.field-0.world).epoch) x))
     c.into_session-before.ensures.same) ∙ c.in_ok-session.ensures.emissions
 
@@ -140,11 +144,12 @@ returns-clause-safe g c told bodies at =
     let goes : c.is_next.result ≡ true = search rules in
     let number : (world_of c.in_ok-journal.field-0.world).epoch ≡ c.args.epoch =
     ap (λ (x : World). x.epoch) (c.is_next.ensures.0 goes) in
-    let session : c.new.result.session ≡ settled_session (after (restart c.args.epoch) s) =
+    let session : c.new.result.session ≡ settled_session (session_after (restart c.args.epoch) s) =
     ap (λ (x : SessionWithAsks). x.session) c.new.ensures ∙ c.in_ok-session.ensures.session
-    ∙ ap (λ (x : Session). settled_session (after (restart
+    ∙ ap (λ (x : Session). settled_session (session_after (restart
     (world_of c.in_ok-journal.field-0.world).epoch) x))
-    c.into_session-before.ensures.same ∙ ap (λ (n : ℕ). settled_session (after (restart n) s)) number in
+    c.into_session-before.ensures.same
+    ∙ ap (λ (n : ℕ). settled_session (session_after (restart n) s)) number in
     let safe = by_number d c.args.disk.now c.open.new.disk bodies s.world c.args.epoch old.limit
     c.requires.next _ _
     (c.in_ok-journal.ensures.safe told bodies s.world legal) in

@@ -4,7 +4,7 @@ use Rattle.rx_serve.specs.Answered.{Commits}
 use Rattle.rx_serve.specs.Ends.{EndsBy, IsStopped, joined_since}
 use Rattle.rx_serve.proofs.Courses.{since}
 use Rattle.rx_host.specs.Engine.{IsAt, collection_of}
-use Rattle.rx_host.specs.Hosting.{IsWorking, collection_in, limit_in, name_in, stop_in}
+use Rattle.rx_host.specs.Hosting.{IsWorking, collection_in, limit_in, served_name, stop_in}
 use Rattle.rx_host.specs.Moments.{GivesMoments}
 use Rattle.rx_host.specs.Serving.{HasKept, HasStopped}
 use Rattle.rx_host.specs.declared.host.Work.{Work}
@@ -104,7 +104,7 @@ returns-in-Ok-Going-clause-name g c =
     let work : a.state.work ≡ Going c.args.self = search rules in
     let work' : b.state.work ≡ Going c.in-Ok-Going.engine = search rules in
     let kept = rw c.in-Ok-Going.is-0 at c.serve-ended.ensures.keeps in
-    sym (ap name_in work') ∙ kept.1.2.name (ap stop_in work') ∙ ap name_in work
+    sym (ap served_name work') ∙ kept.1.2.name (ap stop_in work') ∙ ap served_name work
 
 pub returns-in-Ok-Going-clause-limit : goal.returns-in-Ok-Going-clause-limit
 returns-in-Ok-Going-clause-limit g c =

@@ -1,5 +1,5 @@
 use Rattle.std.proofs.Common.{◌≡◌, Some, refl, sym, ap, ◌∙◌, subst}
-use Rattle.rx_query.specs.Asked.{asked}
+use Rattle.rx_query.specs.QuerySpec.{asked}
 use Rattle.rx_value.specs.Named.{named}
 use Rattle.rx_observe.specs.Lived.{IsWhole}
 use Rattle.rx_observe.specs.Observing.{Observing, new_watch}

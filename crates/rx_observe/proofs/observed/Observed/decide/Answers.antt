@@ -1,7 +1,7 @@
 use Rattle.std.proofs.Common.{◌≡◌, List, [], None, sym, ap, ◌∙◌}
 use Rattle.rx_document.specs.declared.change.Change.{Change}
 use Rattle.rx_diagram.specs.Asked.{asked_of}
-use Rattle.rx_query.specs.Asked.{asked}
+use Rattle.rx_query.specs.QuerySpec.{asked}
 use Rattle.rx_query.specs.States.{bits_of}
 use Rattle.rx_query.specs.declared.results.Row.{Row}
 use Rattle.rx_table.specs.Rows.{table_of}

@@ -1,5 +1,5 @@
 use Rattle.std.proofs.Common.{◌≡◌, List, ℕ, map, sym, ap, ◌∙◌}
-use Rattle.rx_query.specs.Asked.{asked}
+use Rattle.rx_query.specs.QuerySpec.{asked}
 use Rattle.rx_planner.specs.Count.{in_window}
 use Rattle.rx_planner.specs.Plan.{path_of}
 use Rattle.rx_planner.proofs.Counts.{walked_count, span_count}

@@ -2,7 +2,7 @@ use Rattle.std.proofs.Common.{◌++◌, Bor, map, drop, take, length, sym, ap, �
 use Rattle.std.proofs.lemmas.List.{length-map}
 use Rattle.rx_document.specs.declared.stored.Stored.{Stored}
 use Rattle.rx_query.proofs.Rows.{map-drop}
-use Rattle.rx_query.specs.Asked.{asked}
+use Rattle.rx_query.specs.QuerySpec.{asked}
 use Rattle.rx_query.specs.Lists.{sorted}
 use Rattle.rx_query.specs.Result.{stored_before}
 use Rattle.rx_planner.specs.Rows.{due_among, IsFull}

@@ -1,6 +1,6 @@
 use Rattle.std.proofs.Common.{◌≡◌, false, rules, sym, ◌∙◌}
 use Rattle.std.specs.Ordering.{is_ne}
-use Rattle.rx_query.specs.Asked.{asked}
+use Rattle.rx_query.specs.QuerySpec.{asked}
 use Rattle.rx_query.specs.Order.{field_cmp, sorts_cmp}
 use Rattle.rx_query.proofs.Orders.{key_decides}
 use Rattle.rx_query.proofs.query.Query.before.Goals as goal

@@ -3,7 +3,7 @@ use Rattle.rx_record.specs.Shown.{content}
 use Rattle.rx_world.specs.Holders.{holders_in}
 use Rattle.rx_world.specs.Step.{legal}
 use Rattle.rx_world.specs.Touch.{touch}
-use Rattle.rx_session.specs.Doing.{after, write}
+use Rattle.rx_session.specs.Doing.{session_after, write}
 use Rattle.rx_session.specs.Placed.{world_of}
 use Rattle.rx_session.specs.Playing.{AreQuietUnless, coll_to_note, add_written}
 use Rattle.rx_session.specs.Session.{Session}
@@ -13,13 +13,15 @@ use Rattle.rx_session.proofs.playing.Playing.write.Goals as goal
 
 -- what was done to the collections
 done : (c : goal.In_ok-note)
-    → IsPlayed (content c.args.entry) c.self.inside.world c.in_ok-world.world c.self.inside.places.items
+    → IsPlayed
+    (content c.args.entry) c.self.inside.world c.in_ok-world.world c.self.inside.places.items
     c.self.inside.written.items
 done c = record {
   placed = c.self.invariant.placed;
   distinct = c.self.invariant.distinct;
   quiet = c.self.invariant.quiet;
-  allowed = subst (λ (s : Session). legal (content c.args.entry) s.world ≡ true) (sym c.self.view_is)
+  allowed =
+      subst (λ (s : Session). legal (content c.args.entry) s.world ≡ true) (sym c.self.view_is)
       c.requires.legal;
   stepped = c.in_ok-world.ensures.world;
   applied = c.in_ok-world.ensures.lives;
@@ -46,6 +48,8 @@ pub returns : goal.returns
 returns c =
     let i = c.self.inside in
     let entry = content c.args.entry in
-    subst (λ (s : Session). session_of c.in_ok-world.world i.moment i.places.items ≡ after (write entry) s)
+    subst (λ (s : Session). session_of c.in_ok-world.world i.moment i.places.items
+    ≡ session_after (write entry) s)
     c.self.view_is
-    (played_session entry i.world c.in_ok-world.world i.moment i.places.items i.written.items (done c))
+    (played_session entry i.world c.in_ok-world.world i.moment i.places.items i.written.items
+    (done c))

@@ -1,5 +1,5 @@
 use Rattle.std.proofs.Common.{◌≡◌, [], ap, sym, ◌∙◌, subst}
-use Rattle.rx_session.specs.Doing.{after, restart}
+use Rattle.rx_session.specs.Doing.{session_after, restart}
 use Rattle.rx_session.specs.Emissions.{emissions, settled_session, IsSettled}
 use Rattle.rx_session.specs.Inside.{session_in}
 use Rattle.rx_session.specs.Session.{Session}
@@ -11,7 +11,7 @@ pub returns-in_err-carry_all-clause-emissions : goal.returns-in_err-carry_all-cl
 returns-in_err-carry_all-clause-emissions c =
     let i = c.self.inside in
     let number = c.args.world.epoch in
-    subst (λ (s : Session). emissions (after (restart number) s) ≡ []) c.self.view_is
+    subst (λ (s : Session). emissions (session_after (restart number) s) ≡ []) c.self.view_is
     (carried_emissions i.world i.moment number i.places.items c.self.invariant.quiet)
 
 pub invariant_of-result : goal.invariant_of-result
@@ -31,7 +31,7 @@ returns-clause-session c =
     let new = c.carry_all.new.world in
     let number = c.args.world.epoch in
     subst (λ (s : Session). session_in (record { world = new; moment = i.moment; places = i.places; diagram = i.diagram })
-    ≡ settled_session (after (restart number) s)) c.self.view_is
+    ≡ settled_session (session_after (restart number) s)) c.self.view_is
     (carried_session i.world i.moment number i.places.items c.self.invariant.quiet new
     c.in_ok-carry_all.ensures.lives
     (c.in_ok-carry_all.ensures.replications ∙ c.requires.replications
@@ -41,7 +41,7 @@ pub returns-clause-emissions : goal.returns-clause-emissions
 returns-clause-emissions c =
     let i = c.self.inside in
     let number = c.args.world.epoch in
-    subst (λ (s : Session). emissions (after (restart number) s) ≡ []) c.self.view_is
+    subst (λ (s : Session). emissions (session_after (restart number) s) ≡ []) c.self.view_is
     (carried_emissions i.world i.moment number i.places.items c.self.invariant.quiet)
 
 pub returns-clause-before : goal.returns-clause-before

@@ -1,5 +1,5 @@
 use Rattle.std.proofs.Common.{◌≡◌, [], subst}
-use Rattle.rx_session.specs.Doing.{after, set_clock}
+use Rattle.rx_session.specs.Doing.{session_after, set_clock}
 use Rattle.rx_session.specs.Emissions.{emissions, settled_session, IsSettled}
 use Rattle.rx_session.specs.Session.{Session}
 use Rattle.rx_session.proofs.Settling.{at_session, is_settled, none_due, session_of}
@@ -9,13 +9,15 @@ pub returns-clause-session : goal.returns-clause-session
 returns-clause-session c =
     let i = c.self.inside in
     let at = c.args.moment in
-    subst (λ (s : Session). session_of i.world at i.places.items ≡ settled_session (after (set_clock at) s))
+    subst (λ (s : Session). session_of i.world at i.places.items
+    ≡ settled_session (session_after (set_clock at) s))
     c.self.view_is (at_session i.world i.places.items c.self.invariant.quiet i.moment at)
 
 pub returns-clause-emissions : goal.returns-clause-emissions
 returns-clause-emissions c =
     let i = c.self.inside in
-    subst (λ (s : Session). emissions (after (set_clock c.args.moment) s) ≡ []) c.self.view_is
+    subst (λ (s : Session). emissions (session_after (set_clock c.args.moment) s) ≡ [])
+    c.self.view_is
     (none_due i.world i.places.items c.self.invariant.quiet)
 
 pub returns-clause-before : goal.returns-clause-before

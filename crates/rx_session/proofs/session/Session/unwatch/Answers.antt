@@ -1,7 +1,7 @@
 use Rattle.std.proofs.Common.{◌≡◌, [], sym, ap, ◌∙◌, subst}
 use Rattle.rx_world.specs.Holders.{holders_in}
 use Rattle.rx_session.specs.Applied.{without_observed}
-use Rattle.rx_session.specs.Doing.{after, unwatch}
+use Rattle.rx_session.specs.Doing.{session_after, unwatch}
 use Rattle.rx_session.specs.Emissions.{emissions, settled_session, IsSettled}
 use Rattle.rx_session.specs.Placed.{ArePlaced, place_named}
 use Rattle.rx_session.specs.Session.{Session}
@@ -50,7 +50,7 @@ returns-clause-session c =
     let name = c.args.name.now in
     let new = c.unobserve_at.new.world in
     subst (λ (s : Session). session_of new i.moment c.drop_place.new.places.items
-    ≡ settled_session (after (unwatch name) s)) c.self.view_is
+    ≡ settled_session (session_after (unwatch name) s)) c.self.view_is
     (ap (session_of new i.moment) (left c)
     ∙ without_session name i.world new i.moment i.places.items (done c))
 
@@ -58,7 +58,7 @@ pub returns-clause-emissions : goal.returns-clause-emissions
 returns-clause-emissions c =
     let i = c.self.inside in
     let name = c.args.name.now in
-    subst (λ (s : Session). emissions (after (unwatch name) s) ≡ []) c.self.view_is
+    subst (λ (s : Session). emissions (session_after (unwatch name) s) ≡ []) c.self.view_is
     (without_due name i.world c.unobserve_at.new.world i.moment i.places.items (done c))
 
 pub returns-clause-before : goal.returns-clause-before

@@ -1,8 +1,8 @@
 use Rattle.std.proofs.Common.{◌≡◌, true, false, ◌∷◌, [], ◌++◌, sym, ap, ◌∙◌, subst}
 use Rattle.rx_value.specs.Named.{named}
-use Rattle.rx_query.specs.Asked.{asked}
+use Rattle.rx_query.specs.QuerySpec.{asked}
 use Rattle.rx_world.specs.Holders.{holders_in}
-use Rattle.rx_session.specs.Doing.{after, has_key, watch}
+use Rattle.rx_session.specs.Doing.{session_after, has_key, watch}
 use Rattle.rx_session.specs.Emissions.{emissions, settled_session, IsSettled}
 use Rattle.rx_session.specs.Placed.{ArePlaced}
 use Rattle.rx_session.specs.Session.{Session, is_observed}
@@ -71,7 +71,7 @@ returns-clause-session c =
     let w = c.args.watch in
     let last = c.observe_in.new.world in
     subst (λ (s : Session). session_of last i.moment c.add_place.new.places.items
-    ≡ settled_session (after (watch w.name w.coll (asked w.query)) s)) c.self.view_is
+    ≡ settled_session (session_after (watch w.name w.coll (asked w.query)) s)) c.self.view_is
     (ap (session_of last i.moment) (added c)
     ∙ watched_session w.name w.coll (asked w.query) i.world last i.moment i.places.items (done c))
 
@@ -80,9 +80,11 @@ returns-clause-emissions c =
     let i = c.self.inside in
     let w = c.args.watch in
     c.in_ok-due.ensures.due
-    ∙ watched_due w.name w.coll (asked w.query) i.world c.observe_in.new.world i.moment i.places.items
+    ∙ watched_due w.name w.coll
+    (asked w.query) i.world c.observe_in.new.world i.moment i.places.items
     (done c)
-    ∙ ap (λ (s : Session). emissions (after (watch w.name w.coll (asked w.query)) s)) c.self.view_is
+    ∙ ap (λ (s : Session). emissions (session_after (watch w.name w.coll (asked w.query)) s))
+    c.self.view_is
 
 pub returns-clause-before : goal.returns-clause-before
 returns-clause-before c =

@@ -9,7 +9,7 @@ Sorts = List (List ℕ × Bool)
 
 -- what is asked for: what the fields must hold, the order, how many rows are left out in front,
 -- how many are left at most, and the primary key
-pub record Asked : Type 0 where
+pub record QuerySpec : Type 0 where
   pub clauses : Clauses
   pub sorts : Sorts
   pub skip : ℕ
@@ -17,7 +17,7 @@ pub record Asked : Type 0 where
   pub primary : List ℕ
 
 -- what a query asks for
-abbrev pub asked : Query → Asked
+abbrev pub asked : Query → QuerySpec
 asked q = record {
   clauses = selector_clauses q.selector;
   sorts = q.sorts.items;
