@@ -12,10 +12,13 @@ mod disk;
 mod entry;
 mod file_disk;
 mod history;
-mod memory_disk;
 mod replay;
 mod stop;
 
 pub use disk::Disk;
 pub use file_disk::FileDisk;
+
+// For tests.
+mod memory_disk;
+
 pub use memory_disk::MemoryDisk;
