@@ -51,7 +51,8 @@ module _ {X : Type 0} (before : X → X → Bool)
 
   -- two rows may go in in either order
   pub placed-placed : (x y : X) (xs : List X) → Apart x y
-      → insert_in_order before x (insert_in_order before y xs) ≡ insert_in_order before y (insert_in_order before x xs)
+      → insert_in_order before x (insert_in_order before y xs)
+      ≡ insert_in_order before y (insert_in_order before x xs)
   placed-placed x y [] apart =
       (elim (before x y) as (λ b. before y x ≡ not b
       → cond b (x ∷ y ∷ []) (y ∷ x ∷ []) ≡ cond (before y x) (y ∷ x ∷ []) (x ∷ y ∷ []))
@@ -60,8 +61,10 @@ module _ {X : Type 0} (before : X → X → Bool)
       (placed-placed x y zs apart)
     where
       go : (a b c : Bool) → before x y ≡ a → before x z ≡ b → before y z ≡ c
-          → insert_in_order before x (insert_in_order before y zs) ≡ insert_in_order before y (insert_in_order before x zs)
-          → insert_in_order before x (insert_in_order before y (z ∷ zs)) ≡ insert_in_order before y (insert_in_order before x (z ∷ zs))
+          → insert_in_order before x (insert_in_order before y zs)
+          ≡ insert_in_order before y (insert_in_order before x zs)
+          → insert_in_order before x (insert_in_order before y (z ∷ zs))
+          ≡ insert_in_order before y (insert_in_order before x (z ∷ zs))
       go true true true p q r ih = simp (apart, p, q, r)
       go true true false p q r ih = simp (apart, p, q, r)
       go true false true p q r ih = absurd (false≢true (sym q ∙ trans x y z p r))
@@ -163,8 +166,10 @@ module _ {X K : Type 0} (keys : Keys X K) (q : Query X) (law : IsLawful keys q) 
     placed-with_held y n docs rows None e = refl
     placed-with_held y n docs rows (Some x) e =
         let s = stands x (held_is_mine docs x e) in
-        elim (q.matches x) as (λ b. insert_in_order q.before y (cond b (insert_in_order q.before x rows) rows) ≡ cond
-        b (insert_in_order q.before x (insert_in_order q.before y rows)) (insert_in_order q.before y rows))
+        elim (q.matches x) as
+        (λ b. insert_in_order q.before y (cond b (insert_in_order q.before x rows) rows) ≡ cond
+        b (insert_in_order q.before x (insert_in_order q.before y rows))
+        (insert_in_order q.before y rows))
         [ true ↦ sym (placed-placed q.before law.trans x y rows (s.either y n)) | false ↦ refl ]
 
     -- all matching rows in order are the others, with the document of the key in its place

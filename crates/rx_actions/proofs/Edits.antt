@@ -90,7 +90,8 @@ last-some p (x ∷ xs) e = omega arith
 
 -- in a window that has a row's place, the row is placed as in the whole
 pub placed_in_window : {X : Type 0} (before : X → X → Bool) (x : X) (s m q : ℕ) (xs : List X)
-    → rank before x xs ≡ s + q → q ≤ m → insert_in_order before x (window s m xs) ≡ put q x (window s m xs)
+    → rank before x xs ≡ s + q → q ≤ m
+    → insert_in_order before x (window s m xs) ≡ put q x (window s m xs)
 placed_in_window before x s m q xs e h =
     let cut_at = rank-take before x m (drop s xs) in
     let from = rank-drop before x s xs (omega arith) in

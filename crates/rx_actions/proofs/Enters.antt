@@ -119,7 +119,8 @@ module _ {X : Type 0} (before : X → X → Bool) (mine : X → Bool) (T : List 
 
   -- it goes in by the order
   pub enters_between : 0 < length R → last_passes (not_before before mine new) R ≡ false
-      → first_passes (not_after before mine new) R ≡ false → length R ≤ m → insert_in_order before new R ≡ R'
+      → first_passes (not_after before mine new) R ≡ false → length R ≤ m
+      → insert_in_order before new R ≡ R'
   enters_between some last first short =
       let near = last_no some last in
       let far = first_no some first in

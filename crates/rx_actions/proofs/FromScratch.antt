@@ -21,7 +21,8 @@ use Rattle.rx_actions.proofs.RowOrder.{rows_query, Carries, placed_agrees}
 
 -- documents in order have their rows in order
 map-placed : {A B : Type 0} (f : A → B) (before : B → B → Bool) (x : A) (xs : List A)
-    → map f (insert_in_order (λ a b. before (f a) (f b)) x xs) ≡ insert_in_order before (f x) (map f xs)
+    → map f (insert_in_order (λ a b. before (f a) (f b)) x xs)
+    ≡ insert_in_order before (f x) (map f xs)
 map-placed f before x [] = refl
 map-placed f before x (y ∷ ys) =
     let rest = map-placed f before x ys in

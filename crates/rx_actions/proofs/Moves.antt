@@ -174,7 +174,8 @@ module _ {X : Type 0} (before : X → X → Bool) (mine : X → Bool) (T : List 
       ] in
       let here : j ≡ s + (j - s) = omega arith in
       ap (λ xs. insert_in_order before new (without_first mine xs)) w.4
-      ∙ ap (insert_in_order before new) (without-put mine old old_stands.is_mine w.0 (window s m T) none)
+      ∙ ap (insert_in_order before new)
+      (without-put mine old old_stands.is_mine w.0 (window s m T) none)
       ∙ placed_in_window before new s m (j - s) T here (omega arith)
       ∙ sym (in_window (j - s) here (omega arith))
 
@@ -261,7 +262,8 @@ module _ {X : Type 0} (before : X → X → Bool) (mine : X → Bool) (T : List 
   -- the row stood behind the window, and stands inside it
   pub moves_inside : list_any mine R ≡ false → last_passes (not_before before mine old) R ≡ true
       → first_passes (not_after before mine new) R ≡ false
-      → last_passes (not_before before mine new) R ≡ false → insert_in_order before new (without_last R) ≡ R'
+      → last_passes (not_before before mine new) R ≡ false
+      → insert_in_order before new (without_last R) ≡ R'
   moves_inside out was isnt isnt' =
       let some = last-some (not_before before mine old) R was in
       let old_at = was_last was in

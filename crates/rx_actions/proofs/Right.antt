@@ -27,7 +27,8 @@ use Rattle.rx_actions.proofs.Collections.{stands, rest_of, others_rest, with_hel
 
 -- the limit as a window of suc m rows, over lists of at most one row more than the others
 record Limits (X : Type 0) (limit : Option ℕ) (skip size m : ℕ) : Type 0 where
-  cut_is : (xs : List X) → length xs ≤ suc size → at_most limit (drop skip xs) ≡ window skip (suc m) xs
+  cut_is : (xs : List X) → length xs ≤ suc size
+      → at_most limit (drop skip xs) ≡ window skip (suc m) xs
   full : (xs : List X) → some_passes (λ l. leb l (length (window skip (suc m) xs))) limit ≡ true
       → length (window skip (suc m) xs) ≡ suc m
   short : (xs : List X) → length xs ≤ suc size
@@ -156,7 +157,8 @@ module _ {X : Type 0} (q : Query X) (mine : X → Bool) (T : List X) (others : O
     enters_only = λ ib nhs lr one. patch RemoveFirstInsertFirst (λ _. first-some _ _ ib) no
         (λ _. is_there new) (Enter.enters_first_one q.before mine T others q.skip m new stands ib
         (no_skip _ nhs) (lim.one one));
-    enters_full = λ ib nhs lr. patch RemoveLastInsertFirst (λ _. first-some _ _ ib) no (λ _. is_there new)
+    enters_full =
+        λ ib nhs lr. patch RemoveLastInsertFirst (λ _. first-some _ _ ib) no (λ _. is_there new)
         (Enter.enters_first_full q.before mine T others q.skip m new stands ib (no_skip _ nhs)
         (lim.full _ lr));
     enters_between = λ some nia nib nlr. patch InsertAtSortPosition no no (λ _. is_there new)

@@ -118,7 +118,8 @@ agrees q x y at_x at_y =
 -- so rows are put in the same place
 pub placed_agrees : (q : QuerySpec) (x : Row) (rows : List Row) → Carries q x
     → AllByRecursion (Carries q) rows
-    → insert_in_order (λ a b. precedes q a.fields b.fields) x rows ≡ insert_in_order (rows_query q).before x rows
+    → insert_in_order (λ a b. precedes q a.fields b.fields) x rows
+    ≡ insert_in_order (rows_query q).before x rows
 placed_agrees q x [] at all = refl
 placed_agrees q x (y ∷ ys) at all =
     ap (λ b. cond b (x ∷ y ∷ ys) (y ∷ insert_in_order (λ a c. precedes q a.fields c.fields) x ys))

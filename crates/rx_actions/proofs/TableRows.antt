@@ -9,7 +9,8 @@ use Rattle.rx_table.specs.declared.action.Action.TheVariants.{DoNothing, InsertF
 pub record Leaves (P : Action → Type 0) (s : States) : Type 0 where
   pub leaves_empty : (s WasResultsEmpty) ≡ true → P DoNothing
   pub leaves_behind : (s WasInResult) ≡ false → (s WasSortedAfterLast) ≡ true → P DoNothing
-  pub leaves_before : (s WasResultsEmpty) ≡ false → (s WasInResult) ≡ false → (s WasLimitReached) ≡ false
+  pub leaves_before : (s WasResultsEmpty) ≡ false → (s WasInResult) ≡ false
+      → (s WasLimitReached) ≡ false
       → P RemoveFirstItem
   pub leaves_first : (s WasInResult) ≡ true → (s WasLimitReached) ≡ false → (s WasFirst) ≡ true
       → P RemoveFirstItem
@@ -21,11 +22,14 @@ pub record Enters (P : Action → Type 0) (s : States) : Type 0 where
   pub enters_empty : (s WasResultsEmpty) ≡ true → (s HasSkip) ≡ false → P InsertFirst
   pub enters_behind : (s IsSortedAfterLast) ≡ true → (s WasLimitReached) ≡ true → P DoNothing
   pub enters_last : (s IsSortedAfterLast) ≡ true → (s WasLimitReached) ≡ false → P InsertLast
-  pub enters_first : (s IsSortedBeforeFirst) ≡ true → (s HasSkip) ≡ false → (s WasLimitReached) ≡ false
+  pub enters_first : (s IsSortedBeforeFirst) ≡ true → (s HasSkip) ≡ false
+      → (s WasLimitReached) ≡ false
       → P InsertFirst
-  pub enters_only : (s IsSortedBeforeFirst) ≡ true → (s HasSkip) ≡ false → (s WasLimitReached) ≡ true
+  pub enters_only : (s IsSortedBeforeFirst) ≡ true → (s HasSkip) ≡ false
+      → (s WasLimitReached) ≡ true
       → (s IsFindOne) ≡ true → P RemoveFirstInsertFirst
-  pub enters_full : (s IsSortedBeforeFirst) ≡ true → (s HasSkip) ≡ false → (s WasLimitReached) ≡ true
+  pub enters_full : (s IsSortedBeforeFirst) ≡ true → (s HasSkip) ≡ false
+      → (s WasLimitReached) ≡ true
       → P RemoveLastInsertFirst
   pub enters_between : (s WasResultsEmpty) ≡ false → (s IsSortedAfterLast) ≡ false
       → (s IsSortedBeforeFirst) ≡ false → (s WasLimitReached) ≡ false → P InsertAtSortPosition
@@ -39,12 +43,14 @@ pub record Stays (P : Action → Type 0) (s : States) : Type 0 where
   pub stays_first : (s SortParamsChanged) ≡ false → (s WasFirst) ≡ true → P RemoveFirstInsertFirst
   pub stays_within : (s SortParamsChanged) ≡ false → (s WasInResult) ≡ true → P ReplaceExisting
   pub stays_outside : (s SortParamsChanged) ≡ false → (s WasInResult) ≡ false → P DoNothing
-  pub moves_within : (s WasInResult) ≡ true → (((s HasSkip) ≡ false) ⊎ ((s IsSortedBeforeFirst) ≡ false))
+  pub moves_within : (s WasInResult) ≡ true
+      → (((s HasSkip) ≡ false) ⊎ ((s IsSortedBeforeFirst) ≡ false))
       → (((s WasLimitReached) ≡ false) ⊎ ((s IsSortedAfterLast) ≡ false))
       → P RemoveExistingAndInsertAtSortPosition
   pub stays_before : (s WasInResult) ≡ false → (s WasSortedBeforeFirst) ≡ true
       → (s IsSortedBeforeFirst) ≡ true → P DoNothing
-  pub stays_behind : (s WasInResult) ≡ false → (s WasSortedAfterLast) ≡ true → (s IsSortedAfterLast) ≡ true
+  pub stays_behind : (s WasInResult) ≡ false → (s WasSortedAfterLast) ≡ true
+      → (s IsSortedAfterLast) ≡ true
       → P DoNothing
   pub moves_to_last : (s WasInResult) ≡ false → (s WasSortedBeforeFirst) ≡ true
       → (s IsSortedAfterLast) ≡ true → (s WasLimitReached) ≡ false → P RemoveFirstInsertLast
@@ -76,7 +82,8 @@ table_rows P s each =
     (λ e3. (each.leaves (grind arith) (grind arith)).leaves_empty (grind arith)) (λ n3.
     cond_both ((s WasMatching) && not (s DoesMatchNow) && not
     (s WasInResult) && (s WasSortedAfterLast)) _ _ P
-    (λ e4. (each.leaves (grind arith) (grind arith)).leaves_behind (grind arith) (grind arith)) (λ n4.
+    (λ e4. (each.leaves (grind arith) (grind arith)).leaves_behind (grind arith) (grind arith))
+    (λ n4.
     cond_both ((s WasMatching) && not (s DoesMatchNow) && not (s WasInResult) && not
     (s WasLimitReached)) _ _ P (λ e5. (each.leaves (grind arith) (grind arith)).leaves_before
     (grind arith) (grind arith) (grind arith)) (λ n5.
@@ -91,14 +98,18 @@ table_rows P s each =
     (λ e9. (each.leaves (grind arith) (grind arith)).leaves_last (grind arith) (grind arith)
     (grind arith)) (λ n9.
     cond_both ((s WasMatching) && not (s DoesMatchNow)) _ _ P
-    (λ e10. (each.leaves (grind arith) (grind arith)).leaves_within (grind arith) (grind arith)) (λ n10.
+    (λ e10. (each.leaves (grind arith) (grind arith)).leaves_within (grind arith) (grind arith))
+    (λ n10.
     cond_both (not (s WasMatching) && (s WasResultsEmpty) && not (s HasSkip)) _ _ P
-    (λ e11. (each.enters (grind arith) (grind arith)).enters_empty (grind arith) (grind arith)) (λ n11.
+    (λ e11. (each.enters (grind arith) (grind arith)).enters_empty (grind arith) (grind arith))
+    (λ n11.
     cond_both (not (s WasMatching) && (s WasResultsEmpty)) _ _ P (λ _. each.full) (λ n12.
     cond_both (not (s WasMatching) && (s IsSortedAfterLast) && (s WasLimitReached)) _ _ P
-    (λ e13. (each.enters (grind arith) (grind arith)).enters_behind (grind arith) (grind arith)) (λ n13.
+    (λ e13. (each.enters (grind arith) (grind arith)).enters_behind (grind arith) (grind arith))
+    (λ n13.
     cond_both (not (s WasMatching) && (s IsSortedAfterLast)) _ _ P
-    (λ e14. (each.enters (grind arith) (grind arith)).enters_last (grind arith) (grind arith)) (λ n14.
+    (λ e14. (each.enters (grind arith) (grind arith)).enters_last (grind arith) (grind arith))
+    (λ n14.
     cond_both (not (s WasMatching) && (s IsSortedBeforeFirst) && (s HasSkip)) _ _ P (λ _. each.full)
     (λ n15.
     cond_both (not (s WasMatching) && (s IsSortedBeforeFirst) && not (s WasLimitReached)) _ _ P
@@ -114,18 +125,22 @@ table_rows P s each =
     (λ e19. (each.enters (grind arith) (grind arith)).enters_between (grind arith) (grind arith)
     (grind arith) (grind arith)) (λ n19.
     cond_both (not (s WasMatching)) _ _ P
-    (λ e20. (each.enters (grind arith) (grind arith)).enters_between_full (grind arith) (grind arith)
+    (λ e20. (each.enters (grind arith) (grind arith)).enters_between_full (grind arith)
+    (grind arith)
     (grind arith) (grind arith)) (λ n20.
     cond_both ((s WasResultsEmpty)) _ _ P
     (λ e21. (each.stays (grind arith) (grind arith)).stays_empty (grind arith)) (λ n21.
     cond_both (not (s SortParamsChanged) && (s WasLast)) _ _ P
     (λ e22. (each.stays (grind arith) (grind arith)).stays_last (grind arith) (grind arith)) (λ n22.
     cond_both (not (s SortParamsChanged) && (s WasFirst)) _ _ P
-    (λ e23. (each.stays (grind arith) (grind arith)).stays_first (grind arith) (grind arith)) (λ n23.
+    (λ e23. (each.stays (grind arith) (grind arith)).stays_first (grind arith) (grind arith))
+    (λ n23.
     cond_both (not (s SortParamsChanged) && (s WasInResult)) _ _ P
-    (λ e24. (each.stays (grind arith) (grind arith)).stays_within (grind arith) (grind arith)) (λ n24.
+    (λ e24. (each.stays (grind arith) (grind arith)).stays_within (grind arith) (grind arith))
+    (λ n24.
     cond_both (not (s SortParamsChanged)) _ _ P
-    (λ e25. (each.stays (grind arith) (grind arith)).stays_outside (grind arith) (grind arith)) (λ n25.
+    (λ e25. (each.stays (grind arith) (grind arith)).stays_outside (grind arith) (grind arith))
+    (λ n25.
     cond_both ((s WasInResult) && (not (s HasSkip) || not (s IsSortedBeforeFirst))
     && (not (s WasLimitReached) || not (s IsSortedAfterLast))) _ _ P
     (λ e26. (each.stays (grind arith) (grind arith)).moves_within (grind arith) (grind arith)

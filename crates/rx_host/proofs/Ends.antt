@@ -7,7 +7,8 @@ use Rattle.rx_serve.specs.Ends.{Connection, EndsBy, IsCutOff, IsServed, IsStoppe
 use Rattle.rx_serve.specs.declared.ended.Why.{Why}
 use Rattle.rx_serve.specs.declared.ended.Why.TheVariants as why
 
-module _ (H K : Commits → Type 0) (weaker : (commits : Commits) → H commits → K commits) (c : Connection) where
+module _ (H K : Commits → Type 0) (weaker : (commits : Commits) → H commits → K commits)
+    (c : Connection) where
   served_too : (w : Why) (n : ℕ) → IsServed w n H c → IsServed w n K c
   served_too w n s = record {
     after = s.after;

@@ -93,7 +93,8 @@ module _
     }
 
     at_line : HaltsAtLine wires sink j d mid new G₂ L₂
-        → HaltsAtLine wires sink (i + length xs) (collection_after c xs) (outside_after i xs old) new
+        → HaltsAtLine wires sink (i + length xs) (collection_after c xs)
+        (outside_after i xs old) new
         Given Leaving
     at_line halts = record {
       last = halts.last;
@@ -122,12 +123,14 @@ module _
           stop,
           of,
           after,
-          stopped_too (L₂ stop) (Leaving stop) (λ sure more holds. leaves stop _ sure more kept holds)
+          stopped_too (L₂ stop) (Leaving stop)
+              (λ sure more holds. leaves stop _ sure more kept holds)
               (connection_of t moments (collection_after c xs) after) stopped,
         )
 
     within : (why : Stop) → HaltsWithin wires sink why d mid new G₂ L₂
-        → HaltsWithin wires sink why (collection_after c xs) (outside_after i xs old) new Given Leaving
+        → HaltsWithin wires sink why (collection_after c xs)
+        (outside_after i xs old) new Given Leaving
     within why halts = record {
       talk = halts.talk;
       moments = halts.moments;
@@ -144,7 +147,8 @@ module _
     }
 
     by_fault : (fault : ServeFault) → HaltsBy fault wires sink j d mid new G₂ L₂
-        → HaltsBy fault wires sink (i + length xs) (collection_after c xs) (outside_after i xs old) new
+        → HaltsBy fault wires sink (i + length xs) (collection_after c xs)
+        (outside_after i xs old) new
         Given Leaving
     by_fault fault.Door halts = between halts
     by_fault fault.Sink halts = at_line halts

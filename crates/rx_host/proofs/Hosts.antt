@@ -26,7 +26,8 @@ module _ {D : Type 0} (d : Ghosts D) where
     bodies_due = bodies_of (name_of m) commits
 
     -- what an answer keeps at `Ok`
-    pub kept_ok : (m' : MasterEngine) (bodies : List (List ℕ)) (A : Type 0) (x : A) (Q : A → List (List ℕ) → Type 0) → IsAt d old m bodies
+    pub kept_ok : (m' : MasterEngine) (bodies : List (List ℕ)) (A : Type 0) (x : A)
+        (Q : A → List (List ℕ) → Type 0) → IsAt d old m bodies
         → IsCrashSafe d old new bodies bodies_due (limit_of m) Q (Ok x)
         → (Q x (bodies ++ bodies_due) → IsAt d new m' (bodies ++ bodies_due))
         → Keeps d old new bodies (name_of m) (limit_of m) commits [] None
@@ -73,7 +74,8 @@ module _ {D : Type 0} (d : Ghosts D) where
   -- ---- at work
 
   -- a master answered
-  pub hosts_going : (old new : D) (work : Work) (m m' : MasterEngine) (commits : Commits) (R : Type 0)
+  pub hosts_going : (old new : D) (work : Work) (m m' : MasterEngine) (commits : Commits)
+      (R : Type 0)
       (reply : R) → work ≡ Going m → name_of m' ≡ name_of m → limit_of m' ≡ limit_of m
       → (d.tells → (bodies : List (List ℕ)) → IsAt d old m bodies
       → IsCrashSafe d old new bodies (bodies_of (name_of m) commits) (limit_of m)
@@ -94,7 +96,8 @@ module _ {D : Type 0} (d : Ghosts D) where
       subst (λ (w : Work). Hosts d old new w (Going m') commits []) (sym is) hosts
 
   -- a stop spent it
-  pub hosts_stopped : (old new : D) (work : Work) (m : MasterEngine) (why : Stop) (commits : Commits)
+  pub hosts_stopped : (old new : D) (work : Work) (m : MasterEngine) (why : Stop)
+      (commits : Commits)
       (A : Type 0) (Q : A → List (List ℕ) → Type 0) → CountsNow d → work ≡ Going m
       → (d.tells → (bodies : List (List ℕ)) → IsAt d old m bodies
       → IsCrashSafe d old new bodies (bodies_of (name_of m) commits) (limit_of m) Q (Err why))
@@ -122,7 +125,8 @@ module _ {D : Type 0} (d : Ghosts D) where
         name = λ still. absurd (cc);
         limit = λ still. absurd (cc);
         keeps = λ told bodies at.
-            keeps_none d only_now told disk m bodies at (Some Memory) (λ would most none. absurd (cc));
+            keeps_none d only_now told disk m bodies at (Some Memory)
+            (λ would most none. absurd (cc));
         goes_on = λ told bodies at still. absurd (cc);
         count = later (d.faults disk);
         disk_only = λ none. absurd (cc);

@@ -58,21 +58,24 @@ of_talk w n K before after moments coming sent t came went ends =
     })) came ends)
 
 module _ (before after : Held) (s : ServedConnection) (K : Commits → Type 0)
-    (ends : EndsBy s.ended.why s.ended.requests K (connection_of s.talk s.moments before after)) where
-  pub one_after : after ≡ (served_on before s).after
-  one_after = after_by s.ended.why s.ended.requests K (connection_of s.talk s.moments before after) ends
+    (ends : EndsBy s.ended.why s.ended.requests K (connection_of s.talk s.moments before after))
+  where
+    pub one_after : after ≡ (served_on before s).after
+    one_after =
+        after_by s.ended.why s.ended.requests K (connection_of s.talk s.moments before after) ends
 
-  pub one_kept : K (served_on before s).commits
-  one_kept = kept_by s.ended.why s.ended.requests K (connection_of s.talk s.moments before after) ends
+    pub one_kept : K (served_on before s).commits
+    one_kept =
+        kept_by s.ended.why s.ended.requests K (connection_of s.talk s.moments before after) ends
 
-  pub one_served : (s.ended.why ≡ why.Wire → s.talk.failed ≡ true) → IsServedOn before s
-  one_served failed = record {
-    ends = subst (λ (h : Held). EndsBy s.ended.why s.ended.requests (λ commits. Unit {0})
-        (connection_of s.talk s.moments before h)) one_after
-        (ends_too K (λ commits. Unit {0}) (λ commits holds. tt)
-        (connection_of s.talk s.moments before after) s.ended.why s.ended.requests ends);
-    failed = failed;
-  }
+    pub one_served : (s.ended.why ≡ why.Wire → s.talk.failed ≡ true) → IsServedOn before s
+    one_served failed = record {
+      ends = subst (λ (h : Held). EndsBy s.ended.why s.ended.requests (λ commits. Unit {0})
+          (connection_of s.talk s.moments before h)) one_after
+          (ends_too K (λ commits. Unit {0}) (λ commits holds. tt)
+          (connection_of s.talk s.moments before after) s.ended.why s.ended.requests ends);
+      failed = failed;
+    }
 
 -- ---- some, and then more
 
@@ -110,7 +113,8 @@ lines_on i (x ∷ xs) ys =
 module _ (wires sink : Type 0) where
   -- nothing came yet
   pub have_none : (i : ℕ) (c : Held) (old new : Outside) (Gives : List ℕ → Type 0)
-      (Keeps : Commits → Type 0) → (wires → new.talks ≡ old.talks) → (sink → new.written ≡ old.written)
+      (Keeps : Commits → Type 0) → (wires → new.talks ≡ old.talks)
+      → (sink → new.written ≡ old.written)
       → Gives [] → Keeps [] → HaveServed wires sink i c c [] old new Gives Keeps
   have_none i c old new Gives Keeps talks written gives keeps = record {
     each = λ told. tt;

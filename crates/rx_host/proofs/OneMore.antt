@@ -53,7 +53,8 @@ unwritten (fault.Stopped why) no_door memory = inr (memory why refl)
 
 module _
     {D : Type 0} (d : Ghosts D) (a b : D) (m : MasterEngine) (wires sink : Type 0)
-    (Given : List ℕ → Type 0) (t : Talk) (coming sent : List ℕ) (came : wires → coming ≡ coming_in t)
+    (Given : List ℕ → Type 0) (t : Talk) (coming sent : List ℕ)
+    (came : wires → coming ≡ coming_in t)
     (went : wires → sent ≡ t.sent)
   where
     abbrev c : Held
@@ -75,7 +76,8 @@ module _
     -- it was served to its end
     abbrev pub Ends : MasterEngine × Ended → Type 0
     Ends p = (moments : List ℕ) × Given moments
-        × (wires → EndsBy p.1.why p.1.requests (HasKept d a b m p.0) (seen (collection_of p.0) moments))
+        × (wires
+        → EndsBy p.1.why p.1.requests (HasKept d a b m p.0) (seen (collection_of p.0) moments))
 
     -- a stop came within it
     abbrev pub Breaks : Stop → Type 0
@@ -83,7 +85,8 @@ module _
         × (wires → (after : Held) × (stop : Option Stop) × IsStopOf why stop
         × IsStopped (HasStopped d a b m stop) (seen after moments))
 
-    module _ (p : MasterEngine × Ended) (ends : Ends p) (failed : p.1.why ≡ why.Wire → t.failed ≡ true) where
+    module _ (p : MasterEngine × Ended) (ends : Ends p)
+        (failed : p.1.why ≡ why.Wire → t.failed ≡ true) where
       abbrev one : ServedConnection
       one = ended_by t ends.0 p.1
 
@@ -95,7 +98,8 @@ module _
       -- and told of
       pub one_ended : (i : ℕ) (old new : Outside) → (wires → new.talks ≡ old.talks ++ t ∷ [])
           → (sink → new.written ≡ old.written ++ connection_line i p.1)
-          → (s : ServedConnection) × HaveServed wires sink i c (collection_of p.0) (s ∷ []) old new Given
+          → (s : ServedConnection)
+          × HaveServed wires sink i c (collection_of p.0) (s ∷ []) old new Given
           (HasKept d a b m p.0)
       one_ended i old new talks written = (
         one,
@@ -109,7 +113,8 @@ module _
           → HaltsAtLine wires sink i c old new Given Left
       one_at_line i old new talks front = record {
         last = one;
-        each = λ told. one_served c (collection_of p.0) one (HasKept d a b m p.0) (by_talk told) failed;
+        each = λ told.
+            one_served c (collection_of p.0) one (HasKept d a b m p.0) (by_talk told) failed;
         talks = talks;
         written = front;
         moments = ends.1;
@@ -119,7 +124,8 @@ module _
 
       -- and memory was wanting
       pub one_after : (old new : Outside)
-          → (wires → (new.talks ≡ old.talks ++ t ∷ []) ⊎ ((Memory ≡ Memory) × (new.talks ≡ old.talks)))
+          → (wires
+          → (new.talks ≡ old.talks ++ t ∷ []) ⊎ ((Memory ≡ Memory) × (new.talks ≡ old.talks)))
           → (sink → new.written ≡ old.written) → HaltsWithin wires sink Memory c old new Given Left
       one_after old new talks written = record {
         talk = t;

@@ -81,11 +81,13 @@ passes s [] all row m = absurd m
 passes s (x ∷ pushed) all row (inl same) =
     subst (RowPasses (is_valid s)) (sym same) (record {
       new = valid_state s x.new all.0.new;
-      assumed = λ state is. valid_state s state (subst (λ o. IfSome o (IsState s)) is all.0.assumed);
+      assumed =
+          λ state is. valid_state s state (subst (λ o. IfSome o (IsState s)) is all.0.assumed);
     })
 passes s (x ∷ pushed) all row (inr m) = passes s pushed all.1 row m
 
-ask_lawful : (s : Shape) (ask : AskKind) → IsAsk s ask → AskPasses (is_valid s) ask × HasRowsApart ask
+ask_lawful : (s : Shape) (ask : AskKind) → IsAsk s ask
+    → AskPasses (is_valid s) ask × HasRowsApart ask
 ask_lawful s (Push pushed) is = (passes s pushed is.each, is.distinct)
 ask_lawful s (Pull place batch) is = (tt, tt)
 
@@ -116,7 +118,8 @@ module _ (c : Held) (now : ℕ) where
       one_of (Some r) None is = absurd (cc)
       one_of (Some r) (Some e) is = (e, refl, cc)
 
-  written_of : (ss : List State) (o : Option Record) → written_by c.name now c ss ≡ Some (record_in o)
+  written_of : (ss : List State) (o : Option Record)
+      → written_by c.name now c ss ≡ Some (record_in o)
       → Writes c (commit_of c ss now) (write c ss now) (option_map content o)
   written_of [] o is =
       subst (λ o. Writes c [] (Some c) (option_map content o)) (sym (none_in o is)) (refl, refl)

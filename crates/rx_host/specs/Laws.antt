@@ -170,9 +170,11 @@ module _ {D : Type 0} (d : Ghosts D) where
         let named : Keeps d b c mid (served_name wa) (limit_in wb) second more (stop_in wc) =
         subst (λ v. Keeps d b c mid v (limit_in wb) second more (stop_in wc)) (h.name going) next in
         let limited : Keeps d b c mid (served_name wa) (limit_in wa) second more (stop_in wc) =
-        subst (λ v. Keeps d b c mid (served_name wa) v second more (stop_in wc)) (h.limit going) named
+        subst (λ v. Keeps d b c mid (served_name wa) v second more (stop_in wc))
+        (h.limit going) named
         in
-        keeps_on a b c bodies (served_name wa) (limit_in wa) first second more (stop_in wb) (stop_in wc)
+        keeps_on a b c bodies (served_name wa) (limit_in wa) first second more (stop_in wb)
+        (stop_in wc)
         (h.keeps told bodies at) limited;
     goes_on = λ told bodies at still.
         let name = served_name wa in

@@ -55,7 +55,8 @@ placed-permutes before x (y ∷ ys) =
       | true ↦ IsPermutation-refl (x ∷ y ∷ ys)
       | false ↦ IsPermutation-trans (x ∷ y ∷ ys) (y ∷ x ∷ ys) (y ∷ insert_in_order before x ys)
           (IsPermutation-middle (x ∷ []) y ys)
-          (IsPermutation-cons y (x ∷ ys) (insert_in_order before x ys) (placed-permutes before x ys))
+          (IsPermutation-cons y (x ∷ ys) (insert_in_order before x ys)
+          (placed-permutes before x ys))
     ]
 
 -- each stays, once
@@ -63,7 +64,8 @@ pub sorted-permutes : {X : Type 0} (before : X → X → Bool) (xs : List X)
     → IsPermutation xs (sorted before xs)
 sorted-permutes before [] = IsPermutation-refl []
 sorted-permutes before (x ∷ xs) =
-    IsPermutation-trans (x ∷ xs) (x ∷ sorted before xs) (insert_in_order before x (sorted before xs))
+    IsPermutation-trans (x ∷ xs) (x ∷ sorted before xs)
+    (insert_in_order before x (sorted before xs))
     (IsPermutation-cons x xs (sorted before xs) (sorted-permutes before xs))
     (placed-permutes before x (sorted before xs))
 
@@ -132,7 +134,8 @@ module _ {X : Type 0} (cmp : X → X → Ordering) (o : IsTotalOrder cmp) where
       → AllByRecursion P (insert_in_order before x xs)
   all-placed P x [] h hs = (h, tt)
   all-placed P x (y ∷ ys) h hs =
-      elim (before x y) as (λ b. AllByRecursion P (cond b (x ∷ y ∷ ys) (y ∷ insert_in_order before x ys)))
+      elim (before x y) as
+      (λ b. AllByRecursion P (cond b (x ∷ y ∷ ys) (y ∷ insert_in_order before x ys)))
       [ true ↦ (h, hs) | false ↦ (hs.0, all-placed P x ys h hs.1) ]
 
   all-sorted : (P : X → Type 0) (xs : List X) → AllByRecursion P xs

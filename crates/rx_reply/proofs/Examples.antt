@@ -53,7 +53,8 @@ unfolding serde_json_on_literals digits
 inserted_together = refl
 
 document_got : answer_lines 4 (get document)
-    ≡ ended (codes "{\"doc\":{\"id\":\"a\",\"n\":7},\"line\":4,\"lwt\":42,\"ok\":\"get\",\"rev\":\"3-c\"}")
+    ≡ ended (codes
+    "{\"doc\":{\"id\":\"a\",\"n\":7},\"line\":4,\"lwt\":42,\"ok\":\"get\",\"rev\":\"3-c\"}")
 unfolding serde_json_on_literals digits
 document_got = refl
 
@@ -76,20 +77,24 @@ unfolding serde_json_on_literals digits
 no_more_observed = refl
 
 inserted_first : answer_lines 5 (explain (counted InsertFirst 6 no_counts))
-    ≡ ended (codes "{\"actions\":{\"insertFirst\":1},\"asked\":6,\"changes\":1,\"full\":0,\"line\":5,\"ok\":\"explain\"}")
+    ≡ ended (codes
+    "{\"actions\":{\"insertFirst\":1},\"asked\":6,\"changes\":1,\"full\":0,\"line\":5,\"ok\":\"explain\"}")
 unfolding serde_json_on_literals digits named_actions
 inserted_first = refl
 
 counted_by_name : answer_lines 11
-    (explain (counted InsertFirst 5 (counted RunFullQueryAgain 4 (counted InsertAtSortPositionRemoveLast 13
+    (explain (counted InsertFirst 5
+    (counted RunFullQueryAgain 4 (counted InsertAtSortPositionRemoveLast 13
     (counted InsertFirst 6 no_counts)))))
-    ≡ ended (codes "{\"actions\":{\"insertAtSortPositionRemoveLast\":1,\"insertFirst\":2,\"runFullQueryAgain\":1},"
+    ≡ ended (codes
+    "{\"actions\":{\"insertAtSortPositionRemoveLast\":1,\"insertFirst\":2,\"runFullQueryAgain\":1},"
     ++ codes "\"asked\":28,\"changes\":4,\"full\":1,\"line\":11,\"ok\":\"explain\"}")
 unfolding serde_json_on_literals digits named_actions
 counted_by_name = refl
 
 nothing_counted : answer_lines 9 (explain no_counts)
-    ≡ ended (codes "{\"actions\":{},\"asked\":0,\"changes\":0,\"full\":0,\"line\":9,\"ok\":\"explain\"}")
+    ≡ ended (codes
+    "{\"actions\":{},\"asked\":0,\"changes\":0,\"full\":0,\"line\":9,\"ok\":\"explain\"}")
 unfolding serde_json_on_literals digits named_actions
 nothing_counted = refl
 
@@ -107,7 +112,8 @@ made_good : answer_lines 6 (turn
     (Pushed (codes "a" ∷ []) (codes "a" ∷ [])
     ∷ Pulled (codes "a" ∷ []) (Some (record { lwt = 1; id = codes "a" })) ∷ []) Quiet)
     ≡ ended (codes "{\"conflicts\":[\"a\"],\"exchange\":1,\"rows\":[\"a\"],\"sent\":\"push\"}")
-    ++ ended (codes "{\"exchange\":2,\"place\":{\"id\":\"a\",\"lwt\":1},\"rows\":[\"a\"],\"sent\":\"pull\"}")
+    ++ ended (codes
+    "{\"exchange\":2,\"place\":{\"id\":\"a\",\"lwt\":1},\"rows\":[\"a\"],\"sent\":\"pull\"}")
     ++ ended (codes "{\"end\":\"quiet\",\"exchanges\":2,\"line\":6,\"ok\":\"turn\"}")
 unfolding serde_json_on_literals digits
 made_good = refl
@@ -118,8 +124,12 @@ stale_reply : answer_lines 9 (turn (PullLost Stale ∷ []) Lost)
 unfolding serde_json_on_literals digits
 stale_reply = refl
 
-changes_listed : answer_lines 3 (changes (document.state ∷ []) (Some (record { lwt = 42; id = codes "a" })))
-    ≡ ended (codes "{\"docs\":[{\"_deleted\":true,\"id\":\"a\",\"n\":7}],\"line\":3,\"ok\":\"changes\","
+changes_listed : answer_lines 3 (changes (document.state ∷ []) (Some (record {
+  lwt = 42;
+  id = codes "a";
+})))
+    ≡ ended (codes
+    "{\"docs\":[{\"_deleted\":true,\"id\":\"a\",\"n\":7}],\"line\":3,\"ok\":\"changes\","
     ++ codes "\"place\":{\"id\":\"a\",\"lwt\":42}}")
 unfolding serde_json_on_literals digits
 changes_listed = refl
@@ -160,19 +170,22 @@ unfolding serde_json_on_literals digits
 no_collection = refl
 
 wrong_schema : answer_lines 4 (refused (Schema (schema.FieldName (codes "9x"))))
-    ≡ ended (codes "{\"cause\":\"field_name\",\"code\":11,\"line\":4,\"name\":\"9x\",\"refused\":\"schema\"}")
+    ≡ ended (codes
+    "{\"cause\":\"field_name\",\"code\":11,\"line\":4,\"name\":\"9x\",\"refused\":\"schema\"}")
 unfolding serde_json_on_literals digits
 wrong_schema = refl
 
 number_out_of_range : answer_lines 5
     (refused (Document (Fields (value.Range (codes "n"))) None))
-    ≡ ended (codes "{\"cause\":\"range\",\"code\":13,\"line\":5,\"name\":\"n\",\"refused\":\"invalid\"}")
+    ≡ ended (codes
+    "{\"cause\":\"range\",\"code\":13,\"line\":5,\"name\":\"n\",\"refused\":\"invalid\"}")
 unfolding serde_json_on_literals digits
 number_out_of_range = refl
 
 second_row_invalid : answer_lines 6
     (refused (Document (Invalid cause.Length (codes "id")) (Some 1)))
-    ≡ ended (codes "{\"cause\":\"length\",\"code\":13,\"line\":6,\"name\":\"id\",\"refused\":\"invalid\",\"row\":1}")
+    ≡ ended (codes
+    "{\"cause\":\"length\",\"code\":13,\"line\":6,\"name\":\"id\",\"refused\":\"invalid\",\"row\":1}")
 unfolding serde_json_on_literals digits
 second_row_invalid = refl
 
@@ -194,7 +207,8 @@ no_document = refl
 
 wrong_selector : answer_lines 10
     (refused (Query (query.Selector (selector.Operator (codes "$near")))))
-    ≡ ended (codes "{\"cause\":\"operator\",\"code\":16,\"line\":10,\"name\":\"$near\",\"refused\":\"query\"}")
+    ≡ ended (codes
+    "{\"cause\":\"operator\",\"code\":16,\"line\":10,\"name\":\"$near\",\"refused\":\"query\"}")
 unfolding serde_json_on_literals digits
 wrong_selector = refl
 

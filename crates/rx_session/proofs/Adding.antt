@@ -104,7 +104,8 @@ module _ {X : Type 0} where
                   apart.0)
                   all.1,
             ))
-        | false ↦ (λ is. (others e.0 e.1 is all.0, all_changed P Q es k f others here apart.1 all.1))
+        | false ↦
+            (λ is. (others e.0 e.1 is all.0, all_changed P Q es k f others here apart.1 all.1))
       ] refl
 
 -- ---- collections with their queries
@@ -113,14 +114,16 @@ module _ {X : Type 0} where
 pub listed_at : (ls : Lives) (ps : List QueryPlace) (coll : List ℕ) (l : Observing)
     → AllByRecursion (IsListed ps) ls → named ls coll ≡ Some l
     → keys_of l.queries ≡ names_in coll ps
-listed_at ls ps coll l listed at = at_name (λ n x. keys_of x.queries ≡ names_in n ps) ls coll l listed at
+listed_at ls ps coll l listed at =
+    at_name (λ n x. keys_of x.queries ≡ names_in n ps) ls coll l listed at
 
 -- the names of more places
 pub names_in-append : (n : List ℕ) (ps qs : List QueryPlace)
     → names_in n (ps ++ qs) ≡ names_in n ps ++ names_in n qs
 names_in-append n ps qs =
     ap (map (λ p. p.name)) (filter-append (λ p. bytes_eq n p.coll) ps qs)
-    ∙ map-append (λ p. p.name) (filter (λ p. bytes_eq n p.coll) ps) (filter (λ p. bytes_eq n p.coll) qs)
+    ∙ map-append (λ p. p.name) (filter (λ p. bytes_eq n p.coll) ps)
+    (filter (λ p. bytes_eq n p.coll) qs)
 
 -- a name that no place has isn't among the names in a collection
 pub none_in : (name n : List ℕ) (ps : List QueryPlace)
@@ -264,8 +267,10 @@ module _ (ls : Lives) (ps : List QueryPlace) (name coll : List ℕ) (placed : Ar
   -- nor do two places have it, once there is one
   distinct_names : IsDistinct bytes_eq (map (λ p. p.name) (ps ++ place_in coll name ∷ []))
   distinct_names =
-      subst (IsDistinct bytes_eq) (sym (map-append (λ (p : QueryPlace). p.name) ps (place_in coll name ∷ [])))
-      (IsDistinct-push nat_list_eq_equiv (map (λ p. p.name) ps) name placed.distinct (none_of name ps free))
+      subst (IsDistinct bytes_eq)
+      (sym (map-append (λ (p : QueryPlace). p.name) ps (place_in coll name ∷ [])))
+      (IsDistinct-push nat_list_eq_equiv (map (λ p. p.name) ps) name placed.distinct
+      (none_of name ps free))
 
   -- once there is one, all others are as before, and the one of the place is there
   module _ (q : QuerySpec) where
@@ -326,8 +331,11 @@ module _ (ls : Lives) (ps : List QueryPlace) (name coll : List ℕ) (placed : Ar
                 (λ p. found p.coll) ps placed.held)
                 (found coll (ap is_some live.1), tt);
             listed = all_changed (λ n l. keys_of l.queries ≡ names_in n ps)
-                (λ n l. keys_of l.queries ≡ names_in n (ps ++ place ∷ [])) ls coll (with_query name q)
+                (λ n l. keys_of l.queries ≡ names_in n (ps ++ place ∷ [])) ls coll
+                (with_query name q)
                 (λ n l other is. is ∙ sym (names_elsewhere name coll n ps other))
-                (λ l is. map-append (λ q. q.0) l.queries ((name, new_watch q l.collection.documents) ∷ [])
-                ∙ ap (λ ks. ks ++ name ∷ []) is ∙ sym (names_here name coll ps)) apart placed.listed;
+                (λ l is. map-append (λ q. q.0) l.queries
+                ((name, new_watch q l.collection.documents) ∷ [])
+                ∙ ap (λ ks. ks ++ name ∷ []) is ∙ sym (names_here name coll ps)) apart
+                placed.listed;
           }

@@ -41,9 +41,11 @@ module _ {X : Type 0} (p : X → Bool) where
   filters_swap q (x ∷ xs) =
       let ps = filter p xs in
       let qs = filter q xs in
-      elim (p x) as (λ b. p x ≡ b → filter q (cond b (x ∷ ps) ps) ≡ filter p (cond (q x) (x ∷ qs) qs)) [
+      elim (p x) as
+      (λ b. p x ≡ b → filter q (cond b (x ∷ ps) ps) ≡ filter p (cond (q x) (x ∷ qs) qs)) [
         | true ↦ (λ is.
-            elim (q x) as (λ c. cond c (x ∷ filter q ps) (filter q ps) ≡ filter p (cond c (x ∷ qs) qs)) [
+            elim (q x) as
+            (λ c. cond c (x ∷ filter q ps) (filter q ps) ≡ filter p (cond c (x ∷ qs) qs)) [
               | true ↦ ap (λ ys. x ∷ ys) (filters_swap q xs)
                   ∙ sym (ap (λ b. cond b (x ∷ filter p qs) (filter p qs)) is)
               | false ↦ filters_swap q xs
@@ -97,7 +99,8 @@ names_kept : (name n : List ℕ) (ps : List QueryPlace)
     → AllByRecursion (λ k. bytes_eq name k ≡ false) (names_in n ps)
     → names_in n (rest_of name ps) ≡ names_in n ps
 names_kept name n ps apart =
-    names_left name n ps ∙ all_stay (is_other name) (names_in n ps) (others_pass name (names_in n ps) apart)
+    names_left name n ps
+    ∙ all_stay (is_other name) (names_in n ps) (others_pass name (names_in n ps) apart)
 
 module _ {X : Type 0} where
   -- a name names the same among things of other names than the one dropped
@@ -121,35 +124,41 @@ module _ {X : Type 0} where
 
 module _ (name : List ℕ) where
   -- a place of that name gives no query of another name
-  found_dropped : (p : QueryPlace) (o : Option Watched) (os : List Observed) → bytes_eq name p.name ≡ true
+  found_dropped : (p : QueryPlace) (o : Option Watched) (os : List Observed)
+      → bytes_eq name p.name ≡ true
       → filter (λ o. not (bytes_eq name o.name)) os
       ≡ filter (λ o. not (bytes_eq name o.name)) (with_found p o os)
   found_dropped p None os is = refl
   found_dropped p (Some w) os is =
       sym (ap (λ b. cond (not b) (record { name = p.name; coll = p.coll; watched = w }
-      ∷ filter (λ o. not (bytes_eq name o.name)) os) (filter (λ o. not (bytes_eq name o.name)) os)) is)
+      ∷ filter (λ o. not (bytes_eq name o.name)) os) (filter (λ o. not (bytes_eq name o.name)) os))
+      is)
 
   -- and one of another name gives what it did
-  found_kept : (p : QueryPlace) (o : Option Watched) (os : List Observed) → bytes_eq name p.name ≡ false
+  found_kept : (p : QueryPlace) (o : Option Watched) (os : List Observed)
+      → bytes_eq name p.name ≡ false
       → with_found p o (filter (λ o. not (bytes_eq name o.name)) os)
       ≡ filter (λ o. not (bytes_eq name o.name)) (with_found p o os)
   found_kept p None os is = refl
   found_kept p (Some w) os is =
       sym (ap (λ b. cond (not b) (record { name = p.name; coll = p.coll; watched = w }
-      ∷ filter (λ o. not (bytes_eq name o.name)) os) (filter (λ o. not (bytes_eq name o.name)) os)) is)
+      ∷ filter (λ o. not (bytes_eq name o.name)) os) (filter (λ o. not (bytes_eq name o.name)) os))
+      is)
 
   -- where places of other names have the queries that they had
   queries_left : (old new : Lives)
       → ((p : QueryPlace) → bytes_eq name p.name ≡ false → watched_at new p ≡ watched_at old p)
       → (ps : List QueryPlace)
-      → queries_of new (rest_of name ps) ≡ filter (λ o. not (bytes_eq name o.name)) (queries_of old ps)
+      → queries_of new (rest_of name ps)
+      ≡ filter (λ o. not (bytes_eq name o.name)) (queries_of old ps)
   queries_left old new same [] = refl
   queries_left old new same (p ∷ ps) =
       let left = rest_of name ps in
       let rest = queries_left old new same ps in
       elim (bytes_eq name p.name) as (λ b. bytes_eq name p.name ≡ b
       → queries_of new (cond (not b) (p ∷ left) left)
-      ≡ filter (λ o. not (bytes_eq name o.name)) (with_found p (watched_at old p) (queries_of old ps))) [
+      ≡ filter (λ o. not (bytes_eq name o.name))
+      (with_found p (watched_at old p) (queries_of old ps))) [
         | true ↦ (λ is. rest ∙ found_dropped p (watched_at old p) (queries_of old ps) is)
         | false ↦ (λ is.
             ap (λ o. with_found p o (queries_of new left)) (same p is)
@@ -168,7 +177,8 @@ module _ (name : List ℕ) where
 
   -- and where there is none, nothing else does
   pub undropped_queries : (ls : Lives) (ps : List QueryPlace)
-      → queries_of ls (rest_of name ps) ≡ filter (λ o. not (bytes_eq name o.name)) (queries_of ls ps)
+      → queries_of ls (rest_of name ps)
+      ≡ filter (λ o. not (bytes_eq name o.name)) (queries_of ls ps)
   undropped_queries ls ps = queries_left ls ls (λ p apart. refl) ps
 
 -- ---- where the places of a name are
@@ -186,7 +196,8 @@ all_mapped f P (x ∷ xs) all = (all.0, all_mapped f P xs all.1)
 module _ (name : List ℕ) where
   -- after a place of the name there is none, as names are distinct
   none_after : (p : QueryPlace) (ps : List QueryPlace) (coll : List ℕ) → bytes_eq name p.name ≡ true
-      → AllByRecursion (λ k. bytes_eq p.name k ≡ false) (map (λ p. p.name) ps) → AreAllIn name coll ps
+      → AllByRecursion (λ k. bytes_eq p.name k ≡ false) (map (λ p. p.name) ps)
+      → AreAllIn name coll ps
   none_after p ps coll is apart =
       all_weaker (λ (x : QueryPlace). bytes_eq p.name x.name ≡ false)
       (λ (x : QueryPlace). bytes_eq name x.name ≡ true → x.coll ≡ coll)
@@ -195,7 +206,8 @@ module _ (name : List ℕ) where
       (all_mapped (λ (x : QueryPlace). x.name) (λ k. bytes_eq p.name k ≡ false) ps apart)
 
   -- the first place of a name tells where all are
-  pub all_in_first : (ps : List QueryPlace) (place : QueryPlace) → IsDistinct bytes_eq (map (λ p. p.name) ps)
+  pub all_in_first : (ps : List QueryPlace) (place : QueryPlace)
+      → IsDistinct bytes_eq (map (λ p. p.name) ps)
       → find (λ p. bytes_eq name p.name) ps ≡ Some place → AreAllIn name place.coll ps
   unfolding IsDistinct
   all_in_first [] place apart at = tt
@@ -207,8 +219,11 @@ module _ (name : List ℕ) where
           λ same. ap (λ (p : QueryPlace). p.coll) (same_Some p place h),
           none_after p ps place.coll is apart.0,
         ))
-        | false ↦ (λ is h.
-            (λ same. absurd (both_ways (bytes_eq name p.name) is same), all_in_first ps place apart.1 h))
+        | false ↦ (λ is h. (
+          λ same.
+              absurd (both_ways (bytes_eq name p.name) is same),
+          all_in_first ps place apart.1 h,
+        ))
       ] refl at
 
   -- and so does any
@@ -248,7 +263,8 @@ module _ (name : List ℕ) where
       let passed = filter (λ (p : QueryPlace). bytes_eq n p.coll) ps in
       let rest = none_elsewhere coll n ps other all.1 in
       elim (bytes_eq n p.coll) as (λ b. bytes_eq n p.coll ≡ b
-      → AllByRecursion (λ k. bytes_eq name k ≡ false) (map (λ p. p.name) (cond b (p ∷ passed) passed))) [
+      → AllByRecursion (λ k. bytes_eq name k ≡ false)
+      (map (λ p. p.name) (cond b (p ∷ passed) passed))) [
         | true ↦ (λ is. (
           false_from_ne_true (bytes_eq name p.name) (λ same.
               bytes_differ coll n other
@@ -294,14 +310,16 @@ module _ (ls : Lives) (ps : List QueryPlace) (name : List ℕ) where
         distinct = subst (IsDistinct bytes_eq)
             (sym (map-filter (λ (p : QueryPlace). p.name) (is_other name) ps))
             (distinct_passed (is_other name) (map (λ p. p.name) ps) placed.distinct);
-        held = all_weaker (λ (p : QueryPlace). IsSome (named ls p.coll)) (λ p. IsSome (named new p.coll))
+        held = all_weaker (λ (p : QueryPlace). IsSome (named ls p.coll))
+            (λ p. IsSome (named new p.coll))
             (λ p. found p.coll) (rest_of name ps)
             (all_passed (λ (p : QueryPlace). IsSome (named ls p.coll))
             (λ p. not (bytes_eq name p.name)) ps
             placed.held);
         listed = all_changed (λ n l. keys_of l.queries ≡ names_in n ps)
             (λ n l. keys_of l.queries ≡ names_in n (rest_of name ps)) ls coll (without_query name)
-            (λ n l other is. is ∙ sym (names_kept name n ps (none_elsewhere name coll n ps other all_in)))
+            (λ n l other is. is
+            ∙ sym (names_kept name n ps (none_elsewhere name coll n ps other all_in)))
             (λ l is. map-filter (λ q. q.0) (is_other name) l.queries
             ∙ ap (filter (is_other name)) is ∙ sym (names_left name coll ps)) apart placed.listed;
       }
@@ -320,7 +338,8 @@ module _ (ls : Lives) (coll name : List ℕ) where
   pub dropped_quiet : AllByRecursion IsQuiet ls
       → AllByRecursion IsQuiet (change_named ls coll (without_query name))
   dropped_quiet quiet =
-      all_change_named (λ n l. emissions_due l.collection l.queries ≡ []) ls coll (without_query name)
+      all_change_named (λ n l. emissions_due l.collection l.queries ≡ []) ls coll
+      (without_query name)
       (λ l at is. still_quiet l.collection name l.queries is) quiet
 
 -- none passes where none is found

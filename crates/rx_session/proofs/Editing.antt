@@ -45,7 +45,8 @@ module _ {H F R : Type 0} (g : Once F (MutBor H × Unit {0}) (R × (MutBor H × 
       → ((x y : H) → FnOnceReturnsAtMut g f x r y → y ≡ change x)
       → holders_in new ≡ change_named (holders_in old) name change
   edited r done makes =
-      done.left ∙ change_named-alike (λ h. done.new) change (holders_in old) name done.old done.there
+      done.left
+      ∙ change_named-alike (λ h. done.new) change (holders_in old) name done.old done.there
       (makes done.old done.new done.met)
 
   -- so the change is there whether a collection has the name or not

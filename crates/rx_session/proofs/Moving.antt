@@ -42,7 +42,8 @@ watched_at-cooled ls p =
 
 -- the query of a place and those after it, made cold
 found_cold : (p : QueryPlace) (o : Option Watched) (os : List Observed)
-    → with_found p (option_map cooled o) (map cooled_query os) ≡ map cooled_query (with_found p o os)
+    → with_found p (option_map cooled o) (map cooled_query os)
+    ≡ map cooled_query (with_found p o os)
 found_cold p None os = refl
 found_cold p (Some w) os = refl
 
@@ -69,10 +70,12 @@ pub moved_placed : (old : Lives) (ps : List QueryPlace) → ArePlaced old ps
 moved_placed old ps placed =
     let new = each_live with_cooled old in
     let found : (n : List ℕ) → IsSome (named old n) → IsSome (named new n) =
-    λ n. (IsSome-lookup_same_keys (bytes_eq n) old new (sym (keys_of-map_values with_cooled old))).0 in
+    λ n. (IsSome-lookup_same_keys (bytes_eq n) old new
+    (sym (keys_of-map_values with_cooled old))).0 in
     record {
       distinct = placed.distinct;
-      held = all_weaker (λ (p : QueryPlace). IsSome (named old p.coll)) (λ p. IsSome (named new p.coll))
+      held = all_weaker (λ (p : QueryPlace). IsSome (named old p.coll))
+          (λ p. IsSome (named new p.coll))
           (λ p. found p.coll) ps placed.held;
       listed = all_each with_cooled (IsListed ps) (IsListed ps)
           (λ l is. keys_of-map_values cooled l.1.queries ∙ is) old placed.listed;
@@ -82,13 +85,15 @@ moved_placed old ps placed =
 pub due_cold : (c : Held) (qs : Queries) → emissions_due c (each cooled qs) ≡ emissions_due c qs
 due_cold c [] = refl
 due_cold c (q ∷ qs) =
-    ap (with_emission q.0 (unseen (Some (fresh_rows q.1.query c.documents)) q.1.emitted)) (due_cold c qs)
+    ap (with_emission q.0 (unseen (Some (fresh_rows q.1.query c.documents)) q.1.emitted))
+    (due_cold c qs)
 
 -- so all stay quiet
 pub moved_quiet : (old : Lives) → AllByRecursion IsQuiet old
     → AllByRecursion IsQuiet (each_live with_cooled old)
 moved_quiet old quiet =
-    all_each with_cooled IsQuiet IsQuiet (λ l is. due_cold l.1.collection l.1.queries ∙ is) old quiet
+    all_each with_cooled IsQuiet IsQuiet
+    (λ l is. due_cold l.1.collection l.1.queries ∙ is) old quiet
 
 -- the collections stay
 pub moved_colls : (old : Lives) → colls (each_live with_cooled old) ≡ colls old
@@ -116,11 +121,19 @@ bare_are (l ∷ ls) (f ∷ fs) same none whole =
     let queries : f.1.queries ≡ [] = none.0.none in
     let broken : f.1.broken ≡ l.1.broken = none.0.unbroken ∙ sym whole.0 in
     let all = bare_are ls fs parts.1 none.1 whole.1 in
-    λ i. (name i, record { collection = collection i; queries = queries i; broken = broken i }) ∷ all i
+    λ i. (
+      name i,
+      record {
+        collection = collection i;
+        queries = queries i;
+        broken = broken i;
+      },
+    ) ∷ all i
 
 -- one that is done has another name than the one whose turn it is
 not_done : (k : List ℕ) (ds : Lives) (n : List ℕ) (l : Observing) (rest : Lives)
-    → AllByRecursion (λ y. bytes_eq k y ≡ false) (keys_of (ds ++ (n, l) ∷ rest)) → bytes_eq n k ≡ false
+    → AllByRecursion (λ y. bytes_eq k y ≡ false) (keys_of (ds ++ (n, l) ∷ rest))
+    → bytes_eq n k ≡ false
 not_done k [] n l rest apart = bytes_apart_turned k n apart.0
 not_done k (d ∷ ds) n l rest apart = not_done k ds n l rest apart.1
 

@@ -257,14 +257,16 @@ abbrev pub query_at : Lives → QueryPlace → Option Observed
 query_at ls p = option_map (observed_at p) (watched_at ls p)
 
 -- a choice by a test, and then the other
-chosen : (ls : Lives) (b : Bool) (p : QueryPlace) (w : Watched) (x : Option Observed) (rest : Option QueryPlace)
+chosen : (ls : Lives) (b : Bool) (p : QueryPlace) (w : Watched) (x : Option Observed)
+    (rest : Option QueryPlace)
     → watched_at ls p ≡ Some w → x ≡ option_and_then (query_at ls) rest
     → cond b (Some (observed_at p w)) x ≡ option_and_then (query_at ls) (cond b (Some p) rest)
 chosen ls true p w x rest at is = sym (ap (option_map (observed_at p)) at)
 chosen ls false p w x rest at is = is
 
 -- one query that is found, and the others
-named_found : (ls : Lives) (name : List ℕ) (p : QueryPlace) (o : Option Watched) (os : List Observed)
+named_found : (ls : Lives) (name : List ℕ) (p : QueryPlace) (o : Option Watched)
+    (os : List Observed)
     (rest : Option QueryPlace) → IsSome o → watched_at ls p ≡ o
     → named (by_query os) name ≡ option_and_then (query_at ls) rest
     → named (by_query (with_found p o os)) name
@@ -295,13 +297,15 @@ no_query ls ps name placed none =
     named-queries_of ls ps name placed ∙ ap (option_and_then (query_at ls)) none
 
 -- the collection of the first place that passes is held
-pub coll_held : (test : QueryPlace → Bool) (ls : Lives) (ps : List QueryPlace) (p : QueryPlace) → ArePlaced ls ps
+pub coll_held : (test : QueryPlace → Bool) (ls : Lives) (ps : List QueryPlace) (p : QueryPlace)
+    → ArePlaced ls ps
     → find test ps ≡ Some p → IsSome (named ls p.coll)
 coll_held test ls ps p placed at =
     all_find test (λ q. IsSome (named ls q.coll)) ps p at placed.held
 
 -- the first place that has a name, its collection, and its query there
-pub record IsAt (ls : Lives) (ps : List QueryPlace) (name : List ℕ) (p : QueryPlace) (l : Observing) (w : Watched)
+pub record IsAt (ls : Lives) (ps : List QueryPlace) (name : List ℕ) (p : QueryPlace)
+    (l : Observing) (w : Watched)
     : Type 0 where
   pub called : name ≡ p.name
   pub held : named ls p.coll ≡ Some l
@@ -309,7 +313,8 @@ pub record IsAt (ls : Lives) (ps : List QueryPlace) (name : List ℕ) (p : Query
   pub query : named (by_query (queries_of ls ps)) name ≡ Some (observed_at p w)
 
 -- the first place that has a name leads to its query
-pub at_place : (ls : Lives) (ps : List QueryPlace) (name : List ℕ) (p : QueryPlace) → ArePlaced ls ps
+pub at_place : (ls : Lives) (ps : List QueryPlace) (name : List ℕ) (p : QueryPlace)
+    → ArePlaced ls ps
     → place_named name ps ≡ Some p → (l : Observing) × (w : Watched) × IsAt ls ps name p l w
 at_place ls ps name p placed at =
     let test = λ (q : QueryPlace). bytes_eq name q.name in
@@ -331,7 +336,8 @@ at_place ls ps name p placed at =
     )
 
 -- the counts of the query of a name, through the first place that has it
-pub counts_at : (ls : Lives) (ps : List QueryPlace) (name : List ℕ) (p : QueryPlace) (l : Observing) (w : Watched)
+pub counts_at : (ls : Lives) (ps : List QueryPlace) (name : List ℕ) (p : QueryPlace)
+    (l : Observing) (w : Watched)
     → ArePlaced ls ps → place_named name ps ≡ Some p → named ls p.coll ≡ Some l
     → named l.queries name ≡ Some w
     → option_map (λ (o : Observed). o.watched.counts) (named (by_query (queries_of ls ps)) name)
@@ -340,14 +346,16 @@ counts_at ls ps name p l w placed at held observed =
     let is = at_place ls ps name p placed at in
     let same_l : is.0 ≡ l = same_Some is.0 l (sym is.2.held ∙ held) in
     let same_w : is.1 ≡ w =
-    same_Some is.1 w (sym is.2.observed ∙ ap (λ (x : Observing). named x.queries name) same_l ∙ observed) in
+    same_Some is.1 w
+    (sym is.2.observed ∙ ap (λ (x : Observing). named x.queries name) same_l ∙ observed) in
     ap (option_map (λ (o : Observed). o.watched.counts)) is.2.query
     ∙ ap (λ (x : Watched). Some x.counts) same_w
 
 -- no counts where no place has the name
 pub no_counts_at : (ls : Lives) (ps : List QueryPlace) (name : List ℕ) → ArePlaced ls ps
     → place_named name ps ≡ None
-    → option_map (λ (o : Observed). o.watched.counts) (named (by_query (queries_of ls ps)) name) ≡ None
+    → option_map (λ (o : Observed). o.watched.counts) (named (by_query (queries_of ls ps)) name)
+    ≡ None
 no_counts_at ls ps name placed none =
     ap (option_map (λ (o : Observed). o.watched.counts)) (no_query ls ps name placed none)
 

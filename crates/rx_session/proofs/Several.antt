@@ -86,7 +86,8 @@ module _ (due : QueryPlace → Option Emission) where
   in_places-is (p ∷ ps) es distinct all =
       ap (λ o. cons_option o (in_places ps (without_emission p.name es))) all.0
       ∙ ap (cons_option (due p))
-      (in_places-is ps (without_emission p.name es) distinct.1 (still_found p ps es distinct.0 all.1))
+      (in_places-is ps (without_emission p.name es) distinct.1
+      (still_found p ps es distinct.0 all.1))
 
 -- ---- the emission of a query
 
@@ -152,7 +153,8 @@ one_first name None es = refl
 one_first name (Some rows) es = refl
 
 module _ (w : World) (ls : Lives) (same : w.collections ≡ colls ls) where
-  query_placed : (p : QueryPlace) (c : Held) (o : Option Watched) → named w.collections p.coll ≡ Some c
+  query_placed : (p : QueryPlace) (c : Held) (o : Option Watched)
+      → named w.collections p.coll ≡ Some c
       → (os : List Observed) → flat_map (emission_due w) (with_found p o os)
       ≡ cons_option (query_due p.name c o) (flat_map (emission_due w) os)
   query_placed p c None at os = refl
@@ -196,10 +198,12 @@ none_in_some name test (p ∷ ps) all =
       | false ↦ none_in_some name test ps all.1
     ]
 
-later_alone : (p : QueryPlace) (ps : List QueryPlace) (q : QueryPlace) → bytes_eq q.name p.name ≡ false
+later_alone : (p : QueryPlace) (ps : List QueryPlace) (q : QueryPlace)
+    → bytes_eq q.name p.name ≡ false
     → IsAlone ps q → IsAlone (p ∷ ps) q
 later_alone p ps q apart alone coll other =
-    elim (bytes_eq coll p.coll) as (λ b. list_any (bytes_eq q.name) (map (λ (x : QueryPlace). x.name)
+    elim (bytes_eq coll p.coll) as
+    (λ b. list_any (bytes_eq q.name) (map (λ (x : QueryPlace). x.name)
     (cond b (p ∷ filter (λ x. bytes_eq coll x.coll) ps) (filter (λ x. bytes_eq coll x.coll) ps)))
     ≡ false) [
       | true ↦ or_from _ _ apart (alone coll other)
@@ -222,7 +226,8 @@ all_alone [] distinct = tt
 all_alone (p ∷ ps) distinct = (
   λ coll other.
       ap (λ b. list_any (bytes_eq p.name) (map (λ (x : QueryPlace). x.name)
-      (cond b (p ∷ filter (λ x. bytes_eq coll x.coll) ps) (filter (λ x. bytes_eq coll x.coll) ps)))) other
+      (cond b (p ∷ filter (λ x. bytes_eq coll x.coll) ps)
+      (filter (λ x. bytes_eq coll x.coll) ps)))) other
       ∙ none_in_some p.name (λ x. bytes_eq coll x.coll) ps distinct.0,
   all_later p ps ps distinct.0 (all_alone ps distinct.1),
 )
@@ -272,7 +277,8 @@ module _ (ls : Lives) (ps : List QueryPlace) (placed : ArePlaced ls ps) where
         ∙ ap (option_map with_settled) (ap (named ls) same ∙ at)
 
     -- once it is settled nothing is due there
-    none_then : (l : Observing) → named ls p.coll ≡ Some l → due_there p (Some (with_settled l)) ≡ None
+    none_then : (l : Observing) → named ls p.coll ≡ Some l
+        → due_there p (Some (with_settled l)) ≡ None
     none_then l at =
         sym (query_found l.collection (each (settled l.collection) l.queries) p.name
         (subst (IsDistinct bytes_eq) (sym (keys-map (settled l.collection) l.queries))
@@ -321,14 +327,17 @@ module _ (ls : Lives) (ps : List QueryPlace) (placed : ArePlaced ls ps) where
     first_found alone rest =
         elim (bytes_eq coll p.coll) as (λ b. bytes_eq coll p.coll ≡ b
         → emission_of p.name (due_of (named ls coll) ++ more) ≡ place_due ls p) [
-          | true ↦ (λ is. here_found (named ls p.coll) refl ((bytes_eq-Decides coll p.coll).0 is) rest)
+          | true ↦
+              (λ is. here_found (named ls p.coll) refl ((bytes_eq-Decides coll p.coll).0 is) rest)
           | false ↦ (λ is. other_found alone is rest)
         ] refl
 
 -- ---- a collection less that isn't quiet
 
-pub quiet_less : (ls : Lives) (coll : List ℕ) (written : List (List ℕ)) → IsDistinct bytes_eq (keys_of ls)
-    → AreQuietUnless (coll ∷ written) ls → AreQuietUnless written (change_named ls coll with_settled)
+pub quiet_less : (ls : Lives) (coll : List ℕ) (written : List (List ℕ))
+    → IsDistinct bytes_eq (keys_of ls)
+    → AreQuietUnless (coll ∷ written) ls
+    → AreQuietUnless written (change_named ls coll with_settled)
 unfolding IsDistinct
 quiet_less [] coll written distinct quiet = tt
 quiet_less (l ∷ ls) coll written distinct quiet =
@@ -386,7 +395,8 @@ found_each [] ls ps placed distinct quiet p alone =
 found_each (coll ∷ written) ls ps placed distinct quiet p alone =
     let then = change_named ls coll with_settled in
     first_found ls ps placed coll (due_each written then) p alone
-    (found_each written then ps (settled_placed ls coll ps placed) (settled_distinct ls coll distinct)
+    (found_each written then ps (settled_placed ls coll ps placed)
+    (settled_distinct ls coll distinct)
     (quiet_less ls coll written distinct quiet) p alone)
 
 -- what is taken of the collections that were written is all that is due
@@ -402,7 +412,8 @@ taken_is_due (coll ∷ next ∷ written) w ls same ps placed distinct quiet =
     let all : List (List ℕ) = coll ∷ next ∷ written in
     in_places-is (place_due ls) ps (due_each all ls) placed.distinct
     (all_weaker (IsAlone ps) (λ p. emission_of p.name (due_each all ls) ≡ place_due ls p)
-    (λ p alone. found_each all ls ps placed distinct quiet p alone) ps (all_alone ps placed.distinct))
+    (λ p alone. found_each all ls ps placed distinct quiet p alone) ps
+    (all_alone ps placed.distinct))
     ∙ sym (all_placed w ls same ps)
 
 -- ---- once it is emitted
@@ -440,7 +451,8 @@ settled_nothing (Some x) l is =
     (settled_quiet x.collection x.queries)
 
 -- the query of each place is settled
-settled_place : (written : List (List ℕ)) (w : World) (ls : Lives) → w.collections ≡ colls ls → (p : QueryPlace)
+settled_place : (written : List (List ℕ)) (w : World) (ls : Lives) → w.collections ≡ colls ls
+    → (p : QueryPlace)
     → (list_any (bytes_eq p.coll) written ≡ false → IsShownAt w ls p)
     → query_at (settled_each written ls) p ≡ option_map (settled_query w) (query_at ls p)
 settled_place [] w ls same p shown = settles w p _ (shown refl)
@@ -479,7 +491,8 @@ pub queries_each : (written : List (List ℕ)) (w : World) (ls : Lives) → w.co
     → queries_of (settled_each written ls) ps ≡ map (settled_query w) (queries_of ls ps)
 queries_each written w ls same ps quiet =
     queries_become (settled_query w) ls (settled_each written ls) ps
-    (all_of (λ p. query_at (settled_each written ls) p ≡ option_map (settled_query w) (query_at ls p))
+    (all_of (λ p. query_at (settled_each written ls) p
+    ≡ option_map (settled_query w) (query_at ls p))
     (λ p. settled_place written w ls same p (λ none. shown_at w ls same p (λ l at.
     all_named (λ n (x : Observing).
     list_any (bytes_eq n) written ≡ false → emissions_due x.collection x.queries ≡ [])

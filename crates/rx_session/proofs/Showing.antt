@@ -71,7 +71,8 @@ module _ {X : Type 0} where
   own_named [] distinct = tt
   own_named (e ∷ es) distinct =
       let apart : AllByRecursion (λ (d : List ℕ × X). bytes_eq e.0 d.0 ≡ false) es =
-      all_keys (λ n. bytes_eq e.0 n ≡ false) es (IsDistinct-head bytes_eq e.0 (keys_of es) distinct) in (
+      all_keys (λ n. bytes_eq e.0 n ≡ false) es
+      (IsDistinct-head bytes_eq e.0 (keys_of es) distinct) in (
         ap (λ b. cond b (Some e.1) (named es e.0)) (bytes_itself e.0),
         all_weaker (λ (d : List ℕ × X). (bytes_eq e.0 d.0 ≡ false) × (named es d.0 ≡ Some d.1))
             (λ d. named (e ∷ es) d.0 ≡ Some d.1)
@@ -275,7 +276,8 @@ module _ (w : World) (ls : Lives) (same : w.collections ≡ colls ls) where
 
     module _ (l : Observing) (at : named ls coll ≡ Some l) where
       -- the emission of a place's query is that of the collection's query
-      is_due_here : (p : QueryPlace) (o : Option Watched) (os : List Observed) (q : List ℕ × Watched)
+      is_due_here : (p : QueryPlace) (o : Option Watched) (os : List Observed)
+          (q : List ℕ × Watched)
           (qs : Queries) → named w.collections p.coll ≡ Some l.collection → o ≡ Some q.1
           → q.0 ≡ p.name → flat_map (emission_due w) os ≡ emissions_due l.collection qs
           → flat_map (emission_due w) (with_found p o os)
@@ -284,15 +286,18 @@ module _ (w : World) (ls : Lives) (same : w.collections ≡ colls ls) where
           ap (λ x. flat_map (emission_due w) (with_found p x os)) found
           ∙ ap (λ c. with_emission p.name (unseen (Some (rows_on q.1.query c)) q.1.emitted) []
           ++ flat_map (emission_due w) os) held
-          ∙ ap (λ n. with_emission n (unseen (Some (fresh_rows q.1.query l.collection.documents)) q.1.emitted) []
+          ∙ ap (λ n. with_emission n
+          (unseen (Some (fresh_rows q.1.query l.collection.documents)) q.1.emitted) []
           ++ flat_map (emission_due w) os) (sym called)
           ∙ ap (λ more. with_emission q.0
           (unseen (Some (fresh_rows q.1.query l.collection.documents)) q.1.emitted) [] ++ more) rest
-          ∙ emission_first q.0 (unseen (Some (fresh_rows q.1.query l.collection.documents)) q.1.emitted)
+          ∙ emission_first q.0
+          (unseen (Some (fresh_rows q.1.query l.collection.documents)) q.1.emitted)
           (emissions_due l.collection qs)
 
       -- a place of the collection, and then the others
-      place_here : (p : QueryPlace) (ps : List QueryPlace) (qs : Queries) → bytes_eq coll p.coll ≡ true
+      place_here : (p : QueryPlace) (ps : List QueryPlace) (qs : Queries)
+          → bytes_eq coll p.coll ≡ true
           → keys_of qs ≡ p.name ∷ names_in coll ps
           → AllByRecursion (λ q. named l.queries q.0 ≡ Some q.1) qs
           → ((rest : Queries) → keys_of rest ≡ names_in coll ps
@@ -309,7 +314,8 @@ module _ (w : World) (ls : Lives) (same : w.collections ≡ colls ls) where
           let found : watched_at ls p ≡ Some q.1 =
           ap (option_and_then (λ (x : Observing). named x.queries p.name)) at_p
           ∙ sym (ap (named l.queries) called) ∙ own.0 in
-          is_due_here p (watched_at ls p) (queries_of ls ps) q qs (held_at p.coll l at_p) found called
+          is_due_here p (watched_at ls p) (queries_of ls ps) q qs
+          (held_at p.coll l at_p) found called
           (rest qs others own.1)
 
       -- the places of the collection bring the emissions of its queries
@@ -321,7 +327,8 @@ module _ (w : World) (ls : Lives) (same : w.collections ≡ colls ls) where
       due_here (p ∷ ps) qs keys own =
           elim (bytes_eq coll p.coll) as (λ b. bytes_eq coll p.coll ≡ b
           → keys_of qs ≡ map (λ (x : QueryPlace). x.name)
-          (cond b (p ∷ filter (λ x. bytes_eq coll x.coll) ps) (filter (λ x. bytes_eq coll x.coll) ps))
+          (cond b (p ∷ filter (λ x. bytes_eq coll x.coll) ps)
+          (filter (λ x. bytes_eq coll x.coll) ps))
           → flat_map (emission_due w) (queries_of ls (p ∷ ps))
           ≡ emissions_due l.collection qs) [
             | true ↦ (λ is keys. place_here p ps qs is keys own (due_here ps))

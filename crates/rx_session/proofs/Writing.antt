@@ -46,7 +46,8 @@ fork_unheld w lwt [] (Some r) = tt
 fork_unheld w lwt (row ∷ written) (Some r) = tt
 
 -- a legal one's isn't
-pub legal_unheld : (content : Content) (w : World) → legal content w ≡ true → IsUnheld w (touch content w)
+pub legal_unheld : (content : Content) (w : World) → legal content w ≡ true
+    → IsUnheld w (touch content w)
 legal_unheld (collection name schema) w allowed =
     let is = (and_parts _ _ (and_parts _ _ (and_parts _ _ allowed).0).0).1 in
     elim (schema_in schema) as (λ o. IsUnheld w (new_where name o)) [
@@ -82,7 +83,8 @@ none_in name (p ∷ ps) all =
     (cond b (p ∷ filter (λ q. bytes_eq name q.coll) ps) (filter (λ q. bytes_eq name q.coll) ps)))
     other ∙ none_in name ps all.1
 
-module _ (ls : Lives) (ps : List QueryPlace) (name : List ℕ) (l : Observing) (none : named ls name ≡ None)
+module _ (ls : Lives) (ps : List QueryPlace) (name : List ℕ) (l : Observing)
+    (none : named ls name ≡ None)
     (placed : ArePlaced ls ps) where
   -- each place is in another collection
   all_other : AllByRecursion (λ p. p.coll ≢ name) ps
@@ -100,7 +102,8 @@ module _ (ls : Lives) (ps : List QueryPlace) (name : List ℕ) (l : Observing) (
   new_queries =
       queries_stay ls (put_named ls name l) ps
       (all_weaker (λ p. p.coll ≢ name) (λ p. watched_at (put_named ls name l) p ≡ watched_at ls p)
-      (λ p other. ap (option_and_then (λ (x : Observing). named x.queries p.name)) (new_other p other))
+      (λ p other.
+      ap (option_and_then (λ (x : Observing). named x.queries p.name)) (new_other p other))
       ps all_other)
 
   -- a collection without queries has no place
@@ -124,7 +127,8 @@ observed_then : (f : Watched → Watched) (p : QueryPlace) (o : Option Watched)
 observed_then f p None = refl
 observed_then f p (Some v) = refl
 
-module _ (w : World) (ls : Lives) (same : w.collections ≡ colls ls) (lwt : ℕ) (written : List RowOut)
+module _ (w : World) (ls : Lives) (same : w.collections ≡ colls ls) (lwt : ℕ)
+    (written : List RowOut)
   where
     -- the query of a place in the collection that takes the rows
     told : (p : QueryPlace) (o : Option Observing) (c : Option Held)

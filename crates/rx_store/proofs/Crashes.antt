@@ -32,7 +32,8 @@ fits_both bodies xs ys limit first (inr fit) =
 fits_both bodies xs ys limit (inl none) (inl none') =
     inl (ap (λ (l : List (List ℕ)). l ++ ys) none ∙ none')
 fits_both bodies xs ys limit (inr fit) (inl none') =
-    let all : xs ≡ xs ++ ys = sym (append-nil xs) ∙ sym (ap (λ (l : List (List ℕ)). xs ++ l) none') in
+    let all : xs ≡ xs ++ ys = sym (append-nil xs)
+    ∙ sym (ap (λ (l : List (List ℕ)). xs ++ l) none') in
     inr (subst (λ (l : List (List ℕ)). end_of (bodies ++ l) ≤ limit) all fit)
 
 module _ {D : Type 0} (d : Ghosts D) where
@@ -48,7 +49,8 @@ module _ {D : Type 0} (d : Ghosts D) where
         before = xs ++ full.before;
         body = full.body;
         behind = full.behind;
-        whole = ap (λ l. xs ++ l) full.whole ∙ sym (append_assoc xs full.before (full.body ∷ full.behind));
+        whole = ap (λ l. xs ++ l) full.whole
+            ∙ sym (append_assoc xs full.before (full.body ∷ full.behind));
         would_end = full.would_end ∙ ap (λ (bs : List (List ℕ)). end_of (bs ++ full.body ∷ [])) all;
         past = full.past;
         content = subst (λ (bs : List (List ℕ)). StandsFor (d.content disk) bs) all full.content;
@@ -74,7 +76,8 @@ module _ {D : Type 0} (d : Ghosts D) where
 
   -- a stop is the same, whatever else might have been answered
   pub same_stop : {A B : Type 0} (old new : D) (bodies more : List (List ℕ)) (limit : ℕ)
-      (P : A → List (List ℕ) → Type 0) (Q : B → List (List ℕ) → Type 0) (stop : Stop) (r : Result B Stop)
+      (P : A → List (List ℕ) → Type 0) (Q : B → List (List ℕ) → Type 0) (stop : Stop)
+      (r : Result B Stop)
       → r ≡ Err stop → IsCrashSafe d old new bodies more limit P (Err stop)
       → IsCrashSafe d old new bodies more limit Q r
   same_stop {A} {B} old new bodies more limit P Q stop r is safe =
@@ -82,14 +85,16 @@ module _ {D : Type 0} (d : Ghosts D) where
         moments = safe.moments;
         at = tt;
         fits = tt;
-        full = λ would most is. safe.full would most (other_stop {A = B} {B = A} stop (Full would most) is);
+        full = λ would most is.
+            safe.full would most (other_stop {A = B} {B = A} stop (Full would most) is);
         not_journal = λ is. safe.not_journal (other_stop {A = B} {B = A} stop NotJournal is);
       } in
       subst (λ (r : Result B Stop). IsCrashSafe d old new bodies more limit Q r) (sym is) moved
 
   -- and so is that of a call which was to add more after it
   pub sooner : {A B : Type 0} (old new : D) (bodies xs ys : List (List ℕ)) (limit : ℕ)
-      (P : A → List (List ℕ) → Type 0) (Q : B → List (List ℕ) → Type 0) (stop : Stop) (r : Result B Stop)
+      (P : A → List (List ℕ) → Type 0) (Q : B → List (List ℕ) → Type 0) (stop : Stop)
+      (r : Result B Stop)
       → r ≡ Err stop → IsCrashSafe d old new bodies xs limit P (Err stop)
       → IsCrashSafe d old new bodies (xs ++ ys) limit Q r
   sooner {A} old new bodies xs ys limit P Q stop r is safe =
@@ -154,8 +159,10 @@ module _ {D : Type 0} (d : Ghosts D) where
       → IsCrashSafe d mid new (bodies ++ xs) ys limit Q r
       → IsCrashSafe d old new bodies (xs ++ ys) limit Q r
   then old mid new bodies xs ys limit P Q x r first alike next = record {
-    moments = λ before. grows_on d old mid new bodies xs ys (first.moments before) (next.moments alike);
-    at = if_ok r _ _ next.at (λ y at. subst (λ (bs : List (List ℕ)). Q y bs) (append_assoc bodies xs ys) at);
+    moments =
+        λ before. grows_on d old mid new bodies xs ys (first.moments before) (next.moments alike);
+    at = if_ok r _ _ next.at
+        (λ y at. subst (λ (bs : List (List ℕ)). Q y bs) (append_assoc bodies xs ys) at);
     fits = if_ok r _ _ next.fits (λ y fits. fits_both bodies xs ys limit first.fits fits);
     full = λ would most is.
         let full = next.full would most is in

@@ -75,13 +75,15 @@ module _ {D : Type 0} (d : Ghosts D) where
   held disk journal bodies more w holds c now =
       let short : end_of bodies < 2 ^ 32 = omega (arith, holds.ready.ends, journal.short) in
       none_yet bodies more w c holds.played holds.sound
-      (inr (subst (λ (l : List ℕ). IsWhole l bodies) (sym (holds.ready.durable c now)) holds.ready.whole))
+      (inr (subst (λ (l : List ℕ). IsWhole l bodies)
+      (sym (holds.ready.durable c now)) holds.ready.whole))
       short
 
   pub held_alike : (disk : D) (journal : Journal) (bodies : List (List ℕ)) (w : World)
       → Holds d disk journal bodies w → ImagesStandFor d disk bodies
   held_alike disk journal bodies w holds c now =
-      inr (subst (λ (l : List ℕ). IsWhole l bodies) (sym (holds.ready.durable c now)) holds.ready.whole)
+      inr (subst (λ (l : List ℕ). IsWhole l bodies)
+      (sym (holds.ready.durable c now)) holds.ready.whole)
 
   -- and so is what a read gives
   pub held_legal : (disk : D) (journal : Journal) (bodies : List (List ℕ)) (w : World)

@@ -32,7 +32,8 @@ module _ {H : Type 0} (Makes : Held → H → Type 0) (written : H → List Stor
   pub all_along : (P : H → Type 0) → ((c : Held) (h : H) → Makes c h → P h)
       → ((h : H) (more : List Stored) → P h → P (written h more))
       → (h : H) → IsMade Makes written h → P h
-  all_along P new keeps h m = subst P (sym m.is) (go m.taken m.first (new m.collection m.first m.made))
+  all_along P new keeps h m =
+      subst P (sym m.is) (go m.taken m.first (new m.collection m.first m.made))
     where
       go : (taken : List (List Stored)) (h : H) → P h → P (after_rows written h taken)
       go [] h p = p

@@ -40,7 +40,8 @@ pub some_is_not_none : (o : Option World) (w : World) → o ≡ Some w → o ≡
 some_is_not_none o w is none = true≢false (ap is_some (sym is ∙ none))
 
 -- a journal was opened, its records were read to their end, and they make this world
-module _ {D : Type 0} (d : Ghosts D) (old mid new : D) (windows : Windows) (begin : Begin d old mid windows)
+module _ {D : Type 0} (d : Ghosts D) (old mid new : D) (windows : Windows)
+    (begin : Begin d old mid windows)
     (same : d.content new ≡ d.content mid) (journal : Journal) (lent : List (List ℕ)) (v : World)
     (ready : IsReady d new journal lent) (plays : replay lent ≡ Some v) where
   lent_stand : StandsFor (d.content old) lent
@@ -55,7 +56,8 @@ module _ {D : Type 0} (d : Ghosts D) (old mid new : D) (windows : Windows) (begi
   }
 
   -- where the file was a legal one of these bodies, they are those
-  module _ (bodies : List (List ℕ)) (w : World) (lawful : IsLegalFile (d.content old) bodies w) where
+  module _ (bodies : List (List ℕ)) (w : World)
+      (lawful : IsLegalFile (d.content old) bodies w) where
     same_bodies : lent ≡ bodies
     same_bodies = stands_for_one (d.content old) lent bodies lent_stand lawful.stands
 
@@ -74,18 +76,21 @@ module _ {D : Type 0} (d : Ghosts D) (old mid new : D) (windows : Windows) (begi
     is_sound = subst IsSoundWorld (sym same_world) lawful.sound
 
 -- it was opened, and then read
-module _ {D : Type 0} (d : Ghosts D) (old mid new : D) (run : LeavesOnly d old mid (IsNoWorse d old))
+module _ {D : Type 0} (d : Ghosts D) (old mid new : D)
+    (run : LeavesOnly d old mid (IsNoWorse d old))
     (read : IsUntouched d mid new)
     (counts : (t : ℕ) (c : List ℕ) → t ≤ d.moment mid → d.image mid c → d.image_since mid t c) where
   pub read_no_worse : LeavesOnly d old new (IsNoWorse d old)
   read_no_worse =
-      joined d old mid new (IsNoWorse d old) (d.image mid) (IsNoWorse d old) run read.moments (λ c is. is)
+      joined d old mid new (IsNoWorse d old) (d.image mid) (IsNoWorse d old) run read.moments
+      (λ c is. is)
       (leaves_now d old mid (IsNoWorse d old) run counts)
 
 -- ---- a legal file
 
 module _ {D : Type 0} (d : Ghosts D) (old mid : D) (bodies : List (List ℕ)) (w : World)
-    (lawful : IsLegalFile (d.content old) bodies w) (run : LeavesOnly d old mid (IsNoWorse d old)) where
+    (lawful : IsLegalFile (d.content old) bodies w)
+    (run : LeavesOnly d old mid (IsNoWorse d old)) where
   still : ImagesStandFor d old bodies → (c : List ℕ) → IsNoWorse d old c → StandsFor c bodies
   still alike c (inl before) = alike c before
   still alike c (inr brief) =
@@ -94,7 +99,8 @@ module _ {D : Type 0} (d : Ghosts D) (old mid : D) (bodies : List (List ℕ)) (w
   -- nothing came
   pub no_more : ImagesStandFor d old bodies → GrowsLegally d old mid bodies []
   no_more alike =
-      weaker d old mid _ _ (λ c left. none_yet bodies [] w c lawful.plays lawful.sound (still alike c left) lawful.short) run
+      weaker d old mid _ _ (λ c left.
+      none_yet bodies [] w c lawful.plays lawful.sound (still alike c left) lawful.short) run
 
   -- it was opened
   pub opened_safely : {A : Type 0} (limit : ℕ) (P : A → List (List ℕ) → Type 0) (x : A) → P x bodies
@@ -118,7 +124,8 @@ module _ {D : Type 0} (d : Ghosts D) (old mid : D) (bodies : List (List ℕ)) (w
         moments = no_more;
         at = tt;
         fits = tt;
-        full = λ would most is. absurd (no_full would most (other_stop {A = A} {B = T} stop (Full would most) is));
+        full = λ would most is.
+            absurd (no_full would most (other_stop {A = A} {B = T} stop (Full would most) is));
         not_journal = λ is. no_refusal (other_stop {A = A} {B = T} stop NotJournal is);
       } in
       subst (λ (r : Result A Stop). IsCrashSafe d old mid bodies [] limit P r) (sym is) moved
@@ -150,7 +157,8 @@ module _ {D : Type 0} (d : Ghosts D) (old mid : D) (bodies : List (List ℕ)) (w
 -- it is longer than one without records
 pub illegal_long : (file : List ℕ) → IsIllegalFile file → shortest < length file
 illegal_long file illegal =
-    elim (leb (length file) shortest) as (λ b. leb (length file) shortest ≡ b → shortest < length file) [
+    elim (leb (length file) shortest) as
+    (λ b. leb (length file) shortest ≡ b → shortest < length file) [
       | true ↦ (λ is. absurd (illegal [] empty (record {
         stands = inl (leb-true (length file) shortest is, refl);
         short = omega arith;
@@ -179,7 +187,8 @@ module _ {D : Type 0} (d : Ghosts D) (old mid : D) (long : shortest < length (d.
   pub untouched_by : {T : Type 0} (fault : OpenFault)
       → (IsErrOf {T = T} (Err fault) opening.NotJournal → IsUntouched d old mid)
       → (IsErrOf {T = T} (Err fault) opening.Memory → IsUntouched d old mid)
-      → (IsErrOf {T = T} (Err fault) opening.Disk → shortest < length (d.content old) → IsUntouched d old mid)
+      → (IsErrOf {T = T} (Err fault) opening.Disk → shortest < length (d.content old)
+      → IsUntouched d old mid)
       → IsUntouched d old mid
   untouched_by opening.NotJournal refused ran_out failed = refused refl
   untouched_by opening.Memory refused ran_out failed = ran_out refl

@@ -30,9 +30,11 @@ use Rattle.rx_store.specs.Stops.{of_open}
 -- be played on the world
 abbrev pub IsPlaying : List ℕ → Windows → Windows → World → Type 0
 IsPlaying content first now w = (bodies : List (List ℕ)) → WillLend content first bodies
-    → (rest : List (List ℕ)) × WillLend content now rest × (replay bodies ≡ replay_from (Some w) rest)
+    → (rest : List (List ℕ)) × WillLend content now rest
+    × (replay bodies ≡ replay_from (Some w) rest)
 
-pub begun : (content : List ℕ) (first : Windows) (w : World) → w ≡ empty → IsPlaying content first first w
+pub begun : (content : List ℕ) (first : Windows) (w : World) → w ≡ empty
+    → IsPlaying content first first w
 begun content first w is bodies will =
     (bodies, will, ap (λ v. replay_from (Some v) bodies) (sym is))
 
@@ -47,11 +49,16 @@ turned : (content : List ℕ) (f f' : Windows) (body : List ℕ) (w : World) (re
     → (more : List (List ℕ)) × WillLend content f' more
     × (replay_from (Some w) rest ≡ replay_from (after_body (record_of body) w) more)
 turned content f f' body w rest lends will =
-    let next = lends rest will in
-    (next.0, next.2, ap (λ (bs : List (List ℕ)). replay_from (Some w) bs) next.1 ∙ replay_from-first w body next.0)
+    let next = lends rest will in (
+      next.0,
+      next.2,
+      ap (λ (bs : List (List ℕ)). replay_from (Some w) bs) next.1
+          ∙ replay_from-first w body next.0,
+    )
 
 pub goes_on : (content : List ℕ) (first f f' : Windows) (body : List ℕ) (w w' : World)
-    → IsPlaying content first f w → Lends content f body f' → after_body (record_of body) w ≡ Some w'
+    → IsPlaying content first f w → Lends content f body f'
+    → after_body (record_of body) w ≡ Some w'
     → IsPlaying content first f' w'
 goes_on content first f f' body w w' playing lends is bodies will =
     let left = playing bodies will in
@@ -81,10 +88,13 @@ HasPlayed d disk f w =
 
 pub played_none : {D : Type 0} (d : Ghosts D) (disk : D) (f : Windows) (w : World) → w ≡ empty
     → HaveLent d disk f [] → HasPlayed d disk f w
-played_none d disk f w is lent = ([], lent, replay_from-nothing (Some empty) ∙ ap (λ v. Some v) (sym is))
+played_none d disk f w is lent =
+    ([], lent, replay_from-nothing (Some empty) ∙ ap (λ v. Some v) (sym is))
 
-pub played_one : {D : Type 0} (d : Ghosts D) (disk disk' : D) (f f' : Windows) (body : List ℕ) (w w' : World)
-    → ((bodies : List (List ℕ)) → HaveLent d disk f bodies → HaveLent d disk' f' (bodies ++ body ∷ []))
+pub played_one : {D : Type 0} (d : Ghosts D) (disk disk' : D) (f f' : Windows) (body : List ℕ)
+    (w w' : World)
+    → ((bodies : List (List ℕ)) → HaveLent d disk f bodies
+    → HaveLent d disk' f' (bodies ++ body ∷ []))
     → after_body (record_of body) w ≡ Some w' → HasPlayed d disk f w → HasPlayed d disk' f' w'
 played_one d disk disk' f f' body w w' lent is (bodies, so_far, plays) = (
   bodies ++ body ∷ [],
@@ -94,12 +104,14 @@ played_one d disk disk' f f' body w w' lent is (bodies, so_far, plays) = (
 )
 
 -- reads one after another
-pub read_on : {D : Type 0} (d : Ghosts D) (old mid new : D) → IsUntouched d old mid → IsUntouched d mid new
+pub read_on : {D : Type 0} (d : Ghosts D) (old mid new : D) → IsUntouched d old mid
+    → IsUntouched d mid new
     → IsUntouched d old new
 read_on d old mid new first next = record {
   same = next.same ∙ first.same;
   crash = λ c now. first.crash c (next.crash c now);
-  moments = joined d old mid new (d.image old) (d.image mid) (d.image old) first.moments next.moments
+  moments =
+      joined d old mid new (d.image old) (d.image mid) (d.image old) first.moments next.moments
       (λ c left. left) first.crash;
 }
 
@@ -139,11 +151,13 @@ not_yet d old only_now = record {
 }
 
 -- an empty world has no holders
-pub none_made : {H : Type 0} (Makes : Held → H → Type 0) (held : H → Held) (written : H → List Stored → H)
+pub none_made : {H : Type 0} (Makes : Held → H → Type 0) (held : H → Held)
+    (written : H → List Stored → H)
     (h : Holders H) → world_in held h ≡ empty → AreMade Makes written (holders_in h)
 none_made {H} Makes held written h is = go h.entries (ap (λ (w : World). w.collections) is)
   where
-    go : (es : List (String Global × H)) → by_name held es ≡ [] → AreMade Makes written (by_bytes es)
+    go : (es : List (String Global × H)) → by_name held es ≡ []
+        → AreMade Makes written (by_bytes es)
     go [] e = tt
     go (x ∷ es) e = absurd (cc)
 
@@ -157,12 +171,14 @@ fault_is opening.Disk is = absurd (cc)
 pub stop_is : {T U : Type 0} (fault : OpenFault) (stop : Stop) → stop ≡ of_open fault
     → IsErrOf {T = T} (Err stop) NotJournal → IsErrOf {T = U} (Err fault) opening.NotJournal
 stop_is {T} {U} fault stop same is =
-    fault_is {T = T} {U = U} fault (subst (λ (s : Stop). IsErrOf {T = T} (Err s) NotJournal) same is)
+    fault_is {T = T} {U = U} fault
+    (subst (λ (s : Stop). IsErrOf {T = T} (Err s) NotJournal) same is)
 
 -- the disk's fault alone stops as the disk's, and none as a full journal
 pub disk_is : {T U : Type 0} (fault : OpenFault) (stop : Stop) → stop ≡ of_open fault
     → IsErrOf {T = T} (Err stop) Disk → IsErrOf {T = U} (Err fault) opening.Disk
-disk_is {T} {U} fault stop same is = go fault (subst (λ (s : Stop). IsErrOf {T = T} (Err s) Disk) same is)
+disk_is {T} {U} fault stop same is =
+    go fault (subst (λ (s : Stop). IsErrOf {T = T} (Err s) Disk) same is)
   where
     go : (fault : OpenFault) → IsErrOf {T = T} (Err (of_open fault)) Disk
         → IsErrOf {T = U} (Err fault) opening.Disk
@@ -170,7 +186,8 @@ disk_is {T} {U} fault stop same is = go fault (subst (λ (s : Stop). IsErrOf {T 
     go opening.Memory is = absurd (cc)
     go opening.NotJournal is = absurd (cc)
 
-pub not_full : {T : Type 0} (fault : OpenFault) (stop : Stop) → stop ≡ of_open fault → (would most : ℕ)
+pub not_full : {T : Type 0} (fault : OpenFault) (stop : Stop) → stop ≡ of_open fault
+    → (would most : ℕ)
     → IsErrOf {T = T} (Err stop) (Full would most) → ⊥
 not_full {T} fault stop same would most is =
     go fault (subst (λ (s : Stop). IsErrOf {T = T} (Err s) (Full would most)) same is)

@@ -100,7 +100,8 @@ module _ (t : Terms) (w : World) (ready : IsReadyElsewhere w t.name t.kinds) (n 
       let at = ready.there.held in
       let here = due r at f.fork f.held in
       let fits = lawful r at f.fork f.held in
-      taken_leaves_none w ready.made t.name r f.fork f.held ready.kind t.now asked reply here fits cs
+      taken_leaves_none w ready.made t.name r f.fork f.held ready.kind t.now asked reply here fits
+      cs
       (leaves_reply w ready.made ready.sound t.name r at f.fork f.held ready.kind t.now asked reply
       here fits cs
       (some_same (sym (taken_is w t.kinds t.name asked reply t.now r f.fork ready.kind at f.held

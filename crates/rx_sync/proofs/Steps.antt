@@ -164,7 +164,8 @@ module _ (w : World) (name : List ℕ) (kinds : Kinds) (ready : IsReady w name k
           ∙ lr.taken_so.of.is)
           ∙ ap (link_with l hh.leaves.new tk) lr.leaves.wrote)
 
-      same_world : world_after (h.records ++ (cs ++ [])) w ≡ world_after cs (world_after h.records w)
+      same_world : world_after (h.records ++ (cs ++ [])) w
+          ≡ world_after cs (world_after h.records w)
       same_world =
           after-append h.records (cs ++ []) w ∙ after-append cs [] (world_after h.records w)
 

@@ -17,16 +17,19 @@ OnlyNow d disk = (c : List ℕ) → d.image_since disk (d.moment disk) c → d.i
 
 -- this moment counts since each earlier one
 abbrev pub CountsNow : {D : Type 0} → Ghosts D → D → Type 0
-CountsNow d disk = (t : ℕ) (c : List ℕ) → t ≤ d.moment disk → d.image disk c → d.image_since disk t c
+CountsNow d disk = (t : ℕ) (c : List ℕ) → t ≤ d.moment disk → d.image disk c
+    → d.image_since disk t c
 
 pub all_of-append : (cs ds : List (List (List ℕ))) → all_of (cs ++ ds) ≡ all_of cs ++ all_of ds
 all_of-append [] ds = refl
 all_of-append (c ∷ cs) ds =
-    ap (λ (bs : List (List ℕ)). c ++ bs) (all_of-append cs ds) ∙ sym (append_assoc c (all_of cs) (all_of ds))
+    ap (λ (bs : List (List ℕ)). c ++ bs) (all_of-append cs ds)
+    ∙ sym (append_assoc c (all_of cs) (all_of ds))
 
 pub all_of-push : (cs : List (List (List ℕ))) (c : List (List ℕ))
     → all_of (cs ++ c ∷ []) ≡ all_of cs ++ c
-all_of-push cs c = all_of-append cs (c ∷ []) ∙ ap (λ (bs : List (List ℕ)). all_of cs ++ bs) (append-nil c)
+all_of-push cs c = all_of-append cs (c ∷ [])
+    ∙ ap (λ (bs : List (List ℕ)). all_of cs ++ bs) (append-nil c)
 
 -- chunks were kept from one disk to another, and each image has all of them
 pub record Kept
@@ -105,7 +108,8 @@ module _ {D : Type 0} (d : Ghosts D) where
       append_assoc bodies (all_of cs) c
       ∙ ap (λ (bs : List (List ℕ)). bodies ++ bs) (sym (all_of-push cs c)) in
       record {
-        moments = subst (λ (bs : List (List ℕ)). GrowsLegally d d0 d2 bodies bs) (sym (all_of-push cs c))
+        moments =
+            subst (λ (bs : List (List ℕ)). GrowsLegally d d0 d2 bodies bs) (sym (all_of-push cs c))
             (grows_on d d0 d1 d2 bodies (all_of cs) c so_far.moments grows);
         steps = steps-push d0 d1 d2 bodies cs c so_far.steps grows
             (λ bs e. still d2 bs only_now
@@ -163,7 +167,8 @@ module _ {D : Type 0} (d : Ghosts D) where
         steps = (d1, grows, k.steps);
         last = subst (λ (bs : List (List ℕ)). GrowsLegally d k.mid d2 bs more) same k.last;
         sure = subst (λ (bs : List (List ℕ)). Leaves d d2 bs more) same k.sure;
-        fits = inr (⊎_elim (λ none. subst (λ (bs : List (List ℕ)). end_of bs ≤ limit) (alone none) fits)
+        fits = inr
+            (⊎_elim (λ none. subst (λ (bs : List (List ℕ)). end_of bs ≤ limit) (alone none) fits)
             (λ le. subst (λ (bs : List (List ℕ)). end_of bs ≤ limit) same le) k.fits);
         full = λ would most is.
             let full = k.full would most is in (

@@ -101,7 +101,8 @@ took_long given g m l0 l1 l2 t full long =
     took_more given g (m + 1) l0 l1 l2 (long.0 ∷ []) t long.1 (omega (arith, full))
 
 -- an error is the same whatever would have been answered
-pub same_err : (stop e : ReadFault) → IsErrOf {T = Next} (Err stop) e → IsErrOf {T = Bool} (Err stop) e
+pub same_err : (stop e : ReadFault) → IsErrOf {T = Next} (Err stop) e
+    → IsErrOf {T = Bool} (Err stop) e
 same_err stop e h = let same : stop ≡ e = cc in ap Err same
 
 some : (b : ℕ) (bs : List ℕ) → (length (b ∷ bs) == 0) ≡ false

@@ -38,12 +38,15 @@ kept_split a b n h e =
     ap (λ k. a ++ take k b) e ∙ ap (λ v. a ++ v) (take_min ((max_line_bytes + 1) - length a) b)
     ∙ kept_more a b h
 
-short : (a b : List ℕ) → length a ≤ max_line_bytes + 1 → kept_front (kept_front a ++ b) ≡ kept_front (a ++ b)
+short : (a b : List ℕ) → length a ≤ max_line_bytes + 1
+    → kept_front (kept_front a ++ b) ≡ kept_front (a ++ b)
 short a b h = ap (λ v. kept_front (v ++ b)) (take_all (max_line_bytes + 1) a h)
 
-long : (a b : List ℕ) → max_line_bytes + 1 ≤ length a → kept_front (kept_front a ++ b) ≡ kept_front (a ++ b)
+long : (a b : List ℕ) → max_line_bytes + 1 ≤ length a
+    → kept_front (kept_front a ++ b) ≡ kept_front (a ++ b)
 long a b h =
-    let whole : length (kept_front a) ≡ max_line_bytes + 1 = length-take-le (max_line_bytes + 1) a h in
+    let whole : length (kept_front a)
+    ≡ max_line_bytes + 1 = length-take-le (max_line_bytes + 1) a h in
     take-append-le (max_line_bytes + 1) (kept_front a) b (omega (arith, whole))
     ∙ (ap (λ n. take n (kept_front a)) (sym whole) ∙ take-length (kept_front a))
     ∙ sym (take-append-le (max_line_bytes + 1) a b h)

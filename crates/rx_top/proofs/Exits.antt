@@ -105,7 +105,8 @@ leaves_all d disk None bodies all = all
 leaves_all d disk (Some e) bodies all = leaves_at d disk e bodies [] all
 
 -- what was added ends within the limit, as what was there
-pub fits_all : (bodies more : List (List ℕ)) (limit : ℕ) → (more ≡ []) ⊎ (end_of (bodies ++ more) ≤ limit)
+pub fits_all : (bodies more : List (List ℕ)) (limit : ℕ)
+    → (more ≡ []) ⊎ (end_of (bodies ++ more) ≤ limit)
     → end_of bodies ≤ limit → end_of (bodies ++ more) ≤ limit
 fits_all bodies more limit (inl none) le =
     subst (λ (bs : List (List ℕ)). end_of bs ≤ limit)
@@ -139,7 +140,8 @@ pub record Along
 pub begins : (s0 : Standing) {D : Type 0} (d : Ghosts D) (k_tells wires : Type 0) (disk : D)
     (dial : DialStanding) (first : Engine) (w input unread : List ℕ) → unread ≡ []
     → (d.tells → OnlyNow d disk)
-    → Along s0 s0 d k_tells wires disk disk dial dial first first w w input (unread ++ input) 0 false
+    → Along s0 s0 d k_tells wires disk disk dial dial first first w w input
+    (unread ++ input) 0 false
 begins s0 d k_tells wires disk dial first w input unread none only_now = record {
   limit = refl;
   bytes = [];
@@ -286,8 +288,10 @@ module _
         → Took 0 input left (λ k. k ≡ max_input_bytes + 1))
         → (d.tells → OnlyNow d d1) → Ends d1 n1 w1 left (Err (Read why))
     reader_stopped none why left stops long took only_now =
-        ends s0 d d0 d1 k_tells wires n0 n1 w0 w1 first ls (lines rest) input left (Err (Read why)) refl
-        to_come a.each (hears_none (Err (Read why)) (lines rest) none) (reader_reads why a.bytes input rest left n r s0 s1 (lines rest) a.so stops
+        ends s0 d d0 d1 k_tells wires n0 n1 w0 w1 first ls (lines rest) input left
+        (Err (Read why)) refl
+        to_come a.each (hears_none (Err (Read why)) (lines rest) none)
+        (reader_reads why a.bytes input rest left n r s0 s1 (lines rest) a.so stops
         long took)
         a.told a.kept only_now
 
@@ -333,7 +337,8 @@ module _
             let then = subst (λ (x : Effect Standing). HoldsOfTurn (n + 1) l here x.next) same_line
             (kept_turn (n + 1) l here m.next now) in
             each-push line_effect HoldsOfTurn 1 ls l s0 (n + 1) count a.each
-            (subst (λ (x : Standing). HoldsOfTurn (n + 1) l x (line_effect (n + 1) l x).next) a.so.state then)
+            (subst (λ (x : Standing). HoldsOfTurn (n + 1) l x (line_effect (n + 1) l x).next)
+            a.so.state then)
 
         -- what the dial shows of the line as it was kept
         abbrev pub IsKeptShown : List Heard → Type 0 → Type 0
@@ -420,7 +425,8 @@ module _
             let here = a.at t bodies at in
             let before = bodies ++ all_of cs in
             let done = subst (λ (r : Result (Option Engine) Stop).
-            IsCrashSafe d d1 d2 before m.bodies (limit_of engine) (HasAll d d2) r) is (safe t before here) in
+            IsCrashSafe d d1 d2 before m.bodies (limit_of engine) (HasAll d d2) r) is
+            (safe t before here) in
             let within : end_of before ≤ limit_of engine =
             subst (λ (k : ℕ). end_of before ≤ k) (sym a.limit) so_far.fits in
             subst (λ (ds : List (List (List ℕ))). Kept d d0 d2 bodies ds (limit_of first))
@@ -437,8 +443,10 @@ module _
             → HearsAll wires s0 n0 n2 (Err Sink) (ls ++ l ∷ []) stands.0
             → KeptAt d2 (ls ++ l ∷ []) → (d.tells → OnlyNow d d2) → Ends d2 n2 w2 left (Err Sink)
         line_sunk left front turn hears kept only_now =
-            ends s0 d d0 d2 k_tells wires n0 n2 w0 w2 first (ls ++ l ∷ []) stands.0 input left (Err Sink)
-            refl (whole_with stands.0 stands.1) (each_line turn) hears tt (front_on front) kept only_now
+            ends s0 d d0 d2 k_tells wires n0 n2 w0 w2 first (ls ++ l ∷ []) stands.0 input left
+            (Err Sink)
+            refl (whole_with stands.0 stands.1) (each_line turn) hears tt
+            (front_on front) kept only_now
 
         due : m.bodies ≡ next_chunk line_effect (length ls + 1) (l ∷ stands.0)
             (state_after line_effect 1 ls s0)
@@ -467,7 +475,8 @@ module _
               l,
               stands.0,
               refl,
-              subst (λ (hs : List Heard). IsShownAt wires l (state_after line_effect 1 ls s0) n1 n2 hs ⊥)
+              subst (λ (hs : List Heard).
+                  IsShownAt wires l (state_after line_effect 1 ls s0) n1 n2 hs ⊥)
                   (ap (λ (x : Standing). x.heard) a.so.state) (shown_line s1.heard ⊥ (shown other)),
               subst (λ (x : Standing). is_blank l ≡ false → IsUnharmedBy l x) a.so.state
                   (kept_unharmed l s1
@@ -506,16 +515,19 @@ module _
             → IsUnharmedBy line s1)
             → IsSafe (Err why) → (d.tells → OnlyNow d d2) → (d.tells → CountsNow d d2)
             → Ends d2 n2 w2 left (Err why)
-        line_failed (Read f) left unread front unsaid turn heard is later shown unharmed safe only counts =
+        line_failed
+            (Read f) left unread front unsaid turn heard is later shown unharmed safe only counts =
             absurd (unread f refl)
-        line_failed (Work why) left unread front unsaid turn heard is later shown unharmed safe only counts =
+        line_failed (Work why) left unread front unsaid turn heard is later shown unharmed safe
+            only counts =
             line_stopped why left (λ k. unsaid k why refl)
             (λ other. subst (λ (hs : List Heard). IsKeptShown hs ⊥) (sym is)
             (then_shown wires line n1 n2 heard (λ none. absurd none) s1
             (shown (λ same. other (same_stop why same)))))
             (λ other. unharmed (λ same. other (same_stop why same)))
             safe counts
-        line_failed Sink left unread front unsaid turn heard is later shown unharmed safe only counts =
+        line_failed Sink left unread front unsaid turn heard is later shown unharmed safe only
+            counts =
             line_sunk left (λ k. front k refl) turn
             (hears_last (Err Sink) stands.0 heard
             (then_shown wires line n1 n2 heard (λ all. refl) s1 (shown (λ same. cc)))
@@ -532,7 +544,8 @@ module _
         (takes : TakesKept Last line rest rest')
         → now ≡ (line_effect (n + 1) line s1).refused
         → (k_tells → w2 ≡ w1 ++ (line_effect (n + 1) line s1).reply)
-        → IsKeptTurn d2 n2 w2 Last line rest' (λ e. cc) takes → (heard : List Heard) → s1.heard ≡ heard
+        → IsKeptTurn d2 n2 w2 Last line rest' (λ e. cc) takes → (heard : List Heard)
+        → s1.heard ≡ heard
         → IsKeptShown d2 n2 w2 Last line rest' (λ e. cc) takes heard (Unit {0})
         → (line_effect (n + 1) line s1).next.heard ≡ []
         → KeptAt d2 (ls ++ takes.0 ∷ []) → (d.tells → OnlyNow d d2)
@@ -569,7 +582,8 @@ module _
         → s1.heard ≡ heard ++ (line_effect (n + 1) line s1).next.heard
         → KeptAt d2 (ls ++ takes.0 ∷ [])
         → Along s0 s2 d k_tells wires d0 d2 n0 n2 first engine' w0 w2 input rest' (n + 1) (r || now)
-    line_played d2 n2 w2 line rest' now engine' s2 takes same_limit is after had at turn heard shown took
+    line_played d2 n2 w2 line rest' now engine' s2 takes same_limit is after had at turn heard
+        shown took
         kept =
         let some : (Line ≡ End → ⊥) = λ e. cc in
         let l = takes.0 in

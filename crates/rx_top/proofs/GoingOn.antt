@@ -19,7 +19,8 @@ starts e disk file bodies more s settled = (
     legal = subst (λ (f : List ℕ). IsLegalFile f (bodies ++ s.front) s.world) (sym settled.content)
         (record { stands = s.stands; short = s.short; plays = s.legal; sound = s.sound });
     alike = λ c here.
-        subst (λ (f : List ℕ). StandsFor f (bodies ++ s.front)) (sym (settled.only c here)) s.stands;
+        subst (λ (f : List ℕ). StandsFor f (bodies ++ s.front))
+        (sym (settled.only c here)) s.stands;
   },
 )
 
@@ -37,6 +38,12 @@ nothing_stands = inl (omega arith, refl)
 pub starts_empty : {D : Type 0} (d : Ghosts D) → StartsEmpty d
 starts_empty d = λ disk settled. record {
   legal = subst (λ (f : List ℕ). IsLegalFile f [] empty) (sym settled.content)
-      (record { stands = nothing_stands; short = omega arith; plays = plays_nothing; sound = sound_empty });
-  alike = λ c here. subst (λ (f : List ℕ). StandsFor f []) (sym (settled.only c here)) nothing_stands;
+      (record {
+        stands = nothing_stands;
+        short = omega arith;
+        plays = plays_nothing;
+        sound = sound_empty;
+      });
+  alike = λ c here.
+      subst (λ (f : List ℕ). StandsFor f []) (sym (settled.only c here)) nothing_stands;
 }

@@ -24,7 +24,8 @@ module _ {D : Type 0} (d : Ghosts D) where
       → IsAt d disk engine bodies → HasGrown d disk disk engine bodies
   not_grown disk engine bodies only_now at = record {
     more = [];
-    grows = still d disk bodies only_now (held d disk engine.journal bodies [] (session_of engine).world at);
+    grows = still d disk bodies only_now
+        (held d disk engine.journal bodies [] (session_of engine).world at);
     at = subst (λ (bs : List (List ℕ)). IsAt d disk engine bs) (sym (append-nil bodies)) at;
   }
 
@@ -35,7 +36,8 @@ module _ {D : Type 0} (d : Ghosts D) where
   grown_more d0 d1 d2 engine engine' bodies line had grows at = record {
     more = had.more ++ line;
     grows = grows_on d d0 d1 d2 bodies had.more line had.grows grows;
-    at = subst (λ (bs : List (List ℕ)). IsAt d d2 engine' bs) (append_assoc bodies had.more line) at;
+    at = subst (λ (bs : List (List ℕ)). IsAt d d2 engine' bs)
+        (append_assoc bodies had.more line) at;
   }
 
   -- an end, at which some of a line's bodies may be there

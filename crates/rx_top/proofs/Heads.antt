@@ -36,7 +36,8 @@ pub same_open : (why st : Stop) → IsErrOf {T = Bool} (Err (Work why)) (Work st
 same_open why st h = let same : why ≡ st = cc in ap Err same
 
 -- what is said beside the play is said in other words
-pub said_as : {k_tells : Type 0} {w0 w1 input left : List ℕ} {s : Standing} {ended : Result Bool EarlyEnd}
+pub said_as : {k_tells : Type 0} {w0 w1 input left : List ℕ} {s : Standing}
+    {ended : Result Bool EarlyEnd}
     {Shown : List (List ℕ) → List (List ℕ) → Type 0} (P Q : List (List ℕ) → List (List ℕ) → Type 0)
     → ((done rest : List (List ℕ)) → P done rest → Q done rest)
     → Plays line_effect HoldsOfTurn k_tells w0 w1 input left s ended Shown P
@@ -53,11 +54,13 @@ said_as P Q f p = record {
 }
 
 -- nothing was played
-pub unplayed : (tells wires : Type 0) (dial : DialStanding) (w0 w1 input left : List ℕ) (s : Standing)
+pub unplayed : (tells wires : Type 0) (dial : DialStanding) (w0 w1 input left : List ℕ)
+    (s : Standing)
     (ended : Result Bool EarlyEnd) (P : List (List ℕ) → List (List ℕ) → Type 0) → s.heard ≡ []
     → Reads line_effect ended input left [] (lines input) s
     → (tells → Writes ended w0 w1 []) → P [] (lines input)
-    → Plays line_effect HoldsOfTurn tells w0 w1 input left s ended (HearsAll wires s dial dial ended) P
+    → Plays line_effect HoldsOfTurn tells w0 w1 input left s ended
+    (HearsAll wires s dial dial ended) P
 unplayed tells wires dial w0 w1 input left s ended P none reads writes kept = record {
   done = [];
   rest = lines input;
@@ -84,7 +87,8 @@ module _ {D : Type 0} (d : Ghosts D) (bodies : List (List ℕ)) (w : World) wher
       stays_legal d disk disk bodies [] (nothing_yet disk only start) counts
 
 module _
-    (kinds : Kinds) (heard : List Heard) {D : Type 0} (d : Ghosts D) (bodies : List (List ℕ)) (w : World) (limit : ℕ)
+    (kinds : Kinds) (heard : List Heard) {D : Type 0} (d : Ghosts D) (bodies : List (List ℕ))
+    (w : World) (limit : ℕ)
   where
     -- the opening stopped
     pub open_keeps : (d0 d1 : D) (why : Stop) (rest : List (List ℕ))
@@ -100,9 +104,11 @@ module _
         moments = grows;
         mid = d0;
         steps = nothing_yet d bodies w d0 only start;
-        last = subst (λ (bs : List (List ℕ)). GrowsLegally d d0 d1 bs (epoch_body w ∷ [])) (sym (append-nil bodies))
+        last = subst (λ (bs : List (List ℕ)). GrowsLegally d d0 d1 bs (epoch_body w ∷ []))
+            (sym (append-nil bodies))
             grows;
-        sure = subst (λ (bs : List (List ℕ)). Leaves d d1 bs (epoch_body w ∷ [])) (sym (append-nil bodies))
+        sure = subst (λ (bs : List (List ℕ)). Leaves d d1 bs (epoch_body w ∷ []))
+            (sym (append-nil bodies))
             (leaves_then d d0 d1 bodies (epoch_body w ∷ []) grows counts);
         fits = inl refl;
         full = λ would most is.
@@ -130,7 +136,8 @@ module _
             moments = here;
             mid = disk;
             steps = here;
-            last = subst (λ (bs : List (List ℕ)). GrowsLegally d disk disk bs []) (sym (append-nil bodies)) here;
+            last = subst (λ (bs : List (List ℕ)). GrowsLegally d disk disk bs [])
+                (sym (append-nil bodies)) here;
             sure = subst (λ (bs : List (List ℕ)). Leaves d disk bs []) (sym (append-nil bodies))
                 (leaves_then d disk disk bodies [] here counts);
             fits = inl refl;
@@ -142,15 +149,18 @@ module _
     pub played_keeps : (d0 d1 d2 : D) (first : Engine) (ended : Result Bool EarlyEnd)
         (done rest : List (List ℕ)) → GrowsLegally d d0 d1 bodies (epoch_body w ∷ [])
         → end_of (bodies ++ epoch_body w ∷ []) ≤ limit → limit_of first ≡ limit
-        → (s : Standing) → s ≡ opened kinds heard w → IsAt d d1 first (bodies ++ epoch_body w ∷ []) → d.tells
+        → (s : Standing) → s ≡ opened kinds heard w → IsAt d d1 first (bodies ++ epoch_body w ∷ [])
+        → d.tells
         → KeepsFrom s d d1 d2 first ended done rest
         → KeepsRun kinds heard d d0 d2 bodies w limit ended done rest
     played_keeps d0 d1 d2 first ended done rest grows fits same_limit s same at t kept =
         let all = bodies ++ epoch_body w ∷ [] in
         let here = kept t all at (subst (λ (n : ℕ). end_of all ≤ n) (sym same_limit) fits) in
         let K : Standing → ℕ → Type 0 = λ x n. Keeps d d1 d2 all (chunks line_effect 1 done x)
-        (next_chunk line_effect (length done + 1) rest (state_after line_effect 1 done x)) n (stop_of ended) in
-        inr (keeps_behind d d0 d1 d2 bodies (epoch_body w ∷ []) (chunks line_effect 1 done (opened kinds heard w)) _
+        (next_chunk line_effect (length done + 1) rest (state_after line_effect 1 done x)) n
+        (stop_of ended) in
+        inr (keeps_behind d d0 d1 d2 bodies (epoch_body w ∷ [])
+        (chunks line_effect 1 done (opened kinds heard w)) _
         limit (stop_of ended) grows
         (subst (λ (x : Standing). K x limit) same (subst (λ (n : ℕ). K s n) same_limit here))
         fits)

@@ -33,7 +33,8 @@ heard_at_first kinds hs w = refl
 module _ {Done Then : Type 0} (wires : Type 0) (old new : DialStanding) (heard : List Heard)
     (as_done : Then → Done) where
   -- it doesn't depend on what is to be heard later
-  pub shown_by : (hs : List Heard) (s : Standing) (t : Task) → IsShownBy wires t s old new heard Done
+  pub shown_by : (hs : List Heard) (s : Standing) (t : Task)
+      → IsShownBy wires t s old new heard Done
       → IsShownBy wires t (to_hear hs s) old new heard Then
   shown_by hs s (answered o) shown = shown
   shown_by hs s (turns t) shown = shown
@@ -48,7 +49,8 @@ pub then_shown : {Done Then : Type 0} (wires : Type 0) (line : List ℕ) (old ne
     → IsShownAt wires line s old new heard Done → IsShownAt wires line s old new heard Then
 then_shown wires line old new heard as_done s shown = (
   shown.0,
-  λ full. shown_by wires old new heard as_done s.heard s (task s.kinds line s.session) (shown.1 full),
+  λ full. shown_by wires old new heard as_done s.heard s (task s.kinds line s.session)
+      (shown.1 full),
 )
 
 -- so an engine shows it of a line that isn't blank
@@ -94,7 +96,8 @@ hears_push wires n (y ∷ ys) l s k old between new heard is before shown took =
 -- ---- ends
 
 -- no line was begun and not done
-pub nothing_last : (wires : Type 0) (ended : Result Bool EarlyEnd) (rest : List (List ℕ)) (s : Standing)
+pub nothing_last : (wires : Type 0) (ended : Result Bool EarlyEnd) (rest : List (List ℕ))
+    (s : Standing)
     (old new : DialStanding) → HearsNothing s old new → HearsLast wires ended rest s old new
 nothing_last wires (Ok refused) rest s old new none = none
 nothing_last wires (Err (Read fault)) rest s old new none = none

@@ -25,7 +25,8 @@ above n h = elim (leb_tells n max_line_bytes)
 long_blank : (line : List ℕ) → max_line_bytes < length line → is_blank line ≡ false
 long_blank line h = rw (above (length line) h) refl
 
-still_long : (line : List ℕ) → max_line_bytes < length line → max_line_bytes < length (kept_front line)
+still_long : (line : List ℕ) → max_line_bytes < length line
+    → max_line_bytes < length (kept_front line)
 still_long line h = omega (arith, length-take-le (max_line_bytes + 1) line (omega (arith, h)))
 
 kept_blank : (line : List ℕ) → is_blank (kept_front line) ≡ is_blank line
@@ -39,7 +40,8 @@ pub kept_effect : (n : ℕ) (line : List ℕ) (s : Standing)
     → line_effect n (kept_front line) s ≡ line_effect n line s
 kept_effect n line s =
     ap (λ b. cond b (no_effect s) (effect_of (meaning n (kept_front line) s))) (kept_blank line)
-    ∙ ap (λ (m : Meaning). cond (is_blank line) (no_effect s) (effect_of m)) (same_when_cut n line s)
+    ∙ ap (λ (m : Meaning). cond (is_blank line) (no_effect s) (effect_of m))
+    (same_when_cut n line s)
 
 -- so it is of a turn
 pub kept_turn : (n : ℕ) (line : List ℕ) (s next : Standing)

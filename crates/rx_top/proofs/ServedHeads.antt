@@ -55,7 +55,8 @@ stopped_as L M into c s = record {
   holds = into _ _ s.holds;
 }
 
-module _ (L M : Left) (into : (stop : Option Stop) (sure more : Commits) → L stop sure more → M stop sure more) where
+module _ (L M : Left)
+    (into : (stop : Option Stop) (sure more : Commits) → L stop sure more → M stop sure more) where
   breaks_as : (why : Stop) (c : Held) (t : Talk) (moments : List ℕ) → BreaksOff why c t moments L
       → BreaksOff why c t moments M
   breaks_as why c t moments (inl (ended, memory, served, left)) =
@@ -94,7 +95,8 @@ module _ (L M : Left) (into : (stop : Option Stop) (sure more : Commits) → L s
       given = h.given;
     }
 
-    by_as : (f : ServeFault) → HaltsBy f wires sink i c old new G L → HaltsBy f wires sink i c old new G M
+    by_as : (f : ServeFault) → HaltsBy f wires sink i c old new G L
+        → HaltsBy f wires sink i c old new G M
     by_as fault.Door h = between_as h
     by_as fault.Sink h = line_as h
     by_as (fault.Stopped why) h = within_as why h
@@ -148,8 +150,10 @@ module _
       served.0,
       served.1,
       c,
-      subst (λ (h : Held). HaveServed wires sink 1 h c served.0 old new G (λ commits. M None commits [])) same
-          (served_as wires sink (collection_of m) old new G K (λ commits. M None commits []) into c served.0
+      subst (λ (h : Held).
+          HaveServed wires sink 1 h c served.0 old new G (λ commits. M None commits [])) same
+          (served_as wires sink (collection_of m) old new G K
+          (λ commits. M None commits []) into c served.0
           served.2),
     )
 
@@ -171,7 +175,8 @@ module _
         × HaveServed wires sink 1 (collection_of m) (collection_of m') conns old new G (K m'))
         → IfErr r (λ f. HaltsAfter f connections wires sink 1 (collection_of m) old new G L)
         → ServesTo (ended_of r) wires sink name connections w old new G M
-    serves_to L K left kept (Ok m') served halts = all_served (K m') (kept m') (collection_of m') served
+    serves_to L K left kept (Ok m') served halts =
+        all_served (K m') (kept m') (collection_of m') served
     serves_to L K left kept (Err f) served halts = halted L left f halts
 
 -- ---- what the disk keeps
@@ -198,12 +203,14 @@ kept_full d old new bodies name limit sure more stop would most (inl is) k =
       sure,
       more,
       full.0,
-      subst (λ (n : ℕ). IsFull d new (bodies ++ bodies_of name sure) (bodies_of name more) would n) full.0
+      subst (λ (n : ℕ). IsFull d new (bodies ++ bodies_of name sure) (bodies_of name more) would n)
+          full.0
           full.1,
     )
 kept_full d old new bodies name limit sure more stop would most (inr memory) k = cc
 
-module _ {D : Type 0} (d : Ghosts D) (d0 d1 : D) (bodies : List (List ℕ)) (name : List ℕ) (limit : ℕ)
+module _ {D : Type 0} (d : Ghosts D) (d0 d1 : D) (bodies : List (List ℕ)) (name : List ℕ)
+    (limit : ℕ)
     (grows : GrowsLegally d d0 d1 bodies []) where
   -- nothing was served
   pub none_kept : CountsNow d d1 → (stop : Option Stop)
@@ -225,12 +232,15 @@ module _ {D : Type 0} (d : Ghosts D) (d0 d1 : D) (bodies : List (List ℕ)) (nam
     joined stop sure more left =
         let k : Keeps d d1 d2 (bodies ++ []) name limit sure more stop =
         subst (λ (n : ℕ). Keeps d d1 d2 (bodies ++ []) name n sure more stop) same_limit
-        (subst (λ (v : List ℕ). Keeps d d1 d2 (bodies ++ []) v (limit_of m) sure more stop) same_name
+        (subst (λ (v : List ℕ). Keeps d d1 d2 (bodies ++ []) v (limit_of m) sure more stop)
+        same_name
         (left told (bodies ++ []) at)) in
         let same : Keeps d d1 d2 bodies name limit sure more stop =
-        subst (λ (bs : List (List ℕ)). Keeps d d1 d2 bs name limit sure more stop) (append-nil bodies) k in
+        subst (λ (bs : List (List ℕ)). Keeps d d1 d2 bs name limit sure more stop)
+        (append-nil bodies) k in
         record {
-          moments = grows_on d d0 d1 d2 bodies [] (bodies_of name sure ++ bodies_of name more) grows k.moments;
+          moments = grows_on d d0 d1 d2 bodies []
+              (bodies_of name sure ++ bodies_of name more) grows k.moments;
           now = same.now;
           fits = same.fits;
           full = same.full;
@@ -246,9 +256,11 @@ module _ {D : Type 0} (d : Ghosts D) (d0 d1 : D) (bodies : List (List ℕ)) (nam
         → IfErr r (λ f. (sure : Commits) × (more : Commits) × (stop : Option Stop) × IsStopBy f stop
         × HasStopped d d1 d2 m stop sure more)
         → StaysLegal d d0 d2 bodies
-    legal_to (Ok m') kept left = kept_legal d d0 d2 bodies name limit kept.0 [] None (kept_too m' kept.0 kept.1)
+    legal_to (Ok m') kept left =
+        kept_legal d d0 d2 bodies name limit kept.0 [] None (kept_too m' kept.0 kept.1)
     legal_to (Err f) kept left =
-        kept_legal d d0 d2 bodies name limit left.0 left.1 left.2 (joined left.2 left.0 left.1 left.4)
+        kept_legal d d0 d2 bodies name limit left.0 left.1 left.2
+        (joined left.2 left.0 left.1 left.4)
 
     -- and a record that would end past the limit isn't there
     pub full_to : (r : Result MasterEngine ServeFault) (would most : ℕ)

@@ -136,7 +136,8 @@ over_journal (Err (Fault (fault.Stopped (Full would limit)))) h = tt
 -- ---- all connections
 
 module _
-    (wires sink : Type 0) (f0 f2 : ℕ) (name : List ℕ) (connections : ℕ) (w : World) (old new : Outside)
+    (wires sink : Type 0) (f0 f2 : ℕ) (name : List ℕ) (connections : ℕ) (w : World)
+    (old new : Outside)
     (status : ℕ) (G : List ℕ → Type 0) (L : Left)
     (has : HasServed wires sink f0 f2 name connections w old new status G L)
   where
@@ -147,7 +148,8 @@ module _
         let all = is_all has.ended (sym has.is_status ∙ is) in
         let served = subst (λ (e : Ended). ServesTo e wires sink name connections w old
         (record { talks = new.talks; written = has.before }) G L) all has.served in
-        let line = subst (λ (e : Ended). EndsWith sink f0 f2 has.before new.written (served_words e)) all
+        let line =
+        subst (λ (e : Ended). EndsWith sink f0 f2 has.before new.written (served_words e)) all
         has.line in (
           served.1,
           served.2,
@@ -172,7 +174,8 @@ stops_early (Full would most) legal fits = absurd (fits would most refl)
 
 module _
     (wires sink : Type 0) (name : List ℕ) (connections : ℕ) (w : World) (old new : Outside)
-    (G : List ℕ → Type 0) (L : Left) (fits : (would most : ℕ) → L (Some (Full would most)) [] [] → ⊥)
+    (G : List ℕ → Type 0) (L : Left)
+    (fits : (would most : ℕ) → L (Some (Full would most)) [] [] → ⊥)
   where
     pub only_unserved : (e : Ended) → (e ≡ stopped NotJournal → ⊥)
         → ServesTo e wires sink name connections w old new G L → is_served name w ≡ false

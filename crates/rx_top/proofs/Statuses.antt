@@ -78,7 +78,8 @@ is_sink (Err (Work NotJournal)) h = absurd (omega (arith, h))
 is_sink (Err (Work (Full would limit))) h = absurd (omega (arith, h))
 is_sink (Err (Read fault.TooLong)) h = absurd (omega (arith, h))
 
-pub is_memory : (e : Result Bool EarlyEnd) → status_of e ≡ 6 → (e ≡ Err (Work Memory)) ⊎ (e ≡ Err (Read fault.Memory))
+pub is_memory : (e : Result Bool EarlyEnd) → status_of e ≡ 6
+    → (e ≡ Err (Work Memory)) ⊎ (e ≡ Err (Read fault.Memory))
 is_memory (Ok false) h = absurd (omega (arith, h))
 is_memory (Ok true) h = absurd (omega (arith, h))
 is_memory (Err (Work Disk)) h = absurd (omega (arith, h))
@@ -102,7 +103,8 @@ is_not_journal (Err (Work NotJournal)) h = refl
 is_not_journal (Err (Work (Full would limit))) h = absurd (omega (arith, h))
 is_not_journal (Err (Read fault.TooLong)) h = absurd (omega (arith, h))
 
-pub is_full : (e : Result Bool EarlyEnd) → status_of e ≡ 8 → (would : ℕ) × (limit : ℕ) × (e ≡ Err (Work (Full would limit)))
+pub is_full : (e : Result Bool EarlyEnd) → status_of e ≡ 8
+    → (would : ℕ) × (limit : ℕ) × (e ≡ Err (Work (Full would limit)))
 is_full (Ok false) h = absurd (omega (arith, h))
 is_full (Ok true) h = absurd (omega (arith, h))
 is_full (Err (Work Disk)) h = absurd (omega (arith, h))
@@ -164,15 +166,19 @@ unlike n low a b c d (inr (inr (inr (inr h)))) = absurd (d h)
 
 pub over_journal : (e : Result Bool EarlyEnd) → IsOverJournal (status_of e) → NeedsJournal e
 over_journal (Ok refused) h = tt
-over_journal (Err (Work Disk)) h = unlike 3 (omega arith) (λ e. omega (arith, e)) (λ e. omega (arith, e))
+over_journal (Err (Work Disk)) h =
+    unlike 3 (omega arith) (λ e. omega (arith, e)) (λ e. omega (arith, e))
     (λ e. omega (arith, e)) (λ e. omega (arith, e)) h
 over_journal (Err (Read fault.Failed)) h = tt
 over_journal (Err Sink) h = tt
-over_journal (Err (Work Memory)) h = unlike 6 (omega arith) (λ e. omega (arith, e)) (λ e. omega (arith, e))
+over_journal (Err (Work Memory)) h =
+    unlike 6 (omega arith) (λ e. omega (arith, e)) (λ e. omega (arith, e))
     (λ e. omega (arith, e)) (λ e. omega (arith, e)) h
-over_journal (Err (Read fault.Memory)) h = unlike 6 (omega arith) (λ e. omega (arith, e)) (λ e. omega (arith, e))
+over_journal (Err (Read fault.Memory)) h =
+    unlike 6 (omega arith) (λ e. omega (arith, e)) (λ e. omega (arith, e))
     (λ e. omega (arith, e)) (λ e. omega (arith, e)) h
-over_journal (Err (Work NotJournal)) h = unlike 7 (omega arith) (λ e. omega (arith, e)) (λ e. omega (arith, e))
+over_journal (Err (Work NotJournal)) h =
+    unlike 7 (omega arith) (λ e. omega (arith, e)) (λ e. omega (arith, e))
     (λ e. omega (arith, e)) (λ e. omega (arith, e)) h
 over_journal (Err (Work (Full would limit))) h = tt
 over_journal (Err (Read fault.TooLong)) h = tt
@@ -195,7 +201,8 @@ legal_now bodies c s =
           (record { stands = s.stands; short = s.short; plays = s.legal; sound = s.sound }),
     )
 
-pub no_line : (f0 f2 : ℕ) (a b : List ℕ) → (b ≡ a ++ []) ⊎ (WritesFront a b [] × Rises f0 f2) → b ≡ a
+pub no_line : (f0 f2 : ℕ) (a b : List ℕ) → (b ≡ a ++ []) ⊎ (WritesFront a b [] × Rises f0 f2)
+    → b ≡ a
 no_line f0 f2 a b (inl e) = e ∙ append-nil a
 no_line f0 f2 a b (inr f) =
     f.0.3 ∙ ap (λ v. a ++ v) (none_before f.0.0 f.0.1 f.0.2) ∙ append-nil a
@@ -229,29 +236,34 @@ module _
     all_done : (r : Bool) (end : Ended (Ok r)) → end.0.done ≡ lines input
     all_done r end =
         let run = end.0 in
-        sym (run.whole ∙ ap (λ (v : List (List ℕ)). run.done ++ v) run.reads.0 ∙ append-nil run.done)
+        sym (run.whole ∙ ap (λ (v : List (List ℕ)). run.done ++ v) run.reads.0
+        ∙ append-nil run.done)
 
     pub status_tells : status < 2
         → status ≡ cond (any_refused line_effect 1 (lines input) (opened kinds heard w)) 1 0
     status_tells low =
         let p = played low in
         p.1 ∙ ap (λ b. cond b 1 0) (p.2.0.reads.1
-        ∙ ap (λ (v : List (List ℕ)). any_refused line_effect 1 v (opened kinds heard w)) (all_done p.0 p.2))
+        ∙ ap (λ (v : List (List ℕ)). any_refused line_effect 1 v (opened kinds heard w))
+        (all_done p.0 p.2))
 
-    pub wrote_transcript : status < 2 → tells → w2 ≡ w0 ++ transcript (lines input) (opened kinds heard w)
+    pub wrote_transcript : status < 2 → tells
+        → w2 ≡ w0 ++ transcript (lines input) (opened kinds heard w)
     wrote_transcript low t =
         let p = played low in
         no_line f0 f2 has.before w2 (p.2.1 t) ∙ p.2.0.writes t
         ∙ ap (λ (v : List (List ℕ)). w0 ++ transcript v (opened kinds heard w)) (all_done p.0 p.2)
 
-    pub turns_kept : status < 2 → EachLine line_effect HoldsOfTurn 1 (lines input) (opened kinds heard w)
+    pub turns_kept : status < 2
+        → EachLine line_effect HoldsOfTurn 1 (lines input) (opened kinds heard w)
     turns_kept low =
         let p = played low in
         subst (λ (v : List (List ℕ)). EachLine line_effect HoldsOfTurn 1 v (opened kinds heard w))
         (all_done p.0 p.2) p.2.0.each
 
     -- what was kept of all lines
-    pub kept_of_all : status < 2 → (r : Bool) × (rest : List (List ℕ)) × Kept (Ok r) (lines input) rest
+    pub kept_of_all : status < 2
+        → (r : Bool) × (rest : List (List ℕ)) × Kept (Ok r) (lines input) rest
     kept_of_all low =
         let p = played low in (
           p.0,
@@ -263,11 +275,13 @@ module _
 
     stops : (had line : List ℕ) → (tells → has.before ≡ w0 ++ had)
         → EndsWith tells f0 f2 has.before w2 line → Stops tells f0 f2 w0 w2 had line
-    stops had line is ends = stops_told tells f0 f0 f2 w0 has.before w2 had line (omega arith) is ends
+    stops had line is ends =
+        stops_told tells f0 f0 f2 w0 has.before w2 had line (omega arith) is ends
 
     pub read : status ≡ 4
         → (given : List ℕ) × (input ≡ given ++ left)
-        × Stops tells f0 f2 w0 w2 (transcript (cut given).whole (opened kinds heard w)) (stop_line (codes "read"))
+        × Stops tells f0 f2 w0 w2 (transcript (cut given).whole (opened kinds heard w))
+        (stop_line (codes "read"))
     read is =
         let end = ended_as (Err (Read fault.Failed)) (is_read has.ended (sym has.is_status ∙ is)) in
         let reads = end.0.reads in (
@@ -281,10 +295,12 @@ module _
 
     pub too_long : status ≡ 9
         → (given : List ℕ) × (input ≡ given ++ left) × (length given ≡ max_input_bytes + 1)
-        × Stops tells f0 f2 w0 w2 (transcript (cut (take max_input_bytes given)).whole (opened kinds heard w))
+        × Stops tells f0 f2 w0 w2
+        (transcript (cut (take max_input_bytes given)).whole (opened kinds heard w))
         (stop_line (codes "too_long"))
     too_long is =
-        let end = ended_as (Err (Read fault.TooLong)) (is_too_long has.ended (sym has.is_status ∙ is)) in
+        let end =
+        ended_as (Err (Read fault.TooLong)) (is_too_long has.ended (sym has.is_status ∙ is)) in
         let reads = end.0.reads in (
           reads.0,
           reads.1,
@@ -296,7 +312,8 @@ module _
               end.1,
         )
 
-    pub sink : status ≡ 5 → tells → WritesFront w0 w2 (transcript (lines input) (opened kinds heard w))
+    pub sink : status ≡ 5 → tells
+        → WritesFront w0 w2 (transcript (lines input) (opened kinds heard w))
     sink is t =
         let end = ended_as (Err Sink) (is_sink has.ended (sym has.is_status ∙ is)) in
         let run = end.0 in
@@ -306,7 +323,8 @@ module _
           front.0,
           front.1 ++ more,
           ap (λ (v : List (List ℕ)). transcript v (opened kinds heard w)) run.whole
-              ∙ replies-append line_effect 1 run.done run.rest (opened kinds heard w) ∙ ap (λ v. v ++ more) front.2
+              ∙ replies-append line_effect 1 run.done run.rest (opened kinds heard w)
+              ∙ ap (λ v. v ++ more) front.2
               ∙ append_assoc front.0 front.1 more,
           no_line f0 f2 has.before w2 (end.1 t) ∙ front.3,
         )
@@ -319,7 +337,8 @@ module _
       end.0.done,
       end.0.rest,
       end.0.whole,
-      stops (transcript end.0.done (opened kinds heard w)) (last_words (Err (Work why))) end.0.writes end.1,
+      stops (transcript end.0.done (opened kinds heard w))
+          (last_words (Err (Work why))) end.0.writes end.1,
     )
 
     pub disk : status ≡ 3 → Stopped (stop_line (codes "disk"))
@@ -341,7 +360,8 @@ module _
           end.0.done,
           end.0.rest,
           end.0.whole,
-          stops (transcript end.0.done (opened kinds heard w)) (stop_line (codes "memory")) end.0.writes end.1,
+          stops (transcript end.0.done (opened kinds heard w))
+              (stop_line (codes "memory")) end.0.writes end.1,
         )
 
     -- the limit, and what was kept then
@@ -358,20 +378,23 @@ module _
           end.0.rest,
           end.0.whole,
           end.0.kept,
-          stops (transcript end.0.done (opened kinds heard w)) (full_line why.0 why.1) end.0.writes end.1,
+          stops (transcript end.0.done (opened kinds heard w))
+              (full_line why.0 why.1) end.0.writes end.1,
         )
 
 -- ---- what is kept
 
 module _
-    (kinds : Kinds) (heard : List Heard) {D : Type 0} (d : Ghosts D) (old new : D) (bodies : List (List ℕ)) (w : World)
+    (kinds : Kinds) (heard : List Heard) {D : Type 0} (d : Ghosts D) (old new : D)
+    (bodies : List (List ℕ)) (w : World)
     (limit : ℕ)
   where
     -- a record that is due next would end past the limit
     abbrev Past : List (List ℕ) → List (List ℕ) → ℕ → Type 0
     Past done rest would =
         ((done ≡ []) × IsFull d new bodies (epoch_body w ∷ []) would limit)
-        ⊎ IsFull d new (bodies ++ run_bodies kinds heard w done) (due_after kinds heard w done rest) would limit
+        ⊎ IsFull d new (bodies ++ run_bodies kinds heard w done)
+        (due_after kinds heard w done rest) would limit
 
     pub past : (would most : ℕ) (done rest : List (List ℕ))
         → KeepsRun kinds heard d old new bodies w limit (Err (Work (Full would most))) done rest
@@ -397,12 +420,14 @@ module _
     {kinds : Kinds} {heard : List Heard} {wires : Type 0} {n0 n2 : DialStanding} {D : Type 0}
     (d : Ghosts D) (old new : D) (tells : Type 0) (f0 f2 : ℕ) (w0 w2 : List ℕ)
     (bodies : List (List ℕ)) (w : World) (input left : List ℕ) (limit status : ℕ)
-    (has : HasRun kinds heard wires n0 n2 tells f0 f2 w0 w2 w input left status (KeepsRun kinds heard d old new bodies w limit))
+    (has : HasRun kinds heard wires n0 n2 tells f0 f2 w0 w2 w input left status
+    (KeepsRun kinds heard d old new bodies w limit))
   where
     -- a run that was played has all of its chunks
     keeps_all : status < 2
         → (r : Bool) × (rest : List (List ℕ))
-        × Keeps d old new bodies (run_chunks kinds heard w (lines input)) (due_after kinds heard w (lines input) rest) limit
+        × Keeps d old new bodies (run_chunks kinds heard w (lines input))
+        (due_after kinds heard w (lines input) rest) limit
         (stop_of (Ok r))
     keeps_all low =
         let all = kept_of_all tells f0 f2 w0 w2 w input left status _ has low in
@@ -411,7 +436,8 @@ module _
     pub kept : status < 2 → (c : List ℕ) → d.image new c
         → (after : World) × IsLegalFile c (bodies ++ run_bodies kinds heard w (lines input)) after
     kept low c here =
-        legal_now (bodies ++ run_bodies kinds heard w (lines input)) c ((keeps_all low).2.sure c here)
+        legal_now (bodies ++ run_bodies kinds heard w (lines input)) c
+        ((keeps_all low).2.sure c here)
 
     pub fits : status < 2 → end_of (bodies ++ run_bodies kinds heard w (lines input)) ≤ limit
     fits low = ⊎_elim (λ none. cc) (λ le. le) (keeps_all low).2.fits
@@ -427,5 +453,6 @@ module _
           f.3,
           f.0,
           record { whole = f.4; past = p.1 },
-          subst (λ (n : ℕ). Stops tells f0 f2 w0 w2 (transcript f.2 (opened kinds heard w)) (full_line f.0 n)) p.0 f.6,
+          subst (λ (n : ℕ). Stops tells f0 f2 w0 w2 (transcript f.2 (opened kinds heard w))
+              (full_line f.0 n)) p.0 f.6,
         )

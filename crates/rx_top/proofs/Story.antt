@@ -140,7 +140,8 @@ module _ {S : Type 0} (step : Step S) where
       ap (λ v. now.refused || v) (refused-push (n + 1) ys l now.next k (omega (arith, is)))
       ∙ sym (or_assoc now.refused (any_refused step (n + 1) ys now.next) _)
 
-  pub each-push : (P : ℕ → List ℕ → S → S → Type 0) (n : ℕ) (ls : List (List ℕ)) (l : List ℕ) (s : S)
+  pub each-push : (P : ℕ → List ℕ → S → S → Type 0) (n : ℕ) (ls : List (List ℕ)) (l : List ℕ)
+      (s : S)
       (k : ℕ) → k ≡ n + length ls → EachLine step P n ls s
       → P k l (state_after step n ls s) (step k l (state_after step n ls s)).next
       → EachLine step P n (ls ++ l ∷ []) s

@@ -18,7 +18,8 @@ use Rattle.rx_top.specs.Tally.{ComesTo, meanings, summary_of, summary_text, tall
 use Rattle.rx_top.specs.declared.tally.Tally.{Tally}
 use Rattle.rx_top.proofs.Filled.{IsFilled, filled_effect}
 
-pub length-meanings : (n : ℕ) (ls : List (List ℕ)) (s : Standing) → length (meanings n ls s) ≡ length ls
+pub length-meanings : (n : ℕ) (ls : List (List ℕ)) (s : Standing)
+    → length (meanings n ls s) ≡ length ls
 length-meanings n [] s = refl
 length-meanings n (l ∷ ls) s =
     let more = length-meanings (n + 1) ls (meaning n l s).next in omega (arith, more)
@@ -70,16 +71,19 @@ tally_more ms m o emitted refused ended =
 -- of the lines no more are refused than there are
 pub refused_among : (t : Tally) (ms : List Meaning) → t ≡ tally_of ms → t.refused ≤ t.lines
 refused_among t ms is =
-    let refused : t.refused ≡ count_by (λ (m : Meaning). m.refused) ms = ap (λ (x : Tally). x.refused) is in
+    let refused : t.refused
+    ≡ count_by (λ (m : Meaning). m.refused) ms = ap (λ (x : Tally). x.refused) is in
     let lines : t.lines ≡ length ms = ap (λ (x : Tally). x.lines) is in
     omega (arith, refused, lines, count_by-le-length (λ (m : Meaning). m.refused) ms)
 
-session_in : (kinds : Kinds) (hs : List Heard) (e : Engine) → (standing_of kinds hs e).session ≡ session_of e
+session_in : (kinds : Kinds) (hs : List Heard) (e : Engine)
+    → (standing_of kinds hs e).session ≡ session_of e
 unfolding standing_of
 session_in kinds hs e = refl
 
 -- what an engine comes to that lines led to
-pub comes_to : (kinds : Kinds) (hs : List Heard) (engine : Engine) (t : Tally) (lines : List (List ℕ))
+pub comes_to : (kinds : Kinds) (hs : List Heard) (engine : Engine) (t : Tally)
+    (lines : List (List ℕ))
     (s : Standing) → t ≡ tally_of (meanings 1 lines s)
     → standing_of kinds hs engine ≡ state_after line_effect 1 lines s → ComesTo lines s engine t
 comes_to kinds hs engine t lines s tally after = record {
@@ -94,7 +98,8 @@ pub summed_up : (engine : Engine) (script : List (List ℕ)) (t : Tally) (first 
     → text ≡ summary_text t (session_of engine).world → text ≡ summary_of script s
 summed_up engine script t first s text begun comes told =
     let began : Standing → List ℕ = λ x.
-    summary_text (tally_of (meanings 1 script x)) (state_after line_effect 1 script x).session.world in
+    summary_text (tally_of (meanings 1 script x))
+    (state_after line_effect 1 script x).session.world in
     told ∙ ap (λ (x : Tally). summary_text x (session_of engine).world) comes.tally
     ∙ ap (λ (w : World). summary_text (tally_of (meanings 1 script first)) w) comes.world
     ∙ ap began begun

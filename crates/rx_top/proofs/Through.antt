@@ -53,7 +53,8 @@ pub record Through
       → end_of bodies ≤ limit_of first
       → Kept d d0 d1 bodies (chunks line_effect 1 done s0) (limit_of first)
 
-pub begins : (s : Standing) {D : Type 0} (d : Ghosts D) (wires : Type 0) (disk : D) (dial : DialStanding)
+pub begins : (s : Standing) {D : Type 0} (d : Ghosts D) (wires : Type 0) (disk : D)
+    (dial : DialStanding)
     (first : Engine) (lines : List (List ℕ)) → (d.tells → OnlyNow d disk)
     → Through s s d wires disk disk dial dial first first lines lines
     (record { lines = 0; emissions = 0; refused = 0; end = None })
@@ -93,7 +94,8 @@ does_as P Q f does = record {
 }
 
 module _
-    (s0 s1 : Standing) {D : Type 0} (d : Ghosts D) (wires : Type 0) (d0 d1 : D) (n0 n1 : DialStanding)
+    (s0 s1 : Standing) {D : Type 0} (d : Ghosts D) (wires : Type 0) (d0 d1 : D)
+    (n0 n1 : DialStanding)
     (first engine : Engine) (lines left : List (List ℕ)) (t : Tally)
     (a : Through s0 s1 d wires d0 d1 n0 n1 first engine lines left t)
   where
@@ -103,7 +105,8 @@ module _
     -- how the play ends, and what the disk keeps then
     abbrev Ends : D → DialStanding → Option Stop → Type 0
     Ends d2 n2 stop =
-        DoesLines lines stop (HearsAll wires s0 n0 n2 (as_run stop)) (KeepsFrom s0 d d0 d2 first (as_run stop))
+        DoesLines lines stop (HearsAll wires s0 n0 n2 (as_run stop))
+        (KeepsFrom s0 d d0 d2 first (as_run stop))
 
     pub all_done : s1.heard ≡ [] → left ≡ [] → (d.tells → OnlyNow d d1) → Ends d1 n1 None
     all_done unheard none only_now = record {
@@ -129,7 +132,8 @@ module _
         (λ c since. leaves_at d d1 engine before next (a.at told bodies at) c (only c since))
 
     -- memory ran out between two lines
-    pub memory_out : (d.tells → OnlyNow d d1) → (d.tells → CountsNow d d1) → Ends d1 n1 (Some Memory)
+    pub memory_out : (d.tells → OnlyNow d d1) → (d.tells → CountsNow d d1)
+        → Ends d1 n1 (Some Memory)
     memory_out only_now counts_now = record {
       done = a.done;
       rest = left;
@@ -150,7 +154,8 @@ module _
     pub within : (most : ℕ) → length lines ≤ most → t.lines + length left ≤ most
     within most few = omega (arith, few, count, ap length a.whole, length-append a.done left)
 
-    module _ (l : List ℕ) (left' : List (List ℕ)) (next : left ≡ l ∷ left') (filled : All IsFilled lines) where
+    module _ (l : List ℕ) (left' : List (List ℕ)) (next : left ≡ l ∷ left')
+        (filled : All IsFilled lines) where
       abbrev m : Meaning
       m = meaning (t.lines + 1) l s1
 
@@ -173,7 +178,8 @@ module _
           ∙ ap (λ (x : Effect Standing). cs ++ x.bodies ∷ []) does
 
       due : bodies_of m.records
-          ≡ next_chunk line_effect (length a.done + 1) (l ∷ left') (state_after line_effect 1 a.done s0)
+          ≡ next_chunk line_effect (length a.done + 1) (l ∷ left')
+          (state_after line_effect 1 a.done s0)
       due =
           let e : t.lines + 1 ≡ length a.done + 1 = omega (arith, count) in
           ap (λ (x : Effect Standing). x.bodies) (sym does)
@@ -228,7 +234,8 @@ module _
           → Answers kinds later m engine' o → s1.heard ≡ heard ++ later
           → IsShownAt wires l s1 n1 n2 heard (Unit {0}) → IsSafe d2 (Ok (engine', o))
           → (d.tells → OnlyNow d d2)
-          → Through s0 (standing_of kinds later engine') d wires d0 d2 n0 n2 first engine' lines left'
+          → Through s0
+          (standing_of kinds later engine') d wires d0 d2 n0 n2 first engine' lines left'
           (with_line t o)
       line_done kinds heard later d2 n2 engine' o limit answers took shown safe only_now = record {
         done = a.done ++ l ∷ [];
@@ -276,11 +283,13 @@ module _
               ≡ bodies ++ all_of (chunks line_effect 1 (a.done ++ l ∷ []) s0)
           together bodies =
               append_assoc bodies (all_of cs) (bodies_of m.records)
-              ∙ ap (λ (bs : List (List ℕ)). bodies ++ bs) (sym (all_of-push cs (bodies_of m.records)))
+              ∙ ap (λ (bs : List (List ℕ)). bodies ++ bs)
+              (sym (all_of-push cs (bodies_of m.records)))
               ∙ ap (λ (ds : List (List (List ℕ))). bodies ++ all_of ds) (sym chunks_line)
 
 -- what an engine and a tally come to where no line is left
-pub all_so : (kinds : Kinds) (s0 : Standing) {D : Type 0} (d : Ghosts D) (wires : Type 0) (d0 d1 : D)
+pub all_so : (kinds : Kinds) (s0 : Standing) {D : Type 0} (d : Ghosts D) (wires : Type 0)
+    (d0 d1 : D)
     (n0 n1 : DialStanding) (first engine : Engine) (lines left : List (List ℕ)) (t : Tally)
     → Through s0 (standing_of kinds [] engine) d wires d0 d1 n0 n1 first engine lines left t
     → left ≡ [] → ComesTo lines s0 engine t

@@ -39,7 +39,8 @@ of_text (Err why) P text is same p = cc
 
 -- the same of a text that is the report of some world
 pub of_report : (r : Result (String Global) Stop) (P : List ℕ → Type 0) → result_err r ≡ None
-    → IfOk r (λ t. (w : World) × (last : ℕ) × (records : ℕ) × (string_bytes t ≡ report_of w last records))
+    → IfOk r (λ t. (w : World) × (last : ℕ) × (records : ℕ)
+    × (string_bytes t ≡ report_of w last records))
     → P (text_in r) → (w : World) × (last : ℕ) × (records : ℕ) × P (report_of w last records)
 of_report (Ok t) P is told p = (told.0, told.1, told.2, subst P told.3 p)
 of_report (Err why) P is told p = cc
@@ -142,7 +143,8 @@ module _ (tells : Type 0) (f0 f1 : ℕ) (w0 w1 : List ℕ) (status : ℕ) where
 
   -- a stop, by its status
   stopped_by : (stop : Option Stop) (text : List ℕ) → Told stop text → (status ≡ 0 → ⊥)
-      → (status ≡ 5 → ⊥) → (why : Stop) → ((found : Stop) → stop_status found ≡ status → found ≡ why)
+      → (status ≡ 5 → ⊥) → (why : Stop)
+      → ((found : Stop) → stop_status found ≡ status → found ≡ why)
       → (stop ≡ Some why) × Ends (stop_words why)
   stopped_by stop text w some more why only =
       let s = stopped stop text w some more in

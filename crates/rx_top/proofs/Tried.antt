@@ -35,7 +35,8 @@ use Rattle.rx_top.proofs.Through.{does_as}
 use Rattle.rx_top.proofs.Told as by
 
 -- a trial, from its play and what was told of it
-pub has_tried : (wires : Type 0) (n0 n1 : DialStanding) (tells : Type 0) (f0 f1 : ℕ) (w0 w1 : List ℕ)
+pub has_tried : (wires : Type 0) (n0 n1 : DialStanding) (tells : Type 0) (f0 f1 : ℕ)
+    (w0 w1 : List ℕ)
     (status : ℕ) (r : Result (String Global) Stop) (lines : List (List ℕ)) (s : Standing)
     (Kept : Option Stop → List (List ℕ) → List (List ℕ) → Type 0)
     → DoesLines lines (result_err r) (HearsAll wires s n0 n1 (as_run (result_err r)))
@@ -51,7 +52,8 @@ has_tried wires n0 n1 tells f0 f1 w0 w1 status r lines s Kept does summed told =
 }
 
 -- no line was done
-pub none_done : (wires : Type 0) (dial : DialStanding) (s : Standing) (why : Stop) (lines : List (List ℕ))
+pub none_done : (wires : Type 0) (dial : DialStanding) (s : Standing) (why : Stop)
+    (lines : List (List ℕ))
     (Kept : List (List ℕ) → List (List ℕ) → Type 0) → s.heard ≡ [] → Kept [] lines
     → DoesLines lines (Some why) (HearsAll wires s dial dial (as_run (Some why))) Kept
 none_done wires dial s why lines Kept none kept = record {
@@ -66,10 +68,12 @@ none_done wires dial s why lines Kept none kept = record {
 -- lines were done from an engine on, of which it is known where it began
 pub from_begun : {lines played : List (List ℕ)} {stop : Option Stop} (wires : Type 0)
     (n0 n1 : DialStanding) {first s : Standing} {P : List (List ℕ) → List (List ℕ) → Type 0}
-    → played ≡ lines → first ≡ s → DoesLines played stop (HearsAll wires first n0 n1 (as_run stop)) P
+    → played ≡ lines → first ≡ s
+    → DoesLines played stop (HearsAll wires first n0 n1 (as_run stop)) P
     → DoesLines lines stop (HearsAll wires s n0 n1 (as_run stop)) (λ done rest. ⊤)
 from_begun {played = played} {stop = stop} wires n0 n1 {s = s} same begun does =
-    subst (λ (v : List (List ℕ)). DoesLines v stop (HearsAll wires s n0 n1 (as_run stop)) (λ done rest. ⊤))
+    subst (λ (v : List (List ℕ)).
+    DoesLines v stop (HearsAll wires s n0 n1 (as_run stop)) (λ done rest. ⊤))
     same
     (subst (λ (x : Standing).
     DoesLines played stop (HearsAll wires x n0 n1 (as_run stop)) (λ done rest. ⊤)) begun
@@ -135,7 +139,8 @@ module _
     -- the same with what the dial shows
     abbrev pub Does : DialStanding → DialStanding → List (List ℕ) → Option Stop → Type 0
     Does n0 n1 lines stop =
-        DoesLines lines stop (HearsAll wires (opened kinds heard w) n0 n1 (as_run stop)) (KeepsTrial stop)
+        DoesLines lines stop (HearsAll wires (opened kinds heard w) n0 n1 (as_run stop))
+        (KeepsTrial stop)
 
     -- the journal wasn't opened
     pub unopened : (dial : DialStanding) (why : Stop) (lines : List (List ℕ)) → heard ≡ []
@@ -150,7 +155,8 @@ module _
         safe.full only start)
 
     -- it was, and the lines were played from there
-    pub from_opened : (n0 n1 : DialStanding) (mid : D) (first : Engine) (lines played : List (List ℕ))
+    pub from_opened : (n0 n1 : DialStanding) (mid : D) (first : Engine)
+        (lines played : List (List ℕ))
         (stop : Option Stop) → played ≡ lines → IsStart d old bodies w
         → IsCrashSafe d old mid bodies (epoch_body w ∷ []) limit
         (λ (e : Engine) (bs : List (List ℕ)). IsAt d mid e bs) (Ok first)
@@ -161,16 +167,20 @@ module _
     from_opened n0 n1 mid first lines played stop same start safe same_limit begun t does =
         let s = standing_of kinds heard first in
         subst (λ (v : List (List ℕ)). Does n0 n1 v stop) same
-        (subst (λ (x : Standing). DoesLines played stop (HearsAll wires x n0 n1 (as_run stop)) (KeepsTrial stop))
+        (subst (λ (x : Standing).
+        DoesLines played stop (HearsAll wires x n0 n1 (as_run stop)) (KeepsTrial stop))
         begun
         (does_as _ _
-        (λ done rest kept. played_keeps kinds heard d bodies w limit old mid new first (as_run stop) done
-        rest (safe.moments start.alike) (⊎_elim (λ none. cc) (λ le. le) safe.fits) same_limit s begun
+        (λ done rest kept.
+        played_keeps kinds heard d bodies w limit old mid new first (as_run stop) done
+        rest (safe.moments start.alike)
+        (⊎_elim (λ none. cc) (λ le. le) safe.fits) same_limit s begun
         safe.at t kept)
         does))
 
     kept_whole : (done rest : List (List ℕ)) → KeepsTrial None done rest
-        → Keeps d old new bodies (run_chunks kinds heard w done) (due_after kinds heard w done rest) limit None
+        → Keeps d old new bodies (run_chunks kinds heard w done)
+        (due_after kinds heard w done rest) limit None
     kept_whole done rest (inl un) = absurd (un.0 tt)
     kept_whole done rest (inr keeps) = keeps
 
@@ -187,21 +197,24 @@ module _
     all_kept : {Shown : List (List ℕ) → List (List ℕ) → Type 0} (stop : Option Stop)
         (lines : List (List ℕ)) → stop ≡ None → DoesLines lines stop Shown (KeepsTrial stop)
         → (rest : List (List ℕ))
-        × Keeps d old new bodies (run_chunks kinds heard w lines) (due_after kinds heard w lines rest) limit None
+        × Keeps d old new bodies (run_chunks kinds heard w lines)
+        (due_after kinds heard w lines rest) limit None
     all_kept None lines is does =
         let whole : lines ≡ does.done =
         does.whole ∙ ap (λ (v : List (List ℕ)). does.done ++ v) (does.all refl)
         ∙ append-nil does.done in (
           does.rest,
           subst (λ (v : List (List ℕ)).
-              Keeps d old new bodies (run_chunks kinds heard w v) (due_after kinds heard w v does.rest) limit None)
+              Keeps d old new bodies (run_chunks kinds heard w v)
+              (due_after kinds heard w v does.rest) limit None)
               (sym whole) (kept_whole does.done does.rest does.kept),
         )
     all_kept (Some why) lines is does = cc
 
     module _
         (n0 n1 : DialStanding) (tells : Type 0) (f0 f1 : ℕ) (w0 w1 : List ℕ) (lines : List (List ℕ))
-        (status : ℕ) (has : HasTried wires n0 n1 tells f0 f1 w0 w1 lines (opened kinds heard w) status KeepsTrial)
+        (status : ℕ) (has : HasTried wires n0 n1 tells f0 f1 w0 w1 lines
+        (opened kinds heard w) status KeepsTrial)
       where
         abbrev summary : List ℕ
         summary = summary_of lines (opened kinds heard w)
@@ -218,7 +231,8 @@ module _
 
         whole : (status ≡ 0) ⊎ (status ≡ 5)
             → (rest : List (List ℕ))
-            × Keeps d old new bodies (run_chunks kinds heard w lines) (due_after kinds heard w lines rest) limit None
+            × Keeps d old new bodies (run_chunks kinds heard w lines)
+            (due_after kinds heard w lines rest) limit None
         whole is = all_kept has.stop lines
             (by.unstopped tells f0 f1 w0 w1 status has.stop summary has.told is) has.does
 
@@ -227,7 +241,8 @@ module _
         kept is c here =
             legal_now (bodies ++ run_bodies kinds heard w lines) c ((whole is).1.sure c here)
 
-        pub fits : (status ≡ 0) ⊎ (status ≡ 5) → end_of (bodies ++ run_bodies kinds heard w lines) ≤ limit
+        pub fits : (status ≡ 0) ⊎ (status ≡ 5)
+            → end_of (bodies ++ run_bodies kinds heard w lines) ≤ limit
         fits is = ⊎_elim (λ none. cc) (λ le. le) (whole is).1.fits
 
         -- a record was due that didn't fit

@@ -108,7 +108,8 @@ module _ (s : Standing) {D : Type 0} (d : Ghosts D) (e : Engine) (n : ℕ) (line
       → IsSafe old new bodies (Ok (pair.0, now))
   done_safe old new bodies pair now full safe =
       subst (λ (m : Effect Standing).
-      IsCrashSafe d old new bodies m.bodies (limit_of e) (HasAll d new) (Ok (Some pair.0))) (does full)
+      IsCrashSafe d old new bodies m.bodies (limit_of e) (HasAll d new) (Ok (Some pair.0)))
+      (does full)
       (record {
         moments = safe.moments;
         at = safe.at;
@@ -144,7 +145,8 @@ module _ (kinds : Kinds) (wires k_tells : Type 0) {D : Type 0} (d : Ghosts D) (e
   as_blank : {X : Type 0} (pick : Effect Standing → X) (heard : List Heard) → is_blank line ≡ true
       → pick (no_effect (standing heard)) ≡ pick (does_for heard)
   as_blank pick heard blank =
-      ap (λ b. pick (cond b (no_effect (standing heard)) (effect_of (meaning n line (standing heard)))))
+      ap (λ b.
+      pick (cond b (no_effect (standing heard)) (effect_of (meaning n line (standing heard)))))
       (sym blank)
 
   -- a blank line
@@ -167,7 +169,8 @@ module _ (kinds : Kinds) (wires k_tells : Type 0) {D : Type 0} (d : Ghosts D) (e
     shown = λ later other. (λ is. (refl, refl), λ full. absurd (true≢false (sym blank ∙ full)));
   }
     where
-      blank_later : (later : List Heard) → is_blank line ≡ true → (does_for later).next.heard ≡ later
+      blank_later : (later : List Heard) → is_blank line ≡ true
+          → (does_for later).next.heard ≡ later
       blank_later later blank = sym (as_blank (λ (m : Effect Standing). m.next.heard) later blank)
 
   module _ (old new : D) (dial dial' : DialStanding) (full : is_blank line ≡ false) where
@@ -265,7 +268,8 @@ module _ (kinds : Kinds) (wires k_tells : Type 0) {D : Type 0} (d : Ghosts D) (e
           next = λ later. tt;
           refused = λ later. tt;
           told = λ later k. tt;
-          front = λ later k is. subst (λ (bs : List ℕ). WritesFront w w' bs) (reply_so later) (front k);
+          front = λ later k is.
+              subst (λ (bs : List ℕ). WritesFront w w' bs) (reply_so later) (front k);
           safe = λ later told bodies at.
               sunk_safe (standing (plays.heard ++ later)) d e n line old new bodies pair full
               (plays.safe later told bodies at);

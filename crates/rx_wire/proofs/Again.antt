@@ -114,7 +114,8 @@ items_again P read key data_of again before (x ∷ xs) all distinct =
 
 -- items that each pass a test
 items_pass : {X : Type 0} (test : Data → Bool) (data_of : X → Data)
-    → ((x : X) → test (data_of x) ≡ true) → (xs : List X) → all_items test (items_of (map data_of xs)) ≡ true
+    → ((x : X) → test (data_of x) ≡ true) → (xs : List X)
+    → all_items test (items_of (map data_of xs)) ≡ true
 items_pass test data_of passes [] = refl
 items_pass test data_of passes (x ∷ xs) = rw (passes x) (items_pass test data_of passes xs)
 

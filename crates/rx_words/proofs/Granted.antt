@@ -62,7 +62,8 @@ serves_good (a ∷ b ∷ c ∷ d ∷ []) limit h =
     serve_good a b (number_within 1 65535 c) (number_within 1 1000000 d) limit h
 serves_good (a ∷ b ∷ c ∷ d ∷ e ∷ more) limit h = tt
 
-check_good : (values : List (List ℕ)) (limit : Option (List ℕ)) → IfSome (check_of values limit) HasLimit
+check_good : (values : List (List ℕ)) (limit : Option (List ℕ))
+    → IfSome (check_of values limit) HasLimit
 check_good [] limit = tt
 check_good (path ∷ []) None = tt
 check_good (path ∷ []) (Some limit) = tt
@@ -97,7 +98,8 @@ by_good name g =
     (choice HasLimit (bytes_eq name (codes "trial")) (trial_of g.values limit) None
     (λ _. trials_good g.values limit good) tt)))
 
-given_good : (name : List ℕ) (g : Option Given) → IfSome (option_and_then (command_by name) g) HasLimit
+given_good : (name : List ℕ) (g : Option Given)
+    → IfSome (option_and_then (command_by name) g) HasLimit
 given_good name None = tt
 given_good name (Some g) = by_good name g
 

@@ -31,5 +31,9 @@ returns-clause-report g c told bodies w lawful =
     c.in_ok-report.ensures ∙ (λ i. report_of (shown.0 i) (shown.2 i) (shown.1 i))
 
 pub returns-clause-somewhere : goal.returns-clause-somewhere
-returns-clause-somewhere g c =
-    (world_of c.in-Ok.looked.world, c.in-Ok.looked.end, c.in-Ok.looked.records, c.in_ok-report.ensures)
+returns-clause-somewhere g c = (
+  world_of c.in-Ok.looked.world,
+  c.in-Ok.looked.end,
+  c.in-Ok.looked.records,
+  c.in_ok-report.ensures,
+)

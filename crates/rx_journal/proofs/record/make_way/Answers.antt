@@ -7,7 +7,8 @@ use Rattle.rx_journal.proofs.record.make_way.Goals as goal
 pub returns-then-not-branch-clause-wide : goal.returns-then-not-branch-clause-wide
 returns-then-not-branch-clause-wide g c = λ told.
     let w = c.args.window.now in
-    let end = if_false c.in_ok-has_byte.field-0 _ _ c.if-not-branch.true (c.in_ok-has_byte.ensures.there told) in
+    let end = if_false c.in_ok-has_byte.field-0 _ _ c.if-not-branch.true
+    (c.in_ok-has_byte.ensures.there told) in
     ahead_short (held w) c.args.place c.args.count (g.D.Disk.content c.args.disk.now)
     (omega (arith, held_short w, c.if-count-room.false, c.room.ensures))
     (omega (arith, end, c.requires.some))
@@ -15,7 +16,8 @@ returns-then-not-branch-clause-wide g c = λ told.
 pub returns-in_err-widen-clause-memory : goal.returns-in_err-widen-clause-memory
 returns-in_err-widen-clause-memory g c = λ told is.
     let w = c.args.window.now in
-    let there = if_true c.in_ok-has_byte.field-0 _ _ c.if-not-branch.false (c.in_ok-has_byte.ensures.there told) in
+    let there = if_true c.in_ok-has_byte.field-0 _ _ c.if-not-branch.false
+    (c.in_ok-has_byte.ensures.there told) in
     omega (
       arith,
       there,
@@ -28,7 +30,8 @@ returns-in_err-widen-clause-memory g c = λ told is.
 pub returns-clause-room : goal.returns-clause-room
 returns-clause-room g c = λ told.
     let w = c.args.window.now in
-    let there = if_true c.in_ok-has_byte.field-0 _ _ c.if-not-branch.false (c.in_ok-has_byte.ensures.there told) in
+    let there = if_true c.in_ok-has_byte.field-0 _ _ c.if-not-branch.false
+    (c.in_ok-has_byte.ensures.there told) in
     omega (
       arith,
       there,

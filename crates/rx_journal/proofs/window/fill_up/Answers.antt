@@ -19,6 +19,7 @@ loop-bytes-preserved c =
       capacity = c.push_reserved.ensures.capacity ∙ inv.capacity;
       longer = omega (arith, inv.longer, c.push_reserved.ensures.len);
       kept = ap (λ (l : List ℕ). take c.args.bytes.now.len l) c.push_reserved.ensures.items
-          ∙ take-append-le c.args.bytes.now.len bytes.items (0 ∷ []) (omega (arith, inv.longer, bytes.ok.0))
+          ∙ take-append-le c.args.bytes.now.len bytes.items (0 ∷ [])
+          (omega (arith, inv.longer, bytes.ok.0))
           ∙ inv.kept;
     }

@@ -11,9 +11,14 @@ pub returns-clause-tokens : goal.returns-clause-tokens
 returns-clause-tokens c =
     let actions = json_tokens (outline (actions_data c.args.counts.now)) in
     on_ok_weaker c.end_object.result
-    (λ last. in_turn c.args.writer.now.tokens c.put_actions.new.writer.tokens c.end_object.new.self.tokens
+    (λ last. in_turn c.args.writer.now.tokens c.put_actions.new.writer.tokens
+    c.end_object.new.self.tokens
     (begin_object ∷ key (codes "actions") ∷ actions) _
-    (rw (c.in_ok-put_actions.ensures.tokens, c.in_ok-key.ensures.ok, c.in_ok-begin_object.ensures.ok)
+    (rw (
+      c.in_ok-put_actions.ensures.tokens,
+      c.in_ok-key.ensures.ok,
+      c.in_ok-begin_object.ensures.ok,
+    )
     (simp append_assoc))
     (last ∙ rw (
       c.in_ok-put_text.ensures.tokens,

@@ -10,6 +10,8 @@ use Rattle.rx_reply.proofs.explain.put_table.Given as goal
 abbrev pub invariant-loop-name : goal.invariant-loop-name
 invariant-loop-name l = record {
   before : l.writer.before ≡ l.fn.writer.before;
-  tokens : l.fn.writer.tokens ++ json_tokens (outline (object (counted_members l.counts (actions_by_name l.table))))
-      ≡ l.writer.tokens ++ of_members (counted_members l.counts (actions_by_name (drop l.name-index l.table)));
+  tokens : l.fn.writer.tokens
+      ++ json_tokens (outline (object (counted_members l.counts (actions_by_name l.table))))
+      ≡ l.writer.tokens
+      ++ of_members (counted_members l.counts (actions_by_name (drop l.name-index l.table)));
 }

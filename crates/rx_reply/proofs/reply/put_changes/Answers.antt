@@ -13,7 +13,8 @@ pub returns-clause-tokens : goal.returns-clause-tokens
 returns-clause-tokens c =
     let states = json_tokens (outline (list_data state_data (states_of c.args.docs.now))) in
     on_ok_weaker c.end_object.result
-    (λ last. in_turn c.args.writer.now.tokens c.put_states.new.writer.tokens c.end_object.new.self.tokens
+    (λ last.
+    in_turn c.args.writer.now.tokens c.put_states.new.writer.tokens c.end_object.new.self.tokens
     (begin_object ∷ key (codes "docs") ∷ states) _
     (rw (c.in_ok-put_states.ensures.tokens, c.in_ok-key.ensures.ok, c.in_ok-begin_object.ensures.ok)
     (simp append_assoc))

@@ -11,7 +11,8 @@ pub returns-clause-tokens : goal.returns-clause-tokens
 returns-clause-tokens c =
     let fields = json_tokens (outline (fields_data c.args.doc.now.state.fields)) in
     on_ok_weaker c.end_object.result
-    (λ last. in_turn c.args.writer.now.tokens c.put_fields.new.writer.tokens c.end_object.new.self.tokens
+    (λ last.
+    in_turn c.args.writer.now.tokens c.put_fields.new.writer.tokens c.end_object.new.self.tokens
     (begin_object ∷ key (codes "doc") ∷ fields) _
     (rw (c.in_ok-put_fields.ensures.tokens, c.in_ok-key.ensures.ok, c.in_ok-begin_object.ensures.ok)
     (simp append_assoc))

@@ -12,7 +12,8 @@ pub returns-clause-tokens : goal.returns-clause-tokens
 returns-clause-tokens c =
     let conflicts = json_tokens (outline (list_data string c.args.conflicts.now)) in
     on_ok_weaker c.end_object.result
-    (λ last. in_turn c.args.writer.now.tokens c.put_texts.new.writer.tokens c.end_object.new.self.tokens
+    (λ last.
+    in_turn c.args.writer.now.tokens c.put_texts.new.writer.tokens c.end_object.new.self.tokens
     (begin_object ∷ key (codes "conflicts") ∷ conflicts) _
     (rw (c.in_ok-put_texts.ensures.tokens, c.in_ok-key.ensures.ok, c.in_ok-begin_object.ensures.ok)
     (simp append_assoc))

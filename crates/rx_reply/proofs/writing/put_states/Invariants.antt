@@ -11,6 +11,7 @@ use Rattle.rx_reply.proofs.writing.put_states.Given as goal
 abbrev pub invariant-loop-document : goal.invariant-loop-document
 invariant-loop-document l = record {
   before : l.writer.before ≡ l.fn.writer.before;
-  tokens : l.fn.writer.tokens ++ json_tokens (outline (list_data state_data (states_of l.documents)))
+  tokens : l.fn.writer.tokens
+      ++ json_tokens (outline (list_data state_data (states_of l.documents)))
       ≡ l.writer.tokens ++ of_items state_data (states_of (drop l.document-index l.documents));
 }

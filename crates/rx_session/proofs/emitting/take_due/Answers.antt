@@ -20,4 +20,5 @@ returns-in-None-clause-lives c =
     let old = c.args.world.now in
     let new = c.edit-due.new.self in
     subst (λ n. holders_in new ≡ change_named (holders_in old) n with_settled) c.as_str.ensures
-    (unedited c.as_str.result.now old new with_settled c.in-None.ensures.none c.in-None.ensures.same)
+    (unedited c.as_str.result.now old new with_settled c.in-None.ensures.none
+    c.in-None.ensures.same)

@@ -16,7 +16,8 @@ pub loop-body-init : goal.loop-body-init
 loop-body-init g c =
     let is = c.new-world.ensures in
     record {
-      untouched = λ told. not_yet g.D.Disk c.args.disk.now (λ f. g.met.D.Disk.only_now c.args.disk.now f told);
+      untouched = λ told.
+          not_yet g.D.Disk c.args.disk.now (λ f. g.met.D.Disk.only_now c.args.disk.now f told);
       only_reads = λ told. refl;
       playing = λ told.
           begun (g.D.Disk.content c.args.disk.now) c.args.windows.now
@@ -30,7 +31,8 @@ loop-body-init g c =
       epoch = omega (arith, ap (λ (w : World). w.epoch) is);
       fewer = omega arith;
       size = omega arith;
-      made = none_made (λ held h. g.F.Fn.post c.args.make.now (held, tt) (Ok h)) g.H.Holder.held g.H.Holder.written
+      made = none_made (λ held h. g.F.Fn.post c.args.make.now (held, tt) (Ok h)) g.H.Holder.held
+          g.H.Holder.written
           c.new-world.result is;
       limit = refl;
       faults = omega arith;
@@ -47,7 +49,8 @@ returns-in-Ok-None-clause-counted g c = λ told.
     let now = c.next.follows.lender-at-none in
     let move : Move g.D.Disk c.loop-body.disk c.next.new.disk c.loop-body.windows now
     (λ (b : Bor (List ℕ)). b.now) (Ok None) =
-    subst (λ (r : Result (Option (Bor (List ℕ))) OpenFault). Move g.D.Disk c.loop-body.disk c.next.new.disk
+    subst (λ (r : Result (Option (Bor (List ℕ))) OpenFault).
+    Move g.D.Disk c.loop-body.disk c.next.new.disk
     c.loop-body.windows now (λ (b : Bor (List ℕ)). b.now) r)
     (c.in-Ok-None.is ∙ ap (λ o. Ok o) c.in-Ok-None.field-0-is) c.next.follows.holds-at-none in
     let here = g.D.Disk.content c.loop-body.disk in
@@ -60,14 +63,16 @@ returns-in-Ok-None-clause-counted g c = λ told.
 
 pub returns-in_err-world-clause-untouched : goal.returns-in_err-world-clause-untouched
 returns-in_err-world-clause-untouched g c = λ told.
-    read_on g.D.Disk c.args.disk.now c.loop-body.disk c.next.new.disk (c.loop-body.invariant.untouched told)
+    read_on g.D.Disk c.args.disk.now c.loop-body.disk c.next.new.disk
+    (c.loop-body.invariant.untouched told)
     (c.in-Ok-Some.ensures.untouched told)
 
 pub returns-in-Err-clause-not_journal : goal.returns-in-Err-clause-not_journal
 returns-in-Err-clause-not_journal g c = λ told is.
     let content = g.D.Disk.content c.args.disk.now in
     let same = (c.loop-body.invariant.untouched told).same in
-    not_read content c.args.windows.now c.loop-body.windows (world_in g.H.Holder.held c.loop-body.world)
+    not_read content c.args.windows.now c.loop-body.windows
+    (world_in g.H.Holder.held c.loop-body.world)
     (c.loop-body.invariant.playing told)
     (λ bodies will.
     c.in-Err.ensures.not_journal told
@@ -82,7 +87,8 @@ returns-in_err-world-clause-not_journal g c = λ told is.
     let body = c.in-Ok-Some.body in
     let move : Move g.D.Disk c.loop-body.disk c.next.new.disk c.loop-body.windows now
     (λ (b : Bor (List ℕ)). b.now) (Ok (Some body)) =
-    subst (λ (r : Result (Option (Bor (List ℕ))) OpenFault). Move g.D.Disk c.loop-body.disk c.next.new.disk
+    subst (λ (r : Result (Option (Bor (List ℕ))) OpenFault).
+    Move g.D.Disk c.loop-body.disk c.next.new.disk
     c.loop-body.windows now (λ (b : Bor (List ℕ)). b.now) r)
     (c.in-Ok-Some.is ∙ ap (λ o. Ok o) c.in-Ok-Some.field-0-is) c.next.follows.holds-at-none in
     let lends : Lends content c.loop-body.windows body.now now =
@@ -101,7 +107,8 @@ loop-body-preserved g c =
     let w' = world_in g.H.Holder.held c.in_ok-world.world in
     let move : Move g.D.Disk c.loop-body.disk c.next.new.disk c.loop-body.windows now
     (λ (b : Bor (List ℕ)). b.now) (Ok (Some body)) =
-    subst (λ (r : Result (Option (Bor (List ℕ))) OpenFault). Move g.D.Disk c.loop-body.disk c.next.new.disk
+    subst (λ (r : Result (Option (Bor (List ℕ))) OpenFault).
+    Move g.D.Disk c.loop-body.disk c.next.new.disk
     c.loop-body.windows now (λ (b : Bor (List ℕ)). b.now) r)
     (c.in-Ok-Some.is ∙ ap (λ o. Ok o) c.in-Ok-Some.field-0-is) c.next.follows.holds-at-none in
     record {
@@ -110,8 +117,10 @@ loop-body-preserved g c =
           (c.in-Ok-Some.ensures.untouched told);
       only_reads = λ told. c.in-Ok-Some.ensures.only_reads told ∙ inv.only_reads told;
       playing = λ told.
-          goes_on content c.args.windows.now c.loop-body.windows now body.now w w' (inv.playing told)
-          (subst (λ (l : List ℕ). Lends l c.loop-body.windows body.now now) (inv.untouched told).same
+          goes_on content c.args.windows.now c.loop-body.windows now body.now w w'
+          (inv.playing told)
+          (subst (λ (l : List ℕ). Lends l c.loop-body.windows body.now now)
+          (inv.untouched told).same
           (move.lends told)) c.in_ok-world.ensures.ok;
       lent = λ told first.
           played_one g.D.Disk c.loop-body.disk c.next.new.disk c.loop-body.windows now body.now w w'
@@ -132,12 +141,14 @@ loop-body-preserved g c =
 
 pub returns-in-Ok-None-clause-untouched : goal.returns-in-Ok-None-clause-untouched
 returns-in-Ok-None-clause-untouched g c = λ told.
-    read_on g.D.Disk c.args.disk.now c.loop-body.disk c.next.new.disk (c.loop-body.invariant.untouched told)
+    read_on g.D.Disk c.args.disk.now c.loop-body.disk c.next.new.disk
+    (c.loop-body.invariant.untouched told)
     (c.in-Ok-None.ensures.untouched told)
 
 pub returns-in-Err-clause-untouched : goal.returns-in-Err-clause-untouched
 returns-in-Err-clause-untouched g c = λ told.
-    read_on g.D.Disk c.args.disk.now c.loop-body.disk c.next.new.disk (c.loop-body.invariant.untouched told)
+    read_on g.D.Disk c.args.disk.now c.loop-body.disk c.next.new.disk
+    (c.loop-body.invariant.untouched told)
     (c.in-Err.ensures.untouched told)
 
 -- a search for these takes long

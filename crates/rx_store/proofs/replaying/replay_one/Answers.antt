@@ -11,7 +11,8 @@ use Rattle.rx_store.proofs.replaying.replay_one.Goals as goal
 
 pub returns-clause-made : goal.returns-clause-made
 returns-clause-made g c =
-    made_after (λ held h. g.F.Fn.post c.args.make.now (held, tt) (Ok h)) g.H.Holder.written g.H.Holder.held
+    made_after
+    (λ held h. g.F.Fn.post c.args.make.now (held, tt) (Ok h)) g.H.Holder.written g.H.Holder.held
     _ _ _ c.in_ok-apply_legal.ensures.holders c.requires.made
 
 pub returns-clause-epoch : goal.returns-clause-epoch

@@ -26,7 +26,8 @@ returns g c =
             let wrote = by.wrote tells f0 f1 w0 w1 status stop text was is k in
             record {
               here = λ t bodies w legal.
-                  by.of_text told P _ (done (inl is)) (c.check-told.ensures.report t bodies w legal) wrote;
+                  by.of_text told P _ (done (inl is))
+                  (c.check-told.ensures.report t bodies w legal) wrote;
               somewhere = by.of_report told P (done (inl is)) c.check-told.ensures.somewhere wrote;
             };
         sink_fault = λ is. (by.failed tells f0 f1 w0 w1 status stop text was is).0;
@@ -35,7 +36,8 @@ returns g c =
             let front = (by.failed tells f0 f1 w0 w1 status stop text was is).1 k in
             record {
               here = λ t bodies w legal.
-                  by.of_text told P _ (done (inr is)) (c.check-told.ensures.report t bodies w legal) front;
+                  by.of_text told P _ (done (inr is))
+                  (c.check-told.ensures.report t bodies w legal) front;
               somewhere = by.of_report told P (done (inr is)) c.check-told.ensures.somewhere front;
             };
         disk_fault = λ is. c.check-told.ensures.cause.failed
@@ -44,7 +46,8 @@ returns g c =
         memory_line = λ is. (by.memory tells f0 f1 w0 w1 status stop text was is).1;
         not_journal_line = λ is. (by.not_journal tells f0 f1 w0 w1 status stop text was is).1;
         not_journal = λ is t. c.check-told.ensures.not_journal t
-            (by.was_err told NotJournal (by.not_journal tells f0 f1 w0 w1 status stop text was is).0);
+            (by.was_err told NotJournal
+            (by.not_journal tells f0 f1 w0 w1 status stop text was is).0);
         stood = λ is t. by.ok_so told _ (done is) (c.check-told.ensures.stood t);
         untouched = c.check-told.ensures.untouched;
         statuses = by.five tells f0 f1 w0 w1 status stop text was

@@ -30,8 +30,10 @@ lines-init g c = record {
   along = (
     [],
     λ later told. begins (standing_of (kinds_of c.args.handlers.now) later c.args.first) g.D.Disk
-        g.K.Sink.tells g.N.W.Wire.tells c.args.disk.now (stands g.N.Dial c.args.dial.now) c.args.first
-        (g.K.Sink.written c.args.out.now) (g.S.Source.left c.args.source.now) c.args.reader.now.unread
+        g.K.Sink.tells g.N.W.Wire.tells c.args.disk.now
+        (stands g.N.Dial c.args.dial.now) c.args.first
+        (g.K.Sink.written c.args.out.now)
+        (g.S.Source.left c.args.source.now) c.args.reader.now.unread
         (ap (λ (r : Reading). r.unread) c.requires.fresh)
         (λ t f. g.met.D.Disk.only_now c.args.disk.now f t),
   );
@@ -57,14 +59,18 @@ returns-in-Err-clause-exit g c =
     let a = c.lines.invariant.along in
     let input = g.S.Source.left c.args.source.now in (
       a.0 ++ [],
-      λ told. reader_stopped (standing_of (kinds_of c.args.handlers.now) (a.0 ++ []) c.args.first) (standing_of (kinds_of c.args.handlers.now) [] c.lines.engine) g.D.Disk g.K.Sink.tells
+      λ told. reader_stopped (standing_of (kinds_of c.args.handlers.now) (a.0 ++ []) c.args.first)
+          (standing_of (kinds_of c.args.handlers.now) [] c.lines.engine) g.D.Disk g.K.Sink.tells
           g.N.W.Wire.tells c.args.disk.now c.lines.disk (stands g.N.Dial c.args.dial.now)
           (stands g.N.Dial c.lines.dial) c.args.first
-          c.lines.engine (g.K.Sink.written c.args.out.now) (g.K.Sink.written c.lines.out) input _ _ _
-          (a.1 [] told) (heard_in (kinds_of c.args.handlers.now) [] c.lines.engine) c.in-Err.fault (g.S.Source.left c.next.new.source)
+          c.lines.engine (g.K.Sink.written c.args.out.now)
+          (g.K.Sink.written c.lines.out) input _ _ _
+          (a.1 [] told) (heard_in (kinds_of c.args.handlers.now) [] c.lines.engine) c.in-Err.fault
+          (g.S.Source.left c.next.new.source)
           (c.in-Err.ensures.stops told) (c.in-Err.ensures.stops_long told)
           (λ is. took_on c.lines.reader.given input (g.S.Source.left c.lines.source) _
-          (λ n. n ≡ max_input_bytes + 1) (c.lines.invariant.took told) (c.in-Err.ensures.too_long told is))
+          (λ n. n ≡ max_input_bytes + 1) (c.lines.invariant.took told)
+          (c.in-Err.ensures.too_long told is))
           (λ t f. g.met.D.Disk.only_now c.lines.disk f t),
     )
 
@@ -89,7 +95,8 @@ returns-in-End-clause-exit g c =
           ++ g.S.Source.left c.lines.source)
           (c.next.new.self.unread
           ++ g.S.Source.left c.next.new.source) = rw c.in-End.is at (c.in-Ok.ensures.next told) in
-          ended (standing_of (kinds_of c.args.handlers.now) (a.0 ++ []) c.args.first) (standing_of (kinds_of c.args.handlers.now) [] c.lines.engine) g.D.Disk g.K.Sink.tells
+          ended (standing_of (kinds_of c.args.handlers.now) (a.0 ++ []) c.args.first)
+          (standing_of (kinds_of c.args.handlers.now) [] c.lines.engine) g.D.Disk g.K.Sink.tells
           g.N.W.Wire.tells c.args.disk.now c.lines.disk (stands g.N.Dial c.args.dial.now)
           (stands g.N.Dial c.lines.dial) c.args.first
           c.lines.engine (g.K.Sink.written c.args.out.now) (g.K.Sink.written c.lines.out)
@@ -125,7 +132,10 @@ returns-in-Err-play_line-clause-exit g c =
     let a = c.lines.invariant.along in
     let works = c.in-Err-play_line.ensures.works in (
       a.0 ++ (works.heard ++ []),
-      λ told. line_failed (standing_of (kinds_of c.args.handlers.now) (a.0 ++ (works.heard ++ [])) c.args.first) (standing_of (kinds_of c.args.handlers.now) (works.heard ++ []) c.lines.engine) g.D.Disk g.K.Sink.tells
+      λ told. line_failed
+          (standing_of (kinds_of c.args.handlers.now) (a.0 ++ (works.heard ++ [])) c.args.first)
+          (standing_of (kinds_of c.args.handlers.now) (works.heard ++ []) c.lines.engine) g.D.Disk
+          g.K.Sink.tells
           g.N.W.Wire.tells c.args.disk.now c.lines.disk (stands g.N.Dial c.args.dial.now)
           (stands g.N.Dial c.lines.dial) c.args.first
           c.lines.engine (g.K.Sink.written c.args.out.now) (g.K.Sink.written c.lines.out)
@@ -134,9 +144,11 @@ returns-in-Err-play_line-clause-exit g c =
           (g.K.Sink.written c.play_line.new.out) c.in-Ok.next c.line.result.now
           (c.next.new.self.unread ++ g.S.Source.left c.next.new.source) c.in_default.not-End
           (taken_as _ _ _ _ _ (sym c.line.ensures) (c.in-Ok.ensures.next told))
-          c.in-Err-play_line.cause (g.S.Source.left c.next.new.source) c.in-Err-play_line.ensures.no_read
+          c.in-Err-play_line.cause
+          (g.S.Source.left c.next.new.source) c.in-Err-play_line.ensures.no_read
           (works.front []) c.in-Err-play_line.ensures.unsaid (works.turn []) works.heard
-          (heard_in (kinds_of c.args.handlers.now) (works.heard ++ []) c.lines.engine ∙ append-nil works.heard)
+          (heard_in (kinds_of c.args.handlers.now) (works.heard ++ []) c.lines.engine
+          ∙ append-nil works.heard)
           (works.later_so []) (works.shown []) (works.unharmed []) (works.safe [])
           (λ t f. g.met.D.Disk.only_now c.play_line.new.disk f t)
           (λ t s f le now. g.met.D.Disk.counts_now c.play_line.new.disk s f t le now),
@@ -161,7 +173,8 @@ pub returns-in-Last-clause-exit : goal.returns-in-Last-clause-exit
 returns-in-Last-clause-exit g c =
     let along = c.lines.invariant.along in
     let works = c.in-Ok-play_line.ensures.works in
-    let s0 = standing_of (kinds_of c.args.handlers.now) (along.0 ++ (works.heard ++ [])) c.args.first in
+    let s0 =
+    standing_of (kinds_of c.args.handlers.now) (along.0 ++ (works.heard ++ [])) c.args.first in
     let s1 = standing_of (kinds_of c.args.handlers.now) (works.heard ++ []) c.lines.engine in (
       along.0 ++ (works.heard ++ []),
       λ told.
@@ -169,26 +182,33 @@ returns-in-Last-clause-exit g c =
           ++ g.S.Source.left c.lines.source)
           (c.next.new.self.unread
           ++ g.S.Source.left c.next.new.source) =
-          taken_as Last _ _ _ _ (sym c.line.ensures) (rw c.in-Last.is at (c.in-Ok.ensures.next told)) in
+          taken_as Last _ _ _ _ (sym c.line.ensures)
+          (rw c.in-Last.is at (c.in-Ok.ensures.next told)) in
           let a = along.1 (works.heard ++ []) told in
           last_played s0 s1 g.D.Disk g.K.Sink.tells
           g.N.W.Wire.tells c.args.disk.now c.lines.disk (stands g.N.Dial c.args.dial.now)
           (stands g.N.Dial c.lines.dial) c.args.first
           c.lines.engine (g.K.Sink.written c.args.out.now) (g.K.Sink.written c.lines.out)
-          (g.S.Source.left c.args.source.now) _ c.lines.number c.lines.refused a c.play_line.new.disk
-          (stands g.N.Dial c.play_line.new.dial) (g.K.Sink.written c.play_line.new.out) c.line.result.now _
+          (g.S.Source.left c.args.source.now) _ c.lines.number c.lines.refused a
+          c.play_line.new.disk
+          (stands g.N.Dial c.play_line.new.dial)
+          (g.K.Sink.written c.play_line.new.out) c.line.result.now _
           (g.S.Source.left c.next.new.source) _ takes
           (works.refused []) (works.told []) (works.turn []) works.heard
-          (heard_in (kinds_of c.args.handlers.now) (works.heard ++ []) c.lines.engine ∙ append-nil works.heard)
+          (heard_in (kinds_of c.args.handlers.now) (works.heard ++ []) c.lines.engine
+          ∙ append-nil works.heard)
           (then_shown g.N.W.Wire.tells c.line.result.now (stands g.N.Dial c.lines.dial)
-          (stands g.N.Dial c.play_line.new.dial) works.heard (λ all. refl) s1 (works.shown [] (no_error _ _)))
+          (stands g.N.Dial c.play_line.new.dial) works.heard (λ all. refl) s1
+          (works.shown [] (no_error _ _)))
           (works.later_so [])
           (line_kept s0 s1 g.D.Disk g.K.Sink.tells
           g.N.W.Wire.tells c.args.disk.now c.lines.disk (stands g.N.Dial c.args.dial.now)
           (stands g.N.Dial c.lines.dial) c.args.first
           c.lines.engine (g.K.Sink.written c.args.out.now) (g.K.Sink.written c.lines.out)
-          (g.S.Source.left c.args.source.now) _ c.lines.number c.lines.refused a c.play_line.new.disk
-          (stands g.N.Dial c.play_line.new.dial) (g.K.Sink.written c.play_line.new.out) Last c.line.result.now _ last_not_end takes
+          (g.S.Source.left c.args.source.now) _ c.lines.number c.lines.refused a
+          c.play_line.new.disk
+          (stands g.N.Dial c.play_line.new.dial)
+          (g.K.Sink.written c.play_line.new.out) Last c.line.result.now _ last_not_end takes
           (Ok c.in-Ok-play_line.played) (Some c.in-Ok-play_line.played.0) refl (works.safe [])
           (λ t f. g.met.D.Disk.only_now c.play_line.new.disk f t))
           (λ t f. g.met.D.Disk.only_now c.play_line.new.disk f t),
@@ -226,8 +246,10 @@ lines-preserved g c =
       along = (
         along.0 ++ works.heard,
         λ later told.
-            let s0 = standing_of (kinds_of c.args.handlers.now) (along.0 ++ (works.heard ++ later)) c.args.first in
-            let s1 = standing_of (kinds_of c.args.handlers.now) (works.heard ++ later) c.lines.engine in
+            let s0 = standing_of (kinds_of c.args.handlers.now)
+            (along.0 ++ (works.heard ++ later)) c.args.first in
+            let s1 =
+            standing_of (kinds_of c.args.handlers.now) (works.heard ++ later) c.lines.engine in
             let s2 = standing_of (kinds_of c.args.handlers.now) later c.in-Ok-play_line.played.0 in
             let a = along.1 (works.heard ++ later) told in
             let takes : TakesKept Line c.line.result.now (c.lines.reader.unread
@@ -235,8 +257,10 @@ lines-preserved g c =
             (c.next.new.self.unread
             ++ g.S.Source.left c.next.new.source) =
             taken_as Line _ _ _ _ (sym c.line.ensures) (rw line at (c.in-Ok.ensures.next told)) in
-            subst (λ (hs : List Heard). Along (standing_of (kinds_of c.args.handlers.now) hs c.args.first) s2 g.D.Disk
-            g.K.Sink.tells g.N.W.Wire.tells c.args.disk.now c.play_line.new.disk (stands g.N.Dial c.args.dial.now)
+            subst (λ (hs : List Heard).
+            Along (standing_of (kinds_of c.args.handlers.now) hs c.args.first) s2 g.D.Disk
+            g.K.Sink.tells g.N.W.Wire.tells c.args.disk.now c.play_line.new.disk
+            (stands g.N.Dial c.args.dial.now)
             (stands g.N.Dial c.play_line.new.dial) c.args.first
             c.in-Ok-play_line.played.0 (g.K.Sink.written c.args.out.now)
             (g.K.Sink.written c.play_line.new.out) (g.S.Source.left c.args.source.now)
@@ -247,22 +271,27 @@ lines-preserved g c =
             g.N.W.Wire.tells c.args.disk.now c.lines.disk (stands g.N.Dial c.args.dial.now)
             (stands g.N.Dial c.lines.dial) c.args.first
             c.lines.engine (g.K.Sink.written c.args.out.now) (g.K.Sink.written c.lines.out)
-            (g.S.Source.left c.args.source.now) _ c.lines.number c.lines.refused a c.play_line.new.disk
-            (stands g.N.Dial c.play_line.new.dial) (g.K.Sink.written c.play_line.new.out) c.line.result.now _ _
+            (g.S.Source.left c.args.source.now) _ c.lines.number c.lines.refused a
+            c.play_line.new.disk
+            (stands g.N.Dial c.play_line.new.dial)
+            (g.K.Sink.written c.play_line.new.out) c.line.result.now _ _
             c.in-Ok-play_line.played.0 s2 takes
             c.in-Ok-play_line.ensures.limit (works.refused later) (works.next later)
             (works.told later) (λ t before here. (works.safe later t before here).at)
             (works.turn later) works.heard
             (then_shown g.N.W.Wire.tells c.line.result.now (stands g.N.Dial c.lines.dial)
-            (stands g.N.Dial c.play_line.new.dial) works.heard (λ all. refl) s1 (works.shown later (no_error _ _)))
+            (stands g.N.Dial c.play_line.new.dial) works.heard (λ all. refl) s1
+            (works.shown later (no_error _ _)))
             (heard_in (kinds_of c.args.handlers.now) (works.heard ++ later) c.lines.engine
             ∙ ap (λ (hs : List Heard). works.heard ++ hs) (sym (works.later_so later)))
             (line_kept s0 s1 g.D.Disk g.K.Sink.tells
             g.N.W.Wire.tells c.args.disk.now c.lines.disk (stands g.N.Dial c.args.dial.now)
             (stands g.N.Dial c.lines.dial) c.args.first
             c.lines.engine (g.K.Sink.written c.args.out.now) (g.K.Sink.written c.lines.out)
-            (g.S.Source.left c.args.source.now) _ c.lines.number c.lines.refused a c.play_line.new.disk
-            (stands g.N.Dial c.play_line.new.dial) (g.K.Sink.written c.play_line.new.out) Line c.line.result.now _ line_not_end takes
+            (g.S.Source.left c.args.source.now) _ c.lines.number c.lines.refused a
+            c.play_line.new.disk
+            (stands g.N.Dial c.play_line.new.dial)
+            (g.K.Sink.written c.play_line.new.out) Line c.line.result.now _ line_not_end takes
             (Ok c.in-Ok-play_line.played) (Some c.in-Ok-play_line.played.0) refl (works.safe later)
             (λ t f. g.met.D.Disk.only_now c.play_line.new.disk f t))),
       );
@@ -275,7 +304,8 @@ lines-preserved g c =
           (works.safe [] t (bodies ++ had.more) had.at).at;
       took = λ told. took_on c.lines.reader.given (g.S.Source.left c.args.source.now)
           (g.S.Source.left c.lines.source) _
-          (λ n. n ≡ c.next.new.self.given) (c.lines.invariant.took told) (c.in-Ok.ensures.took told);
+          (λ n. n ≡ c.next.new.self.given) (c.lines.invariant.took told)
+          (c.in-Ok.ensures.took told);
       source_faults = search rules;
       sink_faults = search rules;
       disk_faults = search rules;

@@ -7,7 +7,8 @@ use Rattle.rx_top.proofs.play.play_line.Goals as goal
 
 pub returns-then-is_blank-clause-works : goal.returns-then-is_blank-clause-works
 returns-then-is_blank-clause-works g c =
-    blank_works (kinds_of c.args.handlers.now) g.N.W.Wire.tells g.K.Sink.tells g.D.Disk c.args.engine
+    blank_works
+    (kinds_of c.args.handlers.now) g.N.W.Wire.tells g.K.Sink.tells g.D.Disk c.args.engine
     c.args.number c.args.line.now c.args.disk.now _ (g.K.Sink.written c.args.out.now)
     (sym c.is_blank.ensures ∙ c.if-is_blank.true)
     (λ t f. g.met.D.Disk.only_now c.args.disk.now f t)
@@ -25,7 +26,8 @@ returns-in-Ok-write_all-clause-works g c =
     c.args.number c.args.line.now c.args.disk.now c.line.new.disk _ _
     (sym c.is_blank.ensures ∙ c.if-is_blank.false) (g.K.Sink.written c.args.out.now)
     (g.K.Sink.written c.write_all.new.sink) c.in-Ok.pair c.in-Ok.ensures.plays c.in-Ok.ensures.quiet
-    c.in-Ok.ensures.bounded (c.in-Ok.ensures.unharmed (λ is. cc)) (λ k. c.in-Ok-write_all.ensures.ok k
+    c.in-Ok.ensures.bounded (c.in-Ok.ensures.unharmed (λ is. cc))
+    (λ k. c.in-Ok-write_all.ensures.ok k
     ∙ ap (λ (bs : List ℕ). g.K.Sink.written c.args.out.now ++ bs) c.as_bytes.ensures.value)
 
 pub returns-in-Err-write_all-clause-works : goal.returns-in-Err-write_all-clause-works
@@ -34,7 +36,8 @@ returns-in-Err-write_all-clause-works g c =
     c.args.number c.args.line.now c.args.disk.now c.line.new.disk _ _
     (sym c.is_blank.ensures ∙ c.if-is_blank.false) (g.K.Sink.written c.args.out.now)
     (g.K.Sink.written c.write_all.new.sink) c.in-Ok.pair c.in-Ok.ensures.plays c.in-Ok.ensures.quiet
-    c.in-Ok.ensures.bounded (c.in-Ok.ensures.unharmed (λ is. cc)) (λ k. subst (λ (bs : List ℕ). WritesFront (g.K.Sink.written c.args.out.now)
+    c.in-Ok.ensures.bounded (c.in-Ok.ensures.unharmed (λ is. cc))
+    (λ k. subst (λ (bs : List ℕ). WritesFront (g.K.Sink.written c.args.out.now)
     (g.K.Sink.written c.write_all.new.sink) bs) c.as_bytes.ensures.value
     (c.in-Err-write_all.ensures.err k))
 

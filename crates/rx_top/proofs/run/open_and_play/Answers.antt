@@ -31,13 +31,15 @@ returns-in-Err-clause-run g c =
           (Err (Read ReadFault.Memory))
           (KeepsRun kinds [] g.D.Disk c.args.disk.now c.args.disk.now bodies w c.args.limit
           (Err (Read ReadFault.Memory))) (heard_at_first kinds [] w) tt none
-          (no_reader_keeps kinds [] g.D.Disk bodies w c.args.limit c.args.disk.now (lines input) start
+          (no_reader_keeps kinds [] g.D.Disk bodies w c.args.limit c.args.disk.now
+          (lines input) start
           (λ f. g.met.D.Disk.only_now c.args.disk.now f t)
           (λ s f le now. g.met.D.Disk.counts_now c.args.disk.now s f t le now)),
       λ told. (
         empty,
         unplayed g.K.Sink.tells g.N.W.Wire.tells dial _ _ input _ (opened kinds [] empty)
-            (Err (Read ReadFault.Memory)) (λ done rest. ⊤) (heard_at_first kinds [] empty) tt none tt,
+            (Err (Read ReadFault.Memory)) (λ done rest. ⊤)
+            (heard_at_first kinds [] empty) tt none tt,
       ),
     )
 
@@ -115,7 +117,8 @@ returns-clause-run g c =
       λ told. (
         empty,
         unplayed g.K.Sink.tells g.N.W.Wire.tells dial _ _ input _ (opened kinds [] empty)
-            (Err (Work c.in-Err-open.stop)) (λ done rest. ⊤) (heard_at_first kinds [] empty) tt none tt,
+            (Err (Work c.in-Err-open.stop)) (λ done rest. ⊤)
+            (heard_at_first kinds [] empty) tt none tt,
       ),
     )
 
@@ -127,7 +130,8 @@ returns-clause-legal g c = λ t bodies w start.
 
 pub returns-clause-not_journal : goal.returns-clause-not_journal
 returns-clause-not_journal g c = λ t is bodies w legal.
-    (c.in-Err-open.ensures.safe t bodies w legal).not_journal (same_open c.in-Err-open.stop NotJournal is)
+    (c.in-Err-open.ensures.safe t bodies w legal).not_journal
+    (same_open c.in-Err-open.stop NotJournal is)
 
 -- ---- files that aren't legal
 

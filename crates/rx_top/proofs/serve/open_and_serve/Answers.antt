@@ -80,7 +80,8 @@ returns-after-served-clause-legal g c = λ t bodies w start.
     let limit : limit_of m ≡ c.args.limit =
     subst (λ (o : Option MasterEngine). IfSome o (λ e. limit_of e ≡ c.args.limit)) is
     c.in-Ok-Some.ensures.limit in
-    legal_to g.D.Disk c.args.disk.now disk1 bodies name c.args.limit grows disk2 m t at found.2 limit
+    legal_to g.D.Disk c.args.disk.now disk1 bodies name c.args.limit grows disk2 m t at found.2
+    limit
     r c.serve_connections-served.ensures.kept c.serve_connections-served.ensures.left
 
 pub returns-after-served-clause-over_any_disk : goal.returns-after-served-clause-over_any_disk
@@ -113,7 +114,8 @@ returns-after-served-clause-over_any_disk g c =
       subst (λ (e : Ended). ServesTo e g.L.W.Wire.tells g.K.Sink.tells name
           c.args.offer.now.connections somewhere.0 old new given (λ why sure more. ⊤))
           (sym same)
-          (serves_to g.L.W.Wire.tells g.K.Sink.tells name c.args.offer.now.connections somewhere.0 old
+          (serves_to g.L.W.Wire.tells g.K.Sink.tells name c.args.offer.now.connections somewhere.0
+          old
           new given (λ why sure more. ⊤) m found (HasStopped g.D.Disk disk1 disk2 m)
           (HasKept g.D.Disk disk1 disk2 m) (λ why sure more left. tt) (λ m' commits kept. tt) r
           c.serve_connections-served.ensures.served c.serve_connections-served.ensures.halted),

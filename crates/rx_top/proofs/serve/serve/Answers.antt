@@ -55,8 +55,10 @@ returns g c =
     ) in
     record {
       serves =
-          subst (λ (n : ℕ). ServesCollection g.K.Sink g.D.Disk g.L.Listen wires g.C.Clock name connections
-          c.args.limit n c.args.out.now c.write_halt.new.out disk0 disk2 c.args.door.now step.new.door
+          subst (λ (n : ℕ).
+          ServesCollection g.K.Sink g.D.Disk g.L.Listen wires g.C.Clock name connections
+          c.args.limit n c.args.out.now c.write_halt.new.out disk0 disk2 c.args.door.now
+          step.new.door
           c.args.clock.now step.new.clock)
           (sym c.status_of.ensures)
           (record {
@@ -88,14 +90,17 @@ returns g c =
                   w1,
                   full.3,
                   subst (λ (n : ℕ). EndsWith sink f0 f2 w1 w2 (full_line why.0 n)) full.2
-                      (subst (λ (e : by.Ended). EndsWith sink f0 f2 w1 w2 (served_words e)) why.2 line),
+                      (subst (λ (e : by.Ended). EndsWith sink f0 f2 w1 w2 (served_words e)) why.2
+                      line),
                 );
             no_collection = λ is t bodies w start.
-                (subst (λ (e : by.Ended). ServesTo e wires sink name connections w old mid given (keeps bodies))
+                (subst (λ (e : by.Ended).
+                ServesTo e wires sink name connections w old mid given (keeps bodies))
                 (by.is_no_collection ended is) (step.ensures.serves t bodies w start)).0;
             no_collection_only = λ t bodies w start none.
                 by.only_unserved wires sink name connections w old mid given (keeps bodies)
-                (λ would most k. by.none_full g.D.Disk disk0 disk2 bodies name c.args.limit would most k)
+                (λ would most k.
+                by.none_full g.D.Disk disk0 disk2 bodies name c.args.limit would most k)
                 ended
                 (λ refused. step.ensures.not_journal t refused bodies w start.legal)
                 (step.ensures.serves t bodies w start) none;

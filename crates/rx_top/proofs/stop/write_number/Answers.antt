@@ -18,5 +18,6 @@ returns-clause-err g c = λ told.
     (λ front. front_more _ (g.K.Sink.written c.write_all.new.sink) _ c.args.label.now
     (decimal c.args.number) (c.in_ok-write_all.ensures.ok told) front)
     (subst (λ (v : List ℕ). OnErr c.write_all-2.result
-    (WritesFront (g.K.Sink.written c.write_all.new.sink) (g.K.Sink.written c.write_all-2.new.sink) v))
+    (WritesFront (g.K.Sink.written c.write_all.new.sink)
+    (g.K.Sink.written c.write_all-2.new.sink) v))
     text (c.write_all-2.ensures.err told))

@@ -35,17 +35,21 @@ trial-requires-clause-high g c =
     (subst HasLimit c.in-Trial.is (granted c.args.words.now.words.items c.in-Ok-Some.command is)).1
 
 pub returns-clause-runs : goal.returns-clause-runs
-returns-clause-runs g c = λ path limit is. inr (lacks_memory g.K.Sink.tells _ _ _ _ c.write_all.result _
+returns-clause-runs g c =
+    λ path limit is. inr (lacks_memory g.K.Sink.tells _ _ _ _ c.write_all.result _
     c.write_all.ensures.ok c.write_all.ensures.err c.write_all.ensures.failed)
 
 pub returns-clause-serves : goal.returns-clause-serves
-returns-clause-serves g c = λ path name port connections limit is. inr (lacks_memory g.K.Sink.tells _ _ _ _ c.write_all.result _
+returns-clause-serves g c = λ path name port connections limit is.
+    inr (lacks_memory g.K.Sink.tells _ _ _ _ c.write_all.result _
     c.write_all.ensures.ok c.write_all.ensures.err c.write_all.ensures.failed)
 
 pub returns-clause-reports : goal.returns-clause-reports
-returns-clause-reports g c = λ path is. inr (lacks_memory g.K.Sink.tells _ _ _ _ c.write_all.result _
+returns-clause-reports g c =
+    λ path is. inr (lacks_memory g.K.Sink.tells _ _ _ _ c.write_all.result _
     c.write_all.ensures.ok c.write_all.ensures.err c.write_all.ensures.failed)
 
 pub returns-clause-tries : goal.returns-clause-tries
-returns-clause-tries g c = λ path seed count limit is. inr (lacks_memory g.K.Sink.tells _ _ _ _ c.write_all.result _
+returns-clause-tries g c =
+    λ path seed count limit is. inr (lacks_memory g.K.Sink.tells _ _ _ _ c.write_all.result _
     c.write_all.ensures.ok c.write_all.ensures.err c.write_all.ensures.failed)

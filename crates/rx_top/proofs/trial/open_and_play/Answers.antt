@@ -39,7 +39,8 @@ returns-in-Err-clause-plays g c =
 
 pub returns-in-Err-clause-not_journal : goal.returns-in-Err-clause-not_journal
 returns-in-Err-clause-not_journal g c = λ t is bodies w legal.
-    (c.in-Err.ensures.safe t bodies w legal).not_journal (tried.other_err c.in-Err.stop NotJournal is)
+    (c.in-Err.ensures.safe t bodies w legal).not_journal
+    (tried.other_err c.in-Err.stop NotJournal is)
 
 pub play_lines-requires-clause-at : goal.play_lines-requires-clause-at
 play_lines-requires-clause-at g c = λ t.
@@ -76,7 +77,8 @@ returns-in-Ok-summary-clause-plays g c =
             tried.from_opened kinds heard g.N.W.Wire.tells g.D.Disk c.args.disk.now
                 c.play_lines.new.disk bodies w c.args.limit n0 n1 c.open.new.disk c.in-Ok.engine
                 (script c.args.seed c.args.count) c.new-lines.result None c.new-lines.ensures start
-                (c.in-Ok.ensures.safe t bodies w start.legal) c.in-Ok.ensures.limit opened_so t plays.1,
+                (c.in-Ok.ensures.safe t bodies w start.legal) c.in-Ok.ensures.limit opened_so t
+                plays.1,
             summed (opened kinds heard w) opened_so,
           ),
       begun.0,
@@ -110,7 +112,8 @@ returns-in-Err-summary-clause-plays g c =
       ),
       begun.0,
       tried.late g.N.W.Wire.tells n0 n1 (opened kinds heard begun.0)
-          (tried.from_begun g.N.W.Wire.tells n0 n1 c.new-lines.ensures (begun.1 kinds heard) plays.1) tt,
+          (tried.from_begun g.N.W.Wire.tells n0 n1 c.new-lines.ensures
+          (begun.1 kinds heard) plays.1) tt,
       tt,
     )
 
@@ -132,7 +135,8 @@ returns-in-Err-play_lines-clause-plays g c =
             c.play_lines.new.disk bodies w c.args.limit n0 n1 c.open.new.disk c.in-Ok.engine
             (script c.args.seed c.args.count) c.new-lines.result (Some c.in-Err-play_lines.stop)
             c.new-lines.ensures start (c.in-Ok.ensures.safe t bodies w start.legal)
-            c.in-Ok.ensures.limit (c.in-Ok.ensures.opened t bodies w start.legal kinds heard) t plays.1,
+            c.in-Ok.ensures.limit
+            (c.in-Ok.ensures.opened t bodies w start.legal kinds heard) t plays.1,
         tt,
       ),
       begun.0,

@@ -23,7 +23,8 @@ answered x e is = cc
 pub script-init : goal.script-init
 script-init g c =
     let lines : c.new-tally.result.lines ≡ 0 = ap (λ (t : Tally). t.lines) c.new-tally.ensures in
-    let refused : c.new-tally.result.refused ≡ 0 = ap (λ (t : Tally). t.refused) c.new-tally.ensures in
+    let refused : c.new-tally.result.refused
+    ≡ 0 = ap (λ (t : Tally). t.refused) c.new-tally.ensures in
     record {
       through = (
         [],
@@ -60,7 +61,8 @@ returns-in-Ok-None-clause-plays g c =
     let s0 = standing_of kinds heard c.args.first in
     let s1 = standing_of kinds [] c.script.engine in
     let a = through.1 [] in
-    let none = (none_so c.in-Ok-None.field-0 _ c.in-Ok-None.field-0-is c.in-Ok-None.ensures.end).0 in (
+    let none =
+    (none_so c.in-Ok-None.field-0 _ c.in-Ok-None.field-0-is c.in-Ok-None.ensures.end).0 in (
       heard,
       all_done s0 s1 g.D.Disk g.N.W.Wire.tells c.args.disk.now c.script.disk
           (stands g.N.Dial c.args.dial.now) (stands g.N.Dial c.script.dial) c.args.first
@@ -77,9 +79,11 @@ returns-in-Err-clause-plays g c =
     let kinds = kinds_of c.args.handlers.now in
     let through = c.script.invariant.through in (
       through.0 ++ [],
-      memory_out (standing_of kinds (through.0 ++ []) c.args.first) (standing_of kinds [] c.script.engine)
+      memory_out (standing_of kinds (through.0 ++ []) c.args.first)
+          (standing_of kinds [] c.script.engine)
           g.D.Disk g.N.W.Wire.tells c.args.disk.now c.script.disk (stands g.N.Dial c.args.dial.now)
-          (stands g.N.Dial c.script.dial) c.args.first c.script.engine c.args.lines.now c.script.lines
+          (stands g.N.Dial c.script.dial) c.args.first c.script.engine c.args.lines.now
+          c.script.lines
           c.script.tally (through.1 [])
           (λ t f. g.met.D.Disk.only_now c.script.disk f t)
           (λ t s f le now. g.met.D.Disk.counts_now c.script.disk s f t le now),
@@ -93,9 +97,11 @@ returns-in-Err-line-clause-plays g c =
     let plays = c.in-Err-line.ensures.plays in
     let text = c.as_bytes-text.result.now in
     let next : c.script.lines ≡ text ∷ c.next.new.self =
-    some_so c.in-Ok-Some.field-0 c.in-Ok-Some.line (λ (l : List ℕ). c.script.lines ≡ l ∷ c.next.new.self)
+    some_so c.in-Ok-Some.field-0 c.in-Ok-Some.line
+    (λ (l : List ℕ). c.script.lines ≡ l ∷ c.next.new.self)
     (search rules) c.in-Ok-Some.ensures.line
-    ∙ ap (λ (l : List ℕ). l ∷ c.next.new.self) (sym (c.as_bytes-text.ensures.value ∙ c.as_str.ensures)) in
+    ∙ ap (λ (l : List ℕ). l ∷ c.next.new.self)
+    (sym (c.as_bytes-text.ensures.value ∙ c.as_str.ensures)) in
     let later = plays.heard ++ [] in
     let s0 = standing_of kinds (through.0 ++ later) c.args.first in
     let s1 = standing_of kinds later c.script.engine in
@@ -104,15 +110,18 @@ returns-in-Err-line-clause-plays g c =
     let a = through.1 later in
     let all : plays.heard ≡ s1.heard =
     sym (append-nil plays.heard) ∙ sym (heard_in kinds later c.script.engine) in
-    let filled = first_filled c.args.lines.now a.done text c.next.new.self c.script.lines a.whole next
+    let filled =
+    first_filled c.args.lines.now a.done text c.next.new.self c.script.lines a.whole next
     c.requires.filled in (
       through.0 ++ later,
       line_stopped s0 s1 g.D.Disk g.N.W.Wire.tells c.args.disk.now c.script.disk
           (stands g.N.Dial c.args.dial.now) n1 c.args.first c.script.engine c.args.lines.now
-          c.script.lines c.script.tally a text c.next.new.self next c.requires.filled c.line.new.disk n2
+          c.script.lines c.script.tally a text c.next.new.self next c.requires.filled
+          c.line.new.disk n2
           c.in-Err-line.stop
           (λ other. subst (λ (hs : List Heard). IsShownAt g.N.W.Wire.tells text s1 n1 n2 hs ⊥) all
-          (shown_in g.N.W.Wire.tells text kinds c.script.engine n1 n2 plays.heard (λ none. absurd none)
+          (shown_in g.N.W.Wire.tells text kinds c.script.engine n1 n2 plays.heard
+          (λ none. absurd none)
           later filled (plays.shown (λ is. other (search rules)))))
           (λ other. c.in-Err-line.ensures.unharmed (λ is. other (search rules)) later)
           (plays.safe [])
@@ -127,9 +136,11 @@ returns-in-None-clause-plays g c =
     let plays = c.in-Ok.ensures.plays in
     let text = c.as_bytes-text.result.now in
     let next : c.script.lines ≡ text ∷ c.next.new.self =
-    some_so c.in-Ok-Some.field-0 c.in-Ok-Some.line (λ (l : List ℕ). c.script.lines ≡ l ∷ c.next.new.self)
+    some_so c.in-Ok-Some.field-0 c.in-Ok-Some.line
+    (λ (l : List ℕ). c.script.lines ≡ l ∷ c.next.new.self)
     (search rules) c.in-Ok-Some.ensures.line
-    ∙ ap (λ (l : List ℕ). l ∷ c.next.new.self) (sym (c.as_bytes-text.ensures.value ∙ c.as_str.ensures)) in
+    ∙ ap (λ (l : List ℕ). l ∷ c.next.new.self)
+    (sym (c.as_bytes-text.ensures.value ∙ c.as_str.ensures)) in
     let later = plays.heard ++ [] in
     let s0 = standing_of kinds (through.0 ++ later) c.args.first in
     let s1 = standing_of kinds later c.script.engine in
@@ -138,12 +149,14 @@ returns-in-None-clause-plays g c =
     let n1 = stands g.N.Dial c.script.dial in
     let n2 = stands g.N.Dial c.line.new.dial in
     let a = through.1 later in
-    let filled = first_filled c.args.lines.now a.done text c.next.new.self c.script.lines a.whole next
+    let filled =
+    first_filled c.args.lines.now a.done text c.next.new.self c.script.lines a.whole next
     c.requires.filled in (
       through.0 ++ later,
       memory_out s0 s2 g.D.Disk g.N.W.Wire.tells c.args.disk.now c.line.new.disk n0 n2 c.args.first
           c.in-Ok.pair.0 c.args.lines.now c.next.new.self (with_line c.script.tally c.in-Ok.pair.1)
-          (line_done s0 s1 g.D.Disk g.N.W.Wire.tells c.args.disk.now c.script.disk n0 n1 c.args.first
+          (line_done s0 s1 g.D.Disk g.N.W.Wire.tells c.args.disk.now c.script.disk n0 n1
+          c.args.first
           c.script.engine c.args.lines.now c.script.lines c.script.tally a
           text c.next.new.self next c.requires.filled kinds plays.heard [] c.line.new.disk n2
           c.in-Ok.pair.0 c.in-Ok.pair.1 c.in-Ok.ensures.limit (plays.answers [])
@@ -164,9 +177,11 @@ script-preserved g c =
     let plays = c.in-Ok.ensures.plays in
     let text = c.as_bytes-text.result.now in
     let next : c.script.lines ≡ text ∷ c.next.new.self =
-    some_so c.in-Ok-Some.field-0 c.in-Ok-Some.line (λ (l : List ℕ). c.script.lines ≡ l ∷ c.next.new.self)
+    some_so c.in-Ok-Some.field-0 c.in-Ok-Some.line
+    (λ (l : List ℕ). c.script.lines ≡ l ∷ c.next.new.self)
     (search rules) c.in-Ok-Some.ensures.line
-    ∙ ap (λ (l : List ℕ). l ∷ c.next.new.self) (sym (c.as_bytes-text.ensures.value ∙ c.as_str.ensures)) in
+    ∙ ap (λ (l : List ℕ). l ∷ c.next.new.self)
+    (sym (c.as_bytes-text.ensures.value ∙ c.as_str.ensures)) in
     let n0 = stands g.N.Dial c.args.dial.now in
     let n1 = stands g.N.Dial c.script.dial in
     let n2 = stands g.N.Dial c.line.new.dial in
@@ -180,11 +195,13 @@ script-preserved g c =
     let s1 = standing_of kinds (plays.heard ++ later) c.script.engine in
     let s2 = standing_of kinds later c.in-Ok.pair.0 in
     let a = through.1 (plays.heard ++ later) in
-    let filled = first_filled c.args.lines.now a.done text c.next.new.self c.script.lines a.whole next
+    let filled =
+    first_filled c.args.lines.now a.done text c.next.new.self c.script.lines a.whole next
     c.requires.filled in
     subst (λ (hs : List Heard). Through (standing_of kinds hs c.args.first) s2 g.D.Disk
     g.N.W.Wire.tells c.args.disk.now c.line.new.disk n0 n2 c.args.first c.in-Ok.pair.0
-    c.args.lines.now c.next.new.self c.in-Some.tally) (sym (append_assoc through.0 plays.heard later))
+    c.args.lines.now c.next.new.self c.in-Some.tally)
+    (sym (append_assoc through.0 plays.heard later))
     (subst (λ (t : Tally). Through s0 s2 g.D.Disk g.N.W.Wire.tells c.args.disk.now c.line.new.disk
     n0 n2 c.args.first c.in-Ok.pair.0 c.args.lines.now c.next.new.self t)
     (sym c.in-Some.ensures.some)

@@ -10,7 +10,8 @@ abbrev pub invariant-script : goal.invariant-script
 invariant-script g l = record {
   through : (heard : List Heard) × ((later : List Heard)
       → Through (standing_of (kinds_of l.fn.handlers) (heard ++ later) l.fn.first)
-      (standing_of (kinds_of l.fn.handlers) later l.engine) g.D.Disk g.N.W.Wire.tells l.fn.disk l.disk
+      (standing_of (kinds_of l.fn.handlers) later l.engine) g.D.Disk g.N.W.Wire.tells l.fn.disk
+      l.disk
       (stands g.N.Dial l.fn.dial) (stands g.N.Dial l.dial) l.fn.first l.engine l.fn.lines l.lines
       l.tally);
   room : l.tally.lines + length l.lines < 2 ^ 63;

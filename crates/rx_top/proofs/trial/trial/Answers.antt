@@ -46,14 +46,16 @@ returns g c =
     λ t bodies w start.
     let does = plays.1 t bodies w start in
     tried.has_tried wires n0 n1 tells f0 f1 w0 w1 status told lines (opened kinds heard w)
-    (tried.KeepsTrial kinds heard wires d old new bodies w limit) does.0 does.1 c.tell.ensures.told in
+    (tried.KeepsTrial kinds heard wires d old new bodies w limit) does.0 does.1 c.tell.ensures.told
+    in
     record {
       tries = (
         heard,
         record {
           headline = headline;
           legal = λ t bodies w start.
-              tried.legal kinds heard wires d old new bodies w limit n0 n1 tells f0 f1 w0 w1 lines status
+              tried.legal kinds heard wires d old new bodies w limit n0 n1 tells f0 f1 w0 w1 lines
+              status
               (headline t bodies w start);
           over_any_disk = (
             w,
@@ -62,17 +64,21 @@ returns g c =
           );
           illegal = played.ensures.illegal;
           summary = λ is k t bodies w start.
-              tried.wrote kinds heard wires d old new bodies w limit n0 n1 tells f0 f1 w0 w1 lines status
+              tried.wrote kinds heard wires d old new bodies w limit n0 n1 tells f0 f1 w0 w1 lines
+              status
               (headline t bodies w start) is k;
           sink_fault = λ is. (by.failed tells f0 f1 w0 w1 status stop text was is).0;
           sink = λ is k t bodies w start.
-              tried.front kinds heard wires d old new bodies w limit n0 n1 tells f0 f1 w0 w1 lines status
+              tried.front kinds heard wires d old new bodies w limit n0 n1 tells f0 f1 w0 w1 lines
+              status
               (headline t bodies w start) is k;
           kept = λ is t bodies w start.
-              tried.kept kinds heard wires d old new bodies w limit n0 n1 tells f0 f1 w0 w1 lines status
+              tried.kept kinds heard wires d old new bodies w limit n0 n1 tells f0 f1 w0 w1 lines
+              status
               (headline t bodies w start) is;
           fits = λ is t bodies w start.
-              tried.fits kinds heard wires d old new bodies w limit n0 n1 tells f0 f1 w0 w1 lines status
+              tried.fits kinds heard wires d old new bodies w limit n0 n1 tells f0 f1 w0 w1 lines
+              status
               (headline t bodies w start) is;
           disk_fault = λ is. played.ensures.cause.failed
               (by.was_err told Disk (by.disk tells f0 f1 w0 w1 status stop text was is).0);
@@ -80,9 +86,11 @@ returns g c =
           memory_line = λ is. (by.memory tells f0 f1 w0 w1 status stop text was is).1;
           not_journal_line = λ is. (by.not_journal tells f0 f1 w0 w1 status stop text was is).1;
           not_journal = λ is t. played.ensures.not_journal t
-              (by.was_err told NotJournal (by.not_journal tells f0 f1 w0 w1 status stop text was is).0);
+              (by.was_err told NotJournal
+              (by.not_journal tells f0 f1 w0 w1 status stop text was is).0);
           not_journal_kept = λ is t. played.ensures.illegal t (played.ensures.not_journal t
-              (by.was_err told NotJournal (by.not_journal tells f0 f1 w0 w1 status stop text was is).0));
+              (by.was_err told NotJournal
+              (by.not_journal tells f0 f1 w0 w1 status stop text was is).0));
           stood = λ is t. ⊎_elim
               (λ zero. by.ok_so told _ (done (inl zero)) (played.ensures.stood t))
               (λ more. ⊎_elim
@@ -91,7 +99,8 @@ returns g c =
               played.ensures.full_stood t full.0 full.1
               (by.was_err told (Full full.0 full.1) full.2)) more) is;
           full = λ is t bodies w start.
-              tried.full kinds heard wires d old new bodies w limit n0 n1 tells f0 f1 w0 w1 lines status
+              tried.full kinds heard wires d old new bodies w limit n0 n1 tells f0 f1 w0 w1 lines
+              status
               (headline t bodies w start) is;
           statuses = by.statuses tells f0 f1 w0 w1 status stop text was;
           sink_faults = c.tell.ensures.sink_faults;

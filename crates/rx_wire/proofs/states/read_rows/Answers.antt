@@ -20,7 +20,8 @@ loop-item-preserved c =
     record {
       due = c.loop-item.invariant.due
           ∙ one_more (row_of schema) row_key rows items i c.item-item.result row
-          c.loop-item-test.true c.item-item.is read (sym (c.loop-item.invariant.seen row.new.key) ∙ new)
+          c.loop-item-test.true c.item-item.is read
+          (sym (c.loop-item.invariant.seen row.new.key) ∙ new)
           ∙ ap (λ rs. read_after (row_of schema) row_key rs (items_view (drop (i + 1) items)))
           (sym c.in_ok-push.ensures.ok);
       seen = λ q.

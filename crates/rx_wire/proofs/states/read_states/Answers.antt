@@ -20,7 +20,8 @@ loop-item-preserved c =
     record {
       due = c.loop-item.invariant.due
           ∙ one_more (state_of schema) state_key states items i c.item-item.result state
-          c.loop-item-test.true c.item-item.is read (sym (c.loop-item.invariant.seen state.key) ∙ new)
+          c.loop-item-test.true c.item-item.is read
+          (sym (c.loop-item.invariant.seen state.key) ∙ new)
           ∙ ap (λ rs. read_after (state_of schema) state_key rs (items_view (drop (i + 1) items)))
           (sym c.in_ok-push.ensures.ok);
       seen = λ q.

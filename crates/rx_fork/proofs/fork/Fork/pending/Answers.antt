@@ -12,4 +12,5 @@ returns c =
     ∙ ap (λ ds. length (filter (is_pending known) ds)) (c.page.ensures.documents
     ∙ ap (λ n. since held.documents (option_map (λ p. p.now) c.up.result) n) c.len.ensures.count
     ∙ ap (λ up. since held.documents up (length held.documents)) c.up.ensures)
-    ∙ ap length (pending_above held known c.args.self.now.meta.now.up c.len.ensures.lawful c.requires)
+    ∙ ap length
+    (pending_above held known c.args.self.now.meta.now.up c.len.ensures.lawful c.requires)

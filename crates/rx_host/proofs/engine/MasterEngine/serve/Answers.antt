@@ -39,7 +39,8 @@ returns-in-Ok-Going-clause-served g c =
     let ends = rw c.in-Ok-Going.is-0 at c.serve-ended.ensures.served in
     let K : Commits → Type 0 = λ commits.
     HasKept g.D.Disk c.args.disk.now c.disk-1.given.0 c.args.self engine commits in
-    let sent = joined_since (g.W.Wire.sent c.args.wire.now) (g.W.Wire.sent c.serve-ended.new.wire) in
+    let sent =
+    joined_since (g.W.Wire.sent c.args.wire.now) (g.W.Wire.sent c.serve-ended.new.wire) in
     let P : Held → Type 0 = λ h. EndsBy ended.why ended.requests K (record {
       before = h;
       after = collection_in b.state.work;
@@ -61,12 +62,14 @@ returns-in-Ok-Going-clause-served g c =
     let R : List ℕ → Type 0 = λ v. g.C.Clock.tells
     → GivesMoments (g.C.Clock.given c.args.clock.now) (g.C.Clock.given c.clock-1.given.0) v in
     let given : R ticks.joined = λ told.
-    subst (λ v. GivesMoments (g.C.Clock.given c.args.clock.now) (g.C.Clock.given c.clock-1.given.0) v)
+    subst (λ v.
+    GivesMoments (g.C.Clock.given c.args.clock.now) (g.C.Clock.given c.clock-1.given.0) v)
     (ap (λ v. ticks.joined ++ v) (ticks.none_spare going) ∙ append-nil ticks.joined)
     (gave (g.C.Clock.given) a.clock.now c.args.clock.now b.clock.now c.clock-1.given.0
     (ticks.joined ++ ticks.spare) clock clock' (ticks.of_clock told)) in (
       moments,
-      subst R (sym (since a.state.moments.items b.state.moments.items ticks.joined ticks.more)) given,
+      subst R (sym (since a.state.moments.items b.state.moments.items ticks.joined ticks.more))
+          given,
       λ told. subst Q (ap collection_in work') (subst P (ap collection_in work) (here told)),
     )
 
@@ -180,7 +183,8 @@ returns-clause-stopped g c =
     let stopped = rw c.in-Err-default.is-0 at c.serve-ended.ensures.stopped in
     let ticks = (rw c.in-Err-default.is-0 at c.serve-ended.ensures.leaves).2.3 in
     let K : Commits → Commits → Type 0 = λ sure more.
-    HasStopped g.D.Disk c.args.disk.now c.disk-1.given.0 c.args.self (stop_in b.state.work) sure more in
+    HasStopped g.D.Disk c.args.disk.now c.disk-1.given.0 c.args.self
+    (stop_in b.state.work) sure more in
     let P : Held → Type 0 = λ h. IsStopped K (record {
       before = h;
       after = after;
@@ -200,6 +204,7 @@ returns-clause-stopped g c =
     (ticks.joined ++ ticks.spare) clock clock' (ticks.of_clock told) in (
       moments,
       ticks.spare,
-      subst R (sym (since a.state.moments.items b.state.moments.items ticks.joined ticks.more)) given,
+      subst R (sym (since a.state.moments.items b.state.moments.items ticks.joined ticks.more))
+          given,
       λ told. (after, stop_in b.state.work, of, subst P (ap collection_in work) (here told)),
     )

@@ -73,7 +73,14 @@ returns-in-Ok-answer-clause-answers g c =
     × Ticks g.C.Clock.tells (stop_in (Going engine) ≡ None) (g.C.Clock.given a.clock.now)
     (g.C.Clock.given clock'.now) a.state.moments.items c.moment.new.moments.items
     × (g.C.Clock.faults a.clock.now ≤ g.C.Clock.faults clock'.now) in
-    let done : Done = (named_disk, named, hosts', ticks_as _ _ _ _ _ _ _ (λ still. refl) c.in-Ok.ensures.ticks, count) in
+    let done : Done = (
+      named_disk,
+      named,
+      hosts',
+      ticks_as _ _ _ _ _ _ _
+          (λ still. refl) c.in-Ok.ensures.ticks,
+      count,
+    ) in
     answers_by q.ask q coll (collection_of engine) a.state.moments.items
     c.moment.new.moments.items c.in-Ok-answer.reply now _ c.in-Ok.ensures.moment
     (subst (λ (h : Held). Gives (answered_at h now q) h c.in-Ok-answer.reply (collection_of engine))
@@ -116,7 +123,13 @@ returns-in-Err-clause-keeps g c =
     let hosts' : Hosts g.D.Disk a.disk.now disk'.now a.state.work (Stopped why) [] commits =
     subst (λ (h : Held). Hosts g.D.Disk a.disk.now disk'.now a.state.work (Stopped why) []
     (commit_at h now q q.ask)) there copied in
-    let holds : Holds [] commits =
-    (named_disk, named, hosts', ticks_as _ _ _ _ _ _ _ (λ still. refl) c.in-Ok.ensures.ticks, count) in
+    let holds : Holds [] commits = (
+      named_disk,
+      named,
+      hosts',
+      ticks_as _ _ _ _ _ _ _
+          (λ still. refl) c.in-Ok.ensures.ticks,
+      count,
+    ) in
     stops_by q.ask q coll a.state.moments.items c.moment.new.moments.items now Holds
     c.in-Ok.ensures.moment holds

@@ -9,26 +9,30 @@ use Rattle.rx_session.proofs.playing.Playing.settle.Goals as goal
 
 -- what was done to the collections
 done : (c : goal.In_ok-due)
-    → IsTaken c.self.inside.world c.take_all.new.world c.self.inside.places.items c.self.inside.written.items
+    → IsTaken c.self.inside.world c.take_all.new.world c.self.inside.places.items
+    c.self.inside.written.items
 done c = record {
   placed = c.self.invariant.placed;
   distinct = c.self.invariant.distinct;
   quiet = c.self.invariant.quiet;
   emitted = c.in_ok-due.ensures.lives
-      ∙ ap (λ names. settled_each names (holders_in c.self.inside.world)) c.as_slice-2.ensures.value;
+      ∙ ap (λ names. settled_each names (holders_in c.self.inside.world))
+      c.as_slice-2.ensures.value;
   replications = c.in_ok-due.ensures.replications;
   epochs = c.in_ok-due.ensures.epoch;
 }
 
 -- the same at the return
 done_then : (c : goal.After-drop-written-2)
-    → IsTaken c.self.inside.world c.take_all.new.world c.self.inside.places.items c.self.inside.written.items
+    → IsTaken c.self.inside.world c.take_all.new.world c.self.inside.places.items
+    c.self.inside.written.items
 done_then c = record {
   placed = c.self.invariant.placed;
   distinct = c.self.invariant.distinct;
   quiet = c.self.invariant.quiet;
   emitted = c.in_ok-due.ensures.lives
-      ∙ ap (λ names. settled_each names (holders_in c.self.inside.world)) c.as_slice-2.ensures.value;
+      ∙ ap (λ names. settled_each names (holders_in c.self.inside.world))
+      c.as_slice-2.ensures.value;
   replications = c.in_ok-due.ensures.replications;
   epochs = c.in_ok-due.ensures.epoch;
 }
@@ -47,7 +51,8 @@ pub returns-clause-session : goal.returns-clause-session
 returns-clause-session c =
     let i = c.self.inside in
     let new = c.take_all.new.world in
-    subst (λ (s : Session). session_of new i.moment i.places.items ≡ settled_session s) c.self.view_is
+    subst (λ (s : Session). session_of new i.moment i.places.items ≡ settled_session s)
+    c.self.view_is
     (taken_session i.world new i.moment i.places.items i.written.items (done_then c))
 
 pub returns-clause-emissions : goal.returns-clause-emissions

@@ -30,12 +30,18 @@ returns-clause-session c =
     let i = c.self.inside in
     let new = c.carry_all.new.world in
     let number = c.args.world.epoch in
-    subst (λ (s : Session). session_in (record { world = new; moment = i.moment; places = i.places; diagram = i.diagram })
+    subst (λ (s : Session). session_in (record {
+      world = new;
+      moment = i.moment;
+      places = i.places;
+      diagram = i.diagram;
+    })
     ≡ settled_session (session_after (restart number) s)) c.self.view_is
     (carried_session i.world i.moment number i.places.items c.self.invariant.quiet new
     c.in_ok-carry_all.ensures.lives
     (c.in_ok-carry_all.ensures.replications ∙ c.requires.replications
-    ∙ ap (λ (s : Session). s.world.replications) (sym c.self.view_is)) c.in_ok-carry_all.ensures.epoch)
+    ∙ ap (λ (s : Session). s.world.replications) (sym c.self.view_is))
+    c.in_ok-carry_all.ensures.epoch)
 
 pub returns-clause-emissions : goal.returns-clause-emissions
 returns-clause-emissions c =
