@@ -1,5 +1,5 @@
 pub mod Faults
-pub mod Asked
+pub mod QuerySpec
 pub mod Order
 pub mod Result
 pub mod Reading
