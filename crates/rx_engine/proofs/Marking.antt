@@ -232,7 +232,7 @@ marked_put w marks but mark others here name lwt at =
 
 -- after what a line does, but a turn
 pub marked_doing : (d : Doing) (s : Session) (marks : List (List ℕ × Option ℕ)) → MayDo d s
-    → WritesNoExchange d → AreMarked s.world marks → AreMarked (doing.after d s).world marks
+    → WritesNoExchange d → AreMarked s.world marks → AreMarked (doing.session_after d s).world marks
 marked_doing nothing s marks may plain all = all
 marked_doing (set_clock at) s marks may plain all = all
 marked_doing (write c) s marks may plain all = λ name lwt at.

@@ -85,7 +85,7 @@ remembered_put w asks name a r fork at held lawful all =
 
 -- after what a line does
 pub remembered_doing : (d : Doing) (s : Session) (asks : List (List ℕ × Asks)) → MayDo d s
-    → AreRemembered s.world asks → AreRemembered (doing.after d s).world asks
+    → AreRemembered s.world asks → AreRemembered (doing.session_after d s).world asks
 remembered_doing nothing s asks may all = all
 remembered_doing (set_clock at) s asks may all = all
 remembered_doing (write c) s asks may all =

@@ -78,7 +78,7 @@ same_count name n (l ∷ ls) s are =
     ap (λ (x : Task). with_those_behind (turn_made x s) (exchanges_by (n + 1) ls then)) are.2
     ∙ ap (λ (k : ℕ). length u.exchanges + cond (is_done u.ended) 0 k) behind
     ∙ ap (λ (at : List ℕ).
-    let v : Turned = bound.turned at s.kinds (as_next t s) s.session.world in
+    let v : Turned = bound.turn_of_line at s.kinds (as_next t s) s.session.world in
     length v.exchanges
     + cond (is_done v.ended) 0
     (exchanges_of name s.kinds ns (world_after v.records s.session.world))) are.3
