@@ -4,7 +4,7 @@ ghost use Rattle.std.specs.List.{AllByRecursion, IsDistinct};
 ghost use Rattle.std.specs.Str.{bytes_eq};
 ghost use Rattle.serde_json.specs.View.{view};
 ghost use Rattle.rx_value.specs.Due.{Due, DueBy};
-ghost use Rattle.rx_value.specs.Named.{named, by_bytes, put_in_order};
+ghost use Rattle.rx_value.specs.Named.{named, put_in_order};
 ghost use Rattle.rx_collection.specs.Commit.{next_height};
 ghost use Rattle.rx_world.specs.Step.{IsValidState};
 ghost use Rattle.rx_engine.specs.Documents.{next_revision};
@@ -15,10 +15,10 @@ use crate::documents::{check_fields, free_height, read_state, revision_at};
 use crate::fault::Fault;
 use rx_collection::Collection;
 use rx_reply::Refusal;
+use rx_runs::{Name, Run};
 use rx_value::{RxText, State};
 use serde_json::Value as Json;
 use std::alloc::{AllocError, Global};
-use std::collections::BTreeMap;
 
 /// What the rows of a bulk come to.
 #[derive(Drop)]
@@ -43,7 +43,7 @@ pub(crate) fn read_rows(
     ensures distinct { IfOk result
         (λ rows. IsDistinct bytes_eq (map (λ s. s.key) rows.states.items)) }
 {
-    let mut seen = BTreeMap::new(alloc);
+    let mut seen = Run::new(alloc);
     let mut states = Vec::with_capacity(alloc, docs.len())?;
     let mut revs = Vec::with_capacity(alloc, docs.len())?;
     for (row, doc) in docs.iter().enumerate() {
@@ -59,15 +59,15 @@ fn read_row(
     alloc: Global,
     collection: &Collection,
     row: u64,
-    seen: &mut BTreeMap<String, ()>,
+    seen: &mut Run<()>,
     doc: &Json,
 ) -> Result<(State, u64), Fault>
     ensures exact { DueBy Memory (λ r. r.0) result
-        (row_state collection.now row (by_bytes seen.old.entries) (view doc.now)) }
+        (row_state collection.now row seen.old (view doc.now)) }
     ensures height { IfOk result
         (λ r. r.1 ≡ next_height (named collection.now.documents r.0.key)) }
-    ensures seen { IfOk result (λ r. by_bytes seen.new.entries
-        ≡ put_in_order (by_bytes seen.old.entries) r.0.key tt) }
+    ensures seen { IfOk result (λ r. seen.new
+        ≡ put_in_order seen.old r.0.key tt) }
 {
     let schema = collection.schema();
     let state = in_row(row, read_state(alloc, schema.primary(), doc))?;
@@ -80,14 +80,15 @@ fn read_row(
 }
 
 // Adds the key of a row, and tells whether it is that of an earlier row.
-fn add_key(alloc: Global, seen: &mut BTreeMap<String, ()>, key: &RxText) -> Result<bool, AllocError>
-    ensures earlier { IfOk result
-        (λ earlier. earlier ≡ is_some (named (by_bytes seen.old.entries) key.now)) }
-    ensures keys { OnOk result (by_bytes seen.new.entries
-        ≡ put_in_order (by_bytes seen.old.entries) key.now tt) }
+fn add_key(alloc: Global, seen: &mut Run<()>, key: &RxText) -> Result<bool, AllocError>
+    ensures earlier { IfOk result (λ earlier. earlier ≡ is_some (named seen.old key.now)) }
+    ensures keys { OnOk result (seen.new ≡ put_in_order seen.old key.now tt) }
 {
-    let earlier = seen.insert(String::from_str(alloc, key.as_str())?, ())?;
-    Ok(earlier.is_some())
+    let name = Name::new(alloc, key.as_str().as_bytes())?;
+    match seen.put(name, ()) {
+        Ok(earlier) => Ok(earlier.is_some()),
+        Err(()) => Err(AllocError),
+    }
 }
 
 // A fault of a document as that of its row.

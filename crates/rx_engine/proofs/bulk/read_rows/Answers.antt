@@ -1,7 +1,6 @@
 use Rattle.std.proofs.Common.{◌≡◌, ◌∷◌, ◌+◌, [], map, drop, drop-cons, add-one, suc, ap, sym, ◌∙◌, arith}
 use Rattle.std.proofs.lemmas.Grind.{common_steps}
 use Rattle.serde_json.specs.View.{view}
-use Rattle.rx_value.specs.Named.{by_bytes}
 use Rattle.rx_engine.specs.Writes.{rows_states}
 use Rattle.rx_engine.proofs.EachRow.{after, all_read, row_read, rows_given}
 use Rattle.rx_engine.proofs.bulk.read_rows.Goals as goal
@@ -12,7 +11,7 @@ returns-clause-valid c =
     let docs = c.args.docs.now in
     let states = c.loop-row.states.items in
     (rows_given held 0 [] (map view docs) states
-    (all_read held docs c.loop-row.row (by_bytes c.loop-row.seen.entries) states (omega arith)
+    (all_read held docs c.loop-row.row c.loop-row.seen states (omega arith)
     c.loop-row.invariant.states)).0
 
 pub returns-clause-distinct : goal.returns-clause-distinct
@@ -21,7 +20,7 @@ returns-clause-distinct c =
     let docs = c.args.docs.now in
     let states = c.loop-row.states.items in
     (rows_given held 0 [] (map view docs) states
-    (all_read held docs c.loop-row.row (by_bytes c.loop-row.seen.entries) states (omega arith)
+    (all_read held docs c.loop-row.row c.loop-row.seen states (omega arith)
     c.loop-row.invariant.states)).1
 
 pub loop-row-preserved : goal.loop-row-preserved
@@ -35,11 +34,11 @@ loop-row-preserved c =
     ∙ ap (λ n. d ∷ drop n docs) (sym (add-one row)) in
     record {
       states =
-          row_read c.args.collection.now docs row (by_bytes c.loop-row.seen.entries)
-          (by_bytes c.read_row.new.seen.entries) c.loop-row.states.items d c.in_ok-state.state
+          row_read c.args.collection.now docs row c.loop-row.seen
+          c.read_row.new.seen c.loop-row.states.items d c.in_ok-state.state
           c.loop-row.invariant.states here c.in_ok-state.ensures.exact c.in_ok-state.ensures.seen
           ∙ ap (λ states. after states (rows_states c.args.collection.now (row + 1)
-          (by_bytes c.read_row.new.seen.entries) (map view (drop (row + 1) docs))))
+          c.read_row.new.seen (map view (drop (row + 1) docs))))
           (sym c.in_ok-push.ensures.items);
       revs = grind (arith, common_steps);
     }

@@ -1,6 +1,5 @@
 use Rattle.std.proofs.Common.{◌≡◌, [], map, drop}
 use Rattle.serde_json.specs.View.{view}
-use Rattle.rx_value.specs.Named.{by_bytes}
 use Rattle.rx_engine.specs.Documents.{next_revision}
 use Rattle.rx_engine.specs.Writes.{rows_states}
 use Rattle.rx_engine.proofs.EachRow.{after}
@@ -11,6 +10,6 @@ abbrev pub invariant-loop-row : goal.invariant-loop-row
 invariant-loop-row l = record {
   states : rows_states l.collection 0 [] (map view l.docs)
       ≡ after l.states.items
-      (rows_states l.collection l.row (by_bytes l.seen.entries) (map view (drop l.row l.docs)));
+      (rows_states l.collection l.row l.seen (map view (drop l.row l.docs)));
   revs : l.revs.items ≡ map (λ s. next_revision l.collection s.key) l.states.items;
 }
