@@ -1,4 +1,4 @@
-ghost use Rattle.std.specs.Prelude.{◌≡◌, ◌<◌, ◌++◌, length};
+ghost use Rattle.std.specs.Prelude.{◌≡◌, ◌<◌, ◌+◌, ◌++◌, length, reverse, slice_get, Some, IfOk, IfErr, option_map};
 ghost use Rattle.std.specs.Iterator.{at_most};
 ghost use Rattle.std.specs.Map.Iter.{TakesFirst, deref_pair};
 ghost use Rattle.rx_runs.specs.Run.{flat};
@@ -47,6 +47,77 @@ impl<'a, V> Pairs<'a, V> {
     {
         self.pairs.len() + count(self.chunks) + self.last.len()
     }
+
+    /// The pair that stands behind so many others. Of chunks before it none but their lengths are
+    /// read.
+    pub fn at(&self, i: usize) -> Option<(&'a Name, &'a V)>
+        ensures { option_map deref_pair result ≡ slice_get self.now i }
+    {
+        if i < self.pairs.len() {
+            return Some(lent(&self.pairs[i]));
+        }
+        match pair_in(self.chunks, i - self.pairs.len()) {
+            Ok(pair) => Some(lent(pair)),
+            Err(left) => Some(lent(self.last.get(left)?)),
+        }
+    }
+
+    /// The pair that stands before so many others, by the lengths of chunks behind it.
+    pub fn at_back(&self, i: usize) -> Option<(&'a Name, &'a V)>
+        ensures { option_map deref_pair result ≡ slice_get (reverse self.now) i }
+    {
+        if i < self.last.len() {
+            return Some(lent(&self.last[self.last.len() - 1 - i]));
+        }
+        match pair_back_in(self.chunks, i - self.last.len()) {
+            Ok(pair) => Some(lent(pair)),
+            Err(left) if left < self.pairs.len() => {
+                Some(lent(&self.pairs[self.pairs.len() - 1 - left]))
+            }
+            Err(_) => None,
+        }
+    }
+}
+
+fn lent<V>(pair: &(Name, V)) -> (&Name, &V)
+    ensures { deref_pair result ≡ pair.now }
+{
+    (&pair.0, &pair.1)
+}
+
+// The pair of chunks that stands behind so many others, or, as an `Err`, how many are left of those
+// behind all pairs.
+fn pair_in<V>(chunks: &[(Name, Chunk<V>)], i: usize) -> Result<&(Name, V), usize>
+    ensures found { IfOk result (λ pair. slice_get (flat chunks.now) i ≡ Some pair.now) }
+    ensures past { IfErr result (λ left. i ≡ length (flat chunks.now) + left) }
+{
+    let mut left = i;
+    for chunk in chunks {
+        let pairs = chunk.1.pairs();
+        if left < pairs.len() {
+            return Ok(&pairs[left]);
+        }
+        left -= pairs.len();
+    }
+    Err(left)
+}
+
+// The same from the end.
+fn pair_back_in<V>(chunks: &[(Name, Chunk<V>)], i: usize) -> Result<&(Name, V), usize>
+    ensures found { IfOk result (λ pair. slice_get (reverse (flat chunks.now)) i ≡ Some pair.now) }
+    ensures past { IfErr result (λ left. i ≡ length (flat chunks.now) + left) }
+{
+    let mut left = i;
+    let mut end = chunks.len();
+    'chunks: while end > 0 {
+        let pairs = chunks[end - 1].1.pairs();
+        if left < pairs.len() {
+            return Ok(&pairs[pairs.len() - 1 - left]);
+        }
+        left -= pairs.len();
+        end -= 1;
+    }
+    Err(left)
 }
 
 // How many pairs chunks have.
