@@ -1,4 +1,4 @@
-ghost use Rattle.std.specs.Prelude.{◌≡◌, ◌↔◌, ◌<◌, ◌^◌, length, IfOk, IsTrue};
+ghost use Rattle.std.specs.Prelude.{◌≡◌, ◌↔◌, ◌<◌, ◌^◌, length, reverse, slice_get, IfOk, IsTrue};
 ghost use Rattle.std.specs.Iterator.{at_most};
 ghost use Rattle.std.specs.Map.Iter.{TakesFirst};
 ghost use Rattle.rx_index.specs.Packed.{IsKey, AreKeys, ids_in, unpacked};
@@ -85,6 +85,22 @@ impl<'a> Range<'a> {
         ensures { result ≡ length self.entry }
     {
         self.keys.len()
+    }
+
+    /// The one that stands behind so many others. None of those is read.
+    pub fn at(&self, i: usize) -> Option<Entry<'a>>
+        ensures { result ≡ slice_get self.now i }
+    {
+        let (name, slot) = self.keys.at(i)?;
+        Some(Entry { name, slot: *slot })
+    }
+
+    /// The one that stands before so many others.
+    pub fn at_back(&self, i: usize) -> Option<Entry<'a>>
+        ensures { result ≡ slice_get (reverse self.now) i }
+    {
+        let (name, slot) = self.keys.at_back(i)?;
+        Some(Entry { name, slot: *slot })
     }
 }
 
