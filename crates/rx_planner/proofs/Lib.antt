@@ -10,3 +10,9 @@ pub mod Rising
 pub mod Single
 pub mod Runs
 pub mod Standing
+pub mod Cuts
+pub mod Ways
+pub mod Costs
+pub mod Pivots
+pub mod Walks
+pub mod Windows

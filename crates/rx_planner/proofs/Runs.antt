@@ -58,7 +58,7 @@ key_above k (e ∷ es) up keyed z (inl is) =
     ap (λ d. text_cmp k d.state.key) is ∙ ap (text_cmp k) keyed.0 ∙ up.0
 key_above k (e ∷ es) up keyed z (inr i) = key_above k es up.1 keyed.1 z i
 
-in_named : (es : Documents) → AreRising es → AllByRecursion (λ e. e.1.state.key ≡ e.0) es
+pub in_named : (es : Documents) → AreRising es → AllByRecursion (λ e. e.1.state.key ≡ e.0) es
     → (z : Stored) → In z (values_of es) → named es z.state.key ≡ Some z
 unfolding IsStrictlySortedBy
 in_named [] up keyed z i = absurd i
@@ -108,7 +108,7 @@ has_in (x ∷ xs) k i =
       ])
     ]) refl
 
-in_has : (keys : List Position) (k : Position) → has_key keys k ≡ true → In k keys
+pub in_has : (keys : List Position) (k : Position) → has_key keys k ≡ true → In k keys
 in_has [] k h = absurd (false≢true h)
 in_has (x ∷ xs) k h =
     (elim (is_eq (position_cmp k x)) as (λ b. is_eq (position_cmp k x) ≡ b
@@ -128,9 +128,8 @@ Encloses q fields low high = (d : Stored) → is_due q d ≡ true
 module _ (q : QuerySpec) (documents : Documents) (fields : Names) (keys : List Position)
     (low high : Position) (collection : IsCollection q.primary documents)
     (up : IsStrictlySortedBy position_cmp keys)
-    (held : HoldsWhere (is_between low high) (indexed_by fields keys) documents)
-    (encloses : Encloses q fields low high) where
-  abbrev between : List Position
+    (held : HoldsWhere (is_between low high) (indexed_by fields keys) documents) where
+  abbrev pub between : List Position
   between = filter (is_between low high) keys
 
   -- the due document of a key
@@ -145,7 +144,7 @@ module _ (q : QuerySpec) (documents : Documents) (fields : Names) (keys : List P
   met_is = filter_map-map (λ id. if_due q (named documents id)) id_of between
 
   -- a key is that of its document
-  keyed_so : (k : Position) (d : Stored) → In k between → named documents (id_of k) ≡ Some d
+  pub keyed_so : (k : Position) (d : Stored) → In k between → named documents (id_of k) ≡ Some d
       → key_of fields d ≡ k
   keyed_so k d i at =
       let there = from_filter (is_between low high) keys k i in
@@ -154,31 +153,37 @@ module _ (q : QuerySpec) (documents : Documents) (fields : Names) (keys : List P
       (position_eq-Decides (key_of fields d) k).0 is
 
   -- documents carry their keys
-  carried : (d : Stored) (id : List ℕ) → named documents id ≡ Some d
+  pub carried : (d : Stored) (id : List ℕ) → named documents id ≡ Some d
       → named d.state.fields q.primary ≡ Some (Text d.state.key)
   carried d id at =
       carried_in q.primary documents collection.carried d (named_in documents id d at)
 
   -- ---- the same members
 
-  abbrev all_due : List Stored
+  abbrev pub all_due : List Stored
   all_due = filter (is_due q) (values_of documents)
 
-  met_due : (z : Stored) → In z met → In z all_due
+  pub met_due : (z : Stored) → In z met → In z all_due
   met_due z i =
       let r = from_filter_map at_key between z (subst (In z) met_is i) in
       let is = due_named q (named documents (id_of r.0)) z r.2 in
       in_filter (is_due q) (values_of documents) z (named_in documents (id_of r.0) z is.0) is.1
 
-  due_met : (z : Stored) → In z all_due → In z met
-  due_met z i =
+  pub met_between : (z : Stored) → In z met → is_between low high (key_of fields z) ≡ true
+  met_between z i =
+      let r = from_filter_map at_key between z (subst (In z) met_is i) in
+      let is = due_named q (named documents (id_of r.0)) z r.2 in
+      ap (is_between low high) (keyed_so r.0 z r.1 is.0)
+      ∙ (from_filter (is_between low high) keys r.0 r.1).1
+
+  pub between_met : (z : Stored) → In z all_due → is_between low high (key_of fields z) ≡ true
+      → In z met
+  between_met z i stands =
       let r = from_filter (is_due q) (values_of documents) z i in
       let at = in_named documents collection.rising collection.keyed z r.0 in
-      let bears = carried_in q.primary documents collection.carried z r.0 in
       let k = key_of fields z in
       let here : named documents (id_of k) ≡ Some z = ap (named documents) (id_of-key_of fields z)
       ∙ at in
-      let stands : is_between low high k ≡ true = encloses z r.1 bears in
       let has : has_key keys k ≡ true =
       held k stands ∙ ap (λ o. is_key_of fields o k) here ∙ ap is_eq (itself k) in
       subst (In z) (sym met_is)
@@ -229,48 +234,57 @@ module _ (q : QuerySpec) (documents : Documents) (fields : Names) (keys : List P
   abbrev pub in_order : List Stored
   in_order = sorted (stored_before q) all_due
 
-  strict_order : IsStrictlySortedBy (stored_cmp q) in_order
+  pub strict_order : IsStrictlySortedBy (stored_cmp q) in_order
   strict_order =
       let plain : QuerySpec = record q { skip = 0; limit = None } in
       let r = (one_result plain (values_of documents)
       (are_keyed q.primary documents collection)).is_result in
       subst (IsStrictlySortedBy (stored_cmp q)) (sym r.window) r.in_order
 
-  order_due : (z : Stored) → In z in_order → In z all_due
+  pub order_due : (z : Stored) → In z in_order → In z all_due
   order_due z =
       in-permutation in_order all_due z
       (IsPermutation-sym all_due in_order (sorted-permutes (stored_before q) all_due))
 
-  due_order : (z : Stored) → In z all_due → In z in_order
+  pub due_order : (z : Stored) → In z all_due → In z in_order
   due_order z = in-permutation all_due in_order z (sorted-permutes (stored_before q) all_due)
 
-  -- where the plan is ordered, they are met so
-  pub met_ordered : is_ordered q (path_of q fields) ≡ true → met ≡ in_order
-  met_ordered ordered =
-      same_members (stored_cmp q) (stored_total q) met in_order
-      (subst (IsStrictlySortedBy (stored_cmp q)) (sym met_is)
-      (strict_pairwise (stored_cmp q) (filter_map at_key between)
-      (becomes (λ k l. position_cmp k l ≡ Less) (λ d e. stored_cmp q d e ≡ Less) at_key between
-      (λ k l d e i j below is_d is_e.
-      let r_d = due_named q (named documents (id_of k)) d is_d in
-      let r_e = due_named q (named documents (id_of l)) e is_e in
-      keys_in_order q fields d e ordered r_d.1 r_e.1 (carried d (id_of k) r_d.0)
-      (carried e (id_of l) r_e.0)
-      (ap (λ p. position_cmp p (key_of fields e)) (keyed_so k d i r_d.0)
-      ∙ ap (position_cmp k) (keyed_so l e j r_e.0) ∙ below))
-      keys_up)))
-      strict_order (λ z i. due_order z (met_due z i)) (λ z i. due_met z (order_due z i))
+  -- ---- where the bounds leave no due document out
 
-  -- else they are so once they are sorted
-  pub met_sorted : sorted (stored_before q) met ≡ in_order
-  met_sorted =
-      let all = sorted (stored_before q) met in
-      let moved = sorted-permutes (stored_before q) met in
-      same_members (stored_cmp q) (stored_total q) all in_order
-      (ordered-sorted (stored_cmp q) (stored_total q) met met_distinct) strict_order
-      (λ z i. due_order z
-      (met_due z (in-permutation all met z (IsPermutation-sym met all moved) i)))
-      (λ z i. in-permutation met all z moved (due_met z (order_due z i)))
+  module _ (encloses : Encloses q fields low high) where
+    due_met : (z : Stored) → In z all_due → In z met
+    due_met z i =
+        let r = from_filter (is_due q) (values_of documents) z i in
+        between_met z i
+        (encloses z r.1 (carried_in q.primary documents collection.carried z r.0))
+
+    -- where the plan is ordered, they are met so
+    pub met_ordered : is_ordered q (path_of q fields) ≡ true → met ≡ in_order
+    met_ordered ordered =
+        same_members (stored_cmp q) (stored_total q) met in_order
+        (subst (IsStrictlySortedBy (stored_cmp q)) (sym met_is)
+        (strict_pairwise (stored_cmp q) (filter_map at_key between)
+        (becomes (λ k l. position_cmp k l ≡ Less) (λ d e. stored_cmp q d e ≡ Less) at_key between
+        (λ k l d e i j below is_d is_e.
+        let r_d = due_named q (named documents (id_of k)) d is_d in
+        let r_e = due_named q (named documents (id_of l)) e is_e in
+        keys_in_order q fields d e ordered r_d.1 r_e.1 (carried d (id_of k) r_d.0)
+        (carried e (id_of l) r_e.0)
+        (ap (λ p. position_cmp p (key_of fields e)) (keyed_so k d i r_d.0)
+        ∙ ap (position_cmp k) (keyed_so l e j r_e.0) ∙ below))
+        keys_up)))
+        strict_order (λ z i. due_order z (met_due z i)) (λ z i. due_met z (order_due z i))
+
+    -- else they are so once they are sorted
+    pub met_sorted : sorted (stored_before q) met ≡ in_order
+    met_sorted =
+        let all = sorted (stored_before q) met in
+        let moved = sorted-permutes (stored_before q) met in
+        same_members (stored_cmp q) (stored_total q) all in_order
+        (ordered-sorted (stored_cmp q) (stored_total q) met met_distinct) strict_order
+        (λ z i. due_order z
+        (met_due z (in-permutation all met z (IsPermutation-sym met all moved) i)))
+        (λ z i. in-permutation met all z moved (due_met z (order_due z i)))
 
 -- ---- the window
 
@@ -322,7 +336,7 @@ module _ (q : QuerySpec) (documents : Documents) (fields : Names) (keys : List P
       (IsPermutation-append_left back rows (sorted (stored_before q) rows)
       (sorted-permutes (stored_before q) rows))
       (subst (differ q) (sym parts)
-      (met_distinct q documents fields keys low high collection up held encloses)))
+      (met_distinct q documents fields keys low high collection up held)))
 
   -- else of some in order and the others as many first ones
   pub run_sorted : (rows first last : List Stored) (ids : List (List ℕ))
@@ -338,7 +352,7 @@ module _ (q : QuerySpec) (documents : Documents) (fields : Names) (keys : List P
       (sorted-permutes (stored_before q) rows) in
       let apart : differ q (rows ++ back) =
       subst (differ q) (sym parts)
-      (met_distinct q documents fields keys low high collection up held encloses) in
+      (met_distinct q documents fields keys low high collection up held) in
       let as_many : length first ≡ length rows =
       ap length first_is ∙ length_permutation rows (sorted (stored_before q) rows)
       (sorted-permutes (stored_before q) rows) in
@@ -406,8 +420,7 @@ module _ (q : QuerySpec) (documents : Documents) (indexes : List Indexed) (plan 
     first_distinct =
         distinct_front (eq_by_cmp (stored_cmp q)) rows (due_among q documents ids)
         (subst (IsDistinct (eq_by_cmp (stored_cmp q))) (sym all_parts)
-        (met_distinct q documents i.fields i.keys plan.low plan.high collection up held_there
-        encloses))
+        (met_distinct q documents i.fields i.keys plan.low plan.high collection up held_there))
 
     -- in order they are so strictly
     pub first_strict : (first : List Stored) → first ≡ sorted (stored_before q) rows

@@ -5,3 +5,4 @@ pub mod Count
 pub mod Rows
 pub mod Onto
 pub mod Choice
+pub mod Way

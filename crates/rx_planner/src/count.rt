@@ -51,8 +51,9 @@ impl Plan {
     /// How many keys of its index stand between its bounds.
     pub fn span(&self, indexes: &[Index]) -> usize
         requires { self.now.index < length indexes.now }
-        ensures { IfSome (slice_get indexes.now self.now.index)
+        ensures keys { IfSome (slice_get indexes.now self.now.index)
             (λ i. result ≡ length (ids_between self.now.low self.now.high i.keys)) }
+        ensures fits { result < 2 ^ 63 }
     {
         indexes[self.index].range(&self.low, &self.high).len()
     }

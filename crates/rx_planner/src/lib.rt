@@ -6,6 +6,7 @@ mod choice;
 mod closed;
 mod count;
 mod exact;
+mod find;
 mod one;
 mod order;
 mod path;
@@ -13,7 +14,10 @@ mod planned;
 mod planning;
 mod rows;
 mod run;
+mod walk;
+mod way;
 
 pub use count::in_window;
+pub use find::Found;
 pub use planned::Plan;
 pub use planning::plan;

@@ -16,7 +16,7 @@ use std::alloc::{AllocError, Global};
 
 // The document of an index's key: the one in the key's slot, if it is that one. So a slot is no
 // more than a hint, of which nothing has to be known.
-fn document_of<'a, T: Lookup>(
+pub(crate) fn document_of<'a, T: Lookup>(
     alloc: Global,
     docs: &'a T,
     entry: &Entry<'_>,

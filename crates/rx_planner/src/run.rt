@@ -48,7 +48,7 @@ impl Plan {
 }
 
 // How many rows are skipped or left at most.
-fn most_rows(query: &Query) -> Option<u128>
+pub(crate) fn most_rows(query: &Query) -> Option<u128>
     ensures { result ≡ most_rows (asked query.now) }
 {
     match query.limit() {
@@ -57,7 +57,7 @@ fn most_rows(query: &Query) -> Option<u128>
     }
 }
 
-fn skip_rows<T: Drop>(rows: &mut Vec<T>, skip: usize)
+pub(crate) fn skip_rows<T: Drop>(rows: &mut Vec<T>, skip: usize)
     ensures { rows.new.items ≡ drop skip rows.old.items }
 {
     if rows.len() <= skip {
