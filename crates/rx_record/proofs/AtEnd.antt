@@ -1,5 +1,5 @@
 -- Fields grow at their end where their names rise.
-use Rattle.std.proofs.Common.{◌≡◌, [], ◌∷◌, ◌++◌, true, Ok, Err, refl, ap, ◌∙◌}
+use Rattle.std.proofs.Common.{◌≡◌, ℕ, List, [], ◌∷◌, ◌++◌, true, Ok, Err, refl, ap, ap₂, ◌∙◌}
 use Rattle.std.proofs.lemmas.Cmp.{nat_list_cmp_total}
 use Rattle.std.specs.List.{AllByRecursion}
 use Rattle.std.specs.List.Sorted.{IsStrictlySortedBy}
@@ -11,14 +11,26 @@ use Rattle.rx_value.specs.Named.{AreRising, put_in_order}
 use Rattle.rx_value.specs.Order.{text_cmp}
 use Rattle.rx_value.specs.Value.{is_value}
 use Rattle.rx_value.proofs.Lists.{all_at}
-use Rattle.rx_record.specs.Reading.{Reading, is_whole, read_or}
+use Rattle.rx_record.specs.Reading.{Reading, rest_after, is_read, is_whole, read_or}
 use Rattle.rx_record.proofs.Steps.{done}
 
--- what was read to the end
-pub whole_read : {A : Type 0} (none : A) (m : Reading A) → is_whole m ≡ true → m ≡ done (read_or none m) []
-whole_read none (Ok (x, [])) h = refl
-whole_read none (Ok (x, b ∷ bs)) h = cc
-whole_read none (Err left) h = cc
+-- what was read, and the bytes behind it
+pub front_read : {A : Type 0} (none : A) (m : Reading A) → is_read m ≡ true
+    → (rest : List ℕ) × (m ≡ done (read_or none m) rest)
+front_read none (Ok p) h = (p.1, refl)
+front_read none (Err left) h = cc
+
+-- what was read to the end was read
+pub read_whole : {A : Type 0} (m : Reading A) → is_whole m ≡ true → is_read m ≡ true
+read_whole (Ok (x, [])) h = refl
+read_whole (Ok (x, b ∷ bs)) h = cc
+read_whole (Err left) h = cc
+
+-- so it is, where both are known
+pub read_to : {A : Type 0} (none : A) (m : Reading A) (x : A) (rest : List ℕ) → is_read m ≡ true
+    → read_or none m ≡ x → rest_after m ≡ Ok rest → m ≡ done x rest
+read_to none (Ok p) x rest h same end = let e : p.1 ≡ rest = cc in ap₂ done same e
+read_to none (Err left) x rest h same end = cc
 
 -- a pair among fields
 pub in_range_at : (ps : Pairs) (p : Pair) (rest : Pairs) → AreFields (ps ++ p ∷ rest) → is_value p.1 ≡ true

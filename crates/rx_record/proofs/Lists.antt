@@ -1,6 +1,6 @@
 -- Things one after another by rising name.
-use Rattle.std.proofs.Common.{◌≡◌, ℕ, zero, suc, ◌-◌, ◌<◌, List, [], ◌∷◌, ◌++◌, length, Option, Some, None, Ok, Err, refl, ap, sym, ◌∙◌, arith, append_assoc, w32, subst}
-use Rattle.rx_record.specs.Reading.{Reading, ◌▸◌, rest_after}
+use Rattle.std.proofs.Common.{◌≡◌, ℕ, zero, suc, ◌-◌, ◌<◌, List, [], ◌∷◌, ◌++◌, length, true, Option, Some, None, Ok, Err, refl, ap, sym, ◌∙◌, arith, append_assoc, w32, subst}
+use Rattle.rx_record.specs.Reading.{Reading, ◌▸◌, rest_after, is_read, read_or}
 use Rattle.rx_record.specs.Parts.{number_bytes, number_of}
 use Rattle.rx_record.specs.Fields.{all_bytes, rising_of, list_bytes, list_of}
 use Rattle.rx_record.proofs.Steps.{parted, joined, same_parts, read_as, IsRead, AreBytes, bytes_behind}
@@ -22,6 +22,32 @@ module _ {A : Type 0} (bytes name : A → List ℕ) (part : Option (List ℕ) �
   after_step (suc n) last bs x more some h =
       let less : suc n - 1 ≡ n = omega arith in
       rw (h, less) (after_cons x (rising_of name part n (Some (name x)) more))
+
+  -- one part was read before the others
+  first_of : {B : Type 0} (m : Reading A) (f : A → List ℕ → Reading B) → is_read (m ▸ f) ≡ true
+      → is_read m ≡ true
+  first_of (Ok p) f h = refl
+  first_of (Err left) f h = cc
+
+  pub first_read : (n : ℕ) (last : Option (List ℕ)) (bs : List ℕ) → 0 < n
+      → is_read (rising_of name part n last bs) ≡ true → is_read (part last bs) ≡ true
+  first_read zero last bs some h = absurd (omega arith)
+  first_read (suc n) last bs some h = first_of (part last bs) _ h
+
+  -- the others were read behind it
+  others_of : (x : A) (m : Reading (List A)) → is_read (m ▸ λ xs rest. Ok (x ∷ xs, rest)) ≡ true
+      → (is_read m ≡ true) × (read_or [] (m ▸ λ xs rest. Ok (x ∷ xs, rest)) ≡ x ∷ read_or [] m)
+  others_of x (Ok p) h = (refl, refl)
+  others_of x (Err left) h = cc
+
+  pub next_read : (n : ℕ) (last : Option (List ℕ)) (bs : List ℕ) (x : A) (more k : List ℕ) → 0 < n
+      → part last bs ≡ Ok (x, more) → name x ≡ k → is_read (rising_of name part n last bs) ≡ true
+      → (is_read (rising_of name part (n - 1) (Some k) more) ≡ true)
+      × (read_or [] (rising_of name part n last bs) ≡ x ∷ read_or [] (rising_of name part (n - 1) (Some k) more))
+  next_read zero last bs x more k some h named all = absurd (omega arith)
+  next_read (suc n) last bs x more k some h named all =
+      let less : suc n - 1 ≡ n = omega arith in
+      rw (less, ← named, h) (others_of x (rising_of name part n (Some (name x)) more) (rw h at all))
 
   -- a thing and the others are read back
   pub rising_back : (n : ℕ) (last : Option (List ℕ)) (x : A) (xs : List A) (more : List ℕ)

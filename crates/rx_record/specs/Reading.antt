@@ -27,6 +27,11 @@ abbrev pub Skips : {A : Type 0} → Result (Bor (List ℕ)) ℕ → Reading A �
 Skips (Ok rest) due = rest_after due ≡ Ok rest.now
 Skips (Err left) due = due ≡ Err left
 
+-- it was read, whatever stands behind it
+abbrev pub is_read : {A : Type 0} → Reading A → Bool
+is_read (Ok p) = true
+is_read (Err left) = false
+
 -- it was read to the end of the bytes
 abbrev pub is_whole : {A : Type 0} → Reading A → Bool
 is_whole (Ok (x, [])) = true

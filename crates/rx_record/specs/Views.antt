@@ -1,11 +1,11 @@
 -- What lent parts show.
-use Rattle.std.specs.Prelude.{ℕ, List, [], option_map}
+use Rattle.std.specs.Prelude.{ℕ, List, [], Result, option_map}
 use Rattle.rx_value.specs.Fields.{Pair, Pairs}
 use Rattle.rx_value.specs.declared.state.State.{State}
 use Rattle.rx_value.specs.declared.value.Value.{Value}
 use Rattle.rx_value.specs.declared.value.Value.TheVariants.{Flag, Int, Text}
 use Rattle.rx_document.specs.declared.place.Place.{Place}
-use Rattle.rx_record.specs.Reading.{read_or}
+use Rattle.rx_record.specs.Reading.{rest_after, read_or}
 use Rattle.rx_record.specs.Fields.{pairs_of, fields_of}
 use Rattle.rx_record.specs.Rows.{states_from, rows_from}
 use Rattle.rx_record.specs.declared.record.MasterName.{MasterName}
@@ -40,6 +40,10 @@ fields_in bs = read_or [] (fields_of bs)
 -- the pairs that are still to come
 abbrev pub pairs_left : PairViews → Pairs
 pairs_left p = read_or [] (pairs_of p.left (option_map (λ t. t.now) p.last) p.bytes.now)
+
+-- the bytes behind them
+abbrev pub end_of : PairViews → Result (List ℕ) ℕ
+end_of p = rest_after (pairs_of p.left (option_map (λ t. t.now) p.last) p.bytes.now)
 
 -- the state
 abbrev pub state_in : StateView → State

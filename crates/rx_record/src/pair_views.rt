@@ -1,5 +1,5 @@
-ghost use Rattle.std.specs.Prelude.{◌≡◌, ◌∷◌, [], IsTrue, IfSome, IfNone, option_map};
-ghost use Rattle.rx_record.specs.Reading.{is_whole};
+ghost use Rattle.std.specs.Prelude.{◌≡◌, ◌∷◌, [], Ok, IsTrue, IfSome, IfNone, option_map};
+ghost use Rattle.rx_record.specs.Reading.{rest_after, is_read};
 ghost use Rattle.rx_record.specs.Fields.{pairs_of, fields_of};
 
 use crate::pair_view::PairView;
@@ -12,15 +12,16 @@ pub(crate) struct PairViews<'a> {
     pub left: u32,
     pub last: Option<&'a str>,
     pub bytes: &'a [u8],
-    ghost whole: { IsTrue (is_whole (pairs_of left (option_map (λ t. t.now) last) bytes.now)) },
+    ghost read: { IsTrue (is_read (pairs_of left (option_map (λ t. t.now) last) bytes.now)) },
 }
 
 impl<'a> PairViews<'a> {
-    ghost use Rattle.rx_record.specs.Views.{pair_in, pairs_left, fields_in};
+    ghost use Rattle.rx_record.specs.Views.{end_of, pair_in, pairs_left, fields_in};
 
     pub(crate) fn new(fields: &'a [u8]) -> PairViews<'a>
-        requires { IsTrue (is_whole (fields_of fields.now)) }
-        ensures { pairs_left result ≡ fields_in fields.now }
+        requires { IsTrue (is_read (fields_of fields.now)) }
+        ensures pairs { pairs_left result ≡ fields_in fields.now }
+        ensures end { end_of result ≡ rest_after (fields_of fields.now) }
     {
         let Ok((left, bytes)) = read_count(fields) else {
             unreachable!()
@@ -36,6 +37,8 @@ impl<'a> PairViews<'a> {
         ensures some { IfSome result
             (λ pair. pairs_left self.old ≡ pair_in pair ∷ pairs_left self.new) }
         ensures none { IfNone result (pairs_left self.old ≡ []) }
+        ensures end { end_of self.new ≡ end_of self.old }
+        ensures last { IfNone result (end_of self.old ≡ Ok self.new.bytes.now) }
     {
         if self.left == 0 {
             return None;

@@ -24,9 +24,10 @@ impl<'a> StateView<'a> {
     pub fn own(&self, alloc: Global) -> Result<State, AllocError>
         ensures { IfOk result (λ state. state ≡ state_in self.now) }
     {
+        let (fields, _) = own_fields(alloc, self.fields)?;
         Ok(State {
             key: RxText::new(alloc, self.key)?,
-            fields: own_fields(alloc, self.fields)?,
+            fields,
             deleted: self.deleted,
         })
     }

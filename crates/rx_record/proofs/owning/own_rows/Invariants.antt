@@ -1,10 +1,15 @@
-use Rattle.std.proofs.Common.{◌≡◌, ◌++◌, length}
+use Rattle.std.proofs.Common.{◌≡◌, [], ◌++◌, true, option_map}
+use Rattle.rx_record.specs.Reading.{is_read, read_or}
+use Rattle.rx_record.specs.Rows.{rows_from}
 use Rattle.rx_record.specs.Views.{rows_left}
 use Rattle.rx_record.proofs.owning.own_rows.Given as goal
 
--- the rows so far, and then those that are still to come
-abbrev pub invariant-loop-row : goal.invariant-loop-row
-invariant-loop-row l = rows_left l.fn.rows ≡ l.owned.items ++ rows_left l.rows
+-- the rows so far, and then those that are read from the rest
+abbrev pub invariant-loop-left : goal.invariant-loop-left
+invariant-loop-left l = record {
+  read : is_read (rows_from l.left (option_map (λ t. t.now) l.last) l.rest) ≡ true;
+  all : rows_left l.rows ≡ l.owned.items ++ read_or [] (rows_from l.left (option_map (λ t. t.now) l.last) l.rest);
+}
 
-abbrev pub decreases-loop-row : goal.decreases-loop-row
-decreases-loop-row l = length (rows_left l.rows)
+abbrev pub decreases-loop-left : goal.decreases-loop-left
+decreases-loop-left l = l.left

@@ -1,10 +1,15 @@
-use Rattle.std.proofs.Common.{◌≡◌, ◌++◌, length}
+use Rattle.std.proofs.Common.{◌≡◌, [], ◌++◌, true, option_map}
+use Rattle.rx_record.specs.Reading.{is_read, read_or}
+use Rattle.rx_record.specs.Rows.{states_from}
 use Rattle.rx_record.specs.Views.{states_left}
 use Rattle.rx_record.proofs.owning.own_states.Given as goal
 
--- the states so far, and then those that are still to come
-abbrev pub invariant-loop-state : goal.invariant-loop-state
-invariant-loop-state l = states_left l.fn.known ≡ l.owned.items ++ states_left l.known
+-- the states so far, and then those that are read from the rest
+abbrev pub invariant-loop-left : goal.invariant-loop-left
+invariant-loop-left l = record {
+  read : is_read (states_from l.left (option_map (λ t. t.now) l.last) l.rest) ≡ true;
+  all : states_left l.known ≡ l.owned.items ++ read_or [] (states_from l.left (option_map (λ t. t.now) l.last) l.rest);
+}
 
-abbrev pub decreases-loop-state : goal.decreases-loop-state
-decreases-loop-state l = length (states_left l.known)
+abbrev pub decreases-loop-left : goal.decreases-loop-left
+decreases-loop-left l = l.left
