@@ -90,7 +90,7 @@ pub(crate) fn replay<H: Holder + Drop, D: Disk, F: Fn(Collection) -> Result<H, A
     }
 }
 
-// A record is owned once it is known to be legal, and not before.
+// What is no record is refused before memory is taken.
 fn replay_one<H: Holder + Drop, F: Fn(Collection) -> Result<H, AllocError>>(
     alloc: Global,
     world: World<H>,
@@ -108,7 +108,6 @@ fn replay_one<H: Holder + Drop, F: Fn(Collection) -> Result<H, AllocError>>(
     ensures epoch { IfOk result (λ w. w.epoch ≤ world.epoch + 1) }
     ensures not_journal { IsErrOf result Stop.NotJournal
         → after_body (record_of body.now) (world_in H.held world) ≡ None }
-    // What can't be read is refused before memory is taken.
     ensures unread { IsErr (record_of body.now) → IsErrOf result Stop.NotJournal }
     ensures no_disk { IsErrOf result Stop.Disk → ⊥ }
     ensures no_full { (would limit : ℕ) → IsErrOf result (Stop.Full would limit) → ⊥ }
@@ -116,9 +115,8 @@ fn replay_one<H: Holder + Drop, F: Fn(Collection) -> Result<H, AllocError>>(
     let Ok(view) = RecordView::read(body) else {
         return Err(Stop::NotJournal);
     };
-    if !world.legal_view(alloc, &view)? {
+    let Some(entry) = world.accept(alloc, &view)? else {
         return Err(Stop::NotJournal);
-    }
-    let entry = view.own(alloc)?;
+    };
     Ok(world.apply_legal(alloc, entry, make)?)
 }

@@ -1,4 +1,4 @@
-ghost use Rattle.std.specs.Prelude.{◌≡◌, ◌<◌, true, false, length, map, Some, None, Ok, IfOk, IfSome, IfNone, IsErrOf, IsSome, option_map, slice_get};
+ghost use Rattle.std.specs.Prelude.{◌≡◌, ◌<◌, true, false, length, map, Some, None, Ok, IfOk, IfSome, IfNone, IsErrOf, IsSome, is_some, option_map, slice_get};
 ghost use Rattle.std.specs.Bool.{Decides};
 ghost use Rattle.std.specs.Fn.{FnOnceTakesAtMut};
 ghost use Rattle.std.specs.List.{AllByRecursion, IsDistinct};
@@ -144,6 +144,31 @@ impl<H: Holder + Drop> World<H> {
             (λ b. b ≡ legal (content_in view.now) (world_in H.held self.now)) }
     {
         is_legal_view(&self.parts, alloc, view)
+    }
+
+    /// The record of a view, where it may come next. One of several rows is tested first, from its
+    /// lent parts, so that none is copied whole that is refused.
+    pub fn accept(
+        &self,
+        alloc: Global,
+        view: &RecordView<'_>,
+    ) -> Result<Option<Record>, AllocError>
+        ensures some { IfOk result (λ taken. IfSome taken
+            (λ entry. content entry ≡ content_in view.now)) }
+        ensures legal { IfOk result (λ taken. is_some taken
+            ≡ legal (content_in view.now) (world_in H.held self.now)) }
+    {
+        if view.has_one_row() {
+            let entry = view.own(alloc)?;
+            if self.legal(alloc, &entry)? {
+                return Ok(Some(entry));
+            }
+            return Ok(None);
+        }
+        if !self.legal_view(alloc, view)? {
+            return Ok(None);
+        }
+        Ok(Some(view.own(alloc)?))
     }
 
     /// The world after a record. It is spent on a refusal.

@@ -1,7 +1,7 @@
-use Rattle.std.proofs.Common.{◌≡◌, true, Ok, sym, ◌∙◌, ap, arith}
-use Rattle.std.proofs.lemmas.Result.{IfOk-from_err}
+use Rattle.std.proofs.Common.{◌≡◌, true, Option, IfSome, is_some, Ok, sym, ◌∙◌, ap, subst, arith}
 use Rattle.rx_record.specs.Content.{Content}
 use Rattle.rx_record.specs.Shown.{content, content_in}
+use Rattle.rx_record.specs.declared.record.Record.{Record}
 use Rattle.rx_world.specs.Holders.{world_in}
 use Rattle.rx_world.specs.Step.{legal}
 use Rattle.rx_world.specs.World.{World}
@@ -18,24 +18,15 @@ returns-clause-made g c =
 pub returns-clause-epoch : goal.returns-clause-epoch
 returns-clause-epoch g c =
     let before = world_in g.H.Holder.held c.args.world in
-    let is : legal (content_in c.in-Ok.view) before ≡ true =
-    sym c.in_ok-legal_view.ensures ∙ c.if-not-branch.false in
+    let view = content_in c.in-Ok.view in
+    let same : content c.in-Some.entry ≡ view =
+    subst (λ (o : Option Record). IfSome o (λ entry. content entry ≡ view)) c.in-Some.is
+    c.in_ok-entry.ensures.some in
+    let is : legal view before ≡ true =
+    sym c.in_ok-entry.ensures.legal ∙ ap (λ (o : Option Record). is_some o) c.in-Some.is in
     omega (
       arith,
       ap (λ (w : World). w.epoch) c.in_ok-apply_legal.ensures.world,
-      epoch_next (content c.in_ok-entry.entry) before
-          (ap (λ (x : Content). legal x before) c.in_ok-entry.ensures ∙ is),
+      epoch_next (content c.in-Some.entry) before
+          (ap (λ (x : Content). legal x before) same ∙ is),
     )
-
--- no world was made; a search for these takes long
-pub returns-in_err-entry-clause-ok : goal.returns-in_err-entry-clause-ok
-returns-in_err-entry-clause-ok g c =
-    IfOk-from_err c.from_residual-in_err-entry.result _ c.from_residual-in_err-entry.ensures.0
-
-pub returns-in_err-entry-clause-made : goal.returns-in_err-entry-clause-made
-returns-in_err-entry-clause-made g c =
-    IfOk-from_err c.from_residual-in_err-entry.result _ c.from_residual-in_err-entry.ensures.0
-
-pub returns-in_err-entry-clause-epoch : goal.returns-in_err-entry-clause-epoch
-returns-in_err-entry-clause-epoch g c =
-    IfOk-from_err c.from_residual-in_err-entry.result _ c.from_residual-in_err-entry.ensures.0
