@@ -1,5 +1,6 @@
 pub mod Entries
 pub mod Looked
+pub mod Remaking
 pub mod States
 pub mod Turns
 pub mod Commits

@@ -67,3 +67,7 @@ After {H} held written IsMadeFor (new_collection name schema) old new =
     (h : H) × IsMadeFor (held_with name schema []) h × (new ≡ put_named old name h)
 After {H} held written IsMadeFor (new_rows name lwt rows) old new =
     new ≡ change_named old name (λ h. written h (stored_rows (held h).name lwt rows))
+
+-- each of the holders was made for some collection
+abbrev pub AreMadeFor : {H : Type 0} → (Held → H → Type 0) → List (List ℕ × H) → Type 0
+AreMadeFor IsMadeFor hs = AllByRecursion (λ e. (c : Held) × IsMadeFor c e.1) hs

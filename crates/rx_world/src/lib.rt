@@ -6,6 +6,7 @@ mod chain;
 mod change;
 mod fault;
 mod following;
+mod holders;
 mod legality;
 mod names;
 mod parts;
@@ -20,6 +21,7 @@ mod soundness;
 mod world;
 
 pub use fault::{ApplyFault, StepFault};
+pub use holders::with_holders;
 pub use parts::{MAX_COLLECTIONS, MAX_REPLICATIONS};
 pub use replication::Replication;
 pub use rows::{commit, rows_out};

@@ -44,7 +44,7 @@ use std::marker::Model;
 /// epoch.
 #[derive(Drop)]
 pub struct World<H: Holder + Drop> {
-    parts: Parts<H>,
+    pub(crate) parts: Parts<H>,
 }
 
 impl<H: Holder + Drop> Model for World<H> {
