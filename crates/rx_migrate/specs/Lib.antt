@@ -1,0 +1,4 @@
+pub mod Fault
+pub mod Step
+pub mod Reading
+pub mod Migrated

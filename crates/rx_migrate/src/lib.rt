@@ -1,0 +1,14 @@
+//! Migrations: the steps that take a state from one version of a schema to the next, and what they
+//! make of it.
+#![tactic(auto)]
+
+mod fault;
+mod migrating;
+mod reading;
+mod step;
+mod steps;
+
+pub use fault::StepsFault;
+pub use migrating::migrate_laws;
+pub use step::{Step, is_step};
+pub use steps::{MOST_STEPS, Steps};
