@@ -1,5 +1,5 @@
 -- What the steps of a migration make of a state.
-use Rattle.std.specs.Prelude.{◌≡◌, ℕ, ℤ, pos, ◌*ℤ◌, List, [], ◌∷◌, true, not, Option, Some, None}
+use Rattle.std.specs.Prelude.{◌≡◌, ℕ, ℤ, pos, ◌*ℤ◌, List, [], ◌∷◌, true, false, not, Option, Some, None}
 use Rattle.std.specs.List.{AllByRecursion, filter}
 use Rattle.std.specs.Str.{bytes_eq}
 use Rattle.rx_value.specs.Due.{◌>>=◌, only_if}
@@ -9,7 +9,7 @@ use Rattle.rx_value.specs.Value.{is_number}
 use Rattle.rx_value.specs.declared.state.State.{State}
 use Rattle.rx_value.specs.declared.value.Value.{Value}
 use Rattle.rx_value.specs.declared.value.Value.TheVariants.{Int}
-use Rattle.rx_migrate.specs.Step.{is_step}
+use Rattle.rx_migrate.specs.Step.{is_named, is_step}
 use Rattle.rx_migrate.specs.declared.step.Step.{Step}
 use Rattle.rx_migrate.specs.declared.step.Step.TheVariants.{Rename, Set, Unset, Scale}
 
@@ -71,7 +71,12 @@ KeepsTheKey = (ss : List Step) (s t : State) → migrated ss s ≡ Some t → t.
 abbrev pub KeepsTheMark : Type 0
 KeepsTheMark = (ss : List Step) (s t : State) → migrated ss s ≡ Some t → t.deleted ≡ s.deleted
 
--- and fields stay fields
+-- and each field that no step names
+abbrev pub KeepsOtherFields : Type 0
+KeepsOtherFields = (ss : List Step) (s t : State) (name : List ℕ) → is_named name ss ≡ false
+    → migrated ss s ≡ Some t → named t.fields name ≡ named s.fields name
+
+-- fields stay fields
 abbrev pub MigratesToFields : Type 0
 MigratesToFields = (ss : List Step) (s t : State) → AllByRecursion (λ s. is_step s ≡ true) ss
     → AreFields s.fields → migrated ss s ≡ Some t → AreFields t.fields

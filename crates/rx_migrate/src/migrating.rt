@@ -3,7 +3,7 @@ ghost use Rattle.std.specs.List.{AllByRecursion};
 ghost use Rattle.rx_value.specs.Fields.{AreFields};
 ghost use Rattle.rx_value.specs.Named.{named};
 ghost use Rattle.rx_value.specs.Value.{is_value};
-ghost use Rattle.rx_migrate.specs.Migrated.{without, renamed, filled, product, scaled, made, all_made, EqualStaysEqual, KeepsTheKey, KeepsTheMark, MigratesToFields};
+ghost use Rattle.rx_migrate.specs.Migrated.{without, renamed, filled, product, scaled, made, all_made, EqualStaysEqual, KeepsTheKey, KeepsTheMark, KeepsOtherFields, MigratesToFields};
 ghost use Rattle.rx_migrate.specs.Step.{is_step};
 
 use crate::step::Step;
@@ -121,5 +121,6 @@ pub fn migrate_laws()
     ensures equal { EqualStaysEqual }
     ensures key { KeepsTheKey }
     ensures mark { KeepsTheMark }
+    ensures others { KeepsOtherFields }
     ensures fields { MigratesToFields }
 {}

@@ -1,12 +1,12 @@
 ghost use Rattle.std.specs.Prelude.{◌≡◌, IfOk};
 ghost use Rattle.rx_value.specs.Value.{is_value};
-ghost use Rattle.rx_migrate.specs.Step.{is_step};
+ghost use Rattle.rx_migrate.specs.Step.{is_named_in, is_step};
 
 use rx_value::{RxText, Value, is_field_name, is_number};
 use std::alloc::{AllocError, Global};
 
 /// The greatest factor of a scale.
-pub const MOST_BY: u16 = 1000;
+pub(crate) const MOST_BY: u16 = 1000;
 
 /// One step of a migration.
 #[derive(Debug, Drop)]
@@ -52,6 +52,17 @@ impl Step {
                 field: field.copy(alloc)?,
                 by: *by,
             }),
+        }
+    }
+
+    pub(crate) fn names(&self, name: &str) -> bool
+        ensures { result ≡ is_named_in name.now self.now }
+    {
+        match self {
+            Step::Rename { field, to } => field.as_str() == name || to.as_str() == name,
+            Step::Set { field, .. } | Step::Unset { field } | Step::Scale { field, .. } => {
+                field.as_str() == name
+            }
         }
     }
 }

@@ -34,7 +34,7 @@ impl Steps {
     ghost use Rattle.rx_value.specs.Due.{Due};
     ghost use Rattle.rx_migrate.specs.Migrated.{migrated};
     ghost use Rattle.rx_migrate.specs.Reading.{steps_of};
-    ghost use Rattle.rx_migrate.specs.Step.{AreSteps, is_step, most_steps};
+    ghost use Rattle.rx_migrate.specs.Step.{AreSteps, is_named, is_step, most_steps};
     ghost use Rattle.rx_migrate.specs.declared.fault.StepsFault.TheVariants.{Memory};
 
     pub fn new(alloc: Global) -> Steps
@@ -58,6 +58,13 @@ impl Steps {
         ensures { slice_get self.now i ≡ Some result.now }
     {
         &self.steps[i]
+    }
+
+    /// Whether a step names that field.
+    pub fn names(&self, name: &str) -> bool
+        ensures { result ≡ is_named name.now self.now }
+    {
+        self.steps.iter().any(|step| step.names(name))
     }
 
     /// Adds a step that a line takes at the end, where there is room.

@@ -14,3 +14,5 @@ mod messages;
 mod reports;
 #[cfg(test)]
 mod served;
+#[cfg(test)]
+mod trees;

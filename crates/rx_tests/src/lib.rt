@@ -34,6 +34,8 @@ mod listed;
 #[cfg(test)]
 mod many;
 #[cfg(test)]
+mod migrating;
+#[cfg(test)]
 mod pages;
 #[cfg(test)]
 mod planned;

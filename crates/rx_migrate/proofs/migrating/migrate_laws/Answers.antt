@@ -1,4 +1,5 @@
 use Rattle.rx_migrate.proofs.Laws.{equal, key, mark, to_fields}
+use Rattle.rx_migrate.proofs.Others.{others}
 use Rattle.rx_migrate.proofs.migrating.migrate_laws.Goals as goal
 
 pub returns-clause-equal : goal.returns-clause-equal
@@ -12,3 +13,6 @@ returns-clause-mark c = mark
 
 pub returns-clause-fields : goal.returns-clause-fields
 returns-clause-fields c = to_fields
+
+pub returns-clause-others : goal.returns-clause-others
+returns-clause-others c = others

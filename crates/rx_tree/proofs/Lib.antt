@@ -1,0 +1,5 @@
+pub mod OneRoot
+pub mod Climbing
+pub mod Forests
+pub mod Tables
+pub mod Levels

@@ -1,0 +1,26 @@
+-- What holds of forks and masters, where `same` tells exactly which collections are equal.
+use Rattle.std.specs.Prelude.{◌≡◌, ◌↔◌, List, Bool, true, false}
+use Rattle.std.specs.List.{AllByRecursion}
+use Rattle.rx_tree.specs.Forest.{root_of, is_fork, is_forest, Reaches}
+
+-- a fork and its master have one root
+abbrev pub HaveOneRoot : {X : Type 0} → (X → X → Bool) → Type 0
+HaveOneRoot {X} same =
+    (es : List (X × X)) → AllByRecursion (λ e. root_of same es e.0 ≡ root_of same es e.1) es
+
+-- going from a fork to its master leads to the root
+abbrev pub ReachesItsRoot : {X : Type 0} → (X → X → Bool) → Type 0
+ReachesItsRoot {X} same =
+    (es : List (X × X)) (n : X) → is_forest same es ≡ true → Reaches same es n (root_of same es n)
+
+-- and ends there
+abbrev pub RootIsNoFork : {X : Type 0} → (X → X → Bool) → Type 0
+RootIsNoFork {X} same =
+    (es : List (X × X)) (n : X) → is_forest same es ≡ true
+    → is_fork same es (root_of same es n) ≡ false
+
+-- what is no fork is the root of exactly those that are it or reach it
+abbrev pub IsRootOfThoseBelow : {X : Type 0} → (X → X → Bool) → Type 0
+IsRootOfThoseBelow {X} same =
+    (es : List (X × X)) (top n : X) → is_forest same es ≡ true → is_fork same es top ≡ false
+    → (root_of same es n ≡ top) ↔ Reaches same es n top

@@ -1,0 +1,4 @@
+pub mod Forest
+pub mod Laws
+pub mod Table
+pub mod Orders

@@ -1,0 +1,34 @@
+-- The orders in which the forks of a tree are gone through.
+use Rattle.std.specs.Prelude.{ℕ, zero, suc, ◌==◌, ◌&&◌, List, [], ◌∷◌, ◌++◌, length, Bool}
+use Rattle.std.specs.List.{filter, flat_map, list_any}
+use Rattle.rx_tree.specs.Table.{most_collections}
+
+-- the numbers below one
+unfoldable pub numbers_below : ℕ → List ℕ
+numbers_below zero = []
+numbers_below (suc n) = numbers_below n ++ n ∷ []
+
+-- a collection is the fork of a master
+abbrev pub follows : List (ℕ × ℕ) → ℕ → ℕ → Bool
+follows es master fork = list_any (λ e. e.0 == fork && e.1 == master) es
+
+-- the forks of a collection, by rising number
+abbrev pub forks_of : List (ℕ × ℕ) → ℕ → List ℕ
+forks_of es n = filter (follows es n) (numbers_below most_collections)
+
+-- so many levels of the forks below a collection, each before those below it
+abbrev pub levels_down : ℕ → List (ℕ × ℕ) → ℕ → List ℕ
+levels_down zero es n = []
+levels_down (suc k) es n = flat_map (λ c. c ∷ levels_down k es c) (forks_of es n)
+
+-- and each after those below it
+abbrev pub levels_up : ℕ → List (ℕ × ℕ) → ℕ → List ℕ
+levels_up zero es n = []
+levels_up (suc k) es n = flat_map (λ c. levels_up k es c ++ c ∷ []) (forks_of es n)
+
+-- the forks below a collection in either order: there are no more levels than forks
+abbrev pub down : List (ℕ × ℕ) → ℕ → List ℕ
+down es n = levels_down (length es) es n
+
+abbrev pub up : List (ℕ × ℕ) → ℕ → List ℕ
+up es n = levels_up (length es) es n
