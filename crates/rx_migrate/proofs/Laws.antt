@@ -1,5 +1,6 @@
 -- What holds of every migration.
-use Rattle.std.proofs.Common.{◌≡◌, ℕ, ℤ, true, false, cond, List, [], ◌∷◌, Option, Some, None, refl, sym, ap, subst}
+use Rattle.std.proofs.Common.{◌≡◌, ℕ, ℤ, true, false, cond, List, [], ◌∷◌, Option, Some, None, refl}
+use Rattle.std.proofs.Common.{sym, ap, subst}
 use Rattle.std.proofs.lemmas.Bool.{and_parts}
 use Rattle.std.specs.List.{AllByRecursion}
 use Rattle.std.specs.Prelude.{pos, ◌*ℤ◌}
@@ -12,7 +13,9 @@ use Rattle.rx_value.specs.declared.value.Value.{Value}
 use Rattle.rx_value.specs.declared.value.Value.TheVariants.{Flag, Int, Text}
 use Rattle.rx_value.proofs.Outcomes.{some_then, some_same}
 use Rattle.rx_value.proofs.Setting.{put_fields}
-use Rattle.rx_migrate.specs.Migrated.{without, renamed, filled, product, scaled, made, all_made, migrated, EqualStaysEqual, KeepsTheKey, KeepsTheMark, MigratesToFields}
+use Rattle.rx_migrate.specs.Migrated.{without, renamed, filled, product, scaled, made, all_made}
+use Rattle.rx_migrate.specs.Migrated.{migrated, EqualStaysEqual, KeepsTheKey, KeepsTheMark}
+use Rattle.rx_migrate.specs.Migrated.{MigratesToFields}
 use Rattle.rx_migrate.specs.Step.{is_step}
 use Rattle.rx_migrate.specs.declared.step.Step.{Step}
 use Rattle.rx_migrate.specs.declared.step.Step.TheVariants.{Rename, Set, Unset, Scale}
@@ -45,7 +48,8 @@ value_in (p ∷ ps) name all v at =
 -- a product is in range
 in_range : (z m : ℤ) → cond (is_number z) (Some z) None ≡ Some m → is_number m ≡ true
 in_range z m is =
-    elim (is_number z) as (λ b. is_number z ≡ b → cond b (Some z) None ≡ Some m → is_number m ≡ true) [
+    elim (is_number z)
+    as (λ b. is_number z ≡ b → cond b (Some z) None ≡ Some m → is_number m ≡ true) [
       | true ↦ (λ so found. subst (λ (u : ℤ). is_number u ≡ true) (some_same found) so)
       | false ↦ (λ so found. cc)
     ] refl is

@@ -1,5 +1,6 @@
 -- A field that no step names stays as it is.
-use Rattle.std.proofs.Common.{◌≡◌, ℕ, ℤ, Bool, true, false, cond, not, List, [], ◌∷◌, Option, Some, None, refl, sym, ap, ◌∙◌, subst}
+use Rattle.std.proofs.Common.{◌≡◌, ℕ, ℤ, Bool, true, false, cond, not, List, [], ◌∷◌, Option, Some}
+use Rattle.std.proofs.Common.{None, refl, sym, ap, ◌∙◌, subst}
 use Rattle.std.proofs.lemmas.Bool.{or_parts}
 use Rattle.std.proofs.lemmas.Slice.Eq.{bytes_eq-Decides}
 use Rattle.std.specs.Bool.{one_answer}
@@ -11,7 +12,8 @@ use Rattle.rx_value.specs.declared.value.Value.{Value}
 use Rattle.rx_value.specs.declared.value.Value.TheVariants.{Flag, Int, Text}
 use Rattle.rx_value.proofs.Named.{named-put_in_order}
 use Rattle.rx_value.proofs.Outcomes.{some_then, some_same}
-use Rattle.rx_migrate.specs.Migrated.{without, renamed, filled, product, scaled, made, all_made, KeepsOtherFields}
+use Rattle.rx_migrate.specs.Migrated.{without, renamed, filled, product, scaled, made, all_made}
+use Rattle.rx_migrate.specs.Migrated.{KeepsOtherFields}
 use Rattle.rx_migrate.specs.Step.{is_named, is_named_in}
 use Rattle.rx_migrate.specs.declared.step.Step.{Step}
 use Rattle.rx_migrate.specs.declared.step.Step.TheVariants.{Rename, Set, Unset, Scale}

@@ -1,5 +1,6 @@
 -- Reading the steps of a JSON list.
-use Rattle.std.specs.Prelude.{⊤, ℕ, List, [], ◌∷◌, ◌++◌, length, codes, is_none, is_some, nat_lt, if◌then◌else◌, Result, Ok}
+use Rattle.std.specs.Prelude.{⊤, ℕ, List, [], ◌∷◌, ◌++◌, length, codes, is_none, is_some, nat_lt}
+use Rattle.std.specs.Prelude.{if◌then◌else◌, Result, Ok}
 use Rattle.serde_json.specs.Data.{Data, Items, no_items, item}
 use Rattle.serde_json.specs.Find.{get, as_array}
 use Rattle.rx_value.specs.Due.{◌>>◌, demand, lifted, or_fault}

@@ -3,7 +3,9 @@ ghost use Rattle.std.specs.List.{AllByRecursion};
 ghost use Rattle.rx_value.specs.Fields.{AreFields};
 ghost use Rattle.rx_value.specs.Named.{named};
 ghost use Rattle.rx_value.specs.Value.{is_value};
-ghost use Rattle.rx_migrate.specs.Migrated.{without, renamed, filled, product, scaled, made, all_made, EqualStaysEqual, KeepsTheKey, KeepsTheMark, KeepsOtherFields, MigratesToFields};
+ghost use Rattle.rx_migrate.specs.Migrated.{without, renamed, filled, product, scaled, made};
+ghost use Rattle.rx_migrate.specs.Migrated.{all_made, EqualStaysEqual, KeepsTheKey, KeepsTheMark};
+ghost use Rattle.rx_migrate.specs.Migrated.{KeepsOtherFields, MigratesToFields};
 ghost use Rattle.rx_migrate.specs.Step.{is_step};
 
 use crate::step::Step;
@@ -53,12 +55,7 @@ fn rename(alloc: Global, fields: Fields, field: &str, to: &RxText) -> Result<Fie
     Ok(rest)
 }
 
-fn fill(
-    alloc: Global,
-    fields: Fields,
-    field: &RxText,
-    value: &Value,
-) -> Result<Fields, AllocError>
+fn fill(alloc: Global, fields: Fields, field: &RxText, value: &Value) -> Result<Fields, AllocError>
     requires { IsTrue (is_value value.now) }
     ensures { IfOk result (λ r. r ≡ filled fields field.now value.now (named fields field.now)) }
 {

@@ -12,24 +12,13 @@ pub(crate) const MOST_BY: u16 = 1000;
 #[derive(Debug, Drop)]
 pub enum Step {
     /// The value of a field, where it is there, goes to another, over what that had.
-    Rename {
-        field: RxText,
-        to: RxText,
-    },
+    Rename { field: RxText, to: RxText },
     /// A field gets that value where it is missing.
-    Set {
-        field: RxText,
-        value: Value,
-    },
+    Set { field: RxText, value: Value },
     /// A field is taken away.
-    Unset {
-        field: RxText,
-    },
+    Unset { field: RxText },
     /// A field is multiplied where it is a whole number.
-    Scale {
-        field: RxText,
-        by: u16,
-    },
+    Scale { field: RxText, by: u16 },
 }
 
 impl Step {
@@ -76,9 +65,7 @@ pub fn is_step(step: &Step) -> bool
         Step::Rename { field, to } => is_field_name(field.as_str()) && is_field_name(to.as_str()),
         Step::Set { field, value } => is_field_name(field.as_str()) && is_value(value),
         Step::Unset { field } => is_field_name(field.as_str()),
-        Step::Scale { field, by } => {
-            is_field_name(field.as_str()) && 1 <= *by && *by <= MOST_BY
-        }
+        Step::Scale { field, by } => { is_field_name(field.as_str()) && 1 <= *by && *by <= MOST_BY }
     }
 }
 

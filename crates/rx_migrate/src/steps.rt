@@ -29,7 +29,8 @@ impl Model for Steps {
 }
 
 impl Steps {
-    ghost use Rattle.std.specs.Prelude.{◌≡◌, ◌<◌, ◌++◌, ◌∷◌, [], length, slice_get, Some, IfOk, OnOk, OnErr, IsTrue};
+    ghost use Rattle.std.specs.Prelude.{◌≡◌, ◌<◌, ◌++◌, ◌∷◌, [], length, slice_get, Some, IfOk};
+    ghost use Rattle.std.specs.Prelude.{OnOk, OnErr, IsTrue};
     ghost use Rattle.serde_json.specs.View.{view};
     ghost use Rattle.rx_value.specs.Due.{Due};
     ghost use Rattle.rx_migrate.specs.Migrated.{migrated};

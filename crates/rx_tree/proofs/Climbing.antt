@@ -1,5 +1,6 @@
 -- Going from a fork to its master.
-use Rattle.std.proofs.Common.{◌≡◌, ℕ, zero, suc, Bool, true, false, cond, ◌||◌, List, [], ◌∷◌, ◌++◌, Option, Some, None, refl, sym, ap, ◌∙◌, subst}
+use Rattle.std.proofs.Common.{◌≡◌, ℕ, zero, suc, Bool, true, false, cond, ◌||◌, List, [], ◌∷◌, ◌++◌}
+use Rattle.std.proofs.Common.{Option, Some, None, refl, sym, ap, ◌∙◌, subst, ◌⊎◌, inl, inr}
 use Rattle.std.proofs.lemmas.Bool.{or_parts, or_from}
 use Rattle.std.proofs.lemmas.List.Folds.{list_any-append}
 use Rattle.std.specs.Bool.{Decides}
@@ -33,10 +34,11 @@ module _ {X : Type 0} (same : X → X → Bool) (law : (m n : X) → Decides (sa
       → same e.0 n ≡ false → is_fork same (es ++ e ∷ []) n ≡ false
   none_after es e n none other =
       list_any-append (λ d. same d.0 n) es (e ∷ [])
-      ∙ or_from (is_fork same es n) (same e.0 n || false) none (or_from (same e.0 n) false other refl)
+      ∙ or_from (is_fork same es n) (same e.0 n || false) none
+      (or_from (same e.0 n) false other refl)
 
   -- a fork keeps its master
-  keeps : (es : List (X × X)) (e : X × X) (n m : X) → master_of same es n ≡ Some m
+  pub keeps : (es : List (X × X)) (e : X × X) (n m : X) → master_of same es n ≡ Some m
       → master_of same (es ++ e ∷ []) n ≡ Some m
   keeps [] e n m is = cc
   keeps (d ∷ es) e n m is =
@@ -76,6 +78,69 @@ module _ {X : Type 0} (same : X → X → Bool) (law : (m n : X) → Decides (sa
       let found = some_then (master_of same es n) (climbed same k es) m is in
       let rest = farther k es found.0 m top found.2 up in
       (suc rest.0, ap (λ o. o >>= climbed same rest.0 es) found.1 ∙ rest.1)
+
+  -- a way and one step more
+  pub climb_end : (k : ℕ) (es : List (X × X)) (n m top : X) → climbed same k es n ≡ Some m
+      → master_of same es m ≡ Some top → climbed same (suc k) es n ≡ Some top
+  climb_end zero es n m top is at =
+      subst (λ (x : X). climbed same 1 es x ≡ Some top) (sym (some_same is))
+      (ap (λ o. o >>= climbed same 0 es) at)
+  climb_end (suc k) es n m top is at =
+      let found = some_then (master_of same es n) (climbed same k es) m is in
+      ap (λ o. o >>= climbed same (suc k) es) found.1 ∙ climb_end k es found.0 m top found.2 at
+
+  -- the last step of a way
+  pub climb_last : (k : ℕ) (es : List (X × X)) (n top : X) → climbed same (suc k) es n ≡ Some top
+      → (m : X) × (climbed same k es n ≡ Some m) × (master_of same es m ≡ Some top)
+  climb_last zero es n top is =
+      let found = some_then (master_of same es n) (climbed same 0 es) top is in
+      (n, refl, found.1 ∙ found.2)
+  climb_last (suc k) es n top is =
+      let found = some_then (master_of same es n) (climbed same (suc k) es) top is in
+      let last = climb_last k es found.0 top found.2 in
+      (last.0, ap (λ o. o >>= climbed same k es) found.1 ∙ last.1, last.2)
+
+  -- ---- ways with one more fork
+
+  -- a master was there before, or is the new one's
+  found_last : (es : List (X × X)) (e : X × X) (n m : X)
+      → master_of same (es ++ e ∷ []) n ≡ Some m
+      → (master_of same es n ≡ Some m) ⊎ ((n ≡ e.0) × (m ≡ e.1))
+  found_last [] e n m is =
+      elim (same n e.0)
+      as (λ b. same n e.0 ≡ b → cond b (Some e.1) (master_of same [] n) ≡ Some m
+      → (master_of same [] n ≡ Some m) ⊎ ((n ≡ e.0) × (m ≡ e.1))) [
+        | true ↦ (λ so found. inr ((law n e.0).0 so, sym (some_same found)))
+        | false ↦ (λ so found. inl found)
+      ] refl is
+  found_last (d ∷ es) e n m is =
+      elim (same n d.0)
+      as (λ b. cond b (Some d.1) (master_of same (es ++ e ∷ []) n) ≡ Some m
+      → (cond b (Some d.1) (master_of same es n) ≡ Some m) ⊎ ((n ≡ e.0) × (m ≡ e.1))) [
+        | true ↦ (λ found. inl found)
+        | false ↦ (λ found. found_last es e n m found)
+      ] is
+
+  -- a way was there before, or leads to the new fork and on from its master
+  pub goes : (k : ℕ) (es : List (X × X)) (e : X × X) (n m : X)
+      → climbed same k (es ++ e ∷ []) n ≡ Some m
+      → (climbed same k es n ≡ Some m)
+      ⊎ (Reaches same es n e.0 × Reaches same (es ++ e ∷ []) e.1 m)
+  goes zero es e n m is = inl is
+  goes (suc k) es e n m is =
+      let all = es ++ e ∷ [] in
+      let found = some_then (master_of same all n) (climbed same k all) m is in
+      elim (found_last es e n found.0 found.1) [
+        | inl at ↦ elim (goes k es e found.0 m found.2) [
+          | inl up ↦ inl (ap (λ o. o >>= climbed same k es) at ∙ up)
+          | inr ways ↦ inr
+              ((suc ways.0.0, ap (λ o. o >>= climbed same ways.0.0 es) at ∙ ways.0.1), ways.1)
+        ]
+        | inr new ↦ inr
+            ((0, ap Some new.0), subst (λ (x : X). Reaches same all x m) new.1 (k, found.2))
+      ]
+
+  -- ---- roots
 
   -- what holds of each fork and its master holds of one that is found
   found_master : (R : X → X) (es : List (X × X)) (n m : X)

@@ -1,5 +1,6 @@
 -- The orders of a tree, a fork after another.
-use Rattle.std.proofs.Common.{◌≡◌, ℕ, zero, suc, ◌+◌, ◌-◌, ◌<◌, Bool, true, false, cond, List, [], ◌∷◌, ◌++◌, sym, ap, ap₂, ◌∙◌, add-one, append-nil, arith}
+use Rattle.std.proofs.Common.{◌≡◌, ℕ, zero, suc, ◌+◌, ◌-◌, ◌<◌, Bool, true, false, cond, List, []}
+use Rattle.std.proofs.Common.{◌∷◌, ◌++◌, sym, ap, ap₂, ◌∙◌, add-one, append-nil, arith}
 use Rattle.std.proofs.lemmas.List.Elements.{filter-append}
 use Rattle.std.specs.List.{filter, flat_map}
 use Rattle.rx_tree.specs.Orders.{numbers_below, forks_of, levels_down, levels_up}
@@ -24,7 +25,8 @@ filter_numbers : (test : ℕ → Bool) (n : ℕ)
     → filter test (numbers_below (n + 1)) ≡ filter test (numbers_below n) ++ filter test (n ∷ [])
 unfolding numbers_below
 filter_numbers test n =
-    ap (λ m. filter test (numbers_below m)) (add-one n) ∙ filter-append test (numbers_below n) (n ∷ [])
+    ap (λ m. filter test (numbers_below m)) (add-one n)
+    ∙ filter-append test (numbers_below n) (n ∷ [])
 
 -- that passes the test
 pub taken : (test : ℕ → Bool) (n : ℕ) (found new : List ℕ) → found ≡ filter test (numbers_below n)

@@ -3,3 +3,5 @@ pub mod Climbing
 pub mod Forests
 pub mod Tables
 pub mod Levels
+pub mod Depth
+pub mod Listed

@@ -28,9 +28,10 @@ module _ {X : Type 0} (same : X → X → Bool) (law : (m n : X) → Decides (sa
   one_root_after : (es : List (X × X)) (root : X → X)
       → AllByRecursion (λ e. roots_after same root es e.0 ≡ roots_after same root es e.1) es
   one_root_after [] root = tt
-  one_root_after (e ∷ es) root =
-      (together es (joined same root e) e.0 e.1 (joins root e),
-      one_root_after es (joined same root e))
+  one_root_after (e ∷ es) root = (
+    together es (joined same root e) e.0 e.1 (joins root e),
+    one_root_after es (joined same root e),
+  )
 
   pub one_root : HaveOneRoot same
   one_root es = one_root_after es (λ n. n)

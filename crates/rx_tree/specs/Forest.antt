@@ -1,6 +1,7 @@
 -- Forks, each with its master, in the order in which they became forks. Collections go by what
 -- `same` tells apart.
-use Rattle.std.specs.Prelude.{◌≡◌, ℕ, zero, suc, List, [], ◌∷◌, ◌++◌, Bool, true, not, ◌&&◌, if◌then◌else◌, Option, Some}
+use Rattle.std.specs.Prelude.{◌≡◌, ℕ, zero, suc, List, [], ◌∷◌, ◌++◌, Bool, true, not, ◌&&◌}
+use Rattle.std.specs.Prelude.{if◌then◌else◌, Option, Some}
 use Rattle.std.specs.List.{list_any}
 use Rattle.std.specs.Map.{lookup}
 use Rattle.rx_value.specs.Due.{◌>>=◌}
@@ -30,6 +31,10 @@ module _ {X : Type 0} (same : X → X → Bool) where
   -- it is a fork
   abbrev pub is_fork : List (X × X) → X → Bool
   is_fork es n = list_any (λ e. same e.0 n) es
+
+  -- it is a fork of that master
+  abbrev pub follows : List (X × X) → X → X → Bool
+  follows es master n = list_any (λ e. same e.0 n && same e.1 master) es
 
   -- a collection may follow a master if it is no fork yet, and isn't the root of the master's tree
   abbrev pub may_follow : List (X × X) → X → X → Bool

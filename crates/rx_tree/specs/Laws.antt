@@ -1,7 +1,7 @@
 -- What holds of forks and masters, where `same` tells exactly which collections are equal.
 use Rattle.std.specs.Prelude.{◌≡◌, ◌↔◌, List, Bool, true, false}
 use Rattle.std.specs.List.{AllByRecursion}
-use Rattle.rx_tree.specs.Forest.{root_of, is_fork, is_forest, Reaches}
+use Rattle.rx_tree.specs.Forest.{root_of, are_joined, is_fork, is_forest, Reaches}
 
 -- a fork and its master have one root
 abbrev pub HaveOneRoot : {X : Type 0} → (X → X → Bool) → Type 0
@@ -24,3 +24,10 @@ abbrev pub IsRootOfThoseBelow : {X : Type 0} → (X → X → Bool) → Type 0
 IsRootOfThoseBelow {X} same =
     (es : List (X × X)) (top n : X) → is_forest same es ≡ true → is_fork same es top ≡ false
     → (root_of same es n ≡ top) ↔ Reaches same es n top
+
+-- two collections are of one group exactly where both reach one
+abbrev pub JoinsWhatMeets : {X : Type 0} → (X → X → Bool) → Type 0
+JoinsWhatMeets {X} same =
+    (es : List (X × X)) (m n : X) → is_forest same es ≡ true
+    → (are_joined same es m n ≡ true)
+    ↔ ((top : X) × Reaches same es m top × Reaches same es n top)

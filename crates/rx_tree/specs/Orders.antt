@@ -1,20 +1,17 @@
 -- The orders in which the forks of a tree are gone through.
-use Rattle.std.specs.Prelude.{ℕ, zero, suc, ◌==◌, ◌&&◌, List, [], ◌∷◌, ◌++◌, length, Bool}
+use Rattle.std.specs.Prelude.{◌≡◌, ◌↔◌, ℕ, zero, suc, ◌==◌, true, List, [], ◌∷◌, ◌++◌, length, Some}
 use Rattle.std.specs.List.{filter, flat_map, list_any}
-use Rattle.rx_tree.specs.Table.{most_collections}
+use Rattle.rx_tree.specs.Forest.{climbed, follows}
+use Rattle.rx_tree.specs.Table.{IsTree, most_collections}
 
 -- the numbers below one
 unfoldable pub numbers_below : ℕ → List ℕ
 numbers_below zero = []
 numbers_below (suc n) = numbers_below n ++ n ∷ []
 
--- a collection is the fork of a master
-abbrev pub follows : List (ℕ × ℕ) → ℕ → ℕ → Bool
-follows es master fork = list_any (λ e. e.0 == fork && e.1 == master) es
-
 -- the forks of a collection, by rising number
 abbrev pub forks_of : List (ℕ × ℕ) → ℕ → List ℕ
-forks_of es n = filter (follows es n) (numbers_below most_collections)
+forks_of es n = filter (follows ◌==◌ es n) (numbers_below most_collections)
 
 -- so many levels of the forks below a collection, each before those below it
 abbrev pub levels_down : ℕ → List (ℕ × ℕ) → ℕ → List ℕ
@@ -32,3 +29,10 @@ down es n = levels_down (length es) es n
 
 abbrev pub up : List (ℕ × ℕ) → ℕ → List ℕ
 up es n = levels_up (length es) es n
+
+-- an order lists exactly the forks that reach the collection
+abbrev pub ListsThoseBelow : (List (ℕ × ℕ) → ℕ → List ℕ) → Type 0
+ListsThoseBelow order =
+    (es : List (ℕ × ℕ)) (n top : ℕ) → IsTree es
+    → (list_any (λ c. c == n) (order es top) ≡ true)
+    ↔ ((k : ℕ) × (climbed ◌==◌ (suc k) es n ≡ Some top))

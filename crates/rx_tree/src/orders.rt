@@ -1,6 +1,7 @@
 // The orders in which the forks of a tree are gone through.
-ghost use Rattle.std.specs.Prelude.{◌≡◌, IfOk};
-ghost use Rattle.rx_tree.specs.Orders.{follows, forks_of, levels_down, levels_up};
+ghost use Rattle.std.specs.Prelude.{◌≡◌, ◌==◌, IfOk};
+ghost use Rattle.rx_tree.specs.Forest.{follows};
+ghost use Rattle.rx_tree.specs.Orders.{forks_of, levels_down, levels_up};
 
 use crate::roots::MOST_COLLECTIONS;
 use std::alloc::{AllocError, Global};
@@ -48,11 +49,7 @@ pub(crate) fn levels_up(
 }
 
 // The forks of a collection, by rising number.
-fn forks_of(
-    alloc: Global,
-    forks: &[(u32, u32)],
-    collection: u32,
-) -> Result<Vec<u32>, AllocError>
+fn forks_of(alloc: Global, forks: &[(u32, u32)], collection: u32) -> Result<Vec<u32>, AllocError>
     ensures { IfOk result (λ found. found.items ≡ forks_of forks.now collection) }
 {
     let mut found = Vec::new(alloc);
@@ -65,7 +62,7 @@ fn forks_of(
 }
 
 fn follows(forks: &[(u32, u32)], fork: u32, master: u32) -> bool
-    ensures { result ≡ follows forks.now master fork }
+    ensures { result ≡ follows ◌==◌ forks.now master fork }
 {
     forks.iter().any(|pair| pair.0 == fork && pair.1 == master)
 }

@@ -1,5 +1,7 @@
 ghost use Rattle.std.specs.Prelude.{◌==◌};
 ghost use Rattle.rx_tree.specs.Laws.{HaveOneRoot, ReachesItsRoot, RootIsNoFork, IsRootOfThoseBelow};
+ghost use Rattle.rx_tree.specs.Laws.{JoinsWhatMeets};
+ghost use Rattle.rx_tree.specs.Orders.{ListsThoseBelow, up, down};
 
 use crate::fault::TreeFault;
 use crate::orders::{levels_down, levels_up};
@@ -32,7 +34,7 @@ impl Tree {
     ghost use Rattle.rx_value.specs.Due.{Due};
     ghost use Rattle.rx_tree.specs.Forest.{root_of, is_fork, are_joined};
     ghost use Rattle.rx_tree.specs.Orders.{up, down};
-    ghost use Rattle.rx_tree.specs.Table.{may_add, most_collections};
+    ghost use Rattle.rx_tree.specs.Table.{IsTree, may_add, most_collections};
     ghost use Rattle.rx_tree.specs.declared.fault.TreeFault.TheVariants.{Memory};
 
     pub fn new(alloc: Global) -> Tree
@@ -90,14 +92,16 @@ impl Tree {
 
     /// The forks below a collection, each after those below it, and by rising number.
     pub fn up(&self, alloc: Global, collection: u32) -> Result<Vec<u32>, AllocError>
-        ensures { IfOk result (λ order. order.items ≡ up self.now collection) }
+        ensures order { IfOk result (λ order. order.items ≡ up self.now collection) }
+        ensures lawful { IsTree self.now }
     {
         levels_up(alloc, self.forks.as_slice(), self.forks.len(), collection)
     }
 
     /// The same, each before those below it.
     pub fn down(&self, alloc: Global, collection: u32) -> Result<Vec<u32>, AllocError>
-        ensures { IfOk result (λ order. order.items ≡ down self.now collection) }
+        ensures order { IfOk result (λ order. order.items ≡ down self.now collection) }
+        ensures lawful { IsTree self.now }
     {
         levels_down(alloc, self.forks.as_slice(), self.forks.len(), collection)
     }
@@ -109,4 +113,7 @@ pub fn tree_laws()
     ensures reached { ReachesItsRoot ◌==◌ }
     ensures no_fork { RootIsNoFork ◌==◌ }
     ensures below { IsRootOfThoseBelow ◌==◌ }
+    ensures joined { JoinsWhatMeets ◌==◌ }
+    ensures up { ListsThoseBelow up }
+    ensures down { ListsThoseBelow down }
 {}

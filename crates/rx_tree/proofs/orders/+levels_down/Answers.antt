@@ -10,7 +10,7 @@ returns t c =
     let es = c.args.forks.now in
     let items = c.deref-fork-items.result.now in
     let below : ℕ → List ℕ = λ n. n ∷ levels_down (c.args.levels - 1) es n in
-    ended (flat_map below) items c.loop-fork.fork-index c.loop-fork.order.items (flat_map below items)
-    refl c.loop-fork-test.false (sym c.loop-fork.invariant)
+    ended (flat_map below) items c.loop-fork.fork-index c.loop-fork.order.items
+    (flat_map below items) refl c.loop-fork-test.false (sym c.loop-fork.invariant)
     ∙ ap (flat_map below) (c.deref-fork-items.ensures.value ∙ c.in_ok-forks_of.ensures)
     ∙ levels_down-more c.args.levels es c.args.collection (omega arith)

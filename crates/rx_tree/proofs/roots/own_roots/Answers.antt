@@ -1,4 +1,5 @@
-use Rattle.std.proofs.Common.{◌<◌, ◌≢◌, length, arith, get_or-set_other, get_or-set_same, below_more}
+use Rattle.std.proofs.Common.{◌<◌, ◌≢◌, length, arith, get_or-set_other, get_or-set_same}
+use Rattle.std.proofs.Common.{below_more}
 use Rattle.std.proofs.Math.ListN.{length-set}
 use Rattle.rx_tree.proofs.roots.own_roots.Goals as goal
 

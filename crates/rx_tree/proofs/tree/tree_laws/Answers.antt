@@ -1,6 +1,7 @@
 use Rattle.std.proofs.lemmas.Bool.Decides.{Decides-eqb}
 use Rattle.std.specs.Prelude.{◌==◌}
-use Rattle.rx_tree.proofs.Forests.{reached, no_fork, below}
+use Rattle.rx_tree.proofs.Forests.{reached, no_fork, below, meets}
+use Rattle.rx_tree.proofs.Listed.{down_lists, up_lists}
 use Rattle.rx_tree.proofs.OneRoot.{one_root}
 use Rattle.rx_tree.proofs.tree.tree_laws.Goals as goal
 
@@ -15,3 +16,12 @@ returns-clause-no_fork c = no_fork ◌==◌ Decides-eqb
 
 pub returns-clause-below : goal.returns-clause-below
 returns-clause-below c = below ◌==◌ Decides-eqb
+
+pub returns-clause-joined : goal.returns-clause-joined
+returns-clause-joined c = meets ◌==◌ Decides-eqb
+
+pub returns-clause-up : goal.returns-clause-up
+returns-clause-up c = up_lists
+
+pub returns-clause-down : goal.returns-clause-down
+returns-clause-down c = down_lists

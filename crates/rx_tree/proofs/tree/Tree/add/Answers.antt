@@ -17,4 +17,4 @@ invariant_of-self-2 c =
     (c.root-under.ensures ∙ ap (λ es. root_of ◌==◌ es fork) held)
     (c.root-top.ensures ∙ ap (λ es. root_of ◌==◌ es master) held)
     (ap (λ es. is_fork ◌==◌ es fork) c.self.view_is ∙ sym c.if-is_fork.ensures)
-    (ne_eqb c.root-top.result fork c.if-top-fork.false))
+    (ne_eqb c.root-top.result fork c.if-top-fork.false) c.requires.fork)
