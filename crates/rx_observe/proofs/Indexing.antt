@@ -1,9 +1,8 @@
 -- Indexes one after another.
-use Rattle.std.proofs.Common.{◌≡◌, ℕ, zero, suc, ◌+◌, ◌<◌, List, [], ◌∷◌, ◌++◌, length, get_or, map, Option, Some, None, refl, sym, ap, ◌∙◌, subst, arith, add-one}
+use Rattle.std.proofs.Common.{◌≡◌, ℕ, zero, suc, ◌+◌, ◌<◌, List, [], ◌∷◌, ◌++◌, length, get_or, map, Option, Some, None, IfSome, refl, sym, ap, ◌∙◌, subst, arith, add-one}
 use Rattle.std.proofs.Math.ListN.{set}
 use Rattle.std.proofs.lemmas.List.{map-append, length-map}
 use Rattle.std.specs.List.{AllByRecursion}
-use Rattle.std.specs.Prelude.{Bool, slice_get, IfSome}
 use Rattle.rx_value.specs.Named.{named}
 use Rattle.rx_value.proofs.Lists.{all_push}
 use Rattle.rx_document.specs.declared.stored.Stored.{Stored}
@@ -12,8 +11,7 @@ use Rattle.rx_collection.proofs.Named.{at_name}
 use Rattle.rx_collection.specs.Commit.{IsNext, with_row}
 use Rattle.rx_collection.specs.Held.{Held}
 use Rattle.rx_collection.specs.Lawful.{IsHeldAt, IsLawful}
-use Rattle.rx_index.specs.Index.{Indexed, Holds, HoldsWhere, Replaces}
-use Rattle.rx_index.specs.Position.{Position}
+use Rattle.rx_index.specs.Index.{Indexed, Holds, Replaces}
 use Rattle.rx_observe.specs.Indexes.{IsIndexOf, AreIndexesOf}
 
 -- of the first n one thing holds, and of the others another
@@ -54,16 +52,6 @@ pub as_many : (indexes now : List Indexed)
     → map (λ i. i.fields) now ≡ map (λ i. i.fields) indexes → length now ≡ length indexes
 as_many indexes now same =
     sym (length-map now (λ i. i.fields)) ∙ ap length same ∙ length-map indexes (λ i. i.fields)
-
--- ---- each holds the documents
-
--- so the one at a place holds those that pass a test
-pub held_at : (c : Held) (test : Position → Bool) (indexes : List Indexed) (n : ℕ)
-    → AllByRecursion (λ i. Holds i c.documents) indexes
-    → IfSome (slice_get indexes n) (λ i. HoldsWhere test i c.documents)
-held_at c test [] n all = tt
-held_at c test (i ∷ is) zero all = λ k passes. all.0 k refl
-held_at c test (i ∷ is) (suc n) all = held_at c test is n all.1
 
 -- ---- made one after another
 

@@ -11,7 +11,7 @@ use rx_planner::{Plan, in_window, plan};
 use rx_query::{Query, Results, Row};
 use std::alloc::{AllocError, Global};
 
-// The documents of a query's result, by the index of its plan, lent.
+// The documents of a query's result, by its plan or along an index, lent.
 pub(crate) fn find_by<'a>(
     alloc: Global,
     collection: &'a Collection,
@@ -27,7 +27,7 @@ pub(crate) fn find_by<'a>(
     if query.limit().is_none() && spans_all(&plan) {
         return find_in(alloc, collection, query);
     }
-    plan.run(alloc, query, indexes, collection)
+    Ok(plan.find(alloc, query, indexes, collection)?.rows)
 }
 
 // Whether all live documents stand between its bounds, so that a walk along an index would look up

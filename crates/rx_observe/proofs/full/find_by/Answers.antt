@@ -1,15 +1,10 @@
-use Rattle.rx_index.specs.Index.{is_between}
 use Rattle.rx_observe.proofs.Fresh.{is_collection_for}
-use Rattle.rx_observe.proofs.Indexing.{held_at}
 use Rattle.rx_observe.proofs.full.find_by.Goals as goal
 
-pub run-requires-clause-keyed : goal.run-requires-clause-keyed
-run-requires-clause-keyed c =
+pub find-requires-clause-keyed : goal.find-requires-clause-keyed
+find-requires-clause-keyed c =
     is_collection_for c.args.query.now.primary c.args.collection.now c.requires.keyed
     c.requires.indexed.lawful
 
-pub run-requires-clause-held : goal.run-requires-clause-held
-run-requires-clause-held c =
-    let plan = c.in_ok-plan.plan in
-    held_at c.args.collection.now (is_between plan.low plan.high) c.args.indexes.now plan.index
-    c.requires.indexed.held
+pub find-requires-clause-held : goal.find-requires-clause-held
+find-requires-clause-held c = c.requires.indexed.held
