@@ -5,35 +5,28 @@ use Rattle.rx_disk.proofs.Moments.{started}
 use Rattle.rx_collection.specs.Held.{Held}
 use Rattle.rx_journal.specs.Reading.{IsUntouched}
 use Rattle.rx_journal.specs.declared.journal.Journal.{Journal}
-use Rattle.rx_observe.specs.Observing.{Observing, Queries, each, put_all, watch_after}
+use Rattle.rx_observe.specs.Observing.{Observing}
 use Rattle.rx_outside.specs.declared.stop.Stop.{Stop}
 use Rattle.rx_outside.specs.declared.stop.Stop.TheVariants.{Memory}
 use Rattle.rx_record.specs.Content.{epoch, content_bytes}
 use Rattle.rx_session.specs.Placed.{AreUnwatched, IsUnwatched}
 use Rattle.rx_store.specs.Holds.{Holds, IsLegalFile, StandsLegally}
-use Rattle.rx_store.specs.Made.{AreMade}
 use Rattle.rx_store.specs.Safe.{IsCrashSafe}
 use Rattle.rx_store.proofs.Crashes.{ran_out, then}
 use Rattle.rx_store.proofs.Growing.{held_alike, none_yet}
-use Rattle.rx_store.proofs.Made.{all_along}
+use Rattle.rx_world.specs.Holders.{AreMadeFor}
 use Rattle.rx_world.specs.Step.{step, legal}
 use Rattle.rx_world.specs.World.{World}
 use Rattle.rx_world.proofs.Steps.{epoch_legal}
 use Rattle.rx_engine.specs.Opening.{epoch_body, next_epoch}
 
--- no query is observed in what was made without one, and then took rows
-pub unwatched_made : (Makes : Held → Observing → Type 0) (ls : List (List ℕ × Observing))
+-- no query is observed in what was made without one
+pub unwatched_all : (Makes : Held → Observing → Type 0) (ls : List (List ℕ × Observing))
     → ((c : Held) (l : Observing) → Makes c l → IsUnwatched l)
-    → AreMade Makes put_all ls → AreUnwatched ls
-unwatched_made Makes [] new made = tt
-unwatched_made Makes (l ∷ ls) new made = (
-  all_along Makes put_all IsUnwatched new
-      (λ l rows before. record {
-        none = ap (λ (qs : Queries). each (watch_after l.collection rows) qs) before.none;
-        unbroken = before.unbroken;
-      }) l.1 made.0,
-  unwatched_made Makes ls new made.1,
-)
+    → AreMadeFor Makes ls → AreUnwatched ls
+unwatched_all Makes [] new made = tt
+unwatched_all Makes (l ∷ ls) new made =
+    (new made.0.0 l.1 made.0.1, unwatched_all Makes ls new made.1)
 
 -- a journal was opened, and the record of the next epoch was kept, or wasn't
 pub begun_safely : {D A : Type 0} (d : Ghosts D) (old mid new : D) (journal : Journal)

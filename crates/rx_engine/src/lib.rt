@@ -16,6 +16,7 @@ mod fault;
 mod judging;
 mod keep;
 mod listing;
+mod lives;
 mod lookup;
 mod marks;
 mod opening;

@@ -16,6 +16,7 @@ ghost use Rattle.rx_world.specs.Valid.{AreDistinct};
 ghost use Rattle.rx_world.specs.World as worlds;
 ghost use Rattle.rx_engine.specs.Opening.{epoch_body, next_epoch};
 
+use crate::lives;
 use rx_diagram::Diagram;
 use rx_disk::Disk;
 use rx_journal::Journal;
@@ -64,12 +65,7 @@ pub(crate) fn open<D: Disk>(
         → IsUntouched D.Disk disk.old disk.new }
     ensures cause { HasDiskCause (D.faults disk.old) (D.faults disk.new) result }
 {
-    let opened = rx_store::open(
-        alloc,
-        disk,
-        limit,
-        &|collection| { Live::new(alloc, collection, diagram.clone()?) },
-    )?;
+    let opened = lives::open(alloc, disk, limit, diagram)?;
     let (journal, world) = opened;
     let entry = Record::Epoch {
         number: world.epoch() + 1,

@@ -5,7 +5,7 @@ use Rattle.rx_store.proofs.Crashes.{answered, ran_out, same_stop, sooner}
 use Rattle.rx_world.specs.Sound.{IsSoundWorld}
 use Rattle.rx_world.specs.World.{World}
 use Rattle.rx_engine.specs.Opening.{epoch_body, next_epoch}
-use Rattle.rx_engine.proofs.Opened.{begun_safely, unwatched_made}
+use Rattle.rx_engine.proofs.Opened.{begun_safely}
 use Rattle.rx_engine.proofs.opening.open.Goals as goal
 
 pub returns-in_err-opened-clause-safe : goal.returns-in_err-opened-clause-safe
@@ -60,11 +60,6 @@ returns-clause-opened g c told bodies w lawful =
 
 pub returns-clause-begun : goal.returns-clause-begun
 returns-clause-begun g c = (world_of c.in_ok-opened.opened.1, c.in_ok-world.ensures.world)
-
-pub next_epoch-requires-clause-unwatched : goal.next_epoch-requires-clause-unwatched
-next_epoch-requires-clause-unwatched g c =
-    unwatched_made _ _ (λ held live made. record { none = search rules; unbroken = search rules })
-    c.in_ok-opened.ensures.made
 
 pub keep-requires-clause-holds : goal.keep-requires-clause-holds
 keep-requires-clause-holds g c told =
