@@ -6,7 +6,9 @@ use Rattle.std.specs.List.{filter}
 use Rattle.rx_value.specs.Due.{◌>>=◌}
 use Rattle.rx_value.proofs.Outcomes.{some_then, not_none}
 use Rattle.rx_tree.specs.Forest.{master_of, climbed}
+use Rattle.rx_tree.specs.Laws.{HasFewSteps}
 use Rattle.rx_tree.proofs.Climbing.{apart}
+use Rattle.rx_tree.proofs.Forests.{never_back}
 
 module _ {X : Type 0} (same : X → X → Bool) (law : (m n : X) → Decides (same m n) (m ≡ n)) where
   -- the forks but one
@@ -99,7 +101,7 @@ module _ {X : Type 0} (same : X → X → Bool) (law : (m n : X) → Decides (sa
       ap (λ o. o >>= climbed same k es) (was n m found.0 es found.1)
       ∙ inside k es n found.0 top found.2
 
-  pub few_steps : (k : ℕ) (es : List (X × X)) (n top : X)
+  few_steps : (k : ℕ) (es : List (X × X)) (n top : X)
       → ((m : X) (j : ℕ) → climbed same (suc j) es m ≡ Some m → ⊥)
       → climbed same k es n ≡ Some top → k ≤ length es
   few_steps zero es n top never is = omega arith
@@ -111,3 +113,6 @@ module _ {X : Type 0} (same : X → X → Bool) (law : (m n : X) → Decides (sa
       (λ m j back. never m j (inside (suc j) es n m m back)) rest in
       let less = fewer n found.0 es found.1 in
       omega (arith, few, less)
+
+  pub few : HasFewSteps same
+  few es k n m forest = few_steps k es n m (never_back same law es forest)

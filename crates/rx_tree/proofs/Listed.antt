@@ -14,8 +14,8 @@ use Rattle.rx_tree.specs.Orders.{numbers_below, forks_of, levels_down, levels_up
 use Rattle.rx_tree.specs.Orders.{ListsThoseBelow}
 use Rattle.rx_tree.specs.Table.{most_collections}
 use Rattle.rx_tree.proofs.Climbing.{climb_end, climb_last}
-use Rattle.rx_tree.proofs.Depth.{few_steps}
-use Rattle.rx_tree.proofs.Forests.{never_back, one_master}
+use Rattle.rx_tree.proofs.Depth.{few}
+use Rattle.rx_tree.proofs.Forests.{one_master}
 
 -- ---- numbers in lists
 
@@ -181,8 +181,7 @@ pub down_lists : ListsThoseBelow down
 down_lists es n top tree = (
   λ is. reaches (length es) es n top (one_master ◌==◌ Decides-eqb es tree.forest) is,
   λ way.
-      let steps = few_steps ◌==◌ Decides-eqb (suc way.0) es n top
-      (never_back ◌==◌ Decides-eqb es tree.forest) way.1 in
+      let steps = few ◌==◌ Decides-eqb es (suc way.0) n top tree.forest way.1 in
       listed (length es) way.0 es n top tree.few (omega (arith, steps)) way.1,
 )
 

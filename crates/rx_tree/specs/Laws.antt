@@ -1,7 +1,7 @@
 -- What holds of forks and masters, where `same` tells exactly which collections are equal.
-use Rattle.std.specs.Prelude.{◌≡◌, ◌↔◌, List, Bool, true, false}
+use Rattle.std.specs.Prelude.{◌≡◌, ◌↔◌, ℕ, ◌≤◌, List, length, Bool, true, false, Some}
 use Rattle.std.specs.List.{AllByRecursion}
-use Rattle.rx_tree.specs.Forest.{root_of, are_joined, is_fork, is_forest, Reaches}
+use Rattle.rx_tree.specs.Forest.{root_of, are_joined, is_fork, is_forest, climbed, Reaches}
 
 -- a fork and its master have one root
 abbrev pub HaveOneRoot : {X : Type 0} → (X → X → Bool) → Type 0
@@ -24,6 +24,12 @@ abbrev pub IsRootOfThoseBelow : {X : Type 0} → (X → X → Bool) → Type 0
 IsRootOfThoseBelow {X} same =
     (es : List (X × X)) (top n : X) → is_forest same es ≡ true → is_fork same es top ≡ false
     → (root_of same es n ≡ top) ↔ Reaches same es n top
+
+-- no way up has more steps than there are forks
+abbrev pub HasFewSteps : {X : Type 0} → (X → X → Bool) → Type 0
+HasFewSteps {X} same =
+    (es : List (X × X)) (k : ℕ) (n m : X) → is_forest same es ≡ true
+    → climbed same k es n ≡ Some m → k ≤ length es
 
 -- two collections are of one group exactly where both reach one
 abbrev pub JoinsWhatMeets : {X : Type 0} → (X → X → Bool) → Type 0

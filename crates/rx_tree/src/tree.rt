@@ -1,6 +1,6 @@
 ghost use Rattle.std.specs.Prelude.{◌==◌};
 ghost use Rattle.rx_tree.specs.Laws.{HaveOneRoot, ReachesItsRoot, RootIsNoFork, IsRootOfThoseBelow};
-ghost use Rattle.rx_tree.specs.Laws.{JoinsWhatMeets};
+ghost use Rattle.rx_tree.specs.Laws.{HasFewSteps, JoinsWhatMeets};
 ghost use Rattle.rx_tree.specs.Orders.{ListsThoseBelow, up, down};
 
 use crate::fault::TreeFault;
@@ -113,6 +113,7 @@ pub fn tree_laws()
     ensures reached { ReachesItsRoot ◌==◌ }
     ensures no_fork { RootIsNoFork ◌==◌ }
     ensures below { IsRootOfThoseBelow ◌==◌ }
+    ensures few { HasFewSteps ◌==◌ }
     ensures joined { JoinsWhatMeets ◌==◌ }
     ensures up { ListsThoseBelow up }
     ensures down { ListsThoseBelow down }

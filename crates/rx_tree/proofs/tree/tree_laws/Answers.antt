@@ -1,5 +1,6 @@
 use Rattle.std.proofs.lemmas.Bool.Decides.{Decides-eqb}
 use Rattle.std.specs.Prelude.{◌==◌}
+use Rattle.rx_tree.proofs.Depth.{few}
 use Rattle.rx_tree.proofs.Forests.{reached, no_fork, below, meets}
 use Rattle.rx_tree.proofs.Listed.{down_lists, up_lists}
 use Rattle.rx_tree.proofs.OneRoot.{one_root}
@@ -16,6 +17,9 @@ returns-clause-no_fork c = no_fork ◌==◌ Decides-eqb
 
 pub returns-clause-below : goal.returns-clause-below
 returns-clause-below c = below ◌==◌ Decides-eqb
+
+pub returns-clause-few : goal.returns-clause-few
+returns-clause-few c = few ◌==◌ Decides-eqb
 
 pub returns-clause-joined : goal.returns-clause-joined
 returns-clause-joined c = meets ◌==◌ Decides-eqb
