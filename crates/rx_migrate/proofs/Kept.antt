@@ -13,7 +13,7 @@ use Rattle.rx_value.specs.Fields.{Pair, Pairs, AreFields}
 use Rattle.rx_value.specs.Named.{AreRising, put_in_order}
 use Rattle.rx_value.specs.Order.{text_cmp}
 use Rattle.rx_value.specs.Value.{is_value}
-use Rattle.rx_value.proofs.Lists.{all_at, all_passed, drop_at, map-filter}
+use Rattle.rx_value.proofs.Lists.{all_passed, drop_at, map-filter}
 use Rattle.rx_value.proofs.Ordered.{text_total}
 use Rattle.rx_migrate.specs.Migrated.{without}
 

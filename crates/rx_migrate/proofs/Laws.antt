@@ -10,7 +10,7 @@ use Rattle.rx_value.specs.Named.{named, put_in_order}
 use Rattle.rx_value.specs.Name.{is_field_name}
 use Rattle.rx_value.specs.Value.{is_number, is_value}
 use Rattle.rx_value.specs.declared.value.Value.{Value}
-use Rattle.rx_value.specs.declared.value.Value.TheVariants.{Flag, Int, Text}
+use Rattle.rx_value.specs.declared.value.Value.TheVariants.{Int}
 use Rattle.rx_value.proofs.Outcomes.{some_then, some_same}
 use Rattle.rx_value.proofs.Setting.{put_fields}
 use Rattle.rx_migrate.specs.Migrated.{without, renamed, filled, product, scaled, made, all_made}

@@ -1,6 +1,6 @@
 -- A field that no step names stays as it is.
-use Rattle.std.proofs.Common.{◌≡◌, ℕ, ℤ, Bool, true, false, cond, not, List, [], ◌∷◌, Option, Some}
-use Rattle.std.proofs.Common.{None, refl, sym, ap, ◌∙◌, subst}
+use Rattle.std.proofs.Common.{◌≡◌, ℕ, true, false, cond, not, List, [], ◌∷◌, Option, Some}
+use Rattle.std.proofs.Common.{None, refl, sym, ap, ◌∙◌}
 use Rattle.std.proofs.lemmas.Bool.{or_parts}
 use Rattle.std.proofs.lemmas.Slice.Eq.{bytes_eq-Decides}
 use Rattle.std.specs.Bool.{one_answer}
@@ -9,7 +9,7 @@ use Rattle.rx_value.specs.Equality.{decides_as}
 use Rattle.rx_value.specs.Fields.{Pairs}
 use Rattle.rx_value.specs.Named.{named, put_in_order}
 use Rattle.rx_value.specs.declared.value.Value.{Value}
-use Rattle.rx_value.specs.declared.value.Value.TheVariants.{Flag, Int, Text}
+use Rattle.rx_value.specs.declared.value.Value.TheVariants.{Int}
 use Rattle.rx_value.proofs.Named.{named-put_in_order}
 use Rattle.rx_value.proofs.Outcomes.{some_then, some_same}
 use Rattle.rx_migrate.specs.Migrated.{without, renamed, filled, product, scaled, made, all_made}

@@ -1,10 +1,10 @@
-ghost use Rattle.std.specs.Prelude.{◌≡◌, ◌≤◌, true, [], IfOk};
+ghost use Rattle.std.specs.Prelude.{◌≡◌, true, [], IfOk};
 ghost use Rattle.serde_json.specs.View.{view, items_view};
 ghost use Rattle.rx_value.specs.Due.{Due};
 ghost use Rattle.rx_value.specs.Form.{texts};
 ghost use Rattle.rx_migrate.specs.Reading.{has_only, a_text, a_value, a_factor, a_rename, a_set};
 ghost use Rattle.rx_migrate.specs.Reading.{a_drop, a_scale, a_form, step_of, steps_after, steps_of};
-ghost use Rattle.rx_migrate.specs.Step.{is_step, most_by};
+ghost use Rattle.rx_migrate.specs.Step.{is_step};
 ghost use Rattle.rx_migrate.specs.declared.fault.StepsFault.TheVariants.{Memory};
 
 use crate::fault::StepsFault;

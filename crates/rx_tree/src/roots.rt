@@ -1,4 +1,4 @@
-ghost use Rattle.std.specs.Prelude.{◌≡◌, ◌<◌, ◌==◌, if◌then◌else◌, length, EachIndex, slice_index};
+ghost use Rattle.std.specs.Prelude.{◌≡◌, ◌==◌, if◌then◌else◌, EachIndex, slice_index};
 ghost use Rattle.rx_tree.specs.Table.{AreThemselves};
 
 /// How many collections there may be.
