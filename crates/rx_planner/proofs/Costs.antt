@@ -1,19 +1,12 @@
 -- How many keys stand between positions.
-use Rattle.std.proofs.Common.{◌≡◌, inl, inr, ℕ, zero, suc, ◌+◌, ◌-◌, ◌<◌, ◌≤◌, Bool, true, false, not, cond, ◌&&◌, List, [], ◌∷◌, ◌++◌, map, filter, length, get_or, reverse, slice_get, Option, Some, None, Less, Equal, Greater, refl, sym, ap, ◌∙◌, subst, arith, append-nil}
+use Rattle.std.proofs.Common.{◌≡◌, inl, inr, ℕ, zero, suc, ◌+◌, ◌-◌, ◌<◌, ◌≤◌, Bool, true, false, not, cond, ◌&&◌, List, [], ◌∷◌, filter, length, get_or, Less, refl, sym, ap, ◌∙◌, subst, arith}
 use Rattle.std.proofs.lemmas.Bool.{false≢true, and_parts, not-true}
-use Rattle.std.proofs.lemmas.List.{length-map, length-reverse, get_or-reverse}
-use Rattle.std.proofs.lemmas.Option.{get_or_from_slice_get, slice_get_within}
+use Rattle.std.proofs.lemmas.List.{length-map}
 use Rattle.std.specs.List.Sorted.{IsStrictlySortedBy}
-use Rattle.std.specs.Ordering.{ordering_then, ordering_reverse, is_le}
-use Rattle.rx_value.proofs.Ordered.{order_total}
-use Rattle.rx_value.specs.Order.{order_of}
-use Rattle.rx_value.specs.declared.value.Value.{Value}
 use Rattle.rx_query.proofs.Sorting.{In, all_in}
-use Rattle.rx_index.proofs.Positions.{bounds_enclose}
 use Rattle.rx_index.specs.Index.{is_between, ids_between}
-use Rattle.rx_index.specs.Ordered.{position_total}
-use Rattle.rx_index.specs.Position.{Position, position_with, position_cmp, values_cmp, precedes, id_of}
-use Rattle.rx_planner.specs.Way.{turned, part_low, part_high, left_low, left_high}
+use Rattle.rx_index.specs.Position.{Position, position_cmp, precedes, id_of}
+use Rattle.rx_planner.specs.Way.{part_low, part_high, left_low, left_high}
 use Rattle.rx_planner.proofs.Cuts.{le_through, before_le}
 
 -- ---- counting
@@ -100,7 +93,8 @@ module _ (p : Position → Bool) where
   unfolding IsStrictlySortedBy
   few_first [] m d lt up here after = absurd (omega arith)
   few_first (x ∷ xs) zero d lt up here after =
-      let none = none_passes p xs (λ z i. after z (all_in (λ k. position_cmp x k ≡ Less) xs up.0 z i)) in
+      let none =
+      none_passes p xs (λ z i. after z (all_in (λ k. position_cmp x k ≡ Less) xs up.0 z i)) in
       let one = counted p x xs ∙ ap (λ b. one_if b + length (filter p xs)) here in
       omega (arith, none, one)
   few_first (x ∷ xs) (suc m) d lt up here after =
@@ -154,7 +148,8 @@ keys_cut keys desc low cut high above below =
     let all = keys_are keys low high in
     let upper = keys_are keys cut high in
     let lower = keys_are keys low cut in
-    let parts = count_parts (is_between low high) (is_between cut high) (is_between low cut) either keys in
+    let parts =
+    count_parts (is_between low high) (is_between cut high) (is_between low cut) either keys in
     elim desc as (λ b. keys_in keys low high
     ≡ keys_in keys (part_low b low cut) (part_high b high cut)
     + keys_in keys (left_low b low cut) (left_high b high cut)) [
@@ -163,7 +158,8 @@ keys_cut keys desc low cut high above below =
     ]
   where
     either : (k : Position)
-        → one_if (is_between low high k) ≡ one_if (is_between cut high k) + one_if (is_between low cut k)
+        → one_if (is_between low high k)
+        ≡ one_if (is_between cut high k) + one_if (is_between low cut k)
     either k =
         (elim (precedes cut k) as (λ b. precedes cut k ≡ b
         → one_if (precedes low k && not (precedes high k))
@@ -187,7 +183,8 @@ keys_cut keys desc low cut high above below =
 
 -- a cut that comes first leaves more
 pub fewer_part : (keys : List Position) (low high far near : Position) → precedes far near ≡ true
-    → (keys_in keys near high ≤ keys_in keys far high) × (keys_in keys low far ≤ keys_in keys low near)
+    → (keys_in keys near high ≤ keys_in keys far high)
+    × (keys_in keys low far ≤ keys_in keys low near)
 fewer_part keys low high far near le =
     let a = keys_are keys near high in
     let b = keys_are keys far high in

@@ -1,5 +1,5 @@
 -- Positions that cut keys by their first values.
-use Rattle.std.proofs.Common.{◌≡◌, ℕ, suc, ◌≤◌, Bool, true, false, not, List, [], ◌∷◌, ◌++◌, map, length, Option, Ordering, Less, Equal, Greater, refl, sym, ap, ◌∙◌, arith}
+use Rattle.std.proofs.Common.{◌≡◌, ◌≤◌, Bool, true, false, List, [], ◌∷◌, ◌++◌, length, Option, Ordering, Less, Equal, Greater, refl, sym, ap, ◌∙◌, arith}
 use Rattle.std.proofs.lemmas.Bool.{false≢true}
 use Rattle.std.proofs.lemmas.Cmp.{tied_itself}
 use Rattle.std.specs.Ordering.{ordering_then, ordering_reverse, is_le}
@@ -50,7 +50,8 @@ other_way p q h =
 -- ---- one value
 
 -- a value at the cut's or behind it, and one at the cut's or before it
-value_apart : (p u v : Option Value) (r s t : Ordering) → is_le (ordering_then (order_of p u) r) ≡ true
+value_apart : (p u v : Option Value) (r s t : Ordering)
+    → is_le (ordering_then (order_of p u) r) ≡ true
     → is_le (ordering_then (order_of p v) s) ≡ false
     → (is_le r ≡ true → is_le s ≡ false → t ≡ Less)
     → ordering_then (order_of v u) t ≡ Less
@@ -61,7 +62,8 @@ value_apart p u v r s t h k rest =
           → is_le (ordering_then o s) ≡ false → ordering_then (order_of v u) t ≡ Less) [
             | Less ↦ (λ d bad. absurd (false≢true (sym bad)))
             | Equal ↦ (λ d _.
-                ap (λ o. ordering_then o t) (ap (λ x. order_of x u) (sym ((order_ties p v).0 d)) ∙ e))
+                ap (λ o. ordering_then o t)
+                (ap (λ x. order_of x u) (sym ((order_ties p v).0 d)) ∙ e))
             | Greater ↦ (λ d _.
                 ap (λ o. ordering_then o t)
                 (order_total.trans v p u (order_total.antisymm v p ∙ ap ordering_reverse d) e))
@@ -70,7 +72,8 @@ value_apart p u v r s t h k rest =
           → is_le (ordering_then o s) ≡ false → ordering_then (order_of v u) t ≡ Less) [
             | Less ↦ (λ d bad. absurd (false≢true (sym bad)))
             | Equal ↦ (λ d not_at.
-                ap (λ o. ordering_then o t) (ap (λ x. order_of x u) (sym ((order_ties p v).0 d)) ∙ e)
+                ap (λ o. ordering_then o t)
+                (ap (λ x. order_of x u) (sym ((order_ties p v).0 d)) ∙ e)
                 ∙ rest at not_at)
             | Greater ↦ (λ d _.
                 ap (λ o. ordering_then o t)
@@ -109,7 +112,8 @@ low_cut [] false [] rest false short h = refl
 low_cut [] false (p ∷ ps) rest b short h = refl
 low_cut (v ∷ vs) c [] rest b short h = absurd (omega arith)
 low_cut (v ∷ vs) c (p ∷ ps) rest b short h =
-    (elim (order_of v p) as (λ o. is_le (ordering_then o (values_cmp vs c (ps ++ rest) false)) ≡ true
+    (elim (order_of v p) as
+    (λ o. is_le (ordering_then o (values_cmp vs c (ps ++ rest) false)) ≡ true
     → is_le (ordering_then o (values_cmp vs c ps b)) ≡ true) [
       | Less ↦ (λ _. refl)
       | Equal ↦ (λ e. low_cut vs c ps rest b (omega arith) e)

@@ -1,5 +1,5 @@
 -- A document between two positions, and the cuts by its first values.
-use Rattle.std.proofs.Common.{◌≡◌, inl, inr, ℕ, zero, suc, ◌+◌, ◌-◌, ◌<◌, ◌≤◌, Bool, true, false, not, cond, ◌&&◌, List, [], ◌∷◌, ◌++◌, map, filter, length, get_or, reverse, slice_get, Option, Some, None, Less, refl, sym, ap, ◌∙◌, subst, arith, append-nil}
+use Rattle.std.proofs.Common.{◌≡◌, inl, inr, ℕ, zero, suc, ◌+◌, ◌-◌, ◌<◌, ◌≤◌, Bool, true, false, not, ◌&&◌, List, [], ◌∷◌, ◌++◌, map, filter, length, get_or, reverse, slice_get, Option, Some, None, Less, refl, sym, ap, ◌∙◌, subst, arith, append-nil}
 use Rattle.std.proofs.lemmas.Bool.{false≢true, and_parts, not-true}
 use Rattle.std.proofs.lemmas.List.{map-append, length-map, length-reverse, get_or-reverse, reverse-append}
 use Rattle.std.proofs.lemmas.List.Kept.{IsStrictlySortedBy-filter}
@@ -19,9 +19,9 @@ use Rattle.rx_query.specs.Result.{IsCollection}
 use Rattle.rx_index.proofs.Positions.{position_eq-Decides, bounds_enclose, id_of-key_of, itself}
 use Rattle.rx_index.specs.Index.{Indexed, Holds, has_key, is_key_of, is_between, ids_between}
 use Rattle.rx_index.specs.Ordered.{position_total}
-use Rattle.rx_index.specs.Position.{Position, position_with, position_cmp, values_cmp, precedes, key_of, id_of}
+use Rattle.rx_index.specs.Position.{Position, position_with, position_cmp, precedes, key_of, id_of}
 use Rattle.rx_planner.specs.Plan.{Names, path_of}
-use Rattle.rx_planner.specs.Way.{falls, front, turned, part_low, part_high, left_low, left_high, keys_next, keys_left, cut_at, cut_behind, IsPivot, IsCut, IsWay}
+use Rattle.rx_planner.specs.Way.{falls, turned, keys_next, keys_left, cut_at, cut_behind, IsPivot, IsCut, IsWay}
 use Rattle.rx_planner.proofs.Costs.{keys_are, fewer_part, few_first, few_last, filter_twice, in_some}
 use Rattle.rx_planner.proofs.Cuts.{le_through, before_le, other_way, low_cut, high_cut, low_of, high_of, longer_after, own_end}
 use Rattle.rx_planner.proofs.Members.{in_filter, from_filter}
@@ -38,10 +38,12 @@ in_slice (x ∷ xs) (suc k) z at = inr (in_slice xs k z at)
 
 in_turned : {X : Type 0} (desc : Bool) (xs : List X) (z : X) → In z (turned desc xs) → In z xs
 in_turned true xs z i =
-    in-permutation (reverse xs) xs z (IsPermutation-sym xs (reverse xs) (IsPermutation-reverse xs)) i
+    in-permutation (reverse xs) xs z
+    (IsPermutation-sym xs (reverse xs) (IsPermutation-reverse xs)) i
 in_turned false xs z i = i
 
-slice_map : {X Y : Type 0} (f : X → Y) (xs : List X) (k : ℕ) (z : Y) → slice_get (map f xs) k ≡ Some z
+slice_map : {X Y : Type 0} (f : X → Y) (xs : List X) (k : ℕ) (z : Y)
+    → slice_get (map f xs) k ≡ Some z
     → (x : X) × (slice_get xs k ≡ Some x) × (z ≡ f x)
 slice_map f [] k z at = absurd (cc)
 slice_map f (x ∷ xs) zero z at = (x, refl, (let same : f x ≡ z = cc in sym same))
@@ -76,7 +78,8 @@ none_left false xs k none = past_end xs k none
 
 module _ (documents : Documents) (index : Indexed) (held : Holds index documents)
     (low high : Position) (desc : Bool) (k : ℕ) (ids : List (List ℕ)) (id : List ℕ)
-    (are : ids ≡ ids_between low high index.keys) (at : slice_get (turned desc ids) k ≡ Some id) where
+    (are : ids ≡ ids_between low high index.keys)
+    (at : slice_get (turned desc ids) k ≡ Some id) where
   abbrev between : List Position
   between = filter (is_between low high) index.keys
 
@@ -149,7 +152,8 @@ module _ (documents : Documents) (index : Indexed) (held : Holds index documents
         → keys_next b index.keys low high (position_with key.values b) ≤ k
     few_met true up met =
         let within : k < length between =
-        (let l = length-reverse between in let w = slice_get_within (reverse between) k key met in omega (arith, l, w)) in
+        (let l = length-reverse between in let w = slice_get_within (reverse between) k key met in
+        omega (arith, l, w)) in
         let m = length between - 1 - k in
         let it : get_or between m key ≡ key =
         sym (get_or-reverse between k key within)
@@ -180,7 +184,8 @@ module _ (documents : Documents) (index : Indexed) (held : Holds index documents
         ap (λ b. b && not (precedes high z)) parts.0
         ∙ ap not (before_le key high z high_key (not-true (precedes key z) parts.1))) index.keys) in
         let few = few_first p between k key within up
-        (ap p it ∙ ap (λ o. precedes low key && not (is_le o)) (itself key) ∙ and_false (precedes low key))
+        (ap p it ∙ ap (λ o. precedes low key && not (is_le o)) (itself key)
+        ∙ and_false (precedes low key))
         (λ z less. ap (λ o. precedes low z && not (is_le o))
         (ap (λ q. position_cmp q z) (sym it) ∙ less) ∙ and_false (precedes low z)) in
         omega (arith, all, twice, few)
@@ -338,8 +343,10 @@ module _ (q : QuerySpec) (documents : Documents) (index : Indexed) (names : Name
           ≤ keys_next b index.keys low high (position_with key_is.values b)
       fewer true =
           (fewer_part index.keys low high (position_with key_is.values true) (cut_at names true d)
-          (ap (λ (p : Position). precedes (position_with p.values true) (cut_at names true d)) (begins q documents index names way low high d pivot).1
-          ∙ longer_after (cut_at names true d).values (begins q documents index names way low high d pivot).0)).0
+          (ap (λ (p : Position). precedes (position_with p.values true) (cut_at names true d))
+          (begins q documents index names way low high d pivot).1
+          ∙ longer_after (cut_at names true d).values
+          (begins q documents index names way low high d pivot).0)).0
       fewer false =
           (fewer_part index.keys low high (cut_at names false d) (position_with key_is.values false)
           (encloses q documents index names way low high d pivot false)).1
@@ -352,7 +359,8 @@ module _ (q : QuerySpec) (documents : Documents) (index : Indexed) (names : Name
     above = above q documents index names way low high d pivot low_long high_long (not (falls q));
     below = below q documents index names way low high d pivot low_long high_long (not (falls q));
     some = in_next (falls q);
-    reach = inr (λ e other. none_nearer q documents index names way low high d e pivot other (falls q) none);
+    reach = inr (λ e other.
+        none_nearer q documents index names way low high d e pivot other (falls q) none);
   }
     where
       keyed : In key_is index.keys
@@ -364,14 +372,16 @@ module _ (q : QuerySpec) (documents : Documents) (index : Indexed) (names : Name
           let many = keys_are index.keys cut high in
           let some = in_some (filter (is_between cut high) index.keys) key_is
           (in_filter (is_between cut high) index.keys key_is keyed
-          (ap (λ c. c && not (precedes high key_is)) (encloses q documents index names way low high d pivot false) ∙ ap not (stands q documents index names way low high d pivot).1)) in
+          (ap (λ c. c && not (precedes high key_is)) (encloses q documents index names way low high
+          d pivot false) ∙ ap not (stands q documents index names way low high d pivot).1)) in
           omega (arith, many, some)
       in_next false =
           let cut = cut_at names true d in
           let many = keys_are index.keys low cut in
           let some = in_some (filter (is_between low cut) index.keys) key_is
           (in_filter (is_between low cut) index.keys key_is keyed
-          (ap (λ c. c && not (precedes cut key_is)) (stands q documents index names way low high d pivot).0 ∙ ap not (encloses q documents index names way low high d pivot true))) in
+          (ap (λ c. c && not (precedes cut key_is)) (stands q documents index names way low high d
+          pivot).0 ∙ ap not (encloses q documents index names way low high d pivot true))) in
           omega (arith, many, some)
 
   module _ (most n : ℕ) (desc : Bool) (near : Position) (way_is : desc ≡ falls q)

@@ -1,6 +1,6 @@
 -- A walk gathers the rows in order, part by part.
-use Rattle.std.proofs.Common.{◌≡◌, ◌⊎◌, inl, inr, ℕ, zero, suc, ◌+◌, ◌-◌, ◌<◌, ◌≤◌, Bool, true, false, not, cond, ◌&&◌, List, [], ◌∷◌, ◌++◌, map, filter, take, length, slice_get, Option, Some, None, IfSome, Ordering, Less, refl, sym, ap, ◌∙◌, subst, arith, append_assoc, append-nil, length-append}
-use Rattle.std.proofs.lemmas.Bool.{false≢true, and_parts, not-true}
+use Rattle.std.proofs.Common.{◌≡◌, ◌⊎◌, inl, inr, ℕ, zero, suc, ◌+◌, ◌-◌, ◌<◌, ◌≤◌, Bool, true, false, not, cond, ◌&&◌, List, [], ◌∷◌, ◌++◌, map, filter, length, slice_get, Option, Some, None, IfSome, Ordering, Less, refl, sym, ap, ◌∙◌, subst, arith, append_assoc, append-nil}
+use Rattle.std.proofs.lemmas.Bool.{and_parts, not-true}
 use Rattle.std.proofs.lemmas.List.{map-append, length-map}
 use Rattle.std.proofs.lemmas.List.Sorted.{IsPermutation-sym}
 use Rattle.std.specs.List.{AllByRecursion, IsDistinct}
@@ -9,16 +9,15 @@ use Rattle.std.specs.Map.{values_of}
 use Rattle.std.specs.Ordering.{is_le, eq_by_cmp}
 use Rattle.rx_value.specs.Named.{named}
 use Rattle.rx_value.specs.declared.value.Value.{Value}
-use Rattle.rx_value.specs.declared.value.Value.TheVariants.{Flag, Text}
+use Rattle.rx_value.specs.declared.value.Value.TheVariants.{Flag}
 use Rattle.rx_document.specs.Documents.{Documents}
 use Rattle.rx_document.specs.declared.stored.Stored.{Stored}
 use Rattle.rx_query.proofs.Sorting.{In, all_in, in-permutation, sorted-permutes, ordered-sorted, same_members}
 use Rattle.rx_query.specs.QuerySpec.{QuerySpec}
-use Rattle.rx_query.specs.Lists.{sorted}
 use Rattle.rx_query.specs.Order.{query_cmp}
-use Rattle.rx_query.specs.Result.{is_due, stored_cmp, stored_before, IsCollection}
+use Rattle.rx_query.specs.Result.{is_due, stored_cmp, stored_before}
 use Rattle.rx_index.specs.Index.{Indexed, indexed_by, HoldsWhere, Holds, is_between, ids_between}
-use Rattle.rx_index.specs.Position.{Position, position_with, position_cmp, values_cmp, precedes, key_of}
+use Rattle.rx_index.specs.Position.{Position, position_cmp, values_cmp, precedes, key_of}
 use Rattle.rx_planner.specs.Plan.{Names, path_of, bound_of}
 use Rattle.rx_planner.specs.Rows.{due_among}
 use Rattle.rx_planner.specs.Way.{falls, front, part_low, part_high, left_low, left_high, keys_next, keys_left, cut_behind, IsPivot, IsCut, first_low, first_high, needed_for, needed, all_rows, rows_between, IsStill, IsUnderWay, IsWay, HasStepped}
@@ -28,7 +27,7 @@ use Rattle.rx_planner.proofs.Cuts.{le_through, before_le, cut_apart}
 use Rattle.rx_planner.proofs.Members.{from_filter}
 use Rattle.rx_planner.proofs.Pivots.{in_slice, due_pivot, above, below}
 use Rattle.rx_planner.proofs.Rising.{stored_total}
-use Rattle.rx_planner.proofs.Runs.{carried_in, met_due, met_between, between_met, met_distinct, met_sorted, strict_order, order_due}
+use Rattle.rx_planner.proofs.Runs.{carried_in, met_due, met_between, between_met, met_distinct, met_sorted}
 use Rattle.rx_planner.proofs.Selected.{key_is, due_parts, due_between}
 use Rattle.rx_planner.proofs.Ways.{front_parts, front_decides, bound_long}
 
@@ -78,7 +77,8 @@ held_at documents test (i ∷ is) zero all = λ k passes. all.0 k refl
 held_at documents test (i ∷ is) (suc n) all = held_at documents test is n all.1
 
 -- all due ones of some documents
-pub gathered : (q : QuerySpec) (documents : Documents) (found : List Stored) (left ids : List (List ℕ))
+pub gathered : (q : QuerySpec) (documents : Documents) (found : List Stored)
+    (left ids : List (List ℕ))
     → found ++ due_among q documents left ≡ due_among q documents ids → left ≡ []
     → found ≡ due_among q documents ids
 gathered q documents found left ids parts none =
@@ -178,7 +178,8 @@ module _ (q : QuerySpec) (documents : Documents) (index : Indexed) (names : Name
 
   -- ---- a cut
 
-  module _ (cut : Position) (long : length cut.values ≡ length (front q (path_of q index.fields)) + 1)
+  module _ (cut : Position)
+      (long : length cut.values ≡ length (front q (path_of q index.fields)) + 1)
     where
       -- the first values of a due document's key, and the others
       first_values : (z : Stored) → In z due → (rest : List (Option Value))
@@ -226,7 +227,8 @@ module _ (q : QuerySpec) (documents : Documents) (index : Indexed) (names : Name
           (path_of q index.fields) less
         where
           turned : (b : Bool) (d e : Stored) → stored_cmp q (cond b d e) (cond b e d)
-              ≡ query_cmp q (cond b d.state.fields e.state.fields) (cond b e.state.fields d.state.fields)
+              ≡ query_cmp q (cond b d.state.fields e.state.fields)
+              (cond b e.state.fields d.state.fields)
           turned true d e = refl
           turned false d e = refl
 
@@ -444,7 +446,8 @@ module _ (q : QuerySpec) (documents : Documents) (index : Indexed) (names : Name
               let short_low = long_as low under.low_long in
               let short_high = long_as high under.high_long in
               let parts = keys_cut index.keys (falls q) low cut high
-              (above q documents index names way low high d is.1 short_low short_high (not (falls q)))
+              (above q documents index names way low high d is.1 short_low short_high
+              (not (falls q)))
               (below q documents index names way low high d is.1 short_low short_high
               (not (falls q))) in
               let more = needed_more d is.0 0 (omega (arith, parts)) in omega (arith, more))
@@ -473,7 +476,8 @@ module _ (q : QuerySpec) (documents : Documents) (index : Indexed) (names : Name
     module _ (wanted budget : ℕ) (within : looked ≤ budget) (room : wanted ≤ budget - looked)
         (fits : wanted ≤ looked + most) where
       -- that took all that was left
-      pub whole_step : (more : List Stored) (now : ℕ) (from to : Position) → more ≡ so ++ rows low high
+      pub whole_step : (more : List Stored) (now : ℕ) (from to : Position)
+          → more ≡ so ++ rows low high
           → now ≡ looked + length (ids_between low high index.keys)
           → length (ids_between low high index.keys) ≤ wanted
           → HasStepped q documents index most budget looked more now from to Whole

@@ -1,5 +1,5 @@
 -- The fields by which a walk goes, and the order that they give.
-use Rattle.std.proofs.Common.{◌≡◌, ℕ, zero, suc, ◌+◌, ◌<◌, ◌≤◌, ◌==◌, Bool, true, false, not, cond, ◌&&◌, List, [], ◌∷◌, ◌++◌, map, take, drop, length, slice_get, Option, Some, None, is_some, Ordering, Less, Equal, Greater, refl, sym, ap, ◌∙◌, arith, append-nil}
+use Rattle.std.proofs.Common.{◌≡◌, ℕ, zero, suc, ◌+◌, ◌≤◌, ◌==◌, Bool, true, false, not, cond, ◌&&◌, List, [], ◌∷◌, ◌++◌, map, take, drop, length, slice_get, Option, Some, None, is_some, Less, Equal, Greater, refl, sym, ap, ◌∙◌, arith}
 use Rattle.std.proofs.Math.Seq.{take-nil}
 use Rattle.std.proofs.lemmas.Bool.{false≢true, and_parts}
 use Rattle.std.proofs.lemmas.Bool.Decides.{Decides-eqb}
@@ -7,7 +7,7 @@ use Rattle.std.proofs.lemmas.Cmp.{tied_itself}
 use Rattle.std.proofs.lemmas.List.{take-append-drop}
 use Rattle.std.proofs.lemmas.Slice.Eq.{bytes_eq-Decides}
 use Rattle.std.specs.Bool.{beq}
-use Rattle.std.specs.Ordering.{ordering_then, ordering_reverse}
+use Rattle.std.specs.Ordering.{ordering_then}
 use Rattle.std.specs.Str.{bytes_eq}
 use Rattle.rx_value.proofs.Ordered.{order_total}
 use Rattle.rx_value.specs.Fields.{Pairs}
@@ -18,7 +18,7 @@ use Rattle.rx_selector.specs.Holding.{all_hold}
 use Rattle.rx_selector.specs.declared.tree.Compare.TheVariants.{Eq}
 use Rattle.rx_query.specs.QuerySpec.{Sorts, QuerySpec}
 use Rattle.rx_query.specs.Order.{field_cmp, sort_cmp, sorts_cmp, query_cmp}
-use Rattle.rx_index.specs.Position.{Position, values_cmp}
+use Rattle.rx_index.specs.Position.{values_cmp}
 use Rattle.rx_planner.specs.Plan.{Names, operand, is_fixed, leading, rest_of, strict, loose, end_by, end_at, fixed_or, bound_at, bound_of}
 use Rattle.rx_planner.specs.Way.{falls, goes_by, matched, front, fits}
 use Rattle.rx_planner.proofs.Selected.{fixed_value}
@@ -120,7 +120,8 @@ module _ (q : QuerySpec) where
       not (matched (falls q) q.sorts (drop (cond (is_some o) (suc (leading q fs)) 0) (f ∷ fs)) == 0)
       ≡ true
       → length (fixed_or o (bound_at q up fs) (end_at q up f)).values
-      ≤ length (cond (is_some o) (f ∷ front q fs) (take (matched (falls q) q.sorts (f ∷ fs)) (f ∷ fs)))) [
+      ≤ length (cond (is_some o) (f ∷ front q fs)
+      (take (matched (falls q) q.sorts (f ∷ fs)) (f ∷ fs)))) [
         | Some v ↦ (λ k. let rest = bound_short up fs k in omega (arith, rest))
         | None ↦ (λ k.
             let one = ends_short up (operand q f (strict up)) (operand q f (loose up)) in
@@ -208,7 +209,8 @@ module _ (x y : Pairs) where
           → sorts_cmp q.sorts (cond (falls q) x y) (cond (falls q) y x) ≡ Less) [
             | None ↦ (λ _ less. by_sort (falls q) q.sorts (f ∷ fs) less)
             | Some v ↦ (λ is less.
-                let rest = values_cmp (values_of_y (front q fs)) false (values_of_x (front q fs)) false in
+                let rest =
+                values_cmp (values_of_y (front q fs)) false (values_of_x (front q fs)) false in
                 let tie : order_of (named y f) (named x f) ≡ Equal =
                 ap (λ z. order_of z (named x f)) (fixed_value q f v y is hy)
                 ∙ ap (order_of (Some v)) (fixed_value q f v x is hx)

@@ -1,38 +1,20 @@
 -- The rows of a walk are the query's result.
-use Rattle.std.proofs.Common.{◌≡◌, ℕ, ◌+◌, ◌*◌, ◌<◌, ◌≤◌, true, List, ◌++◌, Bor, map, take, drop, length, get_or, slice_get, Option, Some, None, IfSome, IsSome, refl, sym, ap, ◌∙◌, subst, arith}
+use Rattle.std.proofs.Common.{◌≡◌, ℕ, ◌<◌, ◌≤◌, true, List, Bor, map, take, drop, length, get_or, Option, Some, None, IfSome, IsSome, refl, sym, ap, ◌∙◌, subst, arith}
 use Rattle.std.proofs.lemmas.Bool.{false≢true}
 use Rattle.std.proofs.lemmas.List.{length-map, take-append-le, take-map}
 use Rattle.std.proofs.lemmas.Option.{slice_get_read}
-use Rattle.std.specs.List.{AllByRecursion}
 use Rattle.std.specs.List.Sorted.{IsStrictlySortedBy}
 use Rattle.std.specs.Map.{values_of}
 use Rattle.rx_document.specs.Documents.{Documents}
 use Rattle.rx_document.specs.declared.stored.Stored.{Stored}
 use Rattle.rx_query.specs.QuerySpec.{QuerySpec}
-use Rattle.rx_query.specs.Result.{IsCollection, at_most, result_of}
-use Rattle.rx_index.specs.Index.{Indexed, Holds}
+use Rattle.rx_query.specs.Result.{at_most, result_of}
+use Rattle.rx_index.specs.Index.{Indexed}
 use Rattle.rx_index.specs.Position.{Position, position_cmp}
 use Rattle.rx_planner.specs.Plan.{Names, path_of}
 use Rattle.rx_planner.specs.Rows.{most_rows}
-use Rattle.rx_planner.specs.Way.{front, fits, all_rows, rows_between, IsWayBy, IsUnderWay, IsWay}
+use Rattle.rx_planner.specs.Way.{front, fits, all_rows, rows_between, IsWayBy, IsUnderWay}
 use Rattle.rx_planner.proofs.Runs.{window}
-use Rattle.rx_planner.proofs.Walks.{held_at}
-
--- an index by which a walk can go holds the documents
-pub way_of : (q : QuerySpec) (documents : Documents) (indexes : List Indexed) (n : ℕ) (index : Indexed)
-    (names : Names) → index ≡ get_or indexes n index → IsWayBy q indexes n names
-    → IsCollection q.primary documents → AllByRecursion (λ i. Holds i documents) indexes
-    → IsWay q documents index names
-way_of q documents indexes n index names is way collection held =
-    let at = slice_get_read indexes (length indexes) n index refl way.within is in
-    record {
-      collection = collection;
-      held = subst (λ o. IfSome o (λ i. Holds i documents)) at
-          (held_at documents (λ _. true) indexes n held);
-      fits = subst (λ o. IfSome o (λ i. fits q (path_of q i.fields) ≡ true)) at way.fits;
-      front = subst (λ o. IfSome o (λ i. names ≡ front q (path_of q i.fields))) at way.front;
-      rising = subst (λ o. IfSome o (λ i. IsStrictlySortedBy position_cmp i.keys)) at way.rising;
-    }
 
 -- as many first rows as are wanted, without those that are skipped
 module _ (q : QuerySpec) (documents : Documents) (most : ℕ) (is : Some most ≡ most_rows q) where
@@ -62,12 +44,6 @@ way_at q indexes n index names is within fit first up =
       front = subst (λ o. IfSome o (λ i. names ≡ front q (path_of q i.fields))) (sym at) first;
       rising = subst (λ o. IfSome o (λ i. IsStrictlySortedBy position_cmp i.keys)) (sym at) up;
     }
-
--- twice as many as stand between the bounds
-pub within_twice : (many : Indexed → ℕ) (o : Option Indexed) (span looked : ℕ)
-    → IfSome o (λ i. span ≡ many i) → looked ≤ 2 * span → IfSome o (λ i. looked ≤ 2 * many i)
-within_twice many None span looked is h = tt
-within_twice many (Some i) span looked is h = subst (λ n. looked ≤ 2 * n) is h
 
 -- ---- the rows that a walk hands out
 

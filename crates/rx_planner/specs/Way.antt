@@ -1,12 +1,11 @@
 -- A walk along an index in the order of a query's sort.
-use Rattle.std.specs.Prelude.{◌≡◌, ℕ, zero, suc, ◌+◌, ◌-◌, ◌*◌, ◌<◌, ◌≤◌, ◌==◌, ◌⊎◌, Bool, true, false, not, ◌&&◌, List, [], ◌∷◌, ◌++◌, map, take, length, reverse, Option, Some, None, IfSome, slice_get, if◌then◌else◌}
+use Rattle.std.specs.Prelude.{◌≡◌, ℕ, suc, ◌+◌, ◌-◌, ◌*◌, ◌<◌, ◌≤◌, ◌==◌, ◌⊎◌, Bool, true, false, not, ◌&&◌, List, [], ◌∷◌, ◌++◌, map, take, length, reverse, Option, Some, None, IfSome, slice_get, if◌then◌else◌}
 use Rattle.std.specs.Bool.{beq}
 use Rattle.std.specs.Str.{bytes_eq}
 use Rattle.std.specs.List.{filter}
 use Rattle.std.specs.List.Sorted.{IsStrictlySortedBy}
 use Rattle.std.specs.Map.{values_of}
 use Rattle.rx_value.specs.Named.{named}
-use Rattle.rx_value.specs.declared.value.Value.{Value}
 use Rattle.rx_value.specs.declared.value.Value.TheVariants.{Flag}
 use Rattle.rx_document.specs.Documents.{Documents}
 use Rattle.rx_document.specs.declared.stored.Stored.{Stored}
@@ -104,7 +103,8 @@ pub record IsPivot (documents : Documents) (index : Indexed) (low high : Positio
 
 -- a position between two others up to which there are keys: at most so many, or those alone that
 -- begin as the first one does
-pub record IsCut (q : QuerySpec) (documents : Documents) (index : Indexed) (names : Names) (most : ℕ)
+pub record IsCut (q : QuerySpec) (documents : Documents) (index : Indexed) (names : Names)
+    (most : ℕ)
     (low high cut : Position) : Type 0 where
   pub long : length cut.values ≡ length names + 1
   pub above : precedes low cut ≡ true

@@ -1,4 +1,4 @@
-ghost use Rattle.std.specs.Prelude.{◌≡◌, map, drop, slice_get, IfOk, IfSome, option_map};
+ghost use Rattle.std.specs.Prelude.{◌≡◌, map, drop, slice_get, IfOk, IfSome};
 ghost use Rattle.std.specs.Map.{values_of};
 ghost use Rattle.rx_index.specs.Index.{HoldsWhere, is_between};
 ghost use Rattle.rx_query.specs.QuerySpec.{asked};

@@ -320,10 +320,10 @@ pub(crate) fn walk_along<'a, T: Lookup>(
         (λ rows. map (λ r. r.now) rows.items
         ≡ take most (all_rows (asked query.now) (T.documents docs.now)))) }
     ensures looked { IfOk result (λ walked. walked.looked ≤ budget) }
-    ensures cost { IfOk result (λ walked. IsSome walked.rows
-        → walked.looked ≤ 2 * needed (asked query.now) (T.documents docs.now) index.now most + most) }
-    ensures given_up { IfOk result (λ walked. walked.rows ≡ None
-        → walked.looked + budget ≤ 2 * needed (asked query.now) (T.documents docs.now) index.now most) }
+    ensures cost { IfOk result (λ walked. IsSome walked.rows → walked.looked
+        ≤ 2 * needed (asked query.now) (T.documents docs.now) index.now most + most) }
+    ensures given_up { IfOk result (λ walked. walked.rows ≡ None → walked.looked + budget
+        ≤ 2 * needed (asked query.now) (T.documents docs.now) index.now most) }
 {
     let mut walk = start(alloc, query, index)?;
     'parts: while (walk.rows.len() as u128) < most {

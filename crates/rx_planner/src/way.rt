@@ -65,8 +65,8 @@ pub(crate) fn front<'a>(
     Ok(Some(path))
 }
 
-/// An index by which a walk can go, with the first fields of its path by which it goes, and how many
-/// keys stand between its bounds.
+/// An index by which a walk can go, with the first fields of its path by which it goes, and how
+/// many keys stand between its bounds.
 #[derive(Drop)]
 pub(crate) struct Way<'a> {
     pub index: usize,

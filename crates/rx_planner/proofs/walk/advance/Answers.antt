@@ -1,4 +1,4 @@
-use Rattle.std.proofs.Common.{◌≡◌, ◌+◌, ◌-◌, ◌<◌, ◌≤◌, Bor, List, ℕ, IfSome, true, is_none, map, length, refl, ap, sym, ◌∙◌, subst, arith}
+use Rattle.std.proofs.Common.{◌≡◌, ◌-◌, ◌<◌, ◌≤◌, Bor, List, ℕ, IfSome, true, is_none, map, length, refl, ap, sym, ◌∙◌, subst, arith}
 use Rattle.std.proofs.lemmas.List.{length-map}
 use Rattle.rx_document.specs.declared.stored.Stored.{Stored}
 use Rattle.rx_query.specs.QuerySpec.{asked}
@@ -37,7 +37,8 @@ returns-in_default g c =
     whole_step (asked c.args.query.now) (g.T.Lookup.documents c.args.docs.now) c.args.index.now
     (map (λ (f : Bor (List ℕ)). f.now) c.args.names.now) c.requires.way c.requires.way.rising
     (map now walk.rows.items) walk.looked c.args.most walk.low walk.high c.requires.under
-    (short_so walk.rows.items c.args.most c.requires.short) c.next_wanted-wanted.result c.args.budget
+    (short_so walk.rows.items c.args.most c.requires.short) c.next_wanted-wanted.result
+    c.args.budget
     c.requires.within c.next_wanted-wanted.ensures.room c.next_wanted-wanted.ensures.fits
     (map now after.rows.items) after.looked after.low after.high c.in_ok-take_rest.ensures.rows
     c.in_ok-take_rest.ensures.looked
@@ -59,7 +60,8 @@ returns-then-len-room g c =
     ∙ ap (λ b. keys_next b index.keys walk.low walk.high cut) c.falls.ensures in
     far_step q documents index names c.requires.way c.requires.way.rising
     (map now walk.rows.items) walk.looked c.args.most walk.low walk.high c.requires.under
-    (short_so walk.rows.items c.args.most c.requires.short) c.next_wanted-wanted.result c.args.budget
+    (short_so walk.rows.items c.args.most c.requires.short) c.next_wanted-wanted.result
+    c.args.budget
     c.requires.within c.next_wanted-wanted.ensures.room c.next_wanted-wanted.ensures.fits cut
     (subst (λ o. IfSome o (IsCut q documents index names c.next_wanted-wanted.result walk.low
     walk.high)) c.in-Some.is c.in_ok-cut.ensures.cut)
@@ -84,7 +86,8 @@ returns g c =
     (λ i. (sym c.in_ok-take_part.ensures.low i, sym c.in_ok-take_part.ensures.high i))
     (more_step q documents index names c.requires.way c.requires.way.rising
     (map now walk.rows.items) walk.looked c.args.most walk.low walk.high c.requires.under
-    (short_so walk.rows.items c.args.most c.requires.short) c.next_wanted-wanted.result c.args.budget
+    (short_so walk.rows.items c.args.most c.requires.short) c.next_wanted-wanted.result
+    c.args.budget
     c.requires.within c.next_wanted-wanted.ensures.room c.next_wanted-wanted.ensures.fits cut
     (subst (λ o. IfSome o (IsCut q documents index names c.next_wanted-wanted.result walk.low
     walk.high)) c.in-Some.is c.in_ok-cut.ensures.cut)

@@ -1,6 +1,5 @@
-use Rattle.std.proofs.Common.{◌≡◌, ◌≤◌, ◌+◌, Bor, List, ℕ, IfSome, map, length, sym, ap, ◌∙◌, subst, arith}
+use Rattle.std.proofs.Common.{◌≤◌, ◌+◌, Bor, List, ℕ, IfSome, map, length, ap, ◌∙◌, subst, arith}
 use Rattle.std.proofs.lemmas.List.{length-map}
-use Rattle.rx_document.specs.declared.stored.Stored.{Stored}
 use Rattle.rx_query.specs.QuerySpec.{asked}
 use Rattle.rx_index.specs.Position.{Position, position_with, key_of}
 use Rattle.rx_planner.specs.Way.{keys_next, IsPivot}

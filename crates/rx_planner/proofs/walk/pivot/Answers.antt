@@ -1,4 +1,4 @@
-use Rattle.std.proofs.Common.{◌≡◌, ◌≤◌, Bor, List, ℕ, length, option_map, sym, ap, ◌∙◌, subst}
+use Rattle.std.proofs.Common.{◌≤◌, Bor, length, option_map, sym, ap, ◌∙◌, subst}
 use Rattle.rx_document.specs.declared.stored.Stored.{Stored}
 use Rattle.rx_planner.proofs.Pivots.{none_left, never_none, is_pivot, few_before}
 use Rattle.rx_planner.proofs.walk.pivot.Goals as goal
@@ -6,7 +6,8 @@ use Rattle.rx_planner.proofs.walk.pivot.Goals as goal
 pub returns-in_default-clause-few : goal.returns-in_default-clause-few
 returns-in_default-clause-few g c = λ _.
     subst (λ xs. length xs ≤ c.args.most) c.range-ids.ensures.ids
-    (none_left c.args.desc c.range-ids.result c.args.most (sym c.entry_at.ensures ∙ c.in_default.is))
+    (none_left c.args.desc c.range-ids.result c.args.most
+    (sym c.entry_at.ensures ∙ c.in_default.is))
 
 pub unreachable-requires : goal.unreachable-requires
 unreachable-requires g c =

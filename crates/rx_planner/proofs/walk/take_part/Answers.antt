@@ -1,10 +1,8 @@
-use Rattle.std.proofs.Common.{Bor, ◌++◌, map, refl, sym, ap, ◌∙◌, subst}
+use Rattle.std.proofs.Common.{refl, sym, subst}
 use Rattle.std.specs.List.{IsDistinct}
 use Rattle.std.specs.Ordering.{eq_by_cmp}
-use Rattle.rx_document.specs.declared.stored.Stored.{Stored}
 use Rattle.rx_query.specs.QuerySpec.{asked}
-use Rattle.rx_query.specs.Lists.{sorted}
-use Rattle.rx_query.specs.Result.{stored_before, stored_cmp}
+use Rattle.rx_query.specs.Result.{stored_cmp}
 use Rattle.rx_planner.specs.Rows.{due_among}
 use Rattle.rx_planner.specs.Way.{part_low, part_high}
 use Rattle.rx_planner.proofs.Runs.{met_distinct}

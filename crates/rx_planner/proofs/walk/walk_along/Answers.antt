@@ -1,7 +1,7 @@
-use Rattle.std.proofs.Common.{◌≡◌, ◌+◌, ◌*◌, ◌<◌, ◌≤◌, Bor, List, ℕ, [], map, length, refl, ap, sym, ◌∙◌, subst, arith}
+use Rattle.std.proofs.Common.{Bor, List, ℕ, map, sym, subst, arith}
 use Rattle.rx_document.specs.declared.stored.Stored.{Stored}
 use Rattle.rx_query.specs.QuerySpec.{asked}
-use Rattle.rx_planner.specs.Way.{needed, IsUnderWay, HasStepped}
+use Rattle.rx_planner.specs.Way.{IsUnderWay, HasStepped}
 use Rattle.rx_planner.proofs.Walks.{starts}
 use Rattle.rx_planner.proofs.Windows.{of_whole, of_enough, first_ones, some_rows}
 use Rattle.rx_planner.proofs.walk.walk_along.Goals as goal
@@ -47,7 +47,8 @@ returns-clause-rows g c =
     let many = c.len.ensures in
     first_ones q documents c.args.most walk.rows.items c.found-2.result.rows (λ rows. rows.items)
     c.found-2.ensures.rows
-    (of_enough q documents c.args.most walk.rows.items c.args.index.now walk.looked walk.low walk.high
+    (of_enough q documents c.args.most walk.rows.items c.args.index.now walk.looked walk.low
+    walk.high
     c.parts.invariant.under (let enough = c.parts-test.false in omega (arith, many, enough)))
 
 pub returns-clause-given_up : goal.returns-clause-given_up

@@ -3,7 +3,7 @@ use Rattle.std.proofs.lemmas.List.{take_rest, take-map}
 use Rattle.rx_query.proofs.Rows.{map-drop}
 use Rattle.rx_query.specs.QuerySpec.{QuerySpec, asked}
 use Rattle.rx_planner.specs.Plan.{Names, leading, rest_of, path_of}
-use Rattle.rx_planner.specs.Way.{falls, matched, front}
+use Rattle.rx_planner.specs.Way.{falls, matched}
 use Rattle.rx_planner.proofs.Ways.{front_is, some_more}
 use Rattle.rx_planner.proofs.way.front.Goals as goal
 
@@ -32,7 +32,8 @@ returns-then-more-eq0-clause-fits c =
     let q = asked c.args.query.now in
     let path = c.in_ok-path.path.items in
     let fields = c.args.fields.now in
-    let fixed = fixed_is q path c.as_slice.result.now fields c.leading-fixed.result c.in_ok-path.ensures
+    let fixed =
+    fixed_is q path c.as_slice.result.now fields c.leading-fixed.result c.in_ok-path.ensures
     c.as_slice.ensures.value c.leading-fixed.ensures.value in
     let more = more_is q path c.as_slice-2.result.now fields c.leading-fixed.result
     c.matched-more.result c.in_ok-path.ensures c.as_slice-2.ensures.value fixed
@@ -44,7 +45,8 @@ returns-clause-fits c =
     let q = asked c.args.query.now in
     let path = c.in_ok-path.path.items in
     let fields = c.args.fields.now in
-    let fixed = fixed_is q path c.as_slice.result.now fields c.leading-fixed.result c.in_ok-path.ensures
+    let fixed =
+    fixed_is q path c.as_slice.result.now fields c.leading-fixed.result c.in_ok-path.ensures
     c.as_slice.ensures.value c.leading-fixed.ensures.value in
     let more = more_is q path c.as_slice-2.result.now fields c.leading-fixed.result
     c.matched-more.result c.in_ok-path.ensures c.as_slice-2.ensures.value fixed

@@ -1,4 +1,4 @@
-use Rattle.std.proofs.Common.{◌≡◌, ◌+◌, Bor, ℕ, suc, List, [], false, true, map, drop, length, get_or, slice_get, sym, ap, ◌∙◌, arith}
+use Rattle.std.proofs.Common.{◌≡◌, ◌+◌, Bor, ℕ, suc, List, [], false, true, map, drop, get_or, slice_get, sym, ap, ◌∙◌, arith}
 use Rattle.std.proofs.Math.Seq.{drop-cons}
 use Rattle.rx_query.specs.QuerySpec.{asked}
 use Rattle.rx_planner.specs.Way.{falls, goes_by, matched}

@@ -16,7 +16,8 @@ returns-clause-rows g c =
     (λ rows. map now rows.items ≡ take c.in-Some.most (all_rows q documents)))
     → IfOk r (λ walked. IfSome walked.rows
     (λ rows. drop q.skip (map now rows.items) ≡ result_of q (values_of documents)))) [
-      | Ok walked ↦ (λ h. are_shown q documents c.in-Some.most (sym c.in-Some.is ∙ c.most_rows.ensures)
+      | Ok walked ↦
+          (λ h. are_shown q documents c.in-Some.most (sym c.in-Some.is ∙ c.most_rows.ensures)
           walked.rows (λ rows. map now rows.items) h)
       | Err e ↦ (λ _. tt)
     ]) c.walk_along.ensures.rows
