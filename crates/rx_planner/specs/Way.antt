@@ -10,12 +10,12 @@ use Rattle.rx_value.specs.declared.value.Value.TheVariants.{Flag}
 use Rattle.rx_document.specs.Documents.{Documents}
 use Rattle.rx_document.specs.declared.stored.Stored.{Stored}
 use Rattle.rx_query.specs.QuerySpec.{Sorts, QuerySpec}
-use Rattle.rx_query.specs.Lists.{first_passes, sorted}
+use Rattle.rx_query.specs.Lists.{first_passes, some_passes, sorted}
 use Rattle.rx_query.specs.Result.{is_due, stored_before, IsCollection}
 use Rattle.rx_index.specs.Index.{Indexed, Holds, has_key, is_between, ids_between}
 use Rattle.rx_index.specs.Position.{Position, position_with, position_cmp, precedes, key_of, id_of}
 use Rattle.rx_planner.specs.Plan.{Names, is_fixed, path_of, rest_of, bound_of}
-use Rattle.rx_planner.specs.Rows.{due_among}
+use Rattle.rx_planner.specs.Rows.{due_among, most_rows}
 use Rattle.rx_planner.specs.declared.walk.Step.{Step}
 use Rattle.rx_planner.specs.declared.walk.Step.TheVariants.{More, Whole, TooFar}
 
@@ -53,6 +53,34 @@ pub record IsWayBy (q : QuerySpec) (indexes : List Indexed) (i : ℕ) (names : N
   pub fits : IfSome (slice_get indexes i) (λ index. fits q (path_of q index.fields) ≡ true)
   pub front : IfSome (slice_get indexes i) (λ index. names ≡ front q (path_of q index.fields))
   pub rising : IfSome (slice_get indexes i) (λ index. IsStrictlySortedBy position_cmp index.keys)
+
+-- by the index of that place a walk can go
+abbrev pub fits_at : QuerySpec → List Indexed → ℕ → Bool
+fits_at q indexes k = some_passes (λ index. fits q (path_of q index.fields)) (slice_get indexes k)
+
+-- how many keys stand between the bounds of an index
+abbrev pub width : QuerySpec → Option Indexed → ℕ
+width q None = 0
+width q (Some index) =
+    length (ids_between (bound_of q false (path_of q index.fields))
+    (bound_of q true (path_of q index.fields)) index.keys)
+
+abbrev pub width_at : QuerySpec → List Indexed → ℕ → ℕ
+width_at q indexes k = width q (slice_get indexes k)
+
+-- of the first n indexes the first with the fewest keys of those by which a walk can go
+pub record IsBestWay (q : QuerySpec) (indexes : List Indexed) (n best : ℕ) : Type 0 where
+  pub within : best < n
+  pub fits : fits_at q indexes best ≡ true
+  pub fewest : (k : ℕ) → k < n → fits_at q indexes k ≡ true
+      → width_at q indexes best ≤ width_at q indexes k
+  pub first : (k : ℕ) → k < best → fits_at q indexes k ≡ true
+      → width_at q indexes best < width_at q indexes k
+
+-- that one is the best of the first n, or by none of them a walk can go
+abbrev pub HasBest : QuerySpec → List Indexed → ℕ → Option ℕ → Type 0
+HasBest q indexes n None = (k : ℕ) → k < n → fits_at q indexes k ≡ false
+HasBest q indexes n (Some best) = IsBestWay q indexes n best
 
 -- from the end where rows fall
 abbrev pub turned : {X : Type 0} → Bool → List X → List X
@@ -138,6 +166,15 @@ needed_for q index (Some d) =
 -- those up to the last one of so many rows, or all where there are less
 abbrev pub needed : QuerySpec → Documents → Indexed → ℕ → ℕ
 needed q documents index most = needed_for q index (slice_get (all_rows q documents) (most - 1))
+
+-- where the rows are limited, and the plan's keys don't have their order, nor is the primary key
+-- fixed: no more than twice what the best walk has to look at, and a document a row
+abbrev pub IsWithinWalk : QuerySpec → Documents → List Indexed → Bool → ℕ → Type 0
+IsWithinWalk q documents indexes ordered looked =
+    (best most : ℕ) → most_rows q ≡ Some most → ordered ≡ false → is_fixed q q.primary ≡ false
+    → IsBestWay q indexes (length indexes) best
+    → IfSome (slice_get indexes best)
+      (λ index. looked ≤ 2 * needed q documents index most + most)
 
 -- ---- walks
 

@@ -1,10 +1,12 @@
-ghost use Rattle.std.specs.Prelude.{◌≡◌, ◌*◌, ◌≤◌, length, map, drop, slice_get, IfOk, IfSome};
+ghost use Rattle.std.specs.Prelude.{◌≡◌, ◌+◌, ◌*◌, ◌≤◌, ◌||◌, length, map, drop, nat_le};
+ghost use Rattle.std.specs.Prelude.{slice_get, IfOk, IfSome, IsSome};
 ghost use Rattle.std.specs.List.{AllByRecursion};
 ghost use Rattle.std.specs.Map.{values_of};
 ghost use Rattle.rx_index.specs.Index.{Holds, ids_between};
 ghost use Rattle.rx_query.specs.QuerySpec.{asked};
 ghost use Rattle.rx_query.specs.Result.{IsCollection, result_of};
-ghost use Rattle.rx_planner.specs.Plan.{IsPlan};
+ghost use Rattle.rx_planner.specs.Plan.{is_fixed, IsPlan};
+ghost use Rattle.rx_planner.specs.Way.{IsWithinWalk};
 
 use crate::path::is_fixed;
 use crate::planned::Plan;
@@ -41,6 +43,8 @@ impl Plan {
             ≡ result_of (asked query.now) (values_of (T.documents docs.now))) }
         ensures cost { IfOk result (λ found. IfSome (slice_get indexes.now self.now.index)
             (λ i. found.looked ≤ 2 * length (ids_between self.now.low self.now.high i.keys))) }
+        ensures walk { IfOk result (λ found. IsWithinWalk (asked query.now)
+            (T.documents docs.now) indexes.now self.now.ordered found.looked) }
     {
         let span = self.span(indexes);
         let Walked { rows, looked } = self.walked(alloc, query, indexes, docs, span)?;
@@ -69,6 +73,11 @@ impl Plan {
             (λ rows. drop (asked query.now).skip (map (λ r. r.now) rows.items)
             ≡ result_of (asked query.now) (values_of (T.documents docs.now)))) }
         ensures looked { IfOk result (λ walked. walked.looked ≤ span) }
+        ensures cost { IfOk result (λ walked. IsSome walked.rows → IsWithinWalk (asked query.now)
+            (T.documents docs.now) indexes.now self.now.ordered walked.looked) }
+        ensures given_up { IfOk result (λ walked. walked.rows ≡ None → IsWithinWalk
+            (asked query.now) (T.documents docs.now) indexes.now self.now.ordered
+            (walked.looked + span)) }
     {
         let Some(most) = most_rows(query) else {
             return Ok(unwalked());
@@ -84,7 +93,10 @@ impl Plan {
     }
 
     // Whether no walk looks at less than the plan's run.
-    fn is_better(&self, query: &Query, span: usize, most: u128) -> bool {
+    fn is_better(&self, query: &Query, span: usize, most: u128) -> bool
+        ensures { result ≡ (self.now.ordered || nat_le span most
+            || is_fixed (asked query.now) (asked query.now).primary) }
+    {
         self.ordered || span as u128 <= most || is_fixed(query, query.primary())
     }
 }

@@ -1,7 +1,10 @@
-ghost use Rattle.std.specs.Prelude.{◌≡◌, ◌<◌, ◌≤◌, map, length, is_some, slice_get, IfOk, IfSome};
+ghost use Rattle.std.specs.Prelude.{◌≡◌, ◌<◌, ◌≤◌, not, map, length, is_some, nat_le};
+ghost use Rattle.std.specs.Prelude.{option_map, slice_get, IfOk, IfSome};
 ghost use Rattle.rx_query.specs.QuerySpec.{asked};
+ghost use Rattle.rx_query.specs.Lists.{some_passes};
 ghost use Rattle.rx_planner.specs.Plan.{path_of};
-ghost use Rattle.rx_planner.specs.Way.{falls, matched, front, fits, goes_by, IsWayBy};
+ghost use Rattle.rx_planner.specs.Way.{falls, matched, front, fits, fits_at, goes_by, width_at};
+ghost use Rattle.rx_planner.specs.Way.{IsWayBy, HasBest};
 
 use crate::bounds::bound;
 use crate::path::{leading, path};
@@ -81,8 +84,12 @@ fn way_by<'a>(
     i: usize,
 ) -> Result<Option<Way<'a>>, AllocError>
     requires { i < length indexes.now }
-    ensures { IfOk result (λ o. IfSome o (λ way. (way.index ≡ i) × IsWayBy (asked query.now)
-        indexes.now way.index (map (λ f. f.now) way.names.items))) }
+    ensures fits { IfOk result (λ o. is_some o ≡ fits_at (asked query.now) indexes.now i) }
+    ensures index { IfOk result (λ o. IfSome o (λ way. way.index ≡ i)) }
+    ensures keys { IfOk result
+        (λ o. IfSome o (λ way. way.keys ≡ width_at (asked query.now) indexes.now i)) }
+    ensures way { IfOk result (λ o. IfSome o (λ way. IsWayBy (asked query.now) indexes.now i
+        (map (λ f. f.now) way.names.items))) }
 {
     let index = &indexes[i];
     let Some(names) = front(alloc, query, index.fields())? else {
@@ -99,7 +106,9 @@ fn way_by<'a>(
     }))
 }
 
-fn is_better(way: &Way<'_>, best: &Option<Way<'_>>) -> bool {
+fn is_better(way: &Way<'_>, best: &Option<Way<'_>>) -> bool
+    ensures { result ≡ not (some_passes (λ best. nat_le best.keys way.now.keys) best.now) }
+{
     match best {
         Some(best) => way.keys < best.keys,
         None => true,
@@ -112,8 +121,10 @@ pub(crate) fn best_way<'a>(
     query: &'a Query,
     indexes: &'a [Index],
 ) -> Result<Option<Way<'a>>, AllocError>
-    ensures { IfOk result (λ o. IfSome o (λ way. IsWayBy (asked query.now) indexes.now way.index
-        (map (λ f. f.now) way.names.items))) }
+    ensures best { IfOk result (λ o. HasBest (asked query.now) indexes.now (length indexes.now)
+        (option_map (λ way. way.index) o)) }
+    ensures way { IfOk result (λ o. IfSome o (λ way. IsWayBy (asked query.now) indexes.now
+        way.index (map (λ f. f.now) way.names.items))) }
 {
     let mut best = None;
     for i in 0..indexes.len() {
