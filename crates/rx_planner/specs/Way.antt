@@ -58,15 +58,24 @@ pub record IsWayBy (q : QuerySpec) (indexes : List Indexed) (i : ℕ) (names : N
 abbrev pub fits_at : QuerySpec → List Indexed → ℕ → Bool
 fits_at q indexes k = some_passes (λ index. fits q (path_of q index.fields)) (slice_get indexes k)
 
--- how many keys stand between the bounds of an index
-abbrev pub width : QuerySpec → Option Indexed → ℕ
-width q None = 0
-width q (Some index) =
-    length (ids_between (bound_of q false (path_of q index.fields))
-    (bound_of q true (path_of q index.fields)) index.keys)
+-- the bounds of an index
+abbrev pub first_low : QuerySpec → Indexed → Position
+first_low q index = bound_of q false (path_of q index.fields)
+
+abbrev pub first_high : QuerySpec → Indexed → Position
+first_high q index = bound_of q true (path_of q index.fields)
+
+-- how many keys stand between them
+abbrev pub width : QuerySpec → Indexed → ℕ
+width q index = length (ids_between (first_low q index) (first_high q index) index.keys)
+
+-- and between those of the index of that place
+abbrev pub width_of : QuerySpec → Option Indexed → ℕ
+width_of q None = 0
+width_of q (Some index) = width q index
 
 abbrev pub width_at : QuerySpec → List Indexed → ℕ → ℕ
-width_at q indexes k = width q (slice_get indexes k)
+width_at q indexes k = width_of q (slice_get indexes k)
 
 -- of the first n indexes the first with the fewest keys of those by which a walk can go
 pub record IsBestWay (q : QuerySpec) (indexes : List Indexed) (n best : ℕ) : Type 0 where
@@ -145,20 +154,13 @@ pub record IsCut (q : QuerySpec) (documents : Documents) (index : Indexed) (name
 
 -- ---- what a walk has to look at
 
--- the bounds of an index
-abbrev pub first_low : QuerySpec → Indexed → Position
-first_low q index = bound_of q false (path_of q index.fields)
-
-abbrev pub first_high : QuerySpec → Indexed → Position
-first_high q index = bound_of q true (path_of q index.fields)
-
 -- all due documents in order
 abbrev pub all_rows : QuerySpec → Documents → List Stored
 all_rows q documents = sorted (stored_before q) (filter (is_due q) (values_of documents))
 
 -- the keys between the bounds up to those that begin as the document's does, or all
 abbrev pub needed_for : QuerySpec → Indexed → Option Stored → ℕ
-needed_for q index None = length (ids_between (first_low q index) (first_high q index) index.keys)
+needed_for q index None = width q index
 needed_for q index (Some d) =
     keys_next (falls q) index.keys (first_low q index) (first_high q index)
     (cut_behind q (front q (path_of q index.fields)) d)
@@ -174,7 +176,7 @@ IsWithinWalk q documents indexes ordered looked =
     (best most : ℕ) → most_rows q ≡ Some most → ordered ≡ false → is_fixed q q.primary ≡ false
     → IsBestWay q indexes (length indexes) best
     → IfSome (slice_get indexes best)
-      (λ index. looked ≤ 2 * needed q documents index most + most)
+    (λ index. looked ≤ 2 * needed q documents index most + most)
 
 -- ---- walks
 
@@ -205,7 +207,7 @@ pub record IsUnderWay (q : QuerySpec) (documents : Documents) (index : Indexed) 
   pub low_long : length low.values ≤ length (front q (path_of q index.fields)) + 1
   pub high_long : length high.values ≤ length (front q (path_of q index.fields)) + 1
   pub counted : looked + length (ids_between low high index.keys)
-      ≡ length (ids_between (first_low q index) (first_high q index) index.keys)
+      ≡ width q index
   pub still : IsStill (falls q) low high (first_low q index) (first_high q index)
 
 -- a walk found all rows or went on, or gave up, and looked at no more than this
