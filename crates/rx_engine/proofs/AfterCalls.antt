@@ -1,5 +1,5 @@
 -- How things stand after a turn to a master elsewhere.
-use Rattle.std.proofs.Common.{◌≡◌, ◌≤◌, sym, subst, ℕ, List, Option, Result}
+use Rattle.std.proofs.Common.{◌≡◌, ◌≤◌, refl, sym, subst, ℕ, List, Option, None, Result}
 use Rattle.rx_value.specs.Named.{put_named}
 use Rattle.rx_disk.specs.declared.disk.Disk.{Ghosts}
 use Rattle.rx_outside.specs.declared.stop.Stop.{Stop}
@@ -29,6 +29,8 @@ use Rattle.rx_engine.specs.declared.turning.Turned.{Turned as Made}
 use Rattle.rx_engine.proofs.Marking.{marked_then}
 use Rattle.rx_engine.proofs.Plays.{written-world}
 use Rattle.rx_engine.proofs.Remembering.{remembered_after, remembered_put, remembers_lawful}
+use Rattle.rx_engine.proofs.Remotely.{in_words}
+use Rattle.rx_engine.proofs.Staging.{no_past}
 use Rattle.rx_journal.specs.declared.journal.Journal.{Journal}
 
 -- ---- a turn of the standing, as the code has its parts
@@ -56,23 +58,37 @@ module _ (c : Call) (s : Standing) (session : Session) (now : ℕ) (asks : List 
       to_parts (λ x n l. MayCall (terms c.name n s.kinds) x.world (asks_of c.name l)) may
 
   -- what was made over a dial
-  abbrev pub Turns : {D : Type 0} → Ghosts D → D → D → Journal → ℕ → (Made → List (List ℕ) → Type 0)
-      → Type 0 → DialStanding → DialStanding → List (List ℕ × Asks) → Result Made Stop → Session
-      → ℕ → List (List ℕ × Asks) → Type 0
-  Turns d old new journal limit IsThen tells dial dial' then r x n l =
-      TurnsRemotely d old new limit (λ bodies. Holds d old journal bodies x.world) IsThen
+  abbrev pub TurnsFrom : {D : Type 0} → Ghosts D → D → D → ℕ → (List (List ℕ) → Type 0)
+      → (Made → List (List ℕ) → Type 0) → Type 0 → DialStanding → DialStanding
+      → List (List ℕ × Asks) → Result Made Stop → Session → ℕ → List (List ℕ × Asks) → Type 0
+  TurnsFrom d old new limit IsFirst IsThen tells dial dial' then r x n l =
+      TurnsRemotely d old new limit IsFirst IsThen
       (λ (heard : List Heard). remote_turn (terms c.name n s.kinds) c.batch c.budget heard x.world
       (asks_of c.name l))
       (IsRemoteMadeByName c.name x l then) (IsDialledBy tells x.world c.name dial dial') r
 
+  -- from what the disk holds
+  abbrev pub Turns : {D : Type 0} → Ghosts D → D → D → Journal → ℕ → (Made → List (List ℕ) → Type 0)
+      → Type 0 → DialStanding → DialStanding → List (List ℕ × Asks) → Result Made Stop → Session
+      → ℕ → List (List ℕ × Asks) → Type 0
+  Turns d old new journal limit IsThen tells dial dial' then r x n l =
+      TurnsFrom d old new limit (λ bodies. Holds d old journal bodies x.world) IsThen tells dial
+      dial' then r x n l
+
   pub call_here : {D : Type 0} (d : Ghosts D) (old new : D) (journal : Journal) (limit : ℕ)
       (IsThen : Made → List (List ℕ) → Type 0) (tells : Type 0) (dial dial' : DialStanding)
       (then : List (List ℕ × Asks)) (r : Result Made Stop)
-      → Turns d old new journal limit IsThen tells dial dial' then r session now asks
+      → TurnsFrom d old new limit
+      (λ bodies. Holds d old journal bodies session.world × (no_past ≡ None)) IsThen tells dial
+      dial' then r session now asks
       → Turns d old new journal limit IsThen tells dial dial' then r s.session s.session.moment
       s.asks
   call_here d old new journal limit IsThen tells dial dial' then r turned =
-      of_parts (Turns d old new journal limit IsThen tells dial dial' then r) turned
+      of_parts (Turns d old new journal limit IsThen tells dial dial' then r)
+      (in_words d old new limit _ IsThen _ _ _ r turned
+      (λ bodies. Holds d old journal bodies session.world) IsThen _ _ _
+      (λ bodies holds. (holds, refl)) (λ x bodies held. held) (λ heard. refl)
+      (λ u later x so. so) (λ requests heard shows. shows))
 
 -- ---- after it
 

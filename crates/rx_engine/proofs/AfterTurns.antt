@@ -1,11 +1,8 @@
 -- How things stand after a turn.
-use Rattle.std.proofs.Common.{◌≡◌, ◌≤◌, sym, subst, ℕ, List, Option, Result}
+use Rattle.std.proofs.Common.{◌≡◌, ◌≤◌, sym, subst, ℕ, List, Option}
 use Rattle.rx_value.specs.Named.{put_named}
-use Rattle.rx_disk.specs.declared.disk.Disk.{Ghosts}
-use Rattle.rx_outside.specs.declared.stop.Stop.{Stop}
 use Rattle.rx_reply.specs.declared.turn.TurnEnd.TheVariants.{Quiet}
 use Rattle.rx_session.specs.Session.{Session}
-use Rattle.rx_store.specs.Safe.{IsCrashSafe}
 use Rattle.rx_sync.proofs.Apart.{apart_turn}
 use Rattle.rx_sync.proofs.Staying.{made_after, soundly_in_turn}
 use Rattle.rx_sync.proofs.Turns.{turn_again, turn_quiet, turn_sound}
@@ -18,11 +15,11 @@ use Rattle.rx_world.specs.Made.{IsMadeWorld}
 use Rattle.rx_world.specs.Sound.{IsSoundWorld}
 use Rattle.rx_world.specs.World.{World}
 use Rattle.rx_engine.specs.Marks.{AreMarked, AreMarkedBut}
-use Rattle.rx_engine.specs.Meaning.{bodies_of}
-use Rattle.rx_engine.specs.Play.{IsMadeByName}
+use Rattle.rx_engine.specs.Play.{Follows, IsMadeByName}
 use Rattle.rx_engine.specs.Remembered.{AreRemembered}
 use Rattle.rx_engine.specs.Standing.{Standing, asks_of}
 use Rattle.rx_engine.specs.Turning.{CanTurn, Turn as ToTurn, terms, turned, written}
+use Rattle.rx_engine.specs.declared.play.Play.{Play}
 use Rattle.rx_engine.specs.declared.turning.Turned.{Turned as Made}
 use Rattle.rx_engine.proofs.Marking.{marked_then}
 use Rattle.rx_engine.proofs.Plays.{written-world}
@@ -63,13 +60,10 @@ module _ (u : ToTurn) (s : Standing) (session : Session) (now : ℕ) (asks : Lis
       of_parts (λ x n l. IsMadeByName u.name (turn (terms u.name n s.kinds) u.batch u.budget u.link
       x.world (asks_of u.name l)) x made l then) is
 
-  pub safe_here : {D A : Type 0} (d : Ghosts D) (old new : D) (bodies : List (List ℕ)) (limit : ℕ)
-      (P : A → List (List ℕ) → Type 0) (r : Result A Stop)
-      → IsCrashSafe d old new bodies (bodies_of here.records) limit P r
-      → IsCrashSafe d old new bodies (bodies_of (turned u s).records) limit P r
-  safe_here d old new bodies limit P r safe =
-      of_parts (λ x n l. IsCrashSafe d old new bodies (bodies_of (turn (terms u.name n s.kinds)
-      u.batch u.budget u.link x.world (asks_of u.name l)).records) limit P r) safe
+  pub follows_here : (p q : Play) → Follows p here.records q → Follows p (turned u s).records q
+  follows_here p q follows =
+      of_parts (λ x n l. Follows p (turn (terms u.name n s.kinds) u.batch u.budget u.link x.world
+      (asks_of u.name l)).records q) follows
 
 -- ---- after it
 

@@ -12,13 +12,14 @@ use Rattle.rx_schema.specs.declared.shape.Shape.{Shape}
 use Rattle.rx_serve.specs.Calling.{IsFirstLine, IsNoLine, IsPart, IsTooLong}
 use Rattle.rx_serve.specs.Served.{as_line}
 use Rattle.rx_store.specs.Safe.{IsCrashSafe}
+use Rattle.rx_store.proofs.Crashes.{ran_out}
+use Rattle.rx_store.proofs.Growing.{stays}
 use Rattle.rx_session.specs.Session.{Session}
 use Rattle.rx_sync.specs.Asking.{asked_in, pending_in}
 use Rattle.rx_sync.specs.Asks.{Asks, next_number, with_request}
 use Rattle.rx_sync.specs.Exchange.{Course, Terms, world_after, asked_to_pull, course_with}
 use Rattle.rx_sync.specs.Remote.{Heard, no_dial, no_wire, no_line, line, heard_course, heard_exchange, schema_in}
 use Rattle.rx_sync.specs.RemoteLaws.{MayCall}
-use Rattle.rx_sync.proofs.Elsewhere.{heard_course_sound}
 use Rattle.rx_sync.proofs.HeardPulls.{heard_course_pulled}
 use Rattle.rx_wire.specs.Writing.{request_text}
 use Rattle.rx_world.specs.World.{World}
@@ -27,7 +28,7 @@ use Rattle.rx_engine.specs.Meaning.{bodies_of}
 use Rattle.rx_engine.specs.Play.{IsPlayAt}
 use Rattle.rx_engine.specs.Turning.{written}
 use Rattle.rx_engine.specs.declared.play.Play.{Play}
-use Rattle.rx_engine.proofs.Plays.{begun, out_of_memory, written-world}
+use Rattle.rx_engine.proofs.Plays.{written-world}
 
 module _ {D : Type 0} (d : Ghosts D) (now new : D) (tells : Type 0) (wire wire' : WireStanding)
     (t : Terms) (batch : ℕ) (play : Play) (a b : Asks)
@@ -36,10 +37,10 @@ module _ {D : Type 0} (d : Ghosts D) (now new : D) (tells : Type 0) (wire wire' 
   w = play.playing.world
 
   -- memory was wanting
-  pub none_made : 1 ≤ batch → MayCall t w a → r ≡ Err Memory → now ≡ new
+  pub none_made : r ≡ Err Memory → now ≡ new
       → (d.tells → (c : List ℕ) → d.image_since now (d.moment now) c → d.image now c)
       → MakesHeard d now new tells wire wire' t batch play a b r
-  none_made some may is same only_now =
+  none_made is same only_now =
       let c = course_heard t batch no_wire w a in
       record {
         heard = no_wire;
@@ -54,9 +55,10 @@ module _ {D : Type 0} (d : Ghosts D) (now new : D) (tells : Type 0) (wire wire' 
         safe = λ told bodies at.
             subst (λ (x : D). IsCrashSafe d now x bodies (bodies_of c.records) play.journal.limit
             (λ p. IsPlayAt d x p.0) r) same
-            (out_of_memory d now now play c.records play (λ p. IsPlayAt d now p.0) r c.records
-            (begun d now play c.records (heard_course_sound t batch some no_wire w a may).come
-            only_now) is told bodies at);
+            (ran_out d now now bodies (bodies_of c.records) play.journal.limit
+            (λ p. IsPlayAt d now p.0) r is (λ alike.
+            stays d now play.journal bodies (bodies_of c.records) play.playing.world at.0
+            (only_now told)));
         told = λ other. absurd (other is);
         failed = λ other. absurd (other is);
         asked = λ other. absurd (other is);

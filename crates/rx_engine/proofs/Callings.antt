@@ -14,9 +14,10 @@ use Rattle.rx_reply.specs.declared.turn.TurnEnd.{TurnEnd}
 use Rattle.rx_reply.specs.declared.turn.TurnEnd.TheVariants.{More}
 use Rattle.rx_schema.specs.declared.shape.Shape.{Shape}
 use Rattle.rx_session.specs.Session.{Session}
+use Rattle.rx_store.specs.Holds.{GrowsLegally}
 use Rattle.rx_store.specs.Safe.{IsCrashSafe}
-use Rattle.rx_store.proofs.Crashes.{answered, idle, other_stop, then}
-use Rattle.rx_store.proofs.Growing.{held_alike, stays}
+use Rattle.rx_store.proofs.Crashes.{answered, idle, other_stop, ran_out, sooner, then}
+use Rattle.rx_store.proofs.Growing.{grows_longer, held_alike, stays}
 use Rattle.rx_sync.specs.Asking.{asked_in}
 use Rattle.rx_sync.specs.Asks.{Asks, next_number}
 use Rattle.rx_sync.specs.Exchange.{Course, Terms, world_after}
@@ -24,7 +25,7 @@ use Rattle.rx_sync.specs.Laws.{ComeSoundly}
 use Rattle.rx_sync.specs.Remote.{Heard, no_dial, no_wire, no_line, line, RemoteTurned, heard_on, remote_turn, request_made, schema_in}
 use Rattle.rx_sync.specs.RemoteLaws.{MayCall}
 use Rattle.rx_sync.specs.Turn.{as_list, end_by, ended_with}
-use Rattle.rx_sync.proofs.Elsewhere.{goes_on_by_line, heard_course_sound, remote_turn_sound, schema_after}
+use Rattle.rx_sync.proofs.Elsewhere.{goes_on_by_line, heard_course_sound, schema_after}
 use Rattle.rx_wire.specs.Writing.{request_text}
 use Rattle.rx_wire.specs.declared.message.Request.{Request}
 use Rattle.rx_world.specs.World.{World}
@@ -35,7 +36,7 @@ use Rattle.rx_engine.specs.Play.{IsPlayAt}
 use Rattle.rx_engine.specs.Turning.{written}
 use Rattle.rx_engine.specs.declared.play.Play.{Play}
 use Rattle.rx_engine.specs.declared.turning.Turned.{Turned as Made}
-use Rattle.rx_engine.proofs.Plays.{IsUnderWay, further, out_of_memory, stopped, written-append, written-world}
+use Rattle.rx_engine.proofs.Plays.{written-append, written-world}
 use Rattle.rx_engine.proofs.Remotely.{if_err, not_done}
 use Rattle.rx_engine.proofs.Wires.{HasHeard, all_shown, heard_line, line_shown, no_line_shown, none_heard, wire_shown}
 
@@ -219,25 +220,44 @@ module _ {D : Type 0} (t : Terms) (batch : ℕ) (d : Ghosts D) (old : D) (first 
   pub record IsPastCall (now : D) (i : ℕ) (play : Play) (a : Asks) (es : List Exchanged)
       (o : Option Exchanged) (wire : WireStanding) : Type 0 where
     pub heard : List Heard
+    pub done : List Content
+    pub kept : HasKept now play done
     pub way : (later : List Heard) → (rest : List Content)
-        × IsUnderWay d old now first (total (heard ++ later)).turned.records play rest
+        × ((total (heard ++ later)).turned.records ≡ done ++ rest)
     pub ends : (end : TurnEnd) → end_by batch o ≡ Some end → (all : List Exchanged)
         → all ≡ es ++ as_list o → IsCallOver now play a all end wire
     pub goes_on : (e : Exchanged) → o ≡ Some e → end_by batch o ≡ None
         → (more : List Exchanged) → more ≡ es ++ e ∷ [] → IsCalling now (i + 1) play a more wire
 
-  -- what is still to be written comes soundly
-  way_of : (now : D) (play : Play) (done rest all : List Content) → HasKept now play done
-      → all ≡ done ++ rest → ComeSoundly play.playing.world rest
-      → IsUnderWay d old now first all play rest
-  way_of now play done rest all kept whole come = record {
-    done = done;
-    whole = whole;
-    session = kept.session;
-    come = come;
-    safe = kept.safe;
-    limit = kept.limit;
-  }
+  module _ {A : Type 0} (now new : D) (play : Play) (done cs : List Content)
+      (kept : HasKept now play done) (P : A → List (List ℕ) → Type 0) (told : d.tells)
+      (bodies : List (List ℕ)) (at : IsPlayAt d old first bodies) where
+    -- one call was to keep some more
+    joined_safe : (r : Result A Stop)
+        → ((bodies : List (List ℕ)) → IsPlayAt d now play bodies
+        → IsCrashSafe d now new bodies (bodies_of cs) play.journal.limit P r)
+        → IsCrashSafe d old new bodies (bodies_of (done ++ cs)) first.journal.limit P r
+    joined_safe r next =
+        let so_far = kept.safe told bodies at in
+        subst (λ (more : List (List ℕ)). IsCrashSafe d old new bodies more first.journal.limit P r)
+        (sym (map-append content_bytes done cs))
+        (then d old now new bodies (bodies_of done) (bodies_of cs) first.journal.limit
+        (IsPlayAt d now) P play r so_far
+        (held_alike d now play.journal (bodies ++ bodies_of done) play.playing.world so_far.at.0)
+        (subst (λ (n : ℕ). IsCrashSafe d now new (bodies ++ bodies_of done) (bodies_of cs) n P r)
+        kept.limit (next (bodies ++ bodies_of done) so_far.at)))
+
+    -- and stopped
+    stopped_safe : {B : Type 0} (Q : B → List (List ℕ) → Type 0) (rest all : List Content)
+        → all ≡ (done ++ cs) ++ rest → (stop : Stop) (r : Result B Stop) → r ≡ Err stop
+        → ((bodies : List (List ℕ)) → IsPlayAt d now play bodies
+        → IsCrashSafe d now new bodies (bodies_of cs) play.journal.limit P (Err stop))
+        → IsCrashSafe d old new bodies (bodies_of all) first.journal.limit Q r
+    stopped_safe Q rest all whole stop r is next =
+        subst (λ (more : List (List ℕ)). IsCrashSafe d old new bodies more first.journal.limit Q r)
+        (sym (ap bodies_of whole ∙ map-append content_bytes (done ++ cs) rest))
+        (sooner d old new bodies (bodies_of (done ++ cs)) (bodies_of rest) first.journal.limit P Q
+        stop r is (joined_safe (Err stop) next))
 
   -- none was made yet
   pub none_kept : (d.tells → (c : List ℕ) → d.image_since old (d.moment old) c → d.image old c)
@@ -247,7 +267,7 @@ module _ {D : Type 0} (t : Terms) (batch : ℕ) (d : Ghosts D) (old : D) (first 
     limit = refl;
     safe = λ told bodies at.
         idle d old bodies first.journal.limit (IsPlayAt d old) first
-        (λ alike. stays d old first.journal bodies [] first.playing.world at (only_now told)) at;
+        (λ alike. stays d old first.journal bodies [] first.playing.world at.0 (only_now told)) at;
   }
 
   pub begun_calling : (disk : D) → HasKept disk first [] → MayCall t first.playing.world a0
@@ -306,52 +326,20 @@ module _ {D : Type 0} (t : Terms) (batch : ℕ) (d : Ghosts D) (old : D) (first 
         (remote_turn t batch m later (world_after c.records w) c.asks))
         ∙ joined_twice done c.records requests (request_made asked) es (as_list c.came) (tail later)
 
-    -- before its records are written
-    pub way_before : (later : List Heard)
-        → IsUnderWay d old now first (total (then_heard ++ later)).turned.records play
-        (c.records ++ (tail later).turned.records)
-    way_before later =
-        let u = remote_turn t batch (suc m) (h ∷ later) w a in
-        let shape : u.turned.records ≡ c.records ++ (tail later).turned.records =
-        ap (λ (u : RemoteTurned). u.turned.records)
-        (on_joined c asked later (end_by batch c.came)
-        (remote_turn t batch m later (world_after c.records w) c.asks)) in
-        way_of now play done (c.records ++ (tail later).turned.records)
-        (total (then_heard ++ later)).turned.records kept
-        (ap (λ (u : RemoteTurned). u.turned.records)
-        (ap total (append_assoc (map (λ l. line l) lines) (h ∷ []) later) ∙ whole (h ∷ later))
-        ∙ ap (λ (cs : List Content). done ++ cs) shape)
-        (subst (λ (cs : List Content). ComeSoundly w cs) shape
-        (remote_turn_sound t batch (suc m) (h ∷ later) w a some may))
-
     -- after them
     module _ (new : D) (then_play : Play) (session : then_play.playing ≡ written c.records play.playing)
         (limit : then_play.journal.limit ≡ play.journal.limit)
         (safe : d.tells → (bodies : List (List ℕ)) → IsPlayAt d now play bodies
         → IsCrashSafe d now new bodies (bodies_of c.records) play.journal.limit (IsPlayAt d new)
         (Ok then_play)) where
-      pub way_after : (later : List Heard)
-          → IsUnderWay d old new first (total (then_heard ++ later)).turned.records then_play
-          (tail later).turned.records
-      way_after later =
-          further d old now new first (total (then_heard ++ later)).turned.records play c.records
-          (tail later).turned.records (way_before later) then_play session limit safe
-
       pub kept_then : HasKept new then_play (done ++ c.records)
       kept_then = record {
         session = session ∙ ap (written c.records) kept.session
             ∙ sym (written-append done c.records first.playing);
         limit = limit ∙ kept.limit;
         safe = λ told bodies at.
-            let so_far = kept.safe told bodies at in
-            subst (λ (more : List (List ℕ)). IsCrashSafe d old new bodies more first.journal.limit
-            (IsPlayAt d new) (Ok then_play)) (sym (map-append content_bytes done c.records))
-            (then d old now new bodies (bodies_of done) (bodies_of c.records) first.journal.limit
-            (IsPlayAt d now) (IsPlayAt d new) play (Ok then_play) so_far
-            (held_alike d now play.journal (bodies ++ bodies_of done) w so_far.at)
-            (subst (λ (n : ℕ). IsCrashSafe d now new (bodies ++ bodies_of done)
-            (bodies_of c.records) n (IsPlayAt d new) (Ok then_play)) kept.limit
-            (safe told (bodies ++ bodies_of done) so_far.at)));
+            joined_safe now new play done c.records kept (IsPlayAt d new) told bodies at
+            (Ok then_play) (safe told);
       }
 
       pub world_then : then_play.playing.world ≡ world_after c.records w
@@ -504,8 +492,6 @@ module _ {D : Type 0} (t : Terms) (batch : ℕ) (d : Ghosts D) (old : D) (first 
       past_by m span whole =
           let w : World = play.playing.world in
           let c : Course = course_heard t batch h w a in
-          let after_way = way_after some now i m play a es wire on.lines on.requests on.done on.may
-          on.kept whole h new then_play made.session made.limit safe_then in
           let kept = kept_then some now i m play a es wire on.lines on.requests on.done on.may
           on.kept whole h new then_play made.session made.limit safe_then in
           let whole_so = whole_then some now i m play a es wire on.lines on.requests on.done on.may
@@ -513,7 +499,9 @@ module _ {D : Type 0} (t : Terms) (batch : ℕ) (d : Ghosts D) (old : D) (first 
           let asked : Option Asked = asked_in w t.name (next_number a) batch in
           record {
             heard = map (λ l. line l) on.lines ++ h ∷ [];
-            way = λ later. (_, after_way later);
+            done = on.done ++ c.records;
+            kept = kept;
+            way = λ later. (_, ap (λ (u : RemoteTurned). u.turned.records) (whole_so later));
             ends = λ end last all all_is. record {
               heard = map (λ l. line l) on.lines ++ h ∷ [];
               requests = on.requests ++ request_made asked;
@@ -604,22 +592,22 @@ module _ {D : Type 0} (t : Terms) (batch : ℕ) (d : Ghosts D) (old : D) (first 
       stopped_by m span whole =
           let w : World = play.playing.world in
           let c : Course = course_heard t batch made.heard w a in
-          let way = way_before some now i m play a es wire on.lines on.requests on.done on.may
+          let whole_so = whole_then some now i m play a es wire on.lines on.requests on.done on.may
           on.kept whole made.heard in
           record {
             heard = heard_so;
             requests = asked_so;
             so = λ later. if_err _ r stop stops;
             safe = λ later told bodies at.
-                stopped d old now new first (total (heard_so ++ later)).turned.records play
-                c.records _ (way later) (λ (p : Play × Option Exchanged). IsPlayAt d new p.0)
-                (λ (m : Made). IsPlayAt d new m.play) stop r stops told bodies at
-                (λ bodies at. made.safe told bodies at);
+                stopped_safe now new play on.done c.records on.kept
+                (λ (p : Play × Option Exchanged). IsPlayAt d new p.0) told bodies at
+                (λ (m : Made). IsPlayAt d new m.play) _
+                (total (heard_so ++ later)).turned.records
+                (ap (λ (u : RemoteTurned). u.turned.records) (whole_so later)) stop r stops
+                (made.safe told);
             asked = λ other later. (
               _,
-              ap (λ (u : RemoteTurned). u.requests)
-                  (whole_then some now i m play a es wire on.lines on.requests on.done on.may
-                  on.kept whole made.heard later),
+              ap (λ (u : RemoteTurned). u.requests) (whole_so later),
               λ done. absurd (not_done r stop stops done),
             );
             shown = λ other.
@@ -673,9 +661,13 @@ module _ {D : Type 0} (t : Terms) (batch : ℕ) (d : Ghosts D) (old : D) (first 
     requests = [];
     so = λ later. if_err _ r Memory is;
     safe = λ later told bodies at.
-        out_of_memory d old new first (total (past.heard ++ later)).turned.records play
-        (λ (m : Made). IsPlayAt d new m.play) r (past.way later).0 (past.way later).1 is told bodies
-        at;
+        ran_out d old new bodies (bodies_of (total (past.heard ++ later)).turned.records)
+        first.journal.limit (λ (m : Made). IsPlayAt d new m.play) r is (λ alike.
+        subst (λ (more : List (List ℕ)). GrowsLegally d old new bodies more)
+        (sym (ap bodies_of (past.way later).1
+        ∙ map-append content_bytes past.done (past.way later).0))
+        (grows_longer d old new bodies (bodies_of past.done) (bodies_of (past.way later).0)
+        ((past.kept.safe told bodies at).moments alike)));
     asked = λ other. absurd (other is);
     shown = λ other. absurd (other is);
   }

@@ -7,13 +7,12 @@ use Rattle.rx_outside.specs.Talk.{broken_after, talk}
 use Rattle.rx_outside.specs.declared.stop.Stop.{Stop}
 use Rattle.rx_outside.specs.declared.stop.Stop.TheVariants.{Memory}
 use Rattle.rx_store.specs.Safe.{IsCrashSafe}
-use Rattle.rx_store.proofs.Crashes.{idle}
+use Rattle.rx_store.proofs.Crashes.{idle, ran_out}
 use Rattle.rx_store.proofs.Growing.{stays}
 use Rattle.rx_sync.specs.Asks.{Asks}
 use Rattle.rx_sync.specs.Exchange.{Terms}
 use Rattle.rx_sync.specs.Remote.{Heard, no_dial, RemoteTurned, remote_turn}
-use Rattle.rx_sync.specs.RemoteLaws.{MayCall}
-use Rattle.rx_sync.proofs.Elsewhere.{missed, missed_turn, remote_turn_sound}
+use Rattle.rx_sync.proofs.Elsewhere.{missed, missed_turn}
 use Rattle.rx_wire.specs.Writing.{request_text}
 use Rattle.rx_wire.specs.declared.message.Request.{Request}
 use Rattle.rx_world.specs.World.{World}
@@ -25,7 +24,6 @@ use Rattle.rx_engine.specs.Turning.{written}
 use Rattle.rx_engine.specs.declared.play.Play.{Play}
 use Rattle.rx_engine.specs.declared.turning.Turned.{Turned as Made}
 use Rattle.rx_engine.proofs.Callings.{above}
-use Rattle.rx_engine.proofs.Plays.{begun, out_of_memory}
 use Rattle.rx_engine.proofs.Remotely.{if_err}
 
 -- ---- a wire that was handed back
@@ -102,7 +100,7 @@ module _ {D : Type 0} (d : Ghosts D) (disk : D)
             (bodies_of u.turned.records) play.journal.limit (λ (m : Made). IsPlayAt d disk m.play)
             (Ok made)) (sym (whole later))
             (idle d disk bodies play.journal.limit (λ (m : Made). IsPlayAt d disk m.play) made
-            (λ alike. stays d disk play.journal bodies [] play.playing.world at (only_now told))
+            (λ alike. stays d disk play.journal bodies [] play.playing.world at.0 (only_now told))
             (subst (λ (p : Play). IsPlayAt d disk p bodies) (sym is.same) at));
         asked = λ other later.
             ([], ap (λ (u : RemoteTurned). u.requests) (whole later), λ done. refl);
@@ -115,22 +113,21 @@ module _ {D : Type 0} (d : Ghosts D) (disk : D)
       }
 
   -- memory was wanting
-  pub none_called : 1 ≤ batch → MayCall t play.playing.world a
-      → (IsSo : RemoteTurned → List Heard → Made → Type 0)
+  pub none_called : (IsSo : RemoteTurned → List Heard → Made → Type 0)
       (Shows : List Request → List Heard → Type 0) (r : Result Made Stop) → r ≡ Err Memory
       → TurnsRemotely d disk disk play.journal.limit (IsPlayAt d disk play)
       (λ (m : Made). IsPlayAt d disk m.play)
       (λ heard. remote_turn t batch budget heard play.playing.world a) IsSo Shows r
-  none_called some may IsSo Shows r is = record {
+  none_called IsSo Shows r is = record {
     heard = [];
     requests = [];
     so = λ later. if_err _ r Memory is;
     safe = λ later told bodies at.
         let cs = (remote_turn t batch budget later play.playing.world a).turned.records in
-        out_of_memory d disk disk play cs play (λ (m : Made). IsPlayAt d disk m.play) r cs
-        (begun d disk play cs
-        (remote_turn_sound t batch budget later play.playing.world a some may) only_now) is told
-        bodies at;
+        ran_out d disk disk bodies (bodies_of cs) play.journal.limit
+        (λ (m : Made). IsPlayAt d disk m.play) r is
+        (λ alike. stays d disk play.journal bodies (bodies_of cs) play.playing.world at.0
+        (only_now told));
     asked = λ other. absurd (other is);
     shown = λ other. absurd (other is);
   }

@@ -1,6 +1,7 @@
--- What may be done goes to the disk as it is.
-use Rattle.std.proofs.Common.{ap, ◌∙◌}
+-- What is done to a session, and its world.
+use Rattle.std.proofs.Common.{◌≡◌, ◌∙◌, [], refl, ap}
 use Rattle.rx_record.specs.Content.{epoch}
+use Rattle.rx_record.specs.declared.record.Record.{Record}
 use Rattle.rx_world.specs.Made.{IsMadeWorld}
 use Rattle.rx_world.specs.Sound.{IsSoundWorld}
 use Rattle.rx_world.specs.Step.{legal}
@@ -9,16 +10,30 @@ use Rattle.rx_world.proofs.Sounds.{sound_step}
 use Rattle.rx_world.proofs.Steps.{epoch_legal}
 use Rattle.rx_session.specs.Doing.{Doing, nothing, set_clock, write, watch, unwatch, restart, session_after, MayDo}
 use Rattle.rx_session.specs.Session.{Session}
-use Rattle.rx_engine.specs.Shown.{HasOrder, WritesNoExchange}
+use Rattle.rx_session.specs.Shown.{done_by}
+use Rattle.rx_session.specs.declared.doing.Doing.{Doing as Done}
+use Rattle.rx_session.specs.declared.doing.Doing.TheVariants as done
+use Rattle.rx_engine.specs.Meaning.{records_of}
+use Rattle.rx_engine.specs.Shown.{WritesNoExchange}
 
--- what may be done has the order of its record
-pub has_order : (d : Doing) (s : Session) → MayDo d s → HasOrder d
-has_order nothing s may = tt
-has_order (set_clock at) s may = tt
-has_order (write c) s may = may.1
-has_order (watch name coll q) s may = tt
-has_order (unwatch name) s may = tt
-has_order (restart number) s may = tt
+-- what is no record to be written has none
+pub no_record : (x : Done) → ((entry : Record) → x ≡ done.Write entry → ⊥)
+    → records_of (done_by x) ≡ []
+no_record done.Nothing other = refl
+no_record (done.SetClock at) other = refl
+no_record (done.Write entry) other = absurd (other entry refl)
+no_record (done.Watch w) other = refl
+no_record (done.Unwatch name) other = refl
+
+-- and leaves the world
+pub world_kept : (d : Doing) (s : Session) → records_of d ≡ []
+    → (session_after d s).world ≡ s.world
+world_kept nothing s none = refl
+world_kept (set_clock at) s none = refl
+world_kept (write c) s none = absurd (cc)
+world_kept (watch name coll q) s none = refl
+world_kept (unwatch name) s none = refl
+world_kept (restart number) s none = absurd (cc)
 
 -- a world that records made stays one
 pub made_then : (d : Doing) (s : Session) → MayDo d s → IsMadeWorld s.world

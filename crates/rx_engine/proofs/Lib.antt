@@ -26,3 +26,5 @@ pub mod CallingOnce
 pub mod Dialled
 pub mod AfterCalls
 pub mod Hearing
+pub mod Staging
+pub mod Committing

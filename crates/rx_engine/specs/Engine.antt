@@ -1,7 +1,10 @@
 -- An engine and its disk.
-use Rattle.std.specs.Prelude.{◌≡◌, ℕ, List, [], None, string_bytes}
+use Rattle.std.specs.Prelude.{◌≡◌, ℕ, List, [], None, Result, IfOk, string_bytes}
 use Rattle.rx_disk.specs.declared.disk.Disk.{Ghosts}
+use Rattle.rx_outside.specs.declared.stop.Stop.{Stop}
+use Rattle.rx_record.specs.Content.{Content}
 use Rattle.rx_store.specs.Holds.{Holds}
+use Rattle.rx_store.specs.Safe.{HasDiskCause, IsCrashSafe}
 use Rattle.rx_reply.specs.Reply.{answer_lines}
 use Rattle.rx_handler.specs.Handlers.{Kinds}
 use Rattle.rx_reply.specs.declared.turn.TurnEnd.TheVariants.{Quiet}
@@ -19,7 +22,7 @@ use Rattle.rx_value.specs.Named.{put_named}
 use Rattle.rx_world.specs.World.{World}
 use Rattle.rx_engine.specs.Calling.{Call}
 use Rattle.rx_engine.specs.Lines.{answered, turns, calls, task}
-use Rattle.rx_engine.specs.Meaning.{Meaning, meaning, turn_meaning}
+use Rattle.rx_engine.specs.Meaning.{Meaning, bodies_of, meaning, turn_meaning}
 use Rattle.rx_engine.specs.Outcome.{Outcome}
 use Rattle.rx_engine.specs.Standing.{Standing, asks_of, standing_with}
 use Rattle.rx_engine.specs.Turning.{Turn, terms, turned, written}
@@ -45,6 +48,23 @@ limit_of e = e.journal.limit
 -- the disk holds these bodies, and they are the engine's world
 abbrev pub IsAt : {D : Type 0} → Ghosts D → D → Engine → List (List ℕ) → Type 0
 IsAt d disk e bodies = Holds d disk e.journal bodies (session_of e).world
+
+-- A call was to put these records on the disk, from an engine on, wherever it ended: what holds at
+-- each moment, at `Ok` and at `Full`; it keeps the limit, and a stop by the disk shows in its
+-- count.
+pub record Commits
+    {D A : Type 0}
+    (d : Ghosts D)
+    (old new : D)
+    (e : Engine)
+    (cs : List Content)
+    (engine_in : A → Engine)
+    (result : Result A Stop) : Type 0 where
+  pub safe : d.tells → (bodies : List (List ℕ)) → IsAt d old e bodies
+      → IsCrashSafe d old new bodies (bodies_of cs) (limit_of e) (λ x. IsAt d new (engine_in x))
+      result
+  pub limit : IfOk result (λ x. limit_of (engine_in x) ≡ limit_of e)
+  pub cause : HasDiskCause (d.faults old) (d.faults new) result
 
 -- an engine and an output are those of a meaning, where conflicts are resolved so and that is to be
 -- heard later

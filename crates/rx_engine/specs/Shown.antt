@@ -1,6 +1,5 @@
 -- What a line does, as the code has it.
 use Rattle.std.specs.Prelude.{⊤, ◌≤◌}
-use Rattle.rx_record.specs.Writable.{IsOrdered}
 use Rattle.rx_reply.specs.Answer.{answer_of}
 use Rattle.rx_session.specs.Doing.{Doing, write, restart, MayDo}
 use Rattle.rx_session.specs.Session.{Session}
@@ -29,11 +28,6 @@ outcome_of p = record { doing = doing_of p.doing; answer = answer_of p.reply }
 abbrev pub WritesNoExchange : Doing → Type 0
 WritesNoExchange (write c) = IsNoExchange c
 WritesNoExchange _ = ⊤
-
--- the rows of what is to be written rise
-abbrev pub HasOrder : Doing → Type 0
-HasOrder (write c) = IsOrdered c
-HasOrder _ = ⊤
 
 abbrev pub turn_of : Made → Turn
 turn_of t = record { name = t.name; batch = t.batch; budget = t.budget; link = t.link.items }

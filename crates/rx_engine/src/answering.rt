@@ -7,10 +7,9 @@ ghost use Rattle.rx_reply.specs.Reply.{answer_lines};
 ghost use Rattle.rx_reply.specs.declared.turn.TurnEnd.TheVariants.{Quiet};
 ghost use Rattle.rx_session.specs.Doing.{nothing, restart, session_after, MayDo};
 ghost use Rattle.rx_session.specs.Emissions.{emissions, settled_session};
-ghost use Rattle.rx_store.specs.Safe.{HasDiskCause, IsCrashSafe};
 ghost use Rattle.rx_sync.specs.Laws.{IsLevel};
 ghost use Rattle.rx_sync.specs.Remote.{Heard};
-ghost use Rattle.rx_engine.specs.Meaning.{asks_kept, turn_meaning, bodies_of, lines_of, records_of};
+ghost use Rattle.rx_engine.specs.Meaning.{asks_kept, turn_meaning, lines_of, records_of};
 ghost use Rattle.rx_engine.specs.Shown.{doing_of, turn_of, WritesNoExchange};
 ghost use Rattle.rx_engine.specs.Turning.{CanTurn, turned};
 
@@ -27,7 +26,7 @@ use rx_value::RxList;
 use std::alloc::{AllocError, Global};
 
 impl Engine {
-    ghost use Rattle.rx_engine.specs.Engine.{IsAt, Answers, asks_in, session_of, standing_of, limit_of};
+    ghost use Rattle.rx_engine.specs.Engine.{Answers, Commits, IsAt, asks_in, session_of, standing_of};
 
     /// The engine after what a line does, and the reply with the emissions that are due then.
     pub(crate) fn answer<D: Disk>(
@@ -49,18 +48,14 @@ impl Engine {
             ≡ length (emissions (session_after (doing_of printed.doing) (session_of self)))) }
         ensures refused { IfOk result (λ p. p.1.refused ≡ printed.refused) }
         ensures end { IfOk result (λ p. p.1.end ≡ None) }
-        ensures limit { IfOk result (λ p. limit_of p.0 ≡ limit_of self) }
-        ensures safe { D.tells → (bodies : List (List ℕ)) → IsAt D.Disk disk.old self bodies
-            → IsCrashSafe D.Disk disk.old disk.new bodies
-            (bodies_of (records_of (doing_of printed.doing))) (limit_of self)
-            (λ p. IsAt D.Disk disk.new p.0) result }
+        ensures commits { Commits D.Disk disk.old disk.new self
+            (records_of (doing_of printed.doing)) (λ p. p.0) result }
         ensures idle_disk { doing_of printed.doing ≡ nothing → disk.new ≡ disk.old }
         ensures idle { doing_of printed.doing ≡ nothing → IfOk result (λ p.
             (session_of p.0 ≡ session_of self) × (string_bytes p.1.text ≡ string_bytes printed.text)
             × (p.1.emissions ≡ 0)) }
         ensures not_journal { IsErrOf result Stop.NotJournal
             → (number : ℕ) × (doing_of printed.doing ≡ restart number) }
-        ensures cause { HasDiskCause (D.faults disk.old) (D.faults disk.new) result }
     {
         let Printed {
             doing,
@@ -90,17 +85,13 @@ impl Engine {
             (turn_meaning number wanted.now.name
             (turned (turn_of wanted.now) (standing_of (kinds_of handlers.now) heard self))
             (standing_of (kinds_of handlers.now) heard self)) p.0 p.1) }
-        ensures limit { IfOk result (λ p. limit_of p.0 ≡ limit_of self) }
-        ensures safe { D.tells → (bodies : List (List ℕ)) → IsAt D.Disk disk.old self bodies
-            → IsCrashSafe D.Disk disk.old disk.new bodies
-            (bodies_of (turned (turn_of wanted.now)
-            (standing_of (kinds_of handlers.now) [] self)).records) (limit_of self)
-            (λ p. IsAt D.Disk disk.new p.0) result }
+        ensures commits { Commits D.Disk disk.old disk.new self
+            (turned (turn_of wanted.now) (standing_of (kinds_of handlers.now) [] self)).records
+            (λ p. p.0) result }
         ensures quiet { IfOk result (λ p.
             (turned (turn_of wanted.now) (standing_of (kinds_of handlers.now) [] self)).ended ≡ Quiet
             → IsLevel (session_of p.0).world wanted.now.name) }
         ensures not_journal { IsErrOf result Stop.NotJournal → ⊥ }
-        ensures cause { HasDiskCause (D.faults disk.old) (D.faults disk.new) result }
     {
         let made = self.make_turn(alloc, disk, handlers, wanted)?;
         let answered = made.answer(alloc, number)?;

@@ -124,6 +124,7 @@ pub(crate) fn keep_heard<D: Disk>(
 {
     let world = play.playing.world();
     let Planned { records, came } = hear(alloc, world, name, asked, heard, handlers, now)?;
-    let play = play.keep_all(alloc, disk, records)?;
+    let play = play.stage_all(alloc, records)?;
+    let play = play.commit(disk)?;
     Ok((play, came))
 }

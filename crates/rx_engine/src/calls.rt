@@ -110,6 +110,7 @@ impl Engine {
         let play = Play {
             journal,
             playing: session.begin(alloc),
+            past: None,
         };
         let made = call_by_name(
             alloc, disk, dial, handlers, play, &mut asks, wanted, now, none,
@@ -120,7 +121,11 @@ impl Engine {
             ended,
             pulled,
         } = made;
-        let Play { journal, playing } = play;
+        let Play {
+            journal,
+            playing,
+            ..
+        } = play;
         let (session, emissions) = settle_turn(alloc, playing, &mut marks, name, pulled)?;
         let engine = Engine {
             journal,

@@ -1,19 +1,18 @@
 // What a line does to an engine.
-ghost use Rattle.std.specs.Prelude.{◌≡◌, ◌≤◌, ℕ, List, [], IfOk, OnOk, IsErrOf};
+ghost use Rattle.std.specs.Prelude.{◌≡◌, ◌≤◌, ℕ, List, [], ◌∷◌, IfOk, OnOk, IsErrOf};
 ghost use Rattle.rx_handler.specs.Shown.{kinds_of};
 ghost use Rattle.rx_outside.specs.declared.stop.Stop.TheVariants as Stop;
+ghost use Rattle.rx_record.specs.Shown.{content};
 ghost use Rattle.rx_reply.specs.declared.turn.TurnEnd.TheVariants.{Quiet};
-ghost use Rattle.rx_session.specs.Doing.{nothing, restart, session_after, MayDo};
+ghost use Rattle.rx_session.specs.Doing.{nothing, restart, write, session_after, MayDo};
 ghost use Rattle.rx_session.specs.Emissions.{emissions, settled_session};
 ghost use Rattle.rx_session.specs.Shown.{done_by};
-ghost use Rattle.rx_store.specs.Safe.{HasDiskCause, IsCrashSafe};
 ghost use Rattle.rx_sync.specs.Laws.{IsLevel};
-ghost use Rattle.rx_engine.specs.Meaning.{asks_kept, bodies_of, records_of};
+ghost use Rattle.rx_engine.specs.Meaning.{asks_kept, records_of};
 ghost use Rattle.rx_engine.specs.Shown.{doing_of, turn_of, WritesNoExchange};
 ghost use Rattle.rx_engine.specs.Turning.{CanTurn, turned};
 
 use crate::engine::Engine;
-use crate::keep::keep_doing;
 use crate::marks::{Marks, settle_turn};
 use crate::opening::{Opened, is_next, open};
 use crate::outcome::LineDoing;
@@ -26,10 +25,11 @@ use rx_disk::Disk;
 use rx_handler::Handlers;
 use rx_observe::Emission;
 use rx_outside::Stop;
+use rx_record::Record;
 use rx_reply::{Exchanged, TurnEnd};
 use rx_session::Doing;
 use rx_value::RxList;
-use std::alloc::Global;
+use std::alloc::{AllocError, Global};
 
 /// The engine after a turn, the emissions that are due then, and what the turn came to.
 #[derive(Drop)]
@@ -41,7 +41,7 @@ pub(crate) struct AfterTurn {
 }
 
 impl Engine {
-    ghost use Rattle.rx_engine.specs.Engine.{IsAt, IsAfterTurn, asks_in, session_of, standing_of, limit_of};
+    ghost use Rattle.rx_engine.specs.Engine.{Commits, IsAt, IsAfterTurn, asks_in, session_of, standing_of, limit_of};
 
     /// The engine after what a line does, and the emissions that are due then.
     pub(crate) fn carry_out<D: Disk>(
@@ -58,16 +58,13 @@ impl Engine {
         ensures emissions { IfOk result (λ p. p.1.items
             ≡ emissions (session_after (doing_of doing) (session_of self))) }
         ensures asks { IfOk result (λ p. asks_in p.0 ≡ asks_kept (doing_of doing) (asks_in self)) }
-        ensures limit { IfOk result (λ p. limit_of p.0 ≡ limit_of self) }
-        ensures safe { D.tells → (bodies : List (List ℕ)) → IsAt D.Disk disk.old self bodies
-            → IsCrashSafe D.Disk disk.old disk.new bodies (bodies_of (records_of (doing_of doing)))
-            (limit_of self) (λ p. IsAt D.Disk disk.new p.0) result }
+        ensures commits { Commits D.Disk disk.old disk.new self (records_of (doing_of doing))
+            (λ p. p.0) result }
         ensures idle_disk { doing_of doing ≡ nothing → disk.new ≡ disk.old }
         ensures idle { doing_of doing ≡ nothing → IfOk result (λ p.
             (session_of p.0 ≡ session_of self) × (p.1.items ≡ [])) }
         ensures not_journal { IsErrOf result Stop.NotJournal
             → (number : ℕ) × (doing_of doing ≡ restart number) }
-        ensures cause { HasDiskCause (D.faults disk.old) (D.faults disk.new) result }
     {
         match doing {
             LineDoing::InSession(doing) => self.change_session(alloc, disk, doing),
@@ -90,15 +87,37 @@ impl Engine {
         ensures emissions { IfOk result (λ p. p.1.items
             ≡ emissions (session_after (done_by doing) (session_of self))) }
         ensures asks { IfOk result (λ p. asks_in p.0 ≡ asks_in self) }
-        ensures limit { IfOk result (λ p. limit_of p.0 ≡ limit_of self) }
-        ensures safe { D.tells → (bodies : List (List ℕ)) → IsAt D.Disk disk.old self bodies
-            → IsCrashSafe D.Disk disk.old disk.new bodies (bodies_of (records_of (done_by doing)))
-            (limit_of self) (λ p. IsAt D.Disk disk.new p.0) result }
+        ensures commits { Commits D.Disk disk.old disk.new self (records_of (done_by doing))
+            (λ p. p.0) result }
         ensures idle_disk { done_by doing ≡ nothing → disk.new ≡ disk.old }
         ensures idle { done_by doing ≡ nothing → IfOk result (λ p.
             (session_of p.0 ≡ session_of self) × (p.1.items ≡ [])) }
         ensures not_journal { IsErrOf result Stop.NotJournal → ⊥ }
-        ensures cause { HasDiskCause (D.faults disk.old) (D.faults disk.new) result }
+    {
+        match doing {
+            Doing::Write(entry) => self.write_record(alloc, disk, entry),
+            doing => Ok(self.change_alone(alloc, doing)?),
+        }
+    }
+
+    // The engine after a record, which is on the disk, and the emissions that are due then.
+    fn write_record<D: Disk>(
+        self,
+        alloc: Global,
+        disk: &mut D,
+        entry: Record,
+    ) -> Result<(Engine, Vec<Emission>), Stop>
+        requires at { D.tells → (bodies : List (List ℕ)) × IsAt D.Disk disk.old self bodies }
+        requires may { MayDo (write (content entry)) (session_of self) }
+        requires apart { WritesNoExchange (write (content entry)) }
+        ensures session { IfOk result (λ p. session_of p.0
+            ≡ settled_session (session_after (write (content entry)) (session_of self))) }
+        ensures emissions { IfOk result (λ p. p.1.items
+            ≡ emissions (session_after (write (content entry)) (session_of self))) }
+        ensures asks { IfOk result (λ p. asks_in p.0 ≡ asks_in self) }
+        ensures commits { Commits D.Disk disk.old disk.new self (content entry ∷ []) (λ p. p.0)
+            result }
+        ensures not_journal { IsErrOf result Stop.NotJournal → ⊥ }
     {
         let Engine {
             journal,
@@ -107,7 +126,52 @@ impl Engine {
         } = self;
         let parts = session.release();
         let (session, asks, marks) = parts;
-        let journal = keep_doing(alloc, journal, disk, &doing)?;
+        let play = Play {
+            journal,
+            playing: session.begin(alloc),
+            past: None,
+        };
+        let staged = play.stage(alloc, entry)?;
+        let play = staged.commit(disk)?;
+        let Play {
+            journal,
+            playing,
+            ..
+        } = play;
+        let (session, emissions) = playing.settle(alloc)?;
+        let engine = Engine {
+            journal,
+            session: SoundSession::new(session, asks, marks),
+            diagram,
+        };
+        Ok((engine, emissions))
+    }
+
+    // The engine after something that writes no record was done to its session, and the emissions
+    // that are due then.
+    fn change_alone(
+        self,
+        alloc: Global,
+        doing: Doing,
+    ) -> Result<(Engine, Vec<Emission>), AllocError>
+        requires may { MayDo (done_by doing) (session_of self) }
+        requires none { records_of (done_by doing) ≡ [] }
+        ensures session { IfOk result (λ p. session_of p.0
+            ≡ settled_session (session_after (done_by doing) (session_of self))) }
+        ensures emissions { IfOk result (λ p. p.1.items
+            ≡ emissions (session_after (done_by doing) (session_of self))) }
+        ensures asks { IfOk result (λ p. asks_in p.0 ≡ asks_in self) }
+        ensures journal { IfOk result (λ p. p.0.journal ≡ self.journal) }
+        ensures idle { done_by doing ≡ nothing → IfOk result (λ p.
+            (session_of p.0 ≡ session_of self) × (p.1.items ≡ [])) }
+    {
+        let Engine {
+            journal,
+            session,
+            diagram,
+        } = self;
+        let parts = session.release();
+        let (session, asks, marks) = parts;
         let (session, emissions) = session.next(alloc, doing)?;
         let engine = Engine {
             journal,
@@ -125,11 +189,8 @@ impl Engine {
             ≡ settled_session (session_after (restart epoch) (session_of self))) }
         ensures quiet { OnOk result (emissions (session_after (restart epoch) (session_of self)) ≡ []) }
         ensures asks { IfOk result (λ e. asks_in e ≡ []) }
-        ensures limit { IfOk result (λ e. limit_of e ≡ limit_of self) }
-        ensures safe { D.tells → (bodies : List (List ℕ)) → IsAt D.Disk disk.old self bodies
-            → IsCrashSafe D.Disk disk.old disk.new bodies (bodies_of (records_of (restart epoch)))
-            (limit_of self) (IsAt D.Disk disk.new) result }
-        ensures cause { HasDiskCause (D.faults disk.old) (D.faults disk.new) result }
+        ensures commits { Commits D.Disk disk.old disk.new self (records_of (restart epoch))
+            (λ e. e) result }
     {
         let Engine {
             journal,
@@ -165,17 +226,13 @@ impl Engine {
         ensures turned { IfOk result (IsAfterTurn wanted.now.name
             (turned (turn_of wanted.now) (standing_of (kinds_of handlers.now) [] self))
             (standing_of (kinds_of handlers.now) [] self)) }
-        ensures limit { IfOk result (λ m. limit_of m.engine ≡ limit_of self) }
-        ensures safe { D.tells → (bodies : List (List ℕ)) → IsAt D.Disk disk.old self bodies
-            → IsCrashSafe D.Disk disk.old disk.new bodies
-            (bodies_of (turned (turn_of wanted.now)
-            (standing_of (kinds_of handlers.now) [] self)).records) (limit_of self)
-            (λ m. IsAt D.Disk disk.new m.engine) result }
+        ensures commits { Commits D.Disk disk.old disk.new self
+            (turned (turn_of wanted.now) (standing_of (kinds_of handlers.now) [] self)).records
+            (λ m. m.engine) result }
         ensures quiet { IfOk result (λ m.
             (turned (turn_of wanted.now) (standing_of (kinds_of handlers.now) [] self)).ended ≡ Quiet
             → IsLevel (session_of m.engine).world wanted.now.name) }
         ensures not_journal { IsErrOf result Stop.NotJournal → ⊥ }
-        ensures cause { HasDiskCause (D.faults disk.old) (D.faults disk.new) result }
     {
         let Engine {
             journal,
@@ -190,15 +247,21 @@ impl Engine {
         let play = Play {
             journal,
             playing: session.begin(alloc),
+            past: None,
         };
-        let made = turn_by_name(alloc, disk, handlers, play, &mut asks, wanted, now, none)?;
+        let made = turn_by_name(alloc, handlers, play, &mut asks, wanted, now, none)?;
         let Turned {
             play,
             exchanges,
             ended,
             pulled,
         } = made;
-        let Play { journal, playing } = play;
+        let play = play.commit(disk)?;
+        let Play {
+            journal,
+            playing,
+            ..
+        } = play;
         let (session, emissions) = settle_turn(alloc, playing, &mut marks, name, pulled)?;
         let engine = Engine {
             journal,

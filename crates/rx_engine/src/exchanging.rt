@@ -1,25 +1,20 @@
-// Makes an exchange: each record is on the disk before the next one is planned.
-ghost use Rattle.std.specs.Prelude.{◌≡◌, ◌≤◌, ℕ, true, List, Some, IfOk, IsSome, OnOk, IsErrOf};
+// Makes an exchange: each record is staged before the next one is planned.
+ghost use Rattle.std.specs.Prelude.{◌≡◌, ◌≤◌, ℕ, true, Some, IfOk, IsSome, OnOk};
 ghost use Rattle.rx_value.specs.Named.{named};
 ghost use Rattle.rx_handler.specs.Shown.{kinds_of};
-ghost use Rattle.rx_outside.specs.declared.stop.Stop.TheVariants as Stop;
-ghost use Rattle.rx_store.specs.Safe.{HasDiskCause, IsCrashSafe};
 ghost use Rattle.rx_sync.specs.Asking.{asked_in, pending_in};
 ghost use Rattle.rx_sync.specs.Asks.{next_number, with_request};
 ghost use Rattle.rx_sync.specs.Exchange.{course, exchange};
 ghost use Rattle.rx_sync.specs.Laws.{IsAskedIn, IsDueIn, IsLawfulIn, IsReady, MayTurn, RemembersLawful};
 ghost use Rattle.rx_world.specs.Sound.{IsSoundWorld};
 ghost use Rattle.rx_engine.specs.Carried.{carried};
-ghost use Rattle.rx_engine.specs.Meaning.{bodies_of};
-ghost use Rattle.rx_engine.specs.Play.{IsPlayAt};
-ghost use Rattle.rx_engine.specs.Turning.{terms, written};
+ghost use Rattle.rx_engine.specs.Play.{Follows};
+ghost use Rattle.rx_engine.specs.Turning.{terms};
 
 use crate::play::Play;
 use crate::turning::Turn;
-use rx_disk::Disk;
 use rx_fork::Asked;
 use rx_handler::Handlers;
-use rx_outside::Stop;
 use rx_reply::Exchanged;
 use rx_script::Happening;
 use rx_sync::{Asks, Planned, ask, ask_to_pull, copy_of_request, exchange, late};
@@ -28,9 +23,8 @@ use std::alloc::{AllocError, Global};
 
 /// Makes an exchange, where the one before it has pulled or not. Nothing came of it where a commit
 /// found no write time.
-pub(crate) fn make_exchange<D: Disk>(
+pub(crate) fn make_exchange(
     alloc: Global,
-    disk: &mut D,
     handlers: &Handlers,
     play: Play,
     asks: &mut Asks,
@@ -38,8 +32,7 @@ pub(crate) fn make_exchange<D: Disk>(
     happening: Happening,
     now: u64,
     pulled: bool,
-) -> Result<(Play, Option<Exchanged>), Stop>
-    requires at { D.tells → (bodies : List (List ℕ)) × IsPlayAt D.Disk disk.old play bodies }
+) -> Result<(Play, Option<Exchanged>), AllocError>
     requires batch { 1 ≤ wanted.now.batch }
     requires may { MayTurn (terms wanted.now.name now (kinds_of handlers.now)) play.playing.world
         asks.old }
@@ -50,23 +43,13 @@ pub(crate) fn make_exchange<D: Disk>(
     ensures asks { OnOk result (asks.new
         ≡ (course (terms wanted.now.name now (kinds_of handlers.now)) wanted.now.batch happening
         play.playing.world asks.old).asks) }
-    ensures session { IfOk result (λ p. p.0.playing
-        ≡ written (course (terms wanted.now.name now (kinds_of handlers.now))
-        wanted.now.batch happening play.playing.world asks.old).records play.playing) }
-    ensures safe { D.tells → (bodies : List (List ℕ)) → IsPlayAt D.Disk disk.old play bodies
-        → IsCrashSafe D.Disk disk.old disk.new bodies
-        (bodies_of (course (terms wanted.now.name now (kinds_of handlers.now)) wanted.now.batch
-        happening play.playing.world asks.old).records)
-        play.journal.limit (λ p. IsPlayAt D.Disk disk.new p.0) result }
-    ensures limit { IfOk result (λ p. p.0.journal.limit ≡ play.journal.limit) }
-    ensures not_journal { IsErrOf result Stop.NotJournal → ⊥ }
-    ensures cause { HasDiskCause (D.faults disk.old) (D.faults disk.new) result }
+    ensures staged { IfOk result (λ p. Follows play
+        (course (terms wanted.now.name now (kinds_of handlers.now)) wanted.now.batch happening
+        play.playing.world asks.old).records p.0) }
 {
     let name = wanted.name.as_str();
     let asked = ask_next(alloc, &play, asks, name, wanted.batch, pulled)?;
-    carry_request(
-        alloc, disk, handlers, play, asks, name, &asked, happening, now,
-    )
+    carry_request(alloc, handlers, play, asks, name, &asked, happening, now)
 }
 
 /// Makes the next request, and remembers it, where the exchange before it has pulled or not.
@@ -122,9 +105,8 @@ fn next_request(
 }
 
 // What the link makes of the request that was made last.
-fn carry_request<D: Disk>(
+fn carry_request(
     alloc: Global,
-    disk: &mut D,
     handlers: &Handlers,
     play: Play,
     asks: &Asks,
@@ -132,64 +114,45 @@ fn carry_request<D: Disk>(
     asked: &Asked,
     happening: Happening,
     now: u64,
-) -> Result<(Play, Option<Exchanged>), Stop>
-    requires at { D.tells → (bodies : List (List ℕ)) × IsPlayAt D.Disk disk.old play bodies }
+) -> Result<(Play, Option<Exchanged>), AllocError>
     requires ready { IsReady play.playing.world name.now (kinds_of handlers.now) }
     requires asked { IsAskedIn play.playing.world name.now asked.now }
     requires asks { RemembersLawful play.playing.world name.now asks.now }
     ensures came { IfOk result (λ p. p.1 ≡ (carried (terms name.now now (kinds_of handlers.now))
         asked.now happening asks.now play.playing.world).came) }
-    ensures session { IfOk result (λ p. p.0.playing
-        ≡ written (carried (terms name.now now (kinds_of handlers.now))
-        asked.now happening asks.now play.playing.world).records play.playing) }
-    ensures safe { D.tells → (bodies : List (List ℕ)) → IsPlayAt D.Disk disk.old play bodies
-        → IsCrashSafe D.Disk disk.old disk.new bodies
-        (bodies_of (carried (terms name.now now (kinds_of handlers.now)) asked.now happening
-        asks.now play.playing.world).records)
-        play.journal.limit (λ p. IsPlayAt D.Disk disk.new p.0) result }
-    ensures limit { IfOk result (λ p. p.0.journal.limit ≡ play.journal.limit) }
-    ensures not_journal { IsErrOf result Stop.NotJournal → ⊥ }
-    ensures cause { HasDiskCause (D.faults disk.old) (D.faults disk.new) result }
+    ensures staged { IfOk result (λ p. Follows play
+        (carried (terms name.now now (kinds_of handlers.now)) asked.now happening asks.now
+        play.playing.world).records p.0) }
 {
     let earlier = match late(alloc, play.playing.world(), name, asks, happening, now) {
         Ok(earlier) => earlier,
         Err(StepFault::ClockEnd) => return Ok((play, None)),
-        Err(StepFault::Memory) => return Err(Stop::Memory),
+        Err(StepFault::Memory) => return Err(AllocError),
     };
-    let play = play.keep_maybe(alloc, disk, earlier)?;
-    keep_exchange(alloc, disk, handlers, play, name, asked, happening, now)
+    let play = play.stage_maybe(alloc, earlier)?;
+    stage_exchange(alloc, handlers, play, name, asked, happening, now)
 }
 
 // What the link makes of it once an earlier one was handled, where one comes late.
-fn keep_exchange<D: Disk>(
+fn stage_exchange(
     alloc: Global,
-    disk: &mut D,
     handlers: &Handlers,
     play: Play,
     name: &str,
     asked: &Asked,
     happening: Happening,
     now: u64,
-) -> Result<(Play, Option<Exchanged>), Stop>
-    requires at { D.tells → (bodies : List (List ℕ)) × IsPlayAt D.Disk disk.old play bodies }
+) -> Result<(Play, Option<Exchanged>), AllocError>
     requires ready { IsReady play.playing.world name.now (kinds_of handlers.now) }
     requires asked { IsAskedIn play.playing.world name.now asked.now }
     ensures came { IfOk result (λ p. p.1 ≡ (exchange (terms name.now now (kinds_of handlers.now))
         asked.now happening play.playing.world).came) }
-    ensures session { IfOk result (λ p. p.0.playing
-        ≡ written (exchange (terms name.now now (kinds_of handlers.now))
-        asked.now happening play.playing.world).records play.playing) }
-    ensures safe { D.tells → (bodies : List (List ℕ)) → IsPlayAt D.Disk disk.old play bodies
-        → IsCrashSafe D.Disk disk.old disk.new bodies
-        (bodies_of (exchange (terms name.now now (kinds_of handlers.now)) asked.now happening
-        play.playing.world).records)
-        play.journal.limit (λ p. IsPlayAt D.Disk disk.new p.0) result }
-    ensures limit { IfOk result (λ p. p.0.journal.limit ≡ play.journal.limit) }
-    ensures not_journal { IsErrOf result Stop.NotJournal → ⊥ }
-    ensures cause { HasDiskCause (D.faults disk.old) (D.faults disk.new) result }
+    ensures staged { IfOk result (λ p. Follows play
+        (exchange (terms name.now now (kinds_of handlers.now)) asked.now happening
+        play.playing.world).records p.0) }
 {
     let world = play.playing.world();
     let Planned { records, came } = exchange(alloc, world, name, asked, happening, handlers, now)?;
-    let play = play.keep_all(alloc, disk, records)?;
+    let play = play.stage_all(alloc, records)?;
     Ok((play, came))
 }

@@ -14,7 +14,6 @@ mod engine;
 mod exchanging;
 mod fault;
 mod judging;
-mod keep;
 mod listing;
 mod lives;
 mod lookup;

@@ -1,38 +1,31 @@
 // What is remembered of requests from one turn to the next.
-ghost use Rattle.std.specs.Prelude.{◌≡◌, ◌≤◌, ℕ, true, List, Some, IfOk, OnOk, IsErrOf};
+ghost use Rattle.std.specs.Prelude.{◌≡◌, ◌≤◌, ℕ, true, Some, IfOk, OnOk};
 ghost use Rattle.rx_handler.specs.Shown.{kinds_of};
-ghost use Rattle.rx_outside.specs.declared.stop.Stop.TheVariants as Stop;
-ghost use Rattle.rx_store.specs.Safe.{HasDiskCause, IsCrashSafe};
 ghost use Rattle.rx_sync.specs.Asking.{pending_in};
 ghost use Rattle.rx_sync.specs.Laws.{MayTurn};
 ghost use Rattle.rx_sync.specs.Turn.{turn};
 ghost use Rattle.rx_value.specs.Named.{by_bytes, put_named};
-ghost use Rattle.rx_engine.specs.Meaning.{bodies_of};
-ghost use Rattle.rx_engine.specs.Play.{IsMadeByName, IsPlayAt};
+ghost use Rattle.rx_engine.specs.Play.{Follows, IsMadeByName};
 ghost use Rattle.rx_engine.specs.Standing.{asks_of};
 ghost use Rattle.rx_engine.specs.Turning.{terms};
 
 use crate::play::Play;
 use crate::turning::{Turn, Turned, take_turn};
 use indexmap::IndexMap;
-use rx_disk::Disk;
 use rx_handler::Handlers;
-use rx_outside::Stop;
 use rx_sync::Asks;
 use std::alloc::{AllocError, Global};
 
 /// Makes a turn, and remembers the requests of its replication.
-pub(crate) fn turn_by_name<D: Disk>(
+pub(crate) fn turn_by_name(
     alloc: Global,
-    disk: &mut D,
     handlers: &Handlers,
     play: Play,
     asks: &mut IndexMap<String, Asks>,
     wanted: &Turn,
     now: u64,
     none: bool,
-) -> Result<Turned, Stop>
-    requires at { D.tells → (bodies : List (List ℕ)) × IsPlayAt D.Disk disk.old play bodies }
+) -> Result<Turned, AllocError>
     requires batch { 1 ≤ wanted.now.batch }
     requires may { MayTurn (terms wanted.now.name now (kinds_of handlers.now)) play.playing.world
         (asks_of wanted.now.name (by_bytes asks.old.entries)) }
@@ -42,21 +35,16 @@ pub(crate) fn turn_by_name<D: Disk>(
         wanted.now.budget wanted.now.link.items play.playing.world
         (asks_of wanted.now.name (by_bytes asks.old.entries)))
         play.playing made (by_bytes asks.old.entries) (by_bytes asks.new.entries)) }
-    ensures safe { D.tells → (bodies : List (List ℕ)) → IsPlayAt D.Disk disk.old play bodies
-        → IsCrashSafe D.Disk disk.old disk.new bodies
-        (bodies_of (turn (terms wanted.now.name now (kinds_of handlers.now)) wanted.now.batch
+    ensures staged { IfOk result (λ made. Follows play
+        (turn (terms wanted.now.name now (kinds_of handlers.now)) wanted.now.batch
         wanted.now.budget wanted.now.link.items play.playing.world
-        (asks_of wanted.now.name (by_bytes asks.old.entries))).records)
-        play.journal.limit (λ made. IsPlayAt D.Disk disk.new made.play) result }
-    ensures limit { IfOk result (λ made. made.play.journal.limit ≡ play.journal.limit) }
+        (asks_of wanted.now.name (by_bytes asks.old.entries))).records made.play) }
     ensures none { IfOk result (λ made. made.pulled ≡ true
         → pending_in made.play.playing.world wanted.now.name ≡ Some 0) }
-    ensures not_journal { IsErrOf result Stop.NotJournal → ⊥ }
-    ensures cause { HasDiskCause (D.faults disk.old) (D.faults disk.new) result }
 {
     remember(asks, alloc, wanted.name.as_str())?;
     match asks.get_mut(wanted.name.as_str()) {
-        Some(remembered) => take_turn(alloc, disk, handlers, play, remembered, wanted, now, none),
+        Some(remembered) => take_turn(alloc, handlers, play, remembered, wanted, now, none),
         None => unreachable!(),
     }
 }

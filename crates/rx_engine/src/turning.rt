@@ -1,26 +1,21 @@
 // Makes a turn: exchange after exchange, until one ends it.
-ghost use Rattle.std.specs.Prelude.{◌≡◌, ◌≤◌, ℕ, true, List, Some, IfOk, IsErrOf};
+ghost use Rattle.std.specs.Prelude.{◌≡◌, ◌≤◌, ℕ, true, Some, IfOk};
 ghost use Rattle.rx_handler.specs.Shown.{kinds_of};
-ghost use Rattle.rx_outside.specs.declared.stop.Stop.TheVariants as Stop;
-ghost use Rattle.rx_store.specs.Safe.{HasDiskCause, IsCrashSafe};
 ghost use Rattle.rx_sync.specs.Asking.{pending_in};
 ghost use Rattle.rx_sync.specs.Exchange.{has_pulled};
 ghost use Rattle.rx_sync.specs.Laws.{MayTurn};
 ghost use Rattle.rx_sync.specs.Turn.{end_by, turn};
-ghost use Rattle.rx_engine.specs.Meaning.{bodies_of};
-ghost use Rattle.rx_engine.specs.Play.{IsMade, IsPlayAt};
+ghost use Rattle.rx_engine.specs.Play.{Follows, IsMade};
 ghost use Rattle.rx_engine.specs.Turning.{happening_at, terms};
 
 use crate::exchanging::make_exchange;
 use crate::play::Play;
-use rx_disk::Disk;
 use rx_handler::Handlers;
-use rx_outside::Stop;
 use rx_reply::{Exchanged, TurnEnd};
 use rx_script::Happening;
 use rx_sync::Asks;
 use rx_value::{RxList, RxText};
-use std::alloc::Global;
+use std::alloc::{AllocError, Global};
 
 /// A turn that is to be made: of so many documents an exchange, so many exchanges at most, over
 /// such a link.
@@ -43,17 +38,15 @@ pub(crate) struct Turned {
 
 /// Makes the exchanges of a turn, until one ends it or none is left. Where `none` nothing is to be
 /// pushed before it.
-pub(crate) fn take_turn<D: Disk>(
+pub(crate) fn take_turn(
     alloc: Global,
-    disk: &mut D,
     handlers: &Handlers,
     first: Play,
     asks: &mut Asks,
     wanted: &Turn,
     now: u64,
     none: bool,
-) -> Result<Turned, Stop>
-    requires at { D.tells → (bodies : List (List ℕ)) × IsPlayAt D.Disk disk.old first bodies }
+) -> Result<Turned, AllocError>
     requires batch { 1 ≤ wanted.now.batch }
     requires may { MayTurn (terms wanted.now.name now (kinds_of handlers.now))
         first.playing.world asks.old }
@@ -62,16 +55,11 @@ pub(crate) fn take_turn<D: Disk>(
         (turn (terms wanted.now.name now (kinds_of handlers.now)) wanted.now.batch
         wanted.now.budget wanted.now.link.items first.playing.world asks.old)
         first.playing made asks.new) }
-    ensures safe { D.tells → (bodies : List (List ℕ)) → IsPlayAt D.Disk disk.old first bodies
-        → IsCrashSafe D.Disk disk.old disk.new bodies
-        (bodies_of (turn (terms wanted.now.name now (kinds_of handlers.now)) wanted.now.batch
-        wanted.now.budget wanted.now.link.items first.playing.world asks.old).records)
-        first.journal.limit (λ made. IsPlayAt D.Disk disk.new made.play) result }
-    ensures limit { IfOk result (λ made. made.play.journal.limit ≡ first.journal.limit) }
+    ensures staged { IfOk result (λ made. Follows first
+        (turn (terms wanted.now.name now (kinds_of handlers.now)) wanted.now.batch
+        wanted.now.budget wanted.now.link.items first.playing.world asks.old).records made.play) }
     ensures none { IfOk result (λ made. made.pulled ≡ true
         → pending_in made.play.playing.world wanted.now.name ≡ Some 0) }
-    ensures not_journal { IsErrOf result Stop.NotJournal → ⊥ }
-    ensures cause { HasDiskCause (D.faults disk.old) (D.faults disk.new) result }
 {
     let mut play = first;
     let mut exchanges = RxList::new(alloc);
@@ -79,7 +67,7 @@ pub(crate) fn take_turn<D: Disk>(
     for i in 0..wanted.budget {
         let happening = happening_at(wanted.link.as_slice(), i as usize);
         let (next, came) = make_exchange(
-            alloc, disk, handlers, play, asks, wanted, happening, now, pulled,
+            alloc, handlers, play, asks, wanted, happening, now, pulled,
         )?;
         play = next;
         let Some(exchanged) = came else {

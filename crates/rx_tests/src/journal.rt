@@ -580,6 +580,44 @@ $ run journal --max-journal 300
 ! 8
 = BASE 00
 
+== the second record of a turn passes the limit, and the first stands
+$ run journal --max-journal 610
+> C(m)
+< made
+> C(f)
+< made
+> {"do":"replicate","name":"r","fork":"f","master":"m","handler":"master_wins"}
+< {"line":L,"ok":"replicate"}
+> I(f,a,1)
+< insert 1-f
+> {"do":"turn","name":"r"}
+< {"limit":610,"stop":"full","would":611}
+! 8
+$ run journal
+> {"do":"turn","name":"r"}
+< {"conflicts":["a"],"exchange":1,"rows":["a"],"sent":"push"}
+< {"exchange":2,"place":{"id":"a","lwt":1},"rows":["a"],"sent":"pull"}
+< {"end":"quiet","exchanges":2,"line":L,"ok":"turn"}
+
+== the first record of a turn passes the limit
+$ run journal --max-journal 532
+> C(m)
+< made
+> C(f)
+< made
+> {"do":"replicate","name":"r","fork":"f","master":"m","handler":"master_wins"}
+< {"line":L,"ok":"replicate"}
+> I(f,a,1)
+< insert 1-f
+> {"do":"turn","name":"r"}
+< {"limit":532,"stop":"full","would":533}
+! 8
+$ run journal
+> {"do":"turn","name":"r"}
+< {"conflicts":[],"exchange":1,"rows":["a"],"sent":"push"}
+< {"exchange":2,"place":{"id":"a","lwt":1},"rows":["a"],"sent":"pull"}
+< {"end":"quiet","exchanges":2,"line":L,"ok":"turn"}
+
 == a journal longer than the limit is opened, and not made longer
 ^ BASE 00
 $ run journal --max-journal 100

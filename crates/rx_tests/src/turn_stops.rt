@@ -27,23 +27,21 @@ const LINES: [(&str, &str); 5] = [
 // So many lines were answered before the turn, and the insert stands.
 const INSERTED: usize = 4;
 
+// Where their replies are told in `TURNS`.
+const NONE: usize = 0;
+
+const ALL: usize = 1;
+
 const NEXT: &str = r#"{"do":"turn","name":"r"}
 {"do":"digest","in":"m"}
 {"do":"digest","in":"f"}
 "#;
 
-// What the next run's turn does, by how many of the turn's three records stand.
-const TURNS: [&str; 4] = [
+// What the next run's turn does: where none of the turn's three records stands, and where all do.
+const TURNS: [&str; 2] = [
     r#"{"conflicts":[],"exchange":1,"rows":["a"],"sent":"push"}
 {"exchange":2,"place":{"id":"a","lwt":1},"rows":["a"],"sent":"pull"}
 {"end":"quiet","exchanges":2,"line":1,"ok":"turn"}
-"#,
-    r#"{"conflicts":["a"],"exchange":1,"rows":["a"],"sent":"push"}
-{"exchange":2,"place":{"id":"a","lwt":1},"rows":["a"],"sent":"pull"}
-{"end":"quiet","exchanges":2,"line":1,"ok":"turn"}
-"#,
-    r#"{"exchange":1,"place":{"id":"a","lwt":1},"rows":["a"],"sent":"pull"}
-{"end":"quiet","exchanges":1,"line":1,"ok":"turn"}
 "#,
     r#"{"exchange":1,"place":{"id":"a","lwt":1},"rows":[],"sent":"pull"}
 {"end":"quiet","exchanges":1,"line":1,"ok":"turn"}
@@ -56,34 +54,35 @@ const DIGESTS: &str =
 {"count":1,"digest":"64e11706edc12e198f0d3edef2c3527856fe519c808369279e5d6ebb255c6cc3","line":3,"ok":"digest"}
 "#;
 
-// The last calls of the run append the turn's records. So where the first write of the fork's record
-// of its push fails, the master's alone stands, and the state pushed again is the one that it holds.
+// The last four calls of the run write the turn's three records together. All of them stand where
+// their gate is found open, and none does else.
 #[test]
-fn a_turn_goes_on_after_any_stop(rt: HostRuntime) -> Result<(), Fail> {
-    let mut last = calls_of(rt.alloc(), &LINES)?;
-    for before in [2, 1, 0] {
-        try_record(rt.alloc(), last, before)?;
-        last = last.saturating_sub(4);
+fn a_turn_stands_whole_or_not_at_all(rt: HostRuntime) -> Result<(), Fail> {
+    let last = calls_of(rt.alloc(), &LINES)?;
+    compare_calls(rt.alloc(), last)?;
+    for (back, gate) in STEPS {
+        try_call(rt.alloc(), last.saturating_sub(back), gate)?;
     }
     let whole = play_failing(rt.alloc(), &LINES, 0)?;
-    try_picks(rt.alloc(), &whole, CALLS, [3, 3])
+    try_picks(rt.alloc(), &whole, CALLS, [ALL, ALL])
 }
 
-// The record that is appended up to this call, behind so many others of the turn.
-fn try_record(alloc: Global, last: u64, before: usize) -> Result<(), Fail> {
-    for (back, gate) in STEPS {
-        try_call(alloc, last.saturating_sub(back), before, gate)?;
+fn compare_calls(alloc: Global, last: u64) -> Result<(), Fail> {
+    let (before, _) = LINES.split_at_checked(INSERTED).unwrap_or((&LINES, &[]));
+    let calls = last.saturating_sub(calls_of(alloc, before)?);
+    if calls == 4 {
+        return Ok(());
     }
-    Ok(())
+    Err(Fail::new(format_args!("a turn makes {calls} calls of the disk")))
 }
 
 // The call fails and the run stops within it or behind it, or the call doesn't fail and the run stops
-// within it. The record stands where its gate is found open.
-fn try_call(alloc: Global, call: u64, before: usize, gate: bool) -> Result<(), Fail> {
-    let open = before.saturating_add(usize::from(gate));
-    try_fault(alloc, call, [before, open])?;
+// within it.
+fn try_call(alloc: Global, call: u64, gate: bool) -> Result<(), Fail> {
+    let open = if gate { ALL } else { NONE };
+    try_fault(alloc, call, [NONE, open])?;
     let whole = play_failing(alloc, &LINES, 0)?;
-    try_picks(alloc, &whole, call, [before, open])
+    try_picks(alloc, &whole, call, [NONE, open])
 }
 
 fn try_fault(alloc: Global, call: u64, due: [usize; 2]) -> Result<(), Fail> {
@@ -110,20 +109,20 @@ fn try_picks(alloc: Global, ran: &Ran, call: u64, due: [usize; 2]) -> Result<(),
     Ok(())
 }
 
-// So many of the turn's records stand in what a stop within this call left.
+// None of the turn's records stands in what a stop within this call left, or all do.
 fn try_stop(alloc: Global, ran: &Ran, call: u64, pick: &[u8], due: usize) -> Result<(), Fail> {
     let left = ran.disk.stopped(call, pick)?;
     let stands = records_before(alloc, left.as_slice())?;
     if stands != due {
         return Err(Fail::new(format_args!(
-            "status {}, stop within {call}: {stands} records stand, due {due}",
+            "status {}, stop within {call}: as told in {stands}, due {due}",
             ran.status
         )));
     }
     Ok(())
 }
 
-// How many of the turn's records stood in a journal, by what the next turn does with it.
+// Whether the turn's records stood in a journal, by what the next turn does with it.
 fn records_before(alloc: Global, journal: &[u8]) -> Result<usize, Fail> {
     let next = run_plain(alloc, NEXT, journal)?;
     records_told(&next)
@@ -131,7 +130,7 @@ fn records_before(alloc: Global, journal: &[u8]) -> Result<usize, Fail> {
 
 fn records_told(next: &Ran) -> Result<usize, Fail> {
     match turn_told(next.text()?) {
-        Some(count) if next.status == 0 => Ok(count),
+        Some(told) if next.status == 0 => Ok(told),
         _ => Err(Fail::new(format_args!("status {} with other lines", next.status))),
     }
 }

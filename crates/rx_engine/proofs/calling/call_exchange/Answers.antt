@@ -18,7 +18,7 @@ returns-in_err-asked-clause-made g c =
     none_made g.D.Disk c.args.disk.now c.args.disk.now g.W.Wire.tells
     (wire_stands g.W.Wire c.args.wire.now) (wire_stands g.W.Wire c.args.wire.now) t
     c.args.wanted.now.batch c.args.play c.args.asks.now c.ask_next.new.asks c.from_residual.result
-    c.requires.batch c.requires.may (search rules) refl
+    (search rules) refl
     (λ told left e. g.met.D.Disk.only_now c.args.disk.now left told e)
 
 pub returns-in_err-heard-clause-made : goal.returns-in_err-heard-clause-made
@@ -27,7 +27,7 @@ returns-in_err-heard-clause-made g c =
     none_made g.D.Disk c.args.disk.now c.args.disk.now g.W.Wire.tells
     (wire_stands g.W.Wire c.args.wire.now) (wire_stands g.W.Wire c.call_master.new.wire) t
     c.args.wanted.now.batch c.args.play c.args.asks.now c.ask_next.new.asks
-    c.from_residual-in_err-heard.result c.requires.batch c.requires.may (search rules) refl
+    c.from_residual-in_err-heard.result (search rules) refl
     (λ told left e. g.met.D.Disk.only_now c.args.disk.now left told e)
 
 pub returns-clause-made : goal.returns-clause-made

@@ -25,7 +25,7 @@ returns-in_err-remember-clause-turned g c =
     (asks_of name (by_bytes c.args.asks.now.entries))
     (asks_of name (by_bytes c.args.asks.now.entries))
     (record { faults = 0; broken = 0; talks = [] }) (record { faults = 0; broken = 0; talks = [] })
-    c.requires.batch c.requires.may _ _ c.from_residual.result
+    _ _ c.from_residual.result
     (search rules)
 
 pub dial_turn-requires-clause-may : goal.dial_turn-requires-clause-may

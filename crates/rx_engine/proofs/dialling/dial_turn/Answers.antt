@@ -52,7 +52,7 @@ returns-in_err-miss_turn-in-Err-clause-turned g c =
     c.args.wanted.now.batch c.args.wanted.now.budget c.args.play c.args.asks.now
     c.miss_turn.new.asks
     (record { faults = 0; broken = 0; talks = [] }) (record { faults = 0; broken = 0; talks = [] })
-    c.requires.batch c.requires.may _ _ c.from_residual-in_err-miss_turn-in-Err.result
+    _ _ c.from_residual-in_err-miss_turn-in-Err.result
     (search rules)
 
 pub returns-in_ok-miss_turn-in-Err-clause-turned :

@@ -1,35 +1,16 @@
-use Rattle.std.proofs.Common.{◌≡◌, ◌∙◌, ℕ, List, IfOk, ap, sym, subst, rules}
+use Rattle.std.proofs.Common.{◌≡◌, ◌∙◌, ℕ, List, IfOk, ap, sym, subst}
 use Rattle.rx_handler.specs.Shown.{kinds_of}
-use Rattle.rx_store.specs.Safe.{IsCrashSafe}
 use Rattle.rx_sync.specs.Asks.{Asks}
 use Rattle.rx_sync.specs.Laws.{MayTurn}
 use Rattle.rx_sync.specs.Turn.{Turned, turn}
-use Rattle.rx_sync.proofs.Turns.{turn_sound}
 use Rattle.rx_value.specs.Named.{by_bytes, put_named}
 use Rattle.rx_value.proofs.Outcomes.{some_same, not_none, if_ok}
-use Rattle.rx_engine.specs.Meaning.{bodies_of}
-use Rattle.rx_engine.specs.Play.{IsMade, IsPlayAt}
+use Rattle.rx_engine.specs.Play.{Follows, IsMade}
 use Rattle.rx_engine.specs.Standing.{asks_of}
 use Rattle.rx_engine.specs.Turning.{terms}
 use Rattle.rx_engine.specs.declared.turning.Turned.{Turned as Made}
-use Rattle.rx_engine.proofs.Plays.{begun, out_of_memory}
 use Rattle.rx_engine.proofs.Rooms.{changed_there, found_there}
 use Rattle.rx_engine.proofs.requests.turn_by_name.Goals as goal
-
-pub returns-in_err-remember-clause-safe : goal.returns-in_err-remember-clause-safe
-returns-in_err-remember-clause-safe g c told bodies at =
-    let t = terms c.args.wanted.now.name c.args.now (kinds_of c.args.handlers.now) in
-    let asks = asks_of c.args.wanted.now.name (by_bytes c.args.asks.now.entries) in
-    let w = c.args.play.playing.world in
-    let cs = (turn t c.args.wanted.now.batch c.args.wanted.now.budget c.args.wanted.now.link.items w
-    asks).records in
-    out_of_memory g.D.Disk c.args.disk.now c.args.disk.now c.args.play cs c.args.play _ _ cs
-    (begun g.D.Disk c.args.disk.now c.args.play cs
-    (turn_sound t c.args.wanted.now.batch c.args.wanted.now.budget c.args.wanted.now.link.items w
-    asks
-    c.requires.batch c.requires.may)
-    (λ told left e. g.met.D.Disk.only_now c.args.disk.now left told e))
-    (search rules) told bodies at
 
 pub take_turn-requires-clause-may : goal.take_turn-requires-clause-may
 take_turn-requires-clause-may g c =
@@ -90,8 +71,8 @@ returns-clause-turned g c =
       ended = m.ended;
     })
 
-pub returns-clause-safe : goal.returns-clause-safe
-returns-clause-safe g c told bodies at =
+pub returns-clause-staged : goal.returns-clause-staged
+returns-clause-staged g c =
     let t = terms c.args.wanted.now.name c.args.now (kinds_of c.args.handlers.now) in
     let w = c.args.play.playing.world in
     let es = by_bytes c.args.asks.now.entries in
@@ -104,9 +85,6 @@ returns-clause-safe g c told bodies at =
     some_same (c.in-Some.ensures.value
     ∙ found_there c.remember.new.asks.entries es key (asks_of key es) room)
     ∙ ap (λ (n : List ℕ). asks_of n es) c.as_str-2.ensures in
-    subst (λ (a : Asks). IsCrashSafe g.D.Disk c.args.disk.now c.take_turn.new.disk bodies
-    (bodies_of (turn t c.args.wanted.now.batch c.args.wanted.now.budget c.args.wanted.now.link.items
-    w
-    a).records) c.args.play.journal.limit (λ (made : Made). IsPlayAt g.D.Disk c.take_turn.new.disk
-    made.play)
-    c.take_turn.result) same (c.take_turn.ensures.safe told bodies at)
+    subst (λ (a : Asks). IfOk c.take_turn.result (λ (made : Made). Follows c.args.play
+    (turn t c.args.wanted.now.batch c.args.wanted.now.budget c.args.wanted.now.link.items w
+    a).records made.play)) same c.take_turn.ensures.staged

@@ -1,14 +1,13 @@
-use Rattle.std.proofs.Common.{◌≡◌, ◌∙◌, ◌++◌, List, append-nil, Option, Err, refl, ap, sym, rules, arith}
+use Rattle.std.proofs.Common.{◌∙◌, ◌++◌, List, append-nil, Option, refl, ap, sym, arith}
 use Rattle.rx_handler.specs.Shown.{kinds_of}
-use Rattle.rx_outside.specs.declared.stop.Stop.TheVariants.{Memory}
 use Rattle.rx_reply.specs.declared.turn.Exchanged.{Exchanged}
 use Rattle.rx_reply.specs.declared.turn.TurnEnd.TheVariants.{Clock}
 use Rattle.rx_sync.specs.Exchange.{has_pulled}
 use Rattle.rx_sync.specs.Turn.{as_list, end_by, turn}
 use Rattle.rx_sync.proofs.Turns.{turn_sound}
 use Rattle.rx_engine.specs.Turning.{happening_at, terms}
-use Rattle.rx_engine.proofs.Plays.{begun, out_of_memory}
-use Rattle.rx_engine.proofs.Turnings.{HasMade, exchange_stopped, exchanged, kept_so, made_so, then_none, used}
+use Rattle.rx_engine.proofs.Staging.{begun}
+use Rattle.rx_engine.proofs.Turnings.{HasMade, exchanged, made_so, staged_so, then_none, used}
 use Rattle.rx_engine.proofs.turning.take_turn.Goals as goal
 
 pub loop-i-init : goal.loop-i-init
@@ -23,42 +22,27 @@ loop-i-init g c =
         left = c.args.wanted.now.budget;
         span = omega arith;
         may = c.requires.may;
-        way = begun g.D.Disk c.args.disk.now c.args.first total.records
+        way = begun c.args.first total.records
             (turn_sound t c.args.wanted.now.batch c.args.wanted.now.budget over
-            c.args.first.playing.world c.args.asks.now c.requires.batch c.requires.may)
-            (λ told left e. g.met.D.Disk.only_now c.args.disk.now left told e);
+            c.args.first.playing.world c.args.asks.now c.requires.batch c.requires.may);
         asks = refl;
         exchanges = ap (λ (es : List Exchanged). es ++ total.exchanges)
             (sym c.new-exchanges.ensures);
         ended = refl;
       };
       none = c.requires.none;
-      later = search rules;
     }
-
-pub returns-in_err-next-clause-safe : goal.returns-in_err-next-clause-safe
-returns-in_err-next-clause-safe g c told bodies at =
-    let stop : c.from_residual.result ≡ Err c.in_err-next.field-0.0 = search rules in
-    let is = c.happening_at-happening.ensures ∙ ap (happening_at c.loop-i.i)
-    c.as_slice.ensures.value in
-    exchange_stopped c.loop-i.invariant.on c.make_exchange.new.disk c.happening_at-happening.result
-    _ _
-    c.in_err-next.field-0.0 c.from_residual.result stop is c.loop-i-test.true told bodies at
-    (λ bodies at. c.in_err-next.ensures.safe told bodies at)
 
 pub returns-in-Some-end-clause-none : goal.returns-in-Some-end-clause-none
 returns-in-Some-end-clause-none g c is =
     let given = c.happening_at-happening.ensures ∙ ap (happening_at c.loop-i.i)
     c.as_slice.ensures.value in
     let t = terms c.args.wanted.now.name c.args.now (kinds_of c.args.handlers.now) in
-    let made : HasMade t c.args.wanted.now.batch g.D.Disk c.loop-i.disk c.make_exchange.new.disk
-    c.loop-i.play c.in_ok-next.next c.loop-i.asks c.make_exchange.new.asks
-    c.happening_at-happening.result c.in_ok-next.came = record {
+    let made : HasMade t c.args.wanted.now.batch c.loop-i.play c.in_ok-next.next c.loop-i.asks
+    c.make_exchange.new.asks c.happening_at-happening.result c.in_ok-next.came = record {
       came = c.in_ok-next.ensures.came;
       asks = c.in_ok-next.ensures.asks;
-      session = c.in_ok-next.ensures.session;
-      limit = c.in_ok-next.ensures.limit;
-      safe = λ told bodies at. c.in_ok-next.ensures.safe told bodies at;
+      follows = c.in_ok-next.ensures.staged;
     } in
     then_none c.loop-i.invariant.on made c.requires.batch
     (ap has_pulled c.in-Some.is ∙ sym c.has_pulled-pulled.ensures ∙ is)
@@ -71,14 +55,11 @@ returns-in_default-clause-turned g c =
     let t = terms c.args.wanted.now.name c.args.now (kinds_of c.args.handlers.now) in
     let is = c.happening_at-happening.ensures ∙ ap (happening_at c.loop-i.i)
     c.as_slice.ensures.value in
-    let made : HasMade t c.args.wanted.now.batch g.D.Disk c.loop-i.disk c.make_exchange.new.disk
-    c.loop-i.play c.in_ok-next.next c.loop-i.asks c.make_exchange.new.asks
-    c.happening_at-happening.result c.in_ok-next.came = record {
+    let made : HasMade t c.args.wanted.now.batch c.loop-i.play c.in_ok-next.next c.loop-i.asks
+    c.make_exchange.new.asks c.happening_at-happening.result c.in_ok-next.came = record {
       came = c.in_ok-next.ensures.came;
       asks = c.in_ok-next.ensures.asks;
-      session = c.in_ok-next.ensures.session;
-      limit = c.in_ok-next.ensures.limit;
-      safe = λ told bodies at. c.in_ok-next.ensures.safe told bodies at;
+      follows = c.in_ok-next.ensures.staged;
     } in
     let past = exchanged c.loop-i.invariant.on made c.requires.batch is c.loop-i-test.true in
     let ends = past.ends Clock (ap (end_by c.args.wanted.now.batch) c.in_default.is)
@@ -87,64 +68,34 @@ returns-in_default-clause-turned g c =
     ∙ ap (λ (o : Option Exchanged). c.loop-i.exchanges ++ as_list o) (sym c.in_default.is)) in
     made_so ends
 
-pub returns-in_default-clause-safe : goal.returns-in_default-clause-safe
-returns-in_default-clause-safe g c told bodies at =
+pub returns-in_default-clause-staged : goal.returns-in_default-clause-staged
+returns-in_default-clause-staged g c =
     let t = terms c.args.wanted.now.name c.args.now (kinds_of c.args.handlers.now) in
     let is = c.happening_at-happening.ensures ∙ ap (happening_at c.loop-i.i)
     c.as_slice.ensures.value in
-    let made : HasMade t c.args.wanted.now.batch g.D.Disk c.loop-i.disk c.make_exchange.new.disk
-    c.loop-i.play c.in_ok-next.next c.loop-i.asks c.make_exchange.new.asks
-    c.happening_at-happening.result c.in_ok-next.came = record {
+    let made : HasMade t c.args.wanted.now.batch c.loop-i.play c.in_ok-next.next c.loop-i.asks
+    c.make_exchange.new.asks c.happening_at-happening.result c.in_ok-next.came = record {
       came = c.in_ok-next.ensures.came;
       asks = c.in_ok-next.ensures.asks;
-      session = c.in_ok-next.ensures.session;
-      limit = c.in_ok-next.ensures.limit;
-      safe = λ told bodies at. c.in_ok-next.ensures.safe told bodies at;
+      follows = c.in_ok-next.ensures.staged;
     } in
     let past = exchanged c.loop-i.invariant.on made c.requires.batch is c.loop-i-test.true in
     let ends = past.ends Clock (ap (end_by c.args.wanted.now.batch) c.in_default.is)
     c.loop-i.exchanges
     (sym (append-nil c.loop-i.exchanges)
     ∙ ap (λ (o : Option Exchanged). c.loop-i.exchanges ++ as_list o) (sym c.in_default.is)) in
-    kept_so ends told bodies at
-
-pub returns-in_err-push-clause-safe : goal.returns-in_err-push-clause-safe
-returns-in_err-push-clause-safe g c told bodies at =
-    let stop : c.from_residual-in_err-push.result ≡ Err Memory =
-    search (rules, c.from_residual-in_err-push.ensures) in
-    let over = c.args.wanted.now.link.items in
-    let t = terms c.args.wanted.now.name c.args.now (kinds_of c.args.handlers.now) in
-    let is = c.happening_at-happening.ensures ∙ ap (happening_at c.loop-i.i)
-    c.as_slice.ensures.value in
-    let made : HasMade t c.args.wanted.now.batch g.D.Disk c.loop-i.disk c.make_exchange.new.disk
-    c.loop-i.play c.in_ok-next.next c.loop-i.asks c.make_exchange.new.asks
-    c.happening_at-happening.result c.in_ok-next.came = record {
-      came = c.in_ok-next.ensures.came;
-      asks = c.in_ok-next.ensures.asks;
-      session = c.in_ok-next.ensures.session;
-      limit = c.in_ok-next.ensures.limit;
-      safe = λ told bodies at. c.in_ok-next.ensures.safe told bodies at;
-    } in
-    let past = exchanged c.loop-i.invariant.on made c.requires.batch is c.loop-i-test.true in
-    let total = turn t c.args.wanted.now.batch c.args.wanted.now.budget over
-    c.args.first.playing.world
-    c.args.asks.now in
-    out_of_memory g.D.Disk c.args.disk.now c.make_exchange.new.disk c.args.first total.records
-    c.in_ok-next.next _ _ past.rest past.way stop told bodies at
+    staged_so ends
 
 pub returns-in-Some-end-clause-turned : goal.returns-in-Some-end-clause-turned
 returns-in-Some-end-clause-turned g c =
     let t = terms c.args.wanted.now.name c.args.now (kinds_of c.args.handlers.now) in
     let is = c.happening_at-happening.ensures ∙ ap (happening_at c.loop-i.i)
     c.as_slice.ensures.value in
-    let made : HasMade t c.args.wanted.now.batch g.D.Disk c.loop-i.disk c.make_exchange.new.disk
-    c.loop-i.play c.in_ok-next.next c.loop-i.asks c.make_exchange.new.asks
-    c.happening_at-happening.result c.in_ok-next.came = record {
+    let made : HasMade t c.args.wanted.now.batch c.loop-i.play c.in_ok-next.next c.loop-i.asks
+    c.make_exchange.new.asks c.happening_at-happening.result c.in_ok-next.came = record {
       came = c.in_ok-next.ensures.came;
       asks = c.in_ok-next.ensures.asks;
-      session = c.in_ok-next.ensures.session;
-      limit = c.in_ok-next.ensures.limit;
-      safe = λ told bodies at. c.in_ok-next.ensures.safe told bodies at;
+      follows = c.in_ok-next.ensures.staged;
     } in
     let past = exchanged c.loop-i.invariant.on made c.requires.batch is c.loop-i-test.true in
     let ends = past.ends c.in-Some-end.ended
@@ -153,40 +104,34 @@ returns-in-Some-end-clause-turned g c =
     ∙ ap (λ (o : Option Exchanged). c.loop-i.exchanges ++ as_list o) (sym c.in-Some.is)) in
     made_so ends
 
-pub returns-in-Some-end-clause-safe : goal.returns-in-Some-end-clause-safe
-returns-in-Some-end-clause-safe g c told bodies at =
+pub returns-in-Some-end-clause-staged : goal.returns-in-Some-end-clause-staged
+returns-in-Some-end-clause-staged g c =
     let t = terms c.args.wanted.now.name c.args.now (kinds_of c.args.handlers.now) in
     let is = c.happening_at-happening.ensures ∙ ap (happening_at c.loop-i.i)
     c.as_slice.ensures.value in
-    let made : HasMade t c.args.wanted.now.batch g.D.Disk c.loop-i.disk c.make_exchange.new.disk
-    c.loop-i.play c.in_ok-next.next c.loop-i.asks c.make_exchange.new.asks
-    c.happening_at-happening.result c.in_ok-next.came = record {
+    let made : HasMade t c.args.wanted.now.batch c.loop-i.play c.in_ok-next.next c.loop-i.asks
+    c.make_exchange.new.asks c.happening_at-happening.result c.in_ok-next.came = record {
       came = c.in_ok-next.ensures.came;
       asks = c.in_ok-next.ensures.asks;
-      session = c.in_ok-next.ensures.session;
-      limit = c.in_ok-next.ensures.limit;
-      safe = λ told bodies at. c.in_ok-next.ensures.safe told bodies at;
+      follows = c.in_ok-next.ensures.staged;
     } in
     let past = exchanged c.loop-i.invariant.on made c.requires.batch is c.loop-i-test.true in
     let ends = past.ends c.in-Some-end.ended
     (ap (end_by c.args.wanted.now.batch) c.in-Some.is ∙ sym c.in-Some-end.ensures)
     c.push.new.self (c.in_ok-push.ensures.ok
     ∙ ap (λ (o : Option Exchanged). c.loop-i.exchanges ++ as_list o) (sym c.in-Some.is)) in
-    kept_so ends told bodies at
+    staged_so ends
 
 pub loop-i-preserved : goal.loop-i-preserved
 loop-i-preserved g c =
     let t = terms c.args.wanted.now.name c.args.now (kinds_of c.args.handlers.now) in
     let is = c.happening_at-happening.ensures ∙ ap (happening_at c.loop-i.i)
     c.as_slice.ensures.value in
-    let made : HasMade t c.args.wanted.now.batch g.D.Disk c.loop-i.disk c.make_exchange.new.disk
-    c.loop-i.play c.in_ok-next.next c.loop-i.asks c.make_exchange.new.asks
-    c.happening_at-happening.result c.in_ok-next.came = record {
+    let made : HasMade t c.args.wanted.now.batch c.loop-i.play c.in_ok-next.next c.loop-i.asks
+    c.make_exchange.new.asks c.happening_at-happening.result c.in_ok-next.came = record {
       came = c.in_ok-next.ensures.came;
       asks = c.in_ok-next.ensures.asks;
-      session = c.in_ok-next.ensures.session;
-      limit = c.in_ok-next.ensures.limit;
-      safe = λ told bodies at. c.in_ok-next.ensures.safe told bodies at;
+      follows = c.in_ok-next.ensures.staged;
     } in
     let past = exchanged c.loop-i.invariant.on made c.requires.batch is c.loop-i-test.true in
     let none = ap (end_by c.args.wanted.now.batch) c.in-Some.is ∙ sym c.end_by-end.ensures
@@ -196,12 +141,11 @@ loop-i-preserved g c =
           c.in_ok-push.ensures.ok;
       none = λ is. then_none c.loop-i.invariant.on made c.requires.batch
           (ap has_pulled c.in-Some.is ∙ sym c.has_pulled-pulled.ensures ∙ is);
-      later = search rules;
     }
 
 pub returns-clause-turned : goal.returns-clause-turned
 returns-clause-turned g c = made_so (used c.loop-i.invariant.on c.loop-i-test.false)
 
-pub returns-clause-safe : goal.returns-clause-safe
-returns-clause-safe g c told bodies at =
-    kept_so (used c.loop-i.invariant.on c.loop-i-test.false) told bodies at
+pub returns-clause-staged : goal.returns-clause-staged
+returns-clause-staged g c =
+    staged_so (used c.loop-i.invariant.on c.loop-i-test.false)

@@ -1,24 +1,22 @@
-use Rattle.std.proofs.Common.{List, ◌++◌, length, string_bytes, ◌∙◌, ap, rules}
+use Rattle.std.proofs.Common.{List, ◌++◌, length, string_bytes, ◌∙◌, refl, ap, rules}
 use Rattle.rx_observe.specs.declared.emission.Emission.{Emission}
-use Rattle.rx_store.proofs.Crashes.{answered, ran_out, same_stop}
-use Rattle.rx_engine.specs.Engine.{limit_of}
 use Rattle.rx_engine.specs.Meaning.{lines_of}
+use Rattle.rx_engine.proofs.Committing.{commits_before, commits_so, commits_stopped}
 use Rattle.rx_engine.proofs.Meanings.{alone}
 use Rattle.rx_store.proofs.Stops.{memory_stop}
 use Rattle.rx_engine.proofs.engine.Engine.answer.Goals as goal
 
-pub returns-in_err-engine-clause-safe : goal.returns-in_err-engine-clause-safe
-returns-in_err-engine-clause-safe g c told bodies at =
-    same_stop g.D.Disk c.args.disk.now c.carry_out.new.disk bodies _ (limit_of c.args.self) _ _
-    c.in_err-engine.field-0.0 c.from_residual.result (search rules)
-    (c.in_err-engine.ensures.safe told bodies at)
+pub returns-in_err-engine-clause-commits : goal.returns-in_err-engine-clause-commits
+returns-in_err-engine-clause-commits g c =
+    commits_stopped g.D.Disk c.args.disk.now c.carry_out.new.disk c.args.self _ _ _
+    c.in_err-engine.field-0.0 c.from_residual.result (search rules) c.in_err-engine.ensures.commits
 
-pub returns-in_err-output-clause-safe : goal.returns-in_err-output-clause-safe
-returns-in_err-output-clause-safe g c told bodies at =
-    ran_out g.D.Disk c.args.disk.now c.carry_out.new.disk bodies _ (limit_of c.args.self) _
+pub returns-in_err-output-clause-commits : goal.returns-in_err-output-clause-commits
+returns-in_err-output-clause-commits g c =
+    commits_before g.D.Disk c.args.disk.now c.carry_out.new.disk c.args.self _ _ _ _
     c.from_residual-in_err-output.result
     (memory_stop c.from_residual-in_err-output.result c.from_residual-in_err-output.ensures.1)
-    (c.in_ok-engine.ensures.safe told bodies at).moments
+    c.in_ok-engine.ensures.commits
 
 pub returns-clause-text : goal.returns-clause-text
 returns-clause-text g c =
@@ -32,10 +30,10 @@ returns-clause-emitted g c =
     ∙ ap (λ (es : List Emission). length es)
     (c.as_slice.ensures.value ∙ c.in_ok-engine.ensures.emissions)
 
-pub returns-clause-safe : goal.returns-clause-safe
-returns-clause-safe g c told bodies at =
-    answered g.D.Disk c.args.disk.now c.carry_out.new.disk bodies _ (limit_of c.args.self) _
-    _ _ _ (c.in_ok-engine.ensures.safe told bodies at) (λ holds. holds)
+pub returns-clause-commits : goal.returns-clause-commits
+returns-clause-commits g c =
+    commits_so g.D.Disk c.args.disk.now c.carry_out.new.disk c.args.self _ _ _ _ _
+    (λ bodies held. held) refl c.in_ok-engine.ensures.commits
 
 pub returns-clause-idle : goal.returns-clause-idle
 returns-clause-idle g c idle =

@@ -65,7 +65,7 @@ returns-in-Printed-clause-plays g c =
     (bodies_of cs) (limit_of c.args.self) (λ x. IsAt g.D.Disk c.answer.new.disk x.0)
     c.answer.result)
     (records_so c.args.number c.args.text.now (s later) j.0 p j.1 j.2)
-    (e.safe told bodies at))
+    (e.commits.safe told bodies at))
     (shown_printed g.D.Disk g.L.W.Wire.tells kinds c.args.number c.args.text.now c.args.disk.now
     c.answer.new.disk _ _ c.args.self
     c.answer.result j.0 j.1 refl)
@@ -163,7 +163,7 @@ returns-in-Turns-clause-plays g c =
     subst (λ (x : Meaning). IsCrashSafe g.D.Disk c.args.disk.now c.answer_turn.new.disk bodies
     (bodies_of x.records) (limit_of c.args.self) (λ p. IsAt g.D.Disk c.answer_turn.new.disk p.0) r)
     (turn_so c.args.number c.args.text.now (s later) (turn_of m) is)
-    (c.answer_turn.ensures.safe told bodies at))
+    (c.answer_turn.ensures.commits.safe told bodies at))
     (shown_turn g.D.Disk g.L.W.Wire.tells kinds c.args.number c.args.text.now c.args.disk.now
     c.answer_turn.new.disk _ _ c.args.self r
     (turn_of m) is refl)
@@ -325,3 +325,17 @@ returns-in-Calls-clause-refused g c =
     not_refused _ c.answer_call.result
     (if_ok c.answer_call.result _ _ (c.answer_call.ensures.turned.so [])
     (λ x a. a.answers.refused))
+
+-- ---- the limit, and the cause of a stop
+
+pub returns-in-Printed-clause-limit : goal.returns-in-Printed-clause-limit
+returns-in-Printed-clause-limit g c = c.answer.ensures.commits.limit
+
+pub returns-in-Printed-clause-cause : goal.returns-in-Printed-clause-cause
+returns-in-Printed-clause-cause g c = c.answer.ensures.commits.cause
+
+pub returns-in-Turns-clause-limit : goal.returns-in-Turns-clause-limit
+returns-in-Turns-clause-limit g c = c.answer_turn.ensures.commits.limit
+
+pub returns-in-Turns-clause-cause : goal.returns-in-Turns-clause-cause
+returns-in-Turns-clause-cause g c = c.answer_turn.ensures.commits.cause

@@ -27,8 +27,11 @@ call_by_name-requires-clause-at g c told =
     let at = c.requires.at told in
     let session = c.begin.ensures.same ∙ c.release-parts.ensures.same in (
       at.0,
-      subst (λ (x : Session). Holds g.D.Disk c.args.disk.now c.args.self.journal at.0 x.world)
-          (sym session) at.1,
+      (
+        subst (λ (x : Session). Holds g.D.Disk c.args.disk.now c.args.self.journal at.0 x.world)
+            (sym session) at.1,
+        refl,
+      ),
     )
 
 pub call_by_name-requires-clause-may : goal.call_by_name-requires-clause-may
@@ -203,7 +206,7 @@ returns-clause-turned g c =
     (Ok c.in_ok-made.made) here (λ (m : AfterTurn). IsAt g.D.Disk c.call_by_name.new.disk m.engine)
     (IsAfterCall c.args.wanted.now.name kinds c.args.self) c.in_ok-made.made _ refl
     (λ bodies holds. subst (λ (x : Session). Holds g.D.Disk c.call_by_name.new.disk
-    c.in_ok-made.made.play.journal bodies x.world) (sym settled) holds)
+    c.in_ok-made.made.play.journal bodies x.world) (sym settled) holds.0)
     (λ done later so. record {
       after = record {
         session = settled ∙ ap (λ (x : Session). settled_session x) so.made_so.session;

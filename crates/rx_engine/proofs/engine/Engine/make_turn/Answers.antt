@@ -1,34 +1,24 @@
-use Rattle.std.proofs.Common.{◌≡◌, ◌∙◌, ℕ, List, [], ◌++◌, Some, ap, sym, subst}
+use Rattle.std.proofs.Common.{◌≡◌, ◌∙◌, ℕ, List, [], Some, refl, ap, sym, subst}
 use Rattle.rx_value.specs.Named.{by_bytes, put_named}
 use Rattle.rx_handler.specs.Shown.{kinds_of}
 use Rattle.rx_session.specs.Emissions.{emissions, settled_session}
 use Rattle.rx_session.specs.Session.{Session}
 use Rattle.rx_store.specs.Holds.{Holds}
-use Rattle.rx_store.proofs.Crashes.{answered, ran_out, same_stop}
 use Rattle.rx_sync.specs.Asking.{pending_in}
 use Rattle.rx_sync.specs.Laws.{IsLevel}
 use Rattle.rx_world.specs.Made.{IsMadeWorld}
 use Rattle.rx_world.specs.Sound.{IsSoundWorld}
-use Rattle.rx_engine.specs.Engine.{IsAt, asks_in, session_of, standing_of}
+use Rattle.rx_engine.specs.Engine.{asks_in, session_of, standing_of}
 use Rattle.rx_engine.specs.Marks.{AreMarked, AreMarkedBut}
-use Rattle.rx_engine.specs.Meaning.{bodies_of}
 use Rattle.rx_engine.specs.Remembered.{AreRemembered}
 use Rattle.rx_engine.specs.Shown.{turn_of}
 use Rattle.rx_engine.specs.SoundSession.{SessionWithAsks}
 use Rattle.rx_engine.specs.Turning.{turned}
-use Rattle.rx_engine.proofs.AfterTurns.{level_then, made_here, made_then, may, may_here, others_then, remembered_then, safe_here, sound_then}
-use Rattle.rx_store.proofs.Stops.{done_cause, handed_on, memory_cause, memory_stop, same_cause}
+use Rattle.rx_engine.proofs.AfterTurns.{follows_here, level_then, made_here, made_then, may, may_here, others_then, remembered_then, sound_then}
+use Rattle.rx_engine.proofs.Committing.{commits_before, commits_play, commits_so, commits_stopped, engine_with, none_committed, play_may_commit}
+use Rattle.rx_engine.proofs.Staging.{play_of}
+use Rattle.rx_store.proofs.Stops.{handed_on, memory_stop}
 use Rattle.rx_engine.proofs.engine.Engine.make_turn.Goals as goal
-
-pub turn_by_name-requires-clause-at : goal.turn_by_name-requires-clause-at
-unfolding session_of
-turn_by_name-requires-clause-at g c told =
-    let at = c.requires.at told in
-    let session = c.begin.ensures.same ∙ c.release-parts.ensures.same in (
-      at.0,
-      subst (λ (x : Session). Holds g.D.Disk c.args.disk.now c.args.self.journal at.0 x.world)
-          (sym session) at.1,
-    )
 
 pub turn_by_name-requires-clause-may : goal.turn_by_name-requires-clause-may
 unfolding session_of asks_in standing_of
@@ -41,41 +31,83 @@ turn_by_name-requires-clause-may g c =
     (c.moment-now.ensures ∙ ap (λ (x : Session). x.moment) parts.same) parts.asks
     (may u s c.requires.batch parts.made parts.sound c.requires.can parts.remembered)
 
-pub returns-in_err-made-clause-safe : goal.returns-in_err-made-clause-safe
-unfolding session_of asks_in standing_of
-returns-in_err-made-clause-safe g c told bodies at =
-    let s = standing_of (kinds_of c.args.handlers.now) [] c.args.self in
-    let u = turn_of c.args.wanted.now in
-    let parts = c.release-parts.ensures in
-    let session = c.begin.ensures.same ∙ parts.same in
-    same_stop g.D.Disk c.args.disk.now c.turn_by_name.new.disk bodies
-    (bodies_of (turned u s).records)
-    c.args.self.journal.limit _ _ c.in_err-made.field-0.0 c.from_residual.result
-    (handed_on c.from_residual.result c.in_err-made.field-0.0 c.from_residual.ensures.1)
-    (safe_here u s c.begin.result c.moment-now.result (by_bytes c.release-parts.result.1.entries)
-    session (c.moment-now.ensures ∙ ap (λ (x : Session). x.moment) parts.same) parts.asks
-    g.D.Disk c.args.disk.now c.turn_by_name.new.disk bodies c.args.self.journal.limit _ _
-    (c.in_err-made.ensures.safe told bodies
-    (subst (λ (x : Session). Holds g.D.Disk c.args.disk.now c.args.self.journal bodies x.world)
-    (sym session) at)))
+pub returns-in_err-made-clause-commits : goal.returns-in_err-made-clause-commits
+returns-in_err-made-clause-commits g c =
+    none_committed g.D.Disk c.args.disk.now c.args.self
+    (λ told left e. g.met.D.Disk.only_now c.args.disk.now left told e) _ _ c.from_residual.result
+    (memory_stop c.from_residual.result c.from_residual.ensures.1)
 
-pub returns-in_err-session-clause-safe : goal.returns-in_err-session-clause-safe
+pub commit-requires : goal.commit-requires
+unfolding session_of
+commit-requires g c told =
+    let at = c.requires.at told in
+    play_may_commit g.D.Disk c.args.disk.now c.args.disk.now c.args.self _ c.begin.result
+    (c.begin.ensures.same ∙ c.release-parts.ensures.same) c.in_ok-made.made.play
+    c.in_ok-made.ensures.staged at.0 at.1
+
+pub returns-in_err-play-clause-commits : goal.returns-in_err-play-clause-commits
 unfolding session_of asks_in standing_of
-returns-in_err-session-clause-safe g c told bodies at =
+returns-in_err-play-clause-commits g c =
     let s = standing_of (kinds_of c.args.handlers.now) [] c.args.self in
     let u = turn_of c.args.wanted.now in
     let parts = c.release-parts.ensures in
     let session = c.begin.ensures.same ∙ parts.same in
-    let now = c.moment-now.ensures ∙ ap (λ (x : Session). x.moment) parts.same in
-    ran_out g.D.Disk c.args.disk.now c.turn_by_name.new.disk bodies (bodies_of (turned u s).records)
-    c.args.self.journal.limit _ c.from_residual-in_err-session.result
+    let d = g.D.Disk in
+    let old = c.args.disk.now in
+    let new = c.commit.new.disk in
+    let self = c.args.self in
+    let stop = c.in_err-play.field-0.0 in
+    commits_stopped d old new self (turned u s).records (engine_with self) _ stop
+    c.from_residual-in_err-play.result
+    (handed_on c.from_residual-in_err-play.result stop c.from_residual-in_err-play.ensures.1)
+    (commits_play d old new self (turned u s).records c.begin.result session c.in_ok-made.made.play
+    (follows_here u s c.begin.result c.moment-now.result (by_bytes c.release-parts.result.1.entries)
+    session (c.moment-now.ensures ∙ ap (λ (x : Session). x.moment) parts.same) parts.asks
+    (play_of self.journal c.begin.result) c.in_ok-made.made.play c.in_ok-made.ensures.staged) _
+    c.in_err-play.ensures)
+
+pub returns-in_err-session-clause-commits : goal.returns-in_err-session-clause-commits
+unfolding session_of asks_in standing_of
+returns-in_err-session-clause-commits g c =
+    let s = standing_of (kinds_of c.args.handlers.now) [] c.args.self in
+    let u = turn_of c.args.wanted.now in
+    let parts = c.release-parts.ensures in
+    let session = c.begin.ensures.same ∙ parts.same in
+    let d = g.D.Disk in
+    let old = c.args.disk.now in
+    let new = c.commit.new.disk in
+    let self = c.args.self in
+    commits_before d old new self (turned u s).records (engine_with self) _ c.in_ok-play.play
+    c.from_residual-in_err-session.result
     (memory_stop c.from_residual-in_err-session.result c.from_residual-in_err-session.ensures.1)
-    (safe_here u s c.begin.result c.moment-now.result (by_bytes c.release-parts.result.1.entries)
-    session now parts.asks g.D.Disk c.args.disk.now c.turn_by_name.new.disk bodies
-    c.args.self.journal.limit _ _
-    (c.in_ok-made.ensures.safe told bodies
-    (subst (λ (x : Session). Holds g.D.Disk c.args.disk.now c.args.self.journal bodies x.world)
-    (sym session) at))).moments
+    (commits_play d old new self (turned u s).records c.begin.result session c.in_ok-made.made.play
+    (follows_here u s c.begin.result c.moment-now.result (by_bytes c.release-parts.result.1.entries)
+    session (c.moment-now.ensures ∙ ap (λ (x : Session). x.moment) parts.same) parts.asks
+    (play_of self.journal c.begin.result) c.in_ok-made.made.play c.in_ok-made.ensures.staged) _
+    c.in_ok-play.ensures)
+
+pub returns-clause-commits : goal.returns-clause-commits
+unfolding session_of asks_in standing_of
+returns-clause-commits g c =
+    let s = standing_of (kinds_of c.args.handlers.now) [] c.args.self in
+    let u = turn_of c.args.wanted.now in
+    let parts = c.release-parts.ensures in
+    let session = c.begin.ensures.same ∙ parts.same in
+    let d = g.D.Disk in
+    let old = c.args.disk.now in
+    let new = c.commit.new.disk in
+    let self = c.args.self in
+    let play = c.in_ok-play.play in
+    let settled = ap (λ (x : SessionWithAsks). x.session) c.new.ensures
+    ∙ c.in_ok-session.ensures.session in
+    commits_so d old new self (turned u s).records (engine_with self) _ play _
+    (λ bodies held.
+    subst (λ (x : Session). Holds d new play.journal bodies x.world) (sym settled) held) refl
+    (commits_play d old new self (turned u s).records c.begin.result session c.in_ok-made.made.play
+    (follows_here u s c.begin.result c.moment-now.result (by_bytes c.release-parts.result.1.entries)
+    session (c.moment-now.ensures ∙ ap (λ (x : Session). x.moment) parts.same) parts.asks
+    (play_of self.journal c.begin.result) c.in_ok-made.made.play c.in_ok-made.ensures.staged) _
+    c.in_ok-play.ensures)
 
 pub tell_none-none-requires : goal.tell_none-none-requires
 unfolding session_of
@@ -93,8 +125,10 @@ turn_by_name-requires-clause-none g c is =
 
 pub settle_turn-requires-clause-none : goal.settle_turn-requires-clause-none
 settle_turn-requires-clause-none g c is =
-    subst (λ (n : List ℕ). pending_in c.in_ok-made.made.play.playing.world n ≡ Some 0)
-    (sym c.as_str-name.ensures) (c.in_ok-made.ensures.none is)
+    subst (λ (n : List ℕ). pending_in c.in_ok-play.play.playing.world n ≡ Some 0)
+    (sym c.as_str-name.ensures)
+    (subst (λ (x : Session). pending_in x.world c.args.wanted.now.name ≡ Some 0)
+    (sym c.in_ok-play.ensures.session) (c.in_ok-made.ensures.none is))
 
 pub new-requires-clause-marked : goal.new-requires-clause-marked
 new-requires-clause-marked g c = c.in_ok-session.ensures.marked
@@ -110,10 +144,10 @@ settle_turn-requires-clause-others g c =
     let made = made_here u s c.begin.result c.moment-now.result
     (by_bytes c.release-parts.result.1.entries) session now parts.asks c.in_ok-made.made
     (by_bytes c.turn_by_name.new.asks.entries) c.in_ok-made.ensures.turned in
-    subst (λ (n : List ℕ). AreMarkedBut n c.in_ok-made.made.play.playing.world
+    subst (λ (n : List ℕ). AreMarkedBut n c.in_ok-play.play.playing.world
     c.release-parts.result.2) (sym c.as_str-name.ensures)
     (subst (λ (x : Session). AreMarkedBut u.name x.world c.release-parts.result.2)
-    (sym made.session)
+    (sym (c.in_ok-play.ensures.session ∙ made.session))
     (others_then u s c.requires.batch parts.made parts.sound c.requires.can parts.remembered
     c.release-parts.result.2 parts.marked))
 
@@ -130,7 +164,7 @@ new-requires-clause-made g c =
     (by_bytes c.release-parts.result.1.entries) session now parts.asks c.in_ok-made.made
     (by_bytes c.turn_by_name.new.asks.entries) c.in_ok-made.ensures.turned in
     let settled = c.in_ok-session.ensures.session
-    ∙ ap (λ (x : Session). settled_session x) made.session in
+    ∙ ap (λ (x : Session). settled_session x) (c.in_ok-play.ensures.session ∙ made.session) in
     subst (λ (x : Session). IsMadeWorld x.world) (sym settled)
     (made_then u s c.requires.batch parts.made parts.sound c.requires.can parts.remembered)
 
@@ -146,7 +180,7 @@ new-requires-clause-sound g c =
     (by_bytes c.release-parts.result.1.entries) session now parts.asks c.in_ok-made.made
     (by_bytes c.turn_by_name.new.asks.entries) c.in_ok-made.ensures.turned in
     let settled = c.in_ok-session.ensures.session
-    ∙ ap (λ (x : Session). settled_session x) made.session in
+    ∙ ap (λ (x : Session). settled_session x) (c.in_ok-play.ensures.session ∙ made.session) in
     subst (λ (x : Session). IsSoundWorld x.world) (sym settled)
     (sound_then u s c.requires.batch parts.made parts.sound c.requires.can parts.remembered)
 
@@ -162,7 +196,7 @@ new-requires-clause-remembered g c =
     (by_bytes c.release-parts.result.1.entries) session now parts.asks c.in_ok-made.made
     (by_bytes c.turn_by_name.new.asks.entries) c.in_ok-made.ensures.turned in
     let settled = c.in_ok-session.ensures.session
-    ∙ ap (λ (x : Session). settled_session x) made.session in
+    ∙ ap (λ (x : Session). settled_session x) (c.in_ok-play.ensures.session ∙ made.session) in
     subst (AreRemembered c.in_ok-session.session.world) (sym made.asks)
     (subst (λ (x : Session). AreRemembered x.world (put_named s.asks u.name (turned u s).asks))
     (sym settled)
@@ -180,37 +214,15 @@ returns-clause-turned g c =
     (by_bytes c.release-parts.result.1.entries) session now parts.asks c.in_ok-made.made
     (by_bytes c.turn_by_name.new.asks.entries) c.in_ok-made.ensures.turned in
     let settled = c.in_ok-session.ensures.session
-    ∙ ap (λ (x : Session). settled_session x) made.session in
+    ∙ ap (λ (x : Session). settled_session x) (c.in_ok-play.ensures.session ∙ made.session) in
     record {
       session = ap (λ (x : SessionWithAsks). x.session) c.new.ensures ∙ settled;
       asks = ap (λ (x : SessionWithAsks). x.asks) c.new.ensures ∙ made.asks;
-      due = c.in_ok-session.ensures.emissions ∙ ap (λ (x : Session). emissions x) made.session;
+      due = c.in_ok-session.ensures.emissions
+          ∙ ap (λ (x : Session). emissions x) (c.in_ok-play.ensures.session ∙ made.session);
       exchanges = made.exchanges;
       ended = made.ended;
     }
-
-pub returns-clause-safe : goal.returns-clause-safe
-unfolding session_of asks_in standing_of
-returns-clause-safe g c told bodies at =
-    let s = standing_of (kinds_of c.args.handlers.now) [] c.args.self in
-    let u = turn_of c.args.wanted.now in
-    let parts = c.release-parts.ensures in
-    let session = c.begin.ensures.same ∙ parts.same in
-    let now = c.moment-now.ensures ∙ ap (λ (x : Session). x.moment) parts.same in
-    let settled = ap (λ (x : SessionWithAsks). x.session) c.new.ensures
-    ∙ c.in_ok-session.ensures.session in
-    answered g.D.Disk c.args.disk.now c.turn_by_name.new.disk bodies
-    (bodies_of (turned u s).records)
-    c.args.self.journal.limit _ (λ m. IsAt g.D.Disk c.turn_by_name.new.disk m.engine) _ _
-    (safe_here u s c.begin.result c.moment-now.result (by_bytes c.release-parts.result.1.entries)
-    session now parts.asks g.D.Disk c.args.disk.now c.turn_by_name.new.disk bodies
-    c.args.self.journal.limit _ _
-    (c.in_ok-made.ensures.safe told bodies
-    (subst (λ (x : Session). Holds g.D.Disk c.args.disk.now c.args.self.journal bodies x.world)
-    (sym session) at)))
-    (λ holds. subst (λ (x : Session). Holds g.D.Disk c.turn_by_name.new.disk
-    c.in_ok-made.made.play.journal
-    (bodies ++ bodies_of (turned u s).records) x.world) (sym settled) holds)
 
 pub returns-clause-quiet : goal.returns-clause-quiet
 unfolding session_of asks_in standing_of
@@ -224,26 +236,7 @@ returns-clause-quiet g c quiet =
     (by_bytes c.release-parts.result.1.entries) session now parts.asks c.in_ok-made.made
     (by_bytes c.turn_by_name.new.asks.entries) c.in_ok-made.ensures.turned in
     let settled = c.in_ok-session.ensures.session
-    ∙ ap (λ (x : Session). settled_session x) made.session in
+    ∙ ap (λ (x : Session). settled_session x) (c.in_ok-play.ensures.session ∙ made.session) in
     subst (λ (x : Session). IsLevel x.world u.name)
     (sym (ap (λ (x : SessionWithAsks). x.session) c.new.ensures ∙ settled))
     (level_then u s c.requires.batch parts.made parts.sound c.requires.can parts.remembered quiet)
-
-pub returns-clause-cause : goal.returns-clause-cause
-returns-clause-cause g c =
-    done_cause (g.D.Disk.faults c.args.disk.now) (g.D.Disk.faults c.turn_by_name.new.disk)
-    c.in_ok-made.made _ c.in_ok-made.ensures.cause
-
-pub returns-in_err-made-clause-cause : goal.returns-in_err-made-clause-cause
-returns-in_err-made-clause-cause g c =
-    same_cause (g.D.Disk.faults c.args.disk.now) (g.D.Disk.faults c.turn_by_name.new.disk)
-    c.in_err-made.field-0.0 c.from_residual.result
-    (handed_on c.from_residual.result c.in_err-made.field-0.0 c.from_residual.ensures.1)
-    c.in_err-made.ensures.cause
-
-pub returns-in_err-session-clause-cause : goal.returns-in_err-session-clause-cause
-returns-in_err-session-clause-cause g c =
-    memory_cause (g.D.Disk.faults c.args.disk.now) (g.D.Disk.faults c.turn_by_name.new.disk)
-    c.in_ok-made.made _
-    (memory_stop c.from_residual-in_err-session.result c.from_residual-in_err-session.ensures.1)
-    c.in_ok-made.ensures.cause

@@ -19,51 +19,69 @@ use Rattle.rx_engine.specs.Remembered.{AreRemembered}
 use Rattle.rx_engine.specs.SoundSession.{SessionWithAsks}
 use Rattle.rx_engine.proofs.Marking.{none_marked}
 use Rattle.rx_engine.proofs.Opened.{by_number}
-use Rattle.rx_store.proofs.Stops.{handed_on, memory_stop}
+use Rattle.rx_outside.specs.declared.stop.Stop.TheVariants.{Memory}
+use Rattle.rx_store.proofs.Stops.{handed_on, memory_cause, memory_stop, ok_cause, refused_cause, same_cause}
+use Rattle.rx_engine.proofs.Remotely.{if_err}
 use Rattle.rx_engine.proofs.engine.Engine.reopen.Goals as goal
 
-pub returns-in_err-journal-clause-safe : goal.returns-in_err-journal-clause-safe
+pub returns-in_err-journal-clause-commits : goal.returns-in_err-journal-clause-commits
 unfolding session_of asks_in
-returns-in_err-journal-clause-safe g c told bodies at =
+returns-in_err-journal-clause-commits g c =
     let d = g.D.Disk in
     let old = c.args.self.journal in
     let w = c.args.self.session.session.world in
-    let legal = held_legal d c.args.disk.now old bodies w at in
-    same_stop d c.args.disk.now c.open.new.disk bodies (content_bytes
-    (epoch c.args.epoch) ∷ []) old.limit _ _
-    c.in_err-journal.field-0.0 c.from_residual.result
-    (handed_on c.from_residual.result c.in_err-journal.field-0.0 c.from_residual.ensures.1)
-    (by_number d c.args.disk.now c.open.new.disk bodies w c.args.epoch old.limit c.requires.next _
-    (Err c.in_err-journal.field-0.0) (c.in_err-journal.ensures.safe told bodies w legal))
+    let stop = c.in_err-journal.field-0.0 in
+    let handed = handed_on c.from_residual.result stop c.from_residual.ensures.1 in
+    record {
+      safe = λ told bodies at.
+          same_stop d c.args.disk.now c.open.new.disk bodies (content_bytes
+          (epoch c.args.epoch) ∷ []) old.limit _ _ stop c.from_residual.result handed
+          (by_number d c.args.disk.now c.open.new.disk bodies w c.args.epoch old.limit
+          c.requires.next _ (Err stop) (c.in_err-journal.ensures.safe told bodies w
+          (held_legal d c.args.disk.now old bodies w at)));
+      limit = if_err _ c.from_residual.result stop handed;
+      cause = same_cause (d.faults c.args.disk.now) (d.faults c.open.new.disk) stop
+          c.from_residual.result handed c.in_err-journal.ensures.cause;
+    }
 
-pub returns-then-not-is_next-clause-safe : goal.returns-then-not-is_next-clause-safe
+pub returns-then-not-is_next-clause-commits : goal.returns-then-not-is_next-clause-commits
 unfolding session_of asks_in
-returns-then-not-is_next-clause-safe g c told bodies at =
-    let w = c.args.self.session.session.world in
-    let legal = held_legal g.D.Disk c.args.disk.now c.args.self.journal bodies w at in
-    let opened = c.in_ok-journal.ensures.opened told bodies w legal in
-    let goes : c.is_next.result ≡ true =
-    c.is_next.ensures.1 (opened ∙ ap (λ (n : ℕ). step (epoch n) w) (sym c.requires.next)
-    ∙ sym (ap
-    (λ (x : Session). step (epoch c.args.epoch) x.world) c.into_session-before.ensures.same)) in
-    let not : c.is_next.result ≡ false = search rules in
-    absurd (true≢false (sym goes ∙ not))
+returns-then-not-is_next-clause-commits g c = record {
+  safe = λ told bodies at.
+      let w = c.args.self.session.session.world in
+      let legal = held_legal g.D.Disk c.args.disk.now c.args.self.journal bodies w at in
+      let opened = c.in_ok-journal.ensures.opened told bodies w legal in
+      let goes : c.is_next.result ≡ true =
+      c.is_next.ensures.1 (opened ∙ ap (λ (n : ℕ). step (epoch n) w) (sym c.requires.next)
+      ∙ sym (ap
+      (λ (x : Session). step (epoch c.args.epoch) x.world) c.into_session-before.ensures.same)) in
+      let not : c.is_next.result ≡ false = search rules in
+      absurd (true≢false (sym goes ∙ not));
+  limit = tt;
+  cause = refused_cause (g.D.Disk.faults c.args.disk.now) (g.D.Disk.faults c.open.new.disk)
+      c.in_ok-journal.ensures.cause.later;
+}
 
-pub returns-in_err-session-clause-safe : goal.returns-in_err-session-clause-safe
+pub returns-in_err-session-clause-commits : goal.returns-in_err-session-clause-commits
 unfolding session_of asks_in
-returns-in_err-session-clause-safe g c told bodies at =
+returns-in_err-session-clause-commits g c =
     let d = g.D.Disk in
     let old = c.args.self.journal in
     let w = c.args.self.session.session.world in
-    let legal = held_legal d c.args.disk.now old bodies w at in
-    let safe = by_number d c.args.disk.now c.open.new.disk bodies w c.args.epoch old.limit
-    c.requires.next _ _
-    (c.in_ok-journal.ensures.safe told bodies w legal) in
-    ran_out d c.args.disk.now c.open.new.disk bodies (content_bytes
-    (epoch c.args.epoch) ∷ []) old.limit _
-    c.from_residual-in_err-session.result
-    (memory_stop c.from_residual-in_err-session.result c.from_residual-in_err-session.ensures.1)
-    safe.moments
+    let out = memory_stop c.from_residual-in_err-session.result
+    c.from_residual-in_err-session.ensures.1 in
+    record {
+      safe = λ told bodies at.
+          let legal = held_legal d c.args.disk.now old bodies w at in
+          let safe = by_number d c.args.disk.now c.open.new.disk bodies w c.args.epoch old.limit
+          c.requires.next _ _ (c.in_ok-journal.ensures.safe told bodies w legal) in
+          ran_out d c.args.disk.now c.open.new.disk bodies (content_bytes
+          (epoch c.args.epoch) ∷ []) old.limit _ c.from_residual-in_err-session.result out
+          safe.moments;
+      limit = if_err _ c.from_residual-in_err-session.result Memory out;
+      cause = memory_cause (d.faults c.args.disk.now) (d.faults c.open.new.disk)
+          c.in_ok-journal.field-0 _ out c.in_ok-journal.ensures.cause;
+    }
 
 -- the world is the one before, in its next epoch
 pub new-requires-clause-made : goal.new-requires-clause-made
@@ -133,14 +151,13 @@ returns-clause-quiet g c =
     (world_of c.in_ok-journal.field-0.world).epoch) x))
     c.into_session-before.ensures.same) ∙ c.in_ok-session.ensures.emissions
 
-pub returns-clause-safe : goal.returns-clause-safe
+pub returns-clause-commits : goal.returns-clause-commits
 unfolding session_of asks_in
-returns-clause-safe g c told bodies at =
+returns-clause-commits g c =
     let d = g.D.Disk in
     let old = c.args.self.journal in
     let new = c.in_ok-journal.field-0.journal in
     let s = c.args.self.session.session in
-    let legal = held_legal d c.args.disk.now old bodies s.world at in
     let goes : c.is_next.result ≡ true = search rules in
     let number : (world_of c.in_ok-journal.field-0.world).epoch ≡ c.args.epoch =
     ap (λ (x : World). x.epoch) (c.is_next.ensures.0 goes) in
@@ -150,21 +167,18 @@ returns-clause-safe g c told bodies at =
     (world_of c.in_ok-journal.field-0.world).epoch) x))
     c.into_session-before.ensures.same
     ∙ ap (λ (n : ℕ). settled_session (session_after (restart n) s)) number in
-    let safe = by_number d c.args.disk.now c.open.new.disk bodies s.world c.args.epoch old.limit
-    c.requires.next _ _
-    (c.in_ok-journal.ensures.safe told bodies s.world legal) in
-    answered d c.args.disk.now c.open.new.disk bodies (content_bytes
-    (epoch c.args.epoch) ∷ []) old.limit _
-    (IsAt d c.open.new.disk) _ _ safe
-    (λ holds. subst (λ (x : Session). Holds d c.open.new.disk new (bodies ++ content_bytes
-    (epoch c.args.epoch) ∷ []) x.world)
-    (sym session)
-    (subst (λ (n : ℕ). Holds d c.open.new.disk new (bodies ++ content_bytes
-    (epoch c.args.epoch) ∷ []) (step (epoch n) s.world))
-    (sym c.requires.next) holds))
-
-pub returns-clause-cause : goal.returns-clause-cause
-returns-clause-cause g c = record {
-  later = c.in_ok-journal.ensures.cause.later;
-  failed = λ is. absurd (cc);
-}
+    record {
+      safe = λ told bodies at.
+          let legal = held_legal d c.args.disk.now old bodies s.world at in
+          let safe = by_number d c.args.disk.now c.open.new.disk bodies s.world c.args.epoch
+          old.limit c.requires.next _ _ (c.in_ok-journal.ensures.safe told bodies s.world legal) in
+          answered d c.args.disk.now c.open.new.disk bodies (content_bytes
+          (epoch c.args.epoch) ∷ []) old.limit _ (IsAt d c.open.new.disk) _ _ safe
+          (λ holds. subst (λ (x : Session). Holds d c.open.new.disk new (bodies ++ content_bytes
+          (epoch c.args.epoch) ∷ []) x.world) (sym session)
+          (subst (λ (n : ℕ). Holds d c.open.new.disk new (bodies ++ content_bytes
+          (epoch c.args.epoch) ∷ []) (step (epoch n) s.world)) (sym c.requires.next) holds));
+      limit = c.in_ok-journal.ensures.limit;
+      cause = ok_cause (d.faults c.args.disk.now) (d.faults c.open.new.disk)
+          c.in_ok-journal.ensures.cause.later _;
+    }
