@@ -77,7 +77,7 @@ def timed(work):
 
 
 def python(path):
-    with rx.open(program(), path) as db:
+    with rx.open(path, program=program()) as db:
         c = {load: db.collection(load, SCHEMA) for load in LOADS}
         for load in ("get", "observed"):
             c[load].bulk(rows(0, COUNT))
@@ -98,7 +98,7 @@ def python(path):
 
 
 async def with_asyncio(path):
-    async with rx.open_async(program(), path) as db:
+    async with rx.open_async(path, program=program()) as db:
         c = {load: await db.collection(load, SCHEMA) for load in LOADS}
         for load in ("get", "observed"):
             await c[load].bulk(rows(0, COUNT))

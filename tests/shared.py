@@ -23,6 +23,8 @@ sys.path.insert(0, EXAMPLES)
 from client import hash_of  # noqa: E402
 
 RX = os.path.abspath(os.environ.get("RX") or os.path.join(ROOT, "crates", "rx", "out", "rx"))
+# What Debian's packages for Python are for, where another one runs the tests.
+DEBIANS_PYTHON = "/usr/bin/python3"
 # A run that is read to its end may take so long.
 SECONDS = 240
 # A call of the program waits for a minute, and one that moved a part in it is made again: a reply that

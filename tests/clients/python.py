@@ -4,18 +4,25 @@ import itertools
 import json
 import os
 import re
+import shutil
 import signal
 import subprocess
 import sys
 import threading
+import time
+import tracemalloc
 
 HERE = os.path.dirname(os.path.abspath(__file__))
 sys.path.insert(0, os.path.dirname(HERE))
-from shared import ROOT, RX, SCHEMA, Server, case, examples, main, same, told  # noqa: E402
+from shared import DEBIANS_PYTHON, ROOT, RX, SCHEMA, Server, case, examples, main, same, told  # noqa: E402
 
-sys.path.insert(0, os.path.join(ROOT, "clients", "python"))
+CLIENT = os.path.join(ROOT, "clients", "python")
+sys.path.insert(0, CLIENT)
 import rx  # noqa: E402
+from rx import calls  # noqa: E402
+from rx.lines import Lines  # noqa: E402
 
+os.environ["RX"] = RX
 NUMBERS = itertools.count(1)
 
 
@@ -23,9 +30,9 @@ def new_journal(folder):
     return os.path.join(folder, f"journal-{next(NUMBERS)}")
 
 
-def fault(call, *args):
+def fault(call, *args, **more):
     try:
-        call(*args)
+        call(*args, **more)
     except (rx.Refused, rx.Stopped) as it:
         return it
     raise AssertionError("it was not refused")
@@ -40,21 +47,25 @@ async def async_fault(call):
 
 
 class Recorder:
-    """Keeps what goes both ways of a database."""
+    """Keeps what goes both ways of a database, but for the line that opened it."""
 
     def __init__(self, lines):
-        self.written, self.output = b"", b""
+        self.written, self._output = b"", b""
         self._write, self._take = lines.write, lines.take
         lines.write, lines.take = self.write, self.take
 
-    def write(self, line, answer):
-        data = self._write(line, answer)
+    def write(self, call, answer):
+        data = self._write(call, answer)
         self.written += data
         return data
 
     def take(self, data):
-        self.output += data
+        self._output += data
         self._take(data)
+
+    def output(self):
+        """What came, its lines numbered from 1."""
+        return re.sub(rb'(?<="line":)\d+', lambda it: b"%d" % (int(it[0]) - 1), self._output)
 
 
 def play(db, text, observed):
@@ -87,7 +98,7 @@ def prepared(folder, before):
 @case()
 def every_example_by_the_calls(folder):
     for name, script, before, out in examples():
-        with rx.open(RX, prepared(folder, before)) as db:
+        with rx.open(prepared(folder, before), clock=None) as db:
             recorder, observed = Recorder(db._lines), {}
             for text in script.decode().split("\n")[:-1]:
                 try:
@@ -95,13 +106,13 @@ def every_example_by_the_calls(folder):
                 except rx.Refused:
                     pass
         same(recorder.written, script, f"{name}, written")
-        same(recorder.output, out, f"{name}, output")
+        same(recorder.output(), out, f"{name}, output")
 
 
 @case()
 def every_example_with_asyncio(folder):
     async def run(name, script, before, out):
-        async with rx.open_async(RX, prepared(folder, before)) as db:
+        async with rx.open_async(prepared(folder, before), clock=None) as db:
             recorder, observed = Recorder(db._lines), {}
             for text in script.decode().split("\n")[:-1]:
                 try:
@@ -109,7 +120,7 @@ def every_example_with_asyncio(folder):
                 except rx.Refused:
                     pass
         same(recorder.written, script, f"{name}, written")
-        same(recorder.output, out, f"{name}, output")
+        same(recorder.output(), out, f"{name}, output")
 
     for it in examples():
         asyncio.run(run(*it))
@@ -121,7 +132,7 @@ def members(it):
 
 @case()
 def refusals_by_code(folder):
-    with rx.open(RX, new_journal(folder)) as db:
+    with rx.open(new_journal(folder)) as db:
         c = db.collection("c", SCHEMA)
         same((c.new, db.collection("c", SCHEMA).new), (True, False))
         c.insert({"id": "a", "n": 1})
@@ -134,24 +145,99 @@ def refusals_by_code(folder):
         same(members(fault(c.observe, {"limit": -1})), (16, "query", "limit", None, None, None))
         same(members(fault(db.explain, "q")), (17, "no_query", None, None, None, None))
         same(members(fault(db.line, "{")), (2, "not_json", None, None, None, None))
-        # What can't be written is refused before it counts as a line.
-        try:
-            c.insert({"id": "b", "n": float("nan")})
-            raise AssertionError("not a number was written")
-        except ValueError:
-            pass
-        same((db.line(""), c.count(), c.get("a")), ({}, 1, ({"id": "a", "n": 1}, 1, "1-c")))
+        same(fault(db.line, "\x0c").word, "not_json", "it isn't blank")
+        same((db.line(""), c.count(), c.get("a")._replace(lwt=0)), ({}, 1, ({"id": "a", "n": 1}, 0, "1-c")))
+
+
+@case()
+def what_is_no_json_is_refused_by_the_members_name_before_it_counts_as_a_line(folder):
+    with rx.open(new_journal(folder)) as db:
+        c = db.collection("c", SCHEMA)
+        deep = []
+        for _ in range(5000):
+            deep = [deep]
+        for name, value, cause in (
+            ("t", "half a pair: \ud83d", "surrogate"),
+            ("n", float("nan"), "number"),
+            ("n", {1}, "type"),
+            ("n", b"x", "type"),
+            ("d", deep, "depth"),
+        ):
+            refused = fault(c.insert, {"id": "b", name: value})
+            same(members(refused), (2, "not_json", cause, name, None, None))
+            same(
+                name in str(refused) and not (cause == "surrogate" and "\ud83d" in str(refused)),
+                True,
+                str(refused),
+            )
+        same(
+            members(fault(c.bulk, [{"id": "b"}, {"id": "\udc00"}])),
+            (2, "not_json", "surrogate", "id", None, 1),
+        )
+        same(
+            members(fault(c.insert, {"id": "b", "\ud800": 1})),
+            (2, "not_json", "surrogate", r"'\ud800'", None, None),
+        )
+        same(fault(c.find, {"selector": {"id": "\ud800"}}).subject, "id")
+        same(fault(db.line, '{"do":"\ud800"}').cause, "surrogate")
+        same((db.call({"do": "tick", "at": 1})["line"], c.count()), (3, 0), "two lines before it")
+
+
+@case()
+def a_refusal_says_the_value_and_the_limit_that_were_wrong(folder):
+    schema = {
+        **SCHEMA,
+        "properties": {
+            "id": {"type": "string", "maxLength": 20},
+            "t": {"type": "string", "maxLength": 3},
+            "n": {"type": "integer", "minimum": 1, "maximum": 9, "multipleOf": 2},
+        },
+    }
+    with rx.open(new_journal(folder)) as db:
+        c = db.collection("c", schema)
+        c.insert({"id": "a"})
+
+        def told(value, limit, words, call, *args, **more):
+            refused = fault(call, *args, **more)
+            same((refused.value, refused.limit), (value, limit), str(refused))
+            same(words in str(refused), True, str(refused))
+
+        told("myTodos", None, 'name "myTodos" is no name', db.collection, "myTodos", schema)
+        told("d" * 65, 64, "is no name: a lower-case letter", db.collection, "d" * 65, schema)
+        told("D", None, 'in "D" is no name', db.collection("D").count)
+        told("long", 3, "t has 4 characters, more than 3", c.insert, {"id": "b", "t": "long"})
+        told(11, 9, "n 11 isn't within its bounds, maximum 9", c.insert, {"id": "b", "n": 11})
+        told(0, 1, "n 0 isn't within its bounds, minimum 1", c.insert, {"id": "b", "n": 0})
+        told(3, 2, "n 3 isn't within its bounds, multipleOf 2", c.insert, {"id": "b", "n": 3})
+        told("x", None, "of the wrong kind: the schema says integer", c.insert, {"id": "b", "n": "x"})
+        told(2**53, 2**53 - 1, "beyond 9,007,199,254,740,991", c.insert, {"id": "b", "n": 2**53})
+        told("xxxx", 3, "row 1: t has 4 characters", c.bulk, [{"id": "b"}, {"id": "d", "t": "xxxx"}])
+        told("", 1, "id is empty", c.insert, {"id": ""})
+        told("a", None, '"a" is there already, at revision 1-c', c.insert, {"id": "a"})
+        told("0-c", None, '"a" has the revision 1-c, and not 0-c', c.patch, "a", {"n": 2}, rev="0-c")
+        told("z", None, 'there is no document "z"', c.get, "z")
+        told(101, 100, "batch 101 isn't from 1 to 100", c.changes, batch=101)
+        told(-1, 10**9, "limit -1 is no whole number", c.find, {"limit": -1})
+        told("m", None, "m is no property of the schema", c.find, {"selector": {"m": 1}})
+        told(70_000, 65_535, "version 70000 is no", db.collection, "d", {**schema, "version": 70_000})
+        told(5, None, "key 5 is no text", c.get, 5)
+        told(1_048_577, 1_048_576, "1,048,577 bytes, more than", db.line, " " * 1_048_575 + "{}")
+        for n in range(63):
+            db.collection(f"c{n}", schema)
+        told("more", 64, "there are 64 collections", db.collection, "more", schema)
 
 
 @case()
 def emissions_of_what_is_answered_and_then_no_more(folder):
-    with rx.open(RX, new_journal(folder)) as db:
+    with rx.open(new_journal(folder)) as db:
         c = db.collection("c", SCHEMA)
         with c.observe({"selector": {"n": {"$gte": 2}}}) as query:
+            heard = [len(query.changed())]
             for n in range(1, 4):
                 c.insert({"id": f"k{n}", "n": n})
-            same([len(rows) for rows in query.pending()], [0, 1, 2])
-            same((list(query.pending()), query.explain()["changes"]), ([], 3))
+                heard.append(query.changed())
+            same([heard[0], heard[1], *map(len, heard[2:])], [0, None, 1, 2])
+            same((query.changed(), len(query.rows()), query.explain()["changes"]), (None, 2, 3))
             try:
                 query.next(timeout=0.01)
                 raise AssertionError("an emission from nowhere")
@@ -164,8 +250,74 @@ def emissions_of_what_is_answered_and_then_no_more(folder):
 
 
 @case()
+def an_idle_reader_keeps_the_newest_emission_alone(folder):
+    """A hundred emissions of a thousand rows take some 30 MB where all are kept, and one takes 0.3."""
+    with rx.open(new_journal(folder)) as db:
+        c = db.collection("c", SCHEMA)
+        c.bulk([{"id": f"k{n}", "n": n} for n in range(1000)])
+        with c.observe() as query:
+            tracemalloc.start()
+            for n in range(100):
+                c.patch("k1", {"n": -n})
+            query.explain()
+            held, _ = tracemalloc.get_traced_memory()
+            tracemalloc.stop()
+            same(
+                (held < 3_000_000, len(query.next()), query.changed()), (True, 1000, None), f"{held:,} bytes"
+            )
+            same(query.rows()[1], {"id": "k1", "n": -99})
+    return f"{held:,} bytes"
+
+
+@case()
+def rows_are_each_subscribers_own(folder):
+    with rx.open(new_journal(folder)) as db:
+        c = db.collection("c", SCHEMA)
+        c.insert({"id": "a", "n": 1})
+        first, second = c.observe(), c.observe()
+        for query in (first, second):
+            for rows in (query.next(), query.rows()):
+                same(rows, [{"id": "a", "n": 1}])
+                rows[0]["n"] = 2
+                rows.clear()
+        same(c.find(), [{"id": "a", "n": 1}])
+
+
+@case()
+def writes_have_the_moment_of_the_clock_unless_told_not_to(folder):
+    path = new_journal(folder)
+    begun = rx.now()
+    with rx.open(path) as db:
+        c = db.collection("c", SCHEMA)
+        c.insert({"id": "a"})
+        time.sleep(0.02)
+        c.patch("a", {"n": 1})
+        second = c.get("a").lwt
+        same(
+            (begun + 20 <= second <= rx.now(), rx.now() - second < 60_000), (True, True), f"{begun} {second}"
+        )
+        db.tick(second + 5_000_000)
+        c.patch("a", {"n": 2})
+        same(c.get("a").lwt, second + 5_000_000, "the caller's moment")
+    with rx.open(new_journal(folder), clock=None) as db:
+        c = db.collection("c", SCHEMA)
+        c.bulk([{"id": "a"}])
+        c.insert({"id": "b"})
+        same((c.get("a").lwt, c.get("b").lwt), (1, 2))
+    moments = iter([7, 7, 7, 9, 9])
+    with rx.open(new_journal(folder), clock=lambda: next(moments)) as db:
+        c = db.collection("c", SCHEMA)
+        times = []
+        for key in "abcd":
+            c.insert({"id": key})
+            times.append(c.get(key).lwt)
+        same(times, [7, 8, 9, 10])
+        same(db.call({"do": "restart"})["line"], 12, "one line for the one moment that was another")
+
+
+@case()
 def threads_share_a_database(folder):
-    with rx.open(RX, new_journal(folder)) as db:
+    with rx.open(new_journal(folder)) as db:
         c = db.collection("c", SCHEMA)
         query, heard = c.observe(), []
         listener = threading.Thread(target=lambda: heard.extend(len(rows) for rows in query))
@@ -182,24 +334,24 @@ def threads_share_a_database(folder):
             it.join()
         same(c.count(), 400)
     listener.join()
-    same(heard, list(range(401)), "each emission in turn")
+    same((heard == sorted(set(heard)), heard[-1]), (True, 400), f"results in turn: {heard}")
 
 
 @case()
 def a_result_of_megabytes_while_a_long_line_is_written(folder):
     schema = {**SCHEMA, "properties": {**SCHEMA["properties"], "t": {"type": "string", "maxLength": 100000}}}
-    with rx.open(RX, new_journal(folder)) as db:
+    with rx.open(new_journal(folder)) as db:
         c = db.collection("c", schema)
         query = c.observe()
         for n in range(5):
             c.bulk([{"id": f"{n}-{i}", "n": i, "t": "é" * 20000} for i in range(20)])
-        same([len(rows) for rows in query.pending()], [0, 20, 40, 60, 80, 100])
+        same(len(query.rows()), 100)
 
 
 @case()
 def a_child_that_is_killed_in_mid_call(folder):
     path = new_journal(folder)
-    db = rx.open(RX, path)
+    db = rx.open(path)
     c = db.collection("c", SCHEMA)
     query, answered, stopped = c.observe({"limit": 1}), [], []
 
@@ -227,14 +379,14 @@ def a_child_that_is_killed_in_mid_call(folder):
         same(it.stop, "killed")
     same(fault(c.count).stop, "killed")
     db.close()
-    with rx.open(RX, path) as again:
+    with rx.open(path) as again:
         there = {row["id"] for row in again.collection("c").find()}
     same((len(answered) >= 50, set(answered) - there), (True, set()))
 
 
 @case()
 def a_full_journal_by_its_name_and_both_numbers(folder):
-    with rx.open(RX, new_journal(folder), "--max-journal", "600") as db:
+    with rx.open(new_journal(folder), max_journal=600) as db:
         c = db.collection("c", SCHEMA)
         while True:
             try:
@@ -244,22 +396,156 @@ def a_full_journal_by_its_name_and_both_numbers(folder):
                 break
 
 
-@case()
-def a_program_that_does_not_start_and_a_file_that_is_no_journal(folder):
-    same(fault(rx.open, os.path.join(folder, "none"), new_journal(folder)).stop, "start")
-    path = new_journal(folder)
-    with open(path, "w") as file:
+def no_journals(folder):
+    """Paths that can't be opened, by the word that says why, with the status of the program."""
+    text, folder_of = os.path.join(folder, "text"), os.path.join(folder, "none", "journal")
+    with open(text, "w", encoding="ascii") as file:
         file.write("something else than a journal")
-    with rx.open(RX, path) as db:
-        stopped = fault(db.collection, "c", SCHEMA)
-    same((stopped.stop, stopped.status), ("not_journal", 7))
+    yield text, "not_journal", 7
+    yield folder_of, "disk", 3
+    yield folder, "disk", 3
+    yield "", "usage", 2
+
+
+@case()
+def what_is_no_journal_can_not_be_opened(folder):
+    async def opened(path):
+        async with rx.open_async(path):
+            pass
+
+    for path, stop, status in no_journals(folder):
+        for call in (rx.open, lambda path: asyncio.run(opened(path))):
+            stopped = fault(call, path)
+            same((stopped.stop, stopped.status, path in str(stopped)), (stop, status, True), str(stopped))
+    same(os.path.exists(os.path.join(folder, "none")), False)
+
+
+@case()
+def a_journal_that_another_process_has_is_in_use(folder):
+    async def opened(path):
+        return await rx.open_async(path)
+
+    path = new_journal(folder)
+    with rx.open(path) as db:
+        db.collection("c", SCHEMA)
+        same((fault(rx.open, path).stop, fault(rx.open, path).status), ("in_use", 3))
+        same(fault(lambda: asyncio.run(opened(path))).stop, "in_use")
+        db.collection("c").insert({"id": "a"})
+    with rx.open(path) as db:
+        same(db.collection("c").count(), 1)
+
+
+@case()
+def the_program_is_found_by_argument_or_rx_or_the_path(folder):
+    path, tools = new_journal(folder), os.path.join(folder, "bin")
+    os.mkdir(tools)
+    os.symlink(RX, os.path.join(tools, "rx"))
+    before = dict(os.environ)
+    try:
+        os.environ.update(RX=os.path.join(folder, "none"), PATH=tools)
+        rx.open(path, program=RX).close()
+        stopped = fault(rx.open, path)
+        same((stopped.stop, os.environ["RX"] in str(stopped)), ("start", True), str(stopped))
+        del os.environ["RX"]
+        rx.open(path).close()
+        os.environ["PATH"] = folder
+        same(("tools/install" in str(fault(rx.open, path))), True, "how to get it")
+        same(fault(rx.open, path, program="none").stop, "start")
+    finally:
+        os.environ.clear()
+        os.environ.update(before)
+
+
+@case()
+def a_call_after_close_is_refused(folder):
+    async def after_close():
+        db = await rx.open_async(new_journal(folder))
+        c = await db.collection("c", SCHEMA)
+        await db.close()
+        return [
+            (await async_fault(call)).stop
+            for call in (db.line(""), db.line("{}"), c.count(), c.insert({"id": "a"}))
+        ]
+
+    db = rx.open(new_journal(folder))
+    c = db.collection("c", SCHEMA)
+    db.close()
+    same([fault(db.line, "").stop, fault(db.line, "{}").stop, fault(c.count).stop], ["closed"] * 3)
+    db.close()
+    same(asyncio.run(after_close()), ["closed"] * 4)
+
+
+@case()
+def a_database_of_asyncio_that_is_not_open_says_what_to_do(folder):
+    async def run():
+        db = rx.open_async(new_journal(folder))
+        for call in (lambda: db.collection("c"), lambda: db.line(""), lambda: db.tick(1)):
+            try:
+                await call()
+                raise AssertionError("it was written")
+            except RuntimeError as it:
+                same("async with rx.open_async(..)" in str(it), True, str(it))
+        await db.close()
+        opened = await db
+        same((opened is db, (await db.collection("c", SCHEMA)).new), (True, True))
+        await db.close()
+
+    asyncio.run(run())
+
+
+@case(in_memory=True)
+def tasks_wait_until_the_program_takes_their_lines(folder):
+    """Of 5,000 writes at once the lines in flight stay below what the pipes and the program hold."""
+
+    async def run():
+        async with rx.open_async(new_journal(folder)) as db:
+            c = await db.collection(
+                "c", {**SCHEMA, "properties": {**SCHEMA["properties"], "t": {"type": "string"}}}
+            )
+            most = 0
+
+            async def write(n):
+                nonlocal most
+                await c.upsert({"id": f"k{n % 100}", "n": n, "t": "x" * 2000})
+                most = max(
+                    most,
+                    db._stdin.transport.get_write_buffer_size(),
+                    sum(len(line) for line, _ in db._lines._waiting.values()),
+                )
+
+            await asyncio.gather(*(write(n) for n in range(5_000)))
+            same((most < 1_000_000, await c.count()), (True, 100), f"{most:,} bytes in flight")
+            return f"at most {most:,} bytes in flight of {5_000 * 2050:,}"
+
+    return asyncio.run(run())
+
+
+@case()
+def ctrl_c_at_the_terminal_is_not_the_programs(folder):
+    """The signal goes to all of a terminal's processes, and the program goes on to its end."""
+    path = new_journal(folder)
+    code = (
+        "import os, signal, rx\n"
+        f"with rx.open({path!r}) as db:\n"
+        f"    c = db.collection('c', {SCHEMA!r})\n"
+        "    try:\n"
+        "        os.killpg(0, signal.SIGINT)\n"
+        "        signal.pause()\n"
+        "    except KeyboardInterrupt:\n"
+        "        print(c.insert({'id': 'a'}))\n"
+    )
+    where = {**os.environ, "PYTHONPATH": CLIENT}
+    ran = subprocess.run(
+        [sys.executable, "-c", code], env=where, capture_output=True, text=True, start_new_session=True
+    )
+    same((ran.returncode, ran.stdout), (0, "1-c\n"), ran.stderr)
 
 
 @case()
 def asyncio_calls_at_once_iterators_and_a_killed_child(folder):
     async def run():
         path = new_journal(folder)
-        async with rx.open_async(RX, path) as db:
+        async with rx.open_async(path) as db:
             c = await db.collection("c", SCHEMA)
             revs = await asyncio.gather(*(c.insert({"id": f"k{n}", "n": n}) for n in range(200)))
             same((revs, await c.count()), (["1-c"] * 200, 200))
@@ -270,8 +556,15 @@ def asyncio_calls_at_once_iterators_and_a_killed_child(folder):
                     heard.append(len(rows))
                     if len(rows) == 1:
                         break
-            same((heard, (await async_fault(db.explain(query.name))).code), ([0, 1], 17))
+            same((heard, (await async_fault(db.explain(query.name))).code), ([1], 17))
             same((await async_fault(c.insert({"id": "k1"}))).rev, "1-c")
+            async with c.observe({"selector": {"n": 200}}) as query:
+                same(
+                    [len(await query.changed()), await query.changed(), len(await query.rows())], [1, None, 1]
+                )
+                await c.patch("k200", {"n": 0})
+                same([await query.changed(), await query.changed()], [[], None])
+            same((await query.changed(), await query.rows()), (None, []))
             refused = c.observe({"skip": "x"})
             same((await async_fault(anext_of(refused))).cause, "skip")
             same([rows async for rows in refused], [], "it is over")
@@ -280,8 +573,8 @@ def asyncio_calls_at_once_iterators_and_a_killed_child(folder):
             db._child.kill()
             results = await asyncio.gather(*calls, return_exceptions=True)
             kept = [it for it in results if it == "1-c"]
-            same((len(kept) > 10, {it.stop for it in results[len(kept):]} <= {"killed"}), (True, True))
-        async with rx.open_async(RX, path) as db:
+            same((len(kept) > 10, {it.stop for it in results[len(kept) :]} <= {"killed"}), (True, True))
+        async with rx.open_async(path) as db:
             there = await (await db.collection("c")).count()
             same(there >= 201 + len(kept), True, "what was answered is there")
 
@@ -293,24 +586,30 @@ def asyncio_calls_at_once_iterators_and_a_killed_child(folder):
 
 @case()
 def a_fork_and_its_master(folder):
-    with rx.open(RX, new_journal(folder)) as db:
+    with rx.open(new_journal(folder), clock=None) as db:
         master, fork = db.collection("m", SCHEMA), db.collection("f", SCHEMA)
         db.replicate("r", "f", "m", handler="greater", field="n")
         query = fork.observe({"sort": [{"n": "desc"}], "limit": 1})
+        heard = [query.next()]
         master.insert({"id": "ä", "n": 1})
         pull = {"exchange": 1, "place": {"id": "ä", "lwt": 1}, "rows": ["ä"], "sent": "pull"}
         same(db.turn("r"), ("quiet", 1, [pull]), "a pull")
+        heard.append(query.next())
         fork.patch("ä", {"n": 3})
         master.patch("ä", {"n": 2})
         lost = {"exchange": 1, "lost": "lose_reply", "rows": ["ä"], "sent": "push"}
         same(db.turn("r", link=["lose_reply"]), ("lost", 1, [lost]), "a lost push")
         end, exchanges, each = db.turn("r", batch=1, budget=10)
         same((end, exchanges), ("quiet", 4))
-        same([(it["sent"], it["rows"], it.get("conflicts")) for it in each[:2]], [("push", ["ä"], ["ä"]), ("push", ["ä"], [])])
+        same(
+            [(it["sent"], it["rows"], it.get("conflicts")) for it in each[:2]],
+            [("push", ["ä"], ["ä"]), ("push", ["ä"], [])],
+        )
         same(master.get("ä"), ({"id": "ä", "n": 3}, 3, "3-m"))
         same((master.digest().count, master.digest()), (1, fork.digest()), "both sides")
         same(master.changes(since={"id": "ä", "lwt": 3}, batch=1), ([], {"id": "ä", "lwt": 3}))
-        same([[row["n"] for row in rows] for rows in query.pending()], [[], [1], [3]])
+        heard.append(query.rows())
+        same([[row["n"] for row in rows] for rows in heard], [[], [1], [3]])
         same(fault(lambda: db.replicate("r", "f", "m", handler="join")).code, 9)
         same(fault(lambda: db.replicate("s", "m", "f", handler="join")).code, 21)
         same(fault(db.turn, "s").code, 18)
@@ -319,7 +618,7 @@ def a_fork_and_its_master(folder):
 @case()
 def a_fork_and_its_master_with_asyncio(folder):
     async def run():
-        async with rx.open_async(RX, new_journal(folder)) as db:
+        async with rx.open_async(new_journal(folder)) as db:
             master = await db.collection("m", SCHEMA)
             fork = await db.collection("f", SCHEMA)
             await db.replicate("r", "f", "m", handler="fork_wins")
@@ -333,7 +632,7 @@ def a_fork_and_its_master_with_asyncio(folder):
 
 def served(folder, docs):
     """A server of a collection m with these documents, for two turns."""
-    with rx.open(RX, os.path.join(folder, "master")) as db:
+    with rx.open(os.path.join(folder, "master")) as db:
         db.collection("m", SCHEMA).bulk(docs)
     return Server(folder, 2, name="m", journal="master").wait()
 
@@ -343,16 +642,16 @@ def shown(turn):
 
 
 def same_as_served(server, requests, digest):
-    """The server has ended by itself, after so many requests of each connection, and has the same documents."""
+    """The server has ended by itself, after so many requests of each connection, with the same documents."""
     same(server.end(), (0, [told(number, "peer", n) for number, n in enumerate(requests, 1)]))
-    with rx.open(RX, server.journal) as db:
+    with rx.open(server.journal) as db:
         same(db.collection("m").digest(), digest, "both sides")
 
 
 @case()
 def a_fork_of_a_master_that_another_process_serves(folder):
     server = served(folder, [{"id": "a", "n": 1}, {"id": "b", "n": 1}])
-    with rx.open(RX, new_journal(folder)) as db:
+    with rx.open(new_journal(folder)) as db:
         fork = db.collection("f", SCHEMA)
         db.replicate("r", "f", port=server.port, handler="fork_wins")
         query = fork.observe({"sort": [{"n": "desc"}], "limit": 1})
@@ -361,7 +660,7 @@ def a_fork_of_a_master_that_another_process_serves(folder):
         fork.insert({"id": "ä", "n": 7})
         edits = [("push", ["a"]), ("push", ["ä"]), ("pull", ["a"]), ("pull", ["ä"]), ("pull", [])]
         same(shown(db.turn("r", batch=1)), ("quiet", edits))
-        same([[row["n"] for row in rows] for rows in query.pending()], [[], [1], [5], [7]])
+        same([row["n"] for row in query.rows()], [7])
         digest = fork.digest()
         # The server ends by itself, and then there is nobody.
         server.child.wait()
@@ -377,13 +676,16 @@ def a_fork_of_a_served_master_with_asyncio(folder):
     server = served(folder, [{"id": "a", "n": 1}])
 
     async def run():
-        async with rx.open_async(RX, new_journal(folder)) as db:
+        async with rx.open_async(new_journal(folder)) as db:
             fork = await db.collection("f", SCHEMA)
             await db.replicate("r", "f", port=server.port, handler="greater", field="n")
             await fork.insert({"id": "a", "n": 2})
             turns = await asyncio.gather(db.turn("r", budget=1), db.turn("r"))
             same(turns[0].each, [{"conflicts": ["a"], "exchange": 1, "rows": ["a"], "sent": "push"}])
-            same([shown(it) for it in turns], [("more", [("push", ["a"])]), ("quiet", [("push", ["a"]), ("pull", ["a"])])])
+            same(
+                [shown(it) for it in turns],
+                [("more", [("push", ["a"])]), ("quiet", [("push", ["a"]), ("pull", ["a"])])],
+            )
             return await fork.digest()
 
     same_as_served(server, [1, 2], asyncio.run(run()))
@@ -391,28 +693,107 @@ def a_fork_of_a_served_master_with_asyncio(folder):
 
 @case()
 def replicate_and_turn_over_scripted_lines(folder):
-    lines = rx._Lines()
-    written, replies = b"", []
-    answer = lambda reply, fault: replies.append(reply or fault)  # noqa: E731
-    written += lines.write(rx._line("replicate", name="r", fork="f", master="m", handler="greater", field="n"), answer)
-    written += lines.write(rx._line("turn", name="r", batch=2), answer)
-    same(written, b'{"do":"replicate","name":"r","fork":"f","master":"m","handler":"greater","field":"n"}\n{"do":"turn","name":"r","batch":2}\n')
+    lines, written, replies = Lines(None), b"", []
+
+    def answer(reply, refused):
+        replies.append(refused or reply)
+
+    written += lines.write(calls.replicate("r", "f", "m", "greater", None, "n"), answer)
+    written += lines.write(calls.turn("r", 2, None, None), answer)
+    same(
+        written,
+        b'{"do":"replicate","name":"r","fork":"f","master":"m","handler":"greater","field":"n"}\n'
+        b'{"do":"turn","name":"r","batch":2}\n',
+    )
     push = {"conflicts": ["ä"], "exchange": 1, "rows": ["ä", "b"], "sent": "push"}
-    output = ['{"line":1,"ok":"replicate"}', json.dumps(push, ensure_ascii=False), '{"end":"quiet","exchanges":1,"line":2,"ok":"turn"}', ""]
+    output = [
+        '{"line":1,"ok":"replicate"}',
+        json.dumps(push, ensure_ascii=False),
+        '{"end":"quiet","exchanges":1,"line":2,"ok":"turn"}',
+        "",
+    ]
     for byte in "\n".join(output).encode():
         lines.take(bytes([byte]))
     same((replies[1]["end"], replies[1]["exchanges"], replies[1]["each"]), ("quiet", 1, [push]))
 
 
+def run_in(folder, *command, **env):
+    """What a command printed, which must end well. It knows no index of packages."""
+    clean = {key: it for key, it in os.environ.items() if not key.startswith(("PYTHON", "PIP_"))}
+    quiet = {"PIP_CONFIG_FILE": os.devnull, "PIP_NO_INDEX": "1", "PIP_DISABLE_PIP_VERSION_CHECK": "1"}
+    ran = subprocess.run(command, cwd=folder, env={**clean, **quiet, **env}, capture_output=True, text=True)
+    same(ran.returncode, 0, f"{command}: {ran.stdout}{ran.stderr}")
+    return ran.stdout
+
+
+@case(needs=["ensurepip"])
+def a_fresh_environment_installs_it_without_a_network(folder):
+    run_in(folder, DEBIANS_PYTHON, "-m", "venv", "new")
+    python = os.path.join(folder, "new", "bin", "python")
+    run_in(folder, python, "-m", "pip", "install", CLIENT)
+    code = f"import rx; db = rx.open('journal'); print(db.collection('c', {SCHEMA!r}).new, rx.__file__)"
+    printed = run_in(folder, python, "-c", code)
+    same(printed.startswith(f"True {folder}/new/"), True, printed)
+    installed = os.path.dirname(printed.split()[1])
+    same(os.path.exists(os.path.join(installed, "py.typed")), True)
+    same("todos.journal" in run_in(folder, python, "-m", "rx", "--help"), True, "the shell")
+    same(run_in(folder, python, "-m", "pip", "check").strip(), "No broken requirements found.")
+    left = subprocess.run(
+        ["git", "status", "--short", "--ignored", CLIENT], cwd=ROOT, capture_output=True, text=True
+    )
+    same("build" in left.stdout or "egg" in left.stdout, False, f"nothing is left behind: {left.stdout}")
+
+
+@case()
+def a_folder_that_is_copied_beside_a_program_works_too(folder):
+    shutil.copytree(os.path.join(CLIENT, "rx"), os.path.join(folder, "rx"))
+    printed = run_in(
+        folder, sys.executable, "-c", "import rx; print(rx.__file__, rx.open('journal').restart())"
+    )
+    same(printed, f"{folder}/rx/__init__.py 2\n")
+
+
+@case(needs=["mypy"])
+def types_are_checked(folder):
+    """The package, the quickstart, and what a user may get wrong."""
+    where = {"MYPYPATH": CLIENT, "MYPY_CACHE_DIR": folder}
+    strict = ("mypy", "--strict", "--config-file", os.path.join(CLIENT, "pyproject.toml"))
+    with open(os.path.join(folder, "quickstart.py"), "w", encoding="utf-8") as file:
+        file.write(
+            quickstart()
+            + 'title: rx.Value = todos.find()[0]["title"]\nplain = {"id": "x"}\ntodos.upsert(plain)\n'
+        )
+    with open(os.path.join(folder, "wrong.py"), "w", encoding="utf-8") as file:
+        file.write(
+            'import rx\ndb = rx.open("j", path=1)\nrx.open("j").collection("c").insert({"id": [1]})\n'
+            'n: int = rx.open("j").collection("c").get("a").rev\n'
+        )
+    same("Success" in run_in(folder, *strict, "-p", "rx", **where), True)
+    same("Success" in run_in(folder, *strict, "quickstart.py", **where), True)
+    ran = subprocess.run(
+        [*strict, "wrong.py"], cwd=folder, env={**os.environ, **where}, capture_output=True, text=True
+    )
+    same(
+        sorted({line.split(":")[1] for line in ran.stdout.splitlines() if "error:" in line}),
+        ["2", "3", "4"],
+        ran.stdout,
+    )
+
+
+def quickstart():
+    with open(os.path.join(ROOT, "clients", "README.md"), encoding="utf-8") as file:
+        return re.search(r"`quickstart\.py`.*?\n```\w*\n(.*?)\n```", file.read(), re.S).group(1) + "\n"
+
+
 @case()
 def the_quickstart_of_the_readme(folder):
-    with open(os.path.join(ROOT, "clients", "README.md"), encoding="utf-8") as file:
-        code = re.search(r"`quickstart\.py`.*?\n```\w*\n(.*?)\n```", file.read(), re.S).group(1)
-    with open(os.path.join(folder, "quickstart.py"), "w") as file:
-        file.write(code)
-    where = {**os.environ, "RX": RX, "PYTHONPATH": os.path.join(ROOT, "clients", "python")}
+    with open(os.path.join(folder, "quickstart.py"), "w", encoding="utf-8") as file:
+        file.write(quickstart())
+    where = {**os.environ, "PYTHONPATH": CLIENT}
     for _ in range(2):
-        ran = subprocess.run([sys.executable, "quickstart.py"], cwd=folder, env=where, capture_output=True, text=True)
+        ran = subprocess.run(
+            [sys.executable, "quickstart.py"], cwd=folder, env=where, capture_output=True, text=True
+        )
         same(ran.returncode, 0, ran.stderr)
     same("Bake bread" in ran.stdout, True, ran.stdout)
 

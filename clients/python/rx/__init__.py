@@ -1,0 +1,53 @@
+"""A client of rx, the document database: it writes lines to the program and reads its answers.
+
+    with rx.open("todos.journal") as db:
+        todos = db.collection("todos", schema)
+
+    async with rx.open_async("todos.journal") as db:
+        todos = await db.collection("todos", schema)
+
+The two have the same calls. A database of `open` may be shared by threads, one of `open_async` by tasks.
+`python3 -m rx todos.journal` is a shell.
+"""
+from typing import TYPE_CHECKING, Any
+
+from .calls import Changes, Digest, Document, Fields, Json, Object, Stored, Turn, Value
+from .database import Collection, Database, Observed, open
+from .faults import Refused, Stopped
+from .lines import Clock, now
+
+if TYPE_CHECKING:
+    from .tasks import AsyncCollection, AsyncDatabase, AsyncObserved, open_async
+
+__all__ = [
+    "AsyncCollection",
+    "AsyncDatabase",
+    "AsyncObserved",
+    "Changes",
+    "Clock",
+    "Collection",
+    "Database",
+    "Digest",
+    "Document",
+    "Fields",
+    "Json",
+    "Object",
+    "Observed",
+    "Refused",
+    "Stopped",
+    "Stored",
+    "Turn",
+    "Value",
+    "now",
+    "open",
+    "open_async",
+]
+
+
+def __getattr__(name: str) -> Any:
+    """What is for asyncio is loaded by its first use: asyncio takes as long to load as all the rest."""
+    if name in ("AsyncCollection", "AsyncDatabase", "AsyncObserved", "open_async"):
+        from . import tasks
+
+        return getattr(tasks, name)
+    raise AttributeError(f"module {__name__} has no attribute {name}")

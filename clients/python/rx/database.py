@@ -1,0 +1,319 @@
+"""The client for threads."""
+from __future__ import annotations
+
+import os
+import subprocess
+import threading
+from collections.abc import Iterable, Iterator, Sequence
+from typing import Any, TypeVar
+
+from . import calls, program as programs
+from .calls import Call, Changes, Digest, Document, Fields, Json, Object, Stored, Turn
+from .faults import Stopped
+from .lines import Answer, Clock, Lines, Newest, closed, now
+
+T = TypeVar("T")
+
+
+def open(
+    journal: str | os.PathLike[str],
+    *,
+    program: str | None = None,
+    max_journal: int | None = None,
+    clock: Clock | None = now,
+) -> Database:
+    """Opens a journal, which is made where there is none, or raises `Stopped` with why it can't be.
+
+    The program is `program`, or what RX names in the environment, or `rx` on the path. Writes have the
+    moment that `clock` tells in milliseconds; without one, as after `tick`, that is the caller's.
+    """
+    return Database(os.fspath(journal), program, max_journal, clock)
+
+
+class Slot:
+    """Where one thread waits for one answer."""
+
+    def __init__(self) -> None:
+        self._lock = threading.Lock()
+        self._lock.acquire()
+        self._reply: Json = {}
+        self._fault: Exception | None = None
+
+    def answer(self, reply: Json, fault: Exception | None) -> None:
+        self._reply, self._fault = reply, fault
+        self._lock.release()
+
+    def wait(self) -> Json:
+        self._lock.acquire()
+        if self._fault is not None:
+            raise self._fault
+        return self._reply
+
+
+class Database:
+    """A program over a journal. Threads may share it: each waits for the answer of its own call."""
+
+    def __init__(
+        self, journal: str, program: str | None, max_journal: int | None, clock: Clock | None
+    ) -> None:
+        self.journal = journal
+        self._lines = Lines(clock)
+        self._writing = threading.Lock()
+        words = programs.words(journal, program, max_journal)
+        try:
+            # In a session of its own a Ctrl-C at the terminal is this process's to answer.
+            self._child = subprocess.Popen(
+                words, stdin=subprocess.PIPE, stdout=subprocess.PIPE, start_new_session=True
+            )
+        except OSError as fault:
+            raise Stopped("start", None, str(fault)) from fault
+        assert self._child.stdin and self._child.stdout
+        self._stdin, self._stdout = self._child.stdin, self._child.stdout
+        self._opened = False
+        self._reader = threading.Thread(target=self._read, name="rx", daemon=True)
+        self._reader.start()
+        try:
+            self.ask(self._lines.first())
+        except BaseException:
+            self.close()
+            raise
+        self._opened = True
+
+    def __enter__(self) -> Database:
+        return self
+
+    def __exit__(self, *_: object) -> None:
+        self.close()
+
+    def collection(self, name: str, schema: Object | None = None) -> Collection:
+        """The collection of this name, made where it isn't there. Without a schema nothing is asked."""
+        new = None if schema is None else self.ask(calls.collection(name, schema))
+        return Collection(self, name, new)
+
+    def replicate(
+        self,
+        name: str,
+        fork: str,
+        master: str | None = None,
+        *,
+        handler: str,
+        port: int | None = None,
+        field: str | None = None,
+    ) -> None:
+        """Makes a collection the fork of a master: another collection, or one that is served at a port."""
+        self.ask(calls.replicate(name, fork, master, handler, port, field))
+
+    def turn(
+        self,
+        name: str,
+        *,
+        batch: int | None = None,
+        budget: int | None = None,
+        link: Sequence[Any] | None = None,
+    ) -> Turn:
+        """Syncs a fork with its master, exchange after exchange."""
+        return self.ask(calls.turn(name, batch, budget, link))
+
+    def explain(self, name: str) -> Json:
+        """What an observed query heard since it was observed."""
+        return self.ask(calls.explain(name))
+
+    def tick(self, at: int) -> None:
+        """Sets the present moment, which write times are made of. From then on the clock doesn't."""
+        self.ask(calls.tick(at))
+
+    def restart(self) -> int:
+        """Opens the journal again, and answers the number of the epoch that begins."""
+        return self.ask(calls.restart())
+
+    def call(self, request: Object) -> Json:
+        """Writes any request and answers its reply."""
+        return self.ask(calls.any_call(request))
+
+    def line(self, text: str) -> Json:
+        """Writes a line as it stands and answers its reply, which is empty for a blank one."""
+        return self.ask(calls.any_line(text))
+
+    def close(self) -> None:
+        """Ends the program once all lines are answered."""
+        with self._writing:
+            self._end()
+        self._reader.join()
+
+    def ask(self, call: Call[T]) -> T:
+        """Writes a line and waits for its answer."""
+        return call.take(self.begin(call).wait())
+
+    def begin(self, call: Call[Any]) -> Slot:
+        """Writes a line. Its answer may be waited for later."""
+        slot = Slot()
+        self._write(call, slot.answer)
+        return slot
+
+    def _write(self, call: Call[Any], answer: Answer) -> None:
+        with self._writing:
+            try:
+                self._stdin.write(self._lines.write(call, answer))
+                self._stdin.flush()
+            except OSError:
+                pass  # the program has ended, and the reader tells
+            except KeyboardInterrupt:
+                self._end()  # a part of the line may be written, so none can follow it
+                raise
+
+    def _end(self) -> None:
+        if self._lines.stopped is None:
+            self._lines.stopped = closed
+        try:
+            self._stdin.close()
+        except OSError:
+            pass
+
+    # Only this thread reads, so that the program never waits for a thread that writes to it.
+    def _read(self) -> None:
+        said = ""
+        while data := os.read(self._stdout.fileno(), 1 << 16):
+            try:
+                self._lines.take(data)
+            except (ValueError, KeyError, TypeError):
+                said = repr(data[:200])
+                self._child.kill()
+                break
+        self._stdout.close()
+        status = self._child.wait()
+        in_use = not self._opened and programs.is_in_use(self.journal)
+        if said:
+            self._lines.finish(None, "output", said)
+        else:
+            self._lines.finish(status, "ended", self.journal, in_use)
+
+
+class Collection:
+    def __init__(self, db: Database, name: str, new: bool | None) -> None:
+        self._db = db
+        self.name = name
+        self.new = new
+
+    def insert(self, doc: Fields) -> str:
+        """Puts in a document whose key isn't live, and answers its revision."""
+        return self._db.ask(calls.insert(self.name, doc))
+
+    def bulk(self, docs: Iterable[Fields]) -> list[str]:
+        """Inserts all of these or none, and answers their revisions."""
+        return self._db.ask(calls.bulk(self.name, docs))
+
+    def upsert(self, doc: Fields) -> str:
+        """Inserts a document, or replaces all fields of the one with its key."""
+        return self._db.ask(calls.upsert(self.name, doc))
+
+    def patch(self, key: str, set: Fields, rev: str | None = None) -> str:
+        """Sets fields of a document, and where a revision is given only of that one."""
+        return self._db.ask(calls.patch(self.name, key, set, rev))
+
+    def remove(self, key: str, rev: str | None = None) -> str:
+        return self._db.ask(calls.remove(self.name, key, rev))
+
+    def get(self, key: str) -> Stored:
+        """The document of a key, with its write time and revision."""
+        return self._db.ask(calls.get(self.name, key))
+
+    def find(self, query: Object | None = None) -> list[Document]:
+        return self._db.ask(calls.find(self.name, query))
+
+    def count(self, query: Object | None = None) -> int:
+        return self._db.ask(calls.count(self.name, query))
+
+    def changes(self, since: Object | None = None, batch: int | None = None) -> Changes:
+        """What was written last to each key above a place, in the order of writing, tombstones too."""
+        return self._db.ask(calls.changes(self.name, since, batch))
+
+    def digest(self) -> Digest:
+        """One text that tells the states of all documents from others, and how many they are."""
+        return self._db.ask(calls.digest(self.name))
+
+    def observe(self, query: Object | None = None, name: str | None = None) -> Observed:
+        """The query's result, now and after each change, until it is closed."""
+        return Observed(self._db, name or self._db._lines.new_name(), self.name, query)
+
+
+class Observed:
+    """An iterator of results, each whole. It waits for the next one, which another thread's write may bring.
+
+    Of those that came meanwhile it gives the newest, and the rows are its caller's own.
+    """
+
+    def __init__(self, db: Database, name: str, into: str, query: Object | None) -> None:
+        self._db = db
+        self.name = name
+        self._heard = threading.Condition()
+        self._newest = Newest()
+        slot = Slot()
+
+        def begun(reply: Json, fault: Exception | None) -> None:
+            if fault is None:
+                db._lines.watch(name, self)
+            slot.answer(reply, fault)
+
+        db._write(calls.observe(name, into, query), begun)
+        slot.wait()
+
+    def __enter__(self) -> Observed:
+        return self
+
+    def __exit__(self, *_: object) -> None:
+        self.close()
+
+    def __iter__(self) -> Iterator[list[Document]]:
+        return self
+
+    def __next__(self) -> list[Document]:
+        rows = self.next()
+        if rows is None:
+            raise StopIteration
+        return rows
+
+    def next(self, timeout: float | None = None) -> list[Document] | None:
+        """The next result, or None where no more come. Where none comes in so many seconds, TimeoutError."""
+        with self._heard:
+            if not self._heard.wait_for(self._newest.is_due, timeout):
+                raise TimeoutError("no emission")
+            return self._newest.take()
+
+    def changed(self) -> list[Document] | None:
+        """The result by all that is answered by now, or None where it is the one that was given last."""
+        if not self._newest.over:
+            self.explain()  # emissions come before this answer
+        with self._heard:
+            return self._newest.take() if self._newest.is_due() else None
+
+    def rows(self) -> list[Document]:
+        """The result by all that is answered by now, given before or not."""
+        if not self._newest.over:
+            self.explain()
+        with self._heard:
+            return self._newest.rows()
+
+    def explain(self) -> Json:
+        """What the query heard since it was observed."""
+        return self._db.explain(self.name)
+
+    def close(self) -> None:
+        def over(_reply: Json, _fault: Exception | None) -> None:
+            self._db._lines.unwatch(self.name)
+            self.end(None)
+
+        try:
+            if not self._newest.over:
+                self._db._write(calls.unobserve(self.name), over)
+        except Stopped:
+            pass
+
+    def hear(self, rows: list[Document]) -> None:
+        with self._heard:
+            self._newest.hear(rows)
+            self._heard.notify_all()
+
+    def end(self, fault: Exception | None) -> None:
+        with self._heard:
+            self._newest.end(fault)
+            self._heard.notify_all()
