@@ -46,7 +46,7 @@ async function inNode(program, folder, count) {
   const { child, open } = await import('../clients/js/rx.mjs');
   const { mkdtempSync, rmSync } = await import('node:fs');
   const own = mkdtempSync(`${folder}/rx-bench-`);
-  const seconds = await runLoads(open, child(program, `${own}/journal`), count);
+  const seconds = await runLoads(open, child(`${own}/journal`, { program }), count);
   rmSync(own, { recursive: true });
   return seconds;
 }

@@ -2,57 +2,76 @@
 
 export type Scalar = boolean | number | string;
 export type Document = { [field: string]: Scalar };
-export type Direction = 'asc' | 'desc';
+// These words are told by an editor, and others are refused by the program: a text in a variable is any text.
+type Word<W extends string> = W | (string & {});
+export type Direction = Word<'asc' | 'desc'>;
 
 /** One condition on a field, or several at once. */
 export interface Condition {
-  $eq?: Scalar;
-  $ne?: Scalar;
-  $gt?: Scalar;
-  $gte?: Scalar;
-  $lt?: Scalar;
-  $lte?: Scalar;
-  $in?: Scalar[];
-  $nin?: Scalar[];
-  $exists?: boolean;
-  $mod?: [number, number];
-  $not?: Condition;
+  readonly $eq?: Scalar;
+  readonly $ne?: Scalar;
+  readonly $gt?: Scalar;
+  readonly $gte?: Scalar;
+  readonly $lt?: Scalar;
+  readonly $lte?: Scalar;
+  readonly $in?: readonly Scalar[];
+  readonly $nin?: readonly Scalar[];
+  readonly $exists?: boolean;
+  /** A divisor and a remainder. */
+  readonly $mod?: readonly number[];
+  readonly $not?: Condition;
 }
 
-export type Selector<T = Document> = { [F in keyof T]?: T[F] | Condition } & {
-  $and?: Selector<T>[];
-  $or?: Selector<T>[];
-  $nor?: Selector<T>[];
-};
+interface Combined<T> {
+  readonly $and?: readonly Selector<T>[];
+  readonly $or?: readonly Selector<T>[];
+  readonly $nor?: readonly Selector<T>[];
+}
+
+/** Of documents of any fields a selector has any fields too. */
+export type Selector<T = Document> = string extends keyof T
+  ? { readonly [field: string]: Scalar | Condition | readonly Selector<T>[] | undefined }
+  : { readonly [F in keyof T]?: Wide<T[F]> | Condition } & Combined<T>;
+type Wide<V> = V extends string ? string : V extends number ? number : V extends boolean ? boolean : never;
 
 export interface Query<T = Document> {
-  selector?: Selector<T>;
-  sort?: { [F in keyof T]?: Direction }[];
-  skip?: number;
-  limit?: number;
+  readonly selector?: Selector<T>;
+  readonly sort?: readonly { readonly [F in keyof T]?: Direction }[];
+  readonly skip?: number;
+  readonly limit?: number;
 }
 
 export interface Property {
-  type: 'boolean' | 'integer' | 'number' | 'string';
-  maxLength?: number;
-  minimum?: number;
-  maximum?: number;
-  multipleOf?: number;
-  title?: string;
-  description?: string;
-  format?: string;
+  readonly type: Word<'boolean' | 'integer' | 'number' | 'string'>;
+  readonly maxLength?: number;
+  readonly minimum?: number;
+  readonly maximum?: number;
+  readonly multipleOf?: number;
+  readonly title?: string;
+  readonly description?: string;
+  readonly format?: string;
 }
 
 export interface Schema {
-  version: number;
-  primaryKey: string;
-  type: 'object';
-  properties: { [field: string]: Property };
-  required?: string[];
-  indexes?: (string | string[])[];
-  title?: string;
-  description?: string;
+  readonly version: number;
+  readonly primaryKey: string;
+  readonly type: Word<'object'>;
+  readonly properties: { readonly [field: string]: Property };
+  readonly required?: readonly string[];
+  readonly indexes?: readonly (string | readonly string[])[];
+  readonly keyCompression?: boolean;
+  readonly title?: string;
+  readonly description?: string;
 }
+
+/** The documents of a schema that is written `as const`. */
+export type DocumentOf<S extends Schema> =
+  & { [F in Fields<S> & Needed<S>]: Value<S['properties'][F]> }
+  & { [F in Exclude<Fields<S>, Needed<S>>]?: Value<S['properties'][F]> };
+type Fields<S extends Schema> = keyof S['properties'] & string;
+type Needed<S extends Schema> = S['primaryKey'] | (S['required'] extends readonly (infer F)[] ? F : never);
+type Value<P extends Property> =
+  P['type'] extends 'string' ? string : P['type'] extends 'boolean' ? boolean : number;
 
 /** A line was refused, and changed nothing. */
 export class Refused extends Error {
@@ -64,6 +83,9 @@ export class Refused extends Error {
   readonly cause?: string;
   /** The member, property or collection that it is about: the reply's `name`. */
   readonly subject?: string;
+  /** What the request has there, and the limit that it passed, where they can be told. */
+  readonly value?: unknown;
+  readonly limit?: number;
   /** The revision that a conflicting document has. */
   readonly rev?: string;
   /** The row of a bulk, from 0. */
@@ -73,7 +95,10 @@ export class Refused extends Error {
 /** The program has ended, so there is no answer. */
 export class Stopped extends Error {
   readonly name: 'Stopped';
-  /** The program's word (usage, disk, read, memory, not_journal, full, too_long), or the client's (closed, ended, killed, start, trap, output). */
+  /**
+   * The program's word (usage, disk, read, memory, not_journal, full, too_long),
+   * or the client's (in_use, closed, ended, killed, start, trap, output).
+   */
   readonly stop: string;
   readonly status: number | null;
   /** Of `full`: the journal's limit, and the length that it would have. */
@@ -102,28 +127,36 @@ export interface Counts {
 }
 
 export type Replication = {
-  name: string;
-  fork: string;
-  handler: 'master_wins' | 'fork_wins' | 'greater' | 'join';
-  field?: string;
-} & (
-  /** The collection that it is a fork of, or the port on 127.0.0.1 at which one is served. */
-  | { master: string; port?: undefined }
-  | { port: number; master?: undefined }
-);
+  readonly name: string;
+  readonly fork: string;
+  readonly handler: Word<'master_wins' | 'fork_wins' | 'greater' | 'join'>;
+  readonly field?: string;
+  /** The collection that it is a fork of. */
+  readonly master?: string;
+  /** In its place the port on 127.0.0.1 at which one is served. */
+  readonly port?: number;
+};
 
 /** Why an exchange was lost: what was heard of a master at a port, or what the `link` did. */
-export type Lost = 'dial' | 'wire' | 'reply' | 'foreign' | 'bad_reply' | 'lose_request' | 'lose_reply' | 'stale';
+export type Lost =
+  'dial' | 'wire' | 'reply' | 'foreign' | 'bad_reply' | 'lose_request' | 'lose_reply' | 'stale';
 
 /** One exchange of a turn, with the keys of its documents. */
 export interface Exchange {
   exchange: number;
   sent: 'push' | 'pull';
   rows?: string[];
-  /** Of a push: the rows of which the master had another document than the fork assumed. They are resolved. */
+  /** Of a push: rows of which the master had another document than the fork assumed. They are resolved. */
   conflicts?: string[];
   place?: Place;
   lost?: Lost;
+}
+
+export interface TurnOptions {
+  readonly batch?: number;
+  readonly budget?: number;
+  /** What happens to the exchanges with a master of the same journal. */
+  readonly link?: readonly (string | { readonly late: number })[];
 }
 
 export interface Turn {
@@ -152,14 +185,24 @@ export interface Observer<R> {
 
 export interface Subscription {
   readonly closed: boolean;
+  /** Resolves with the first rows, or at the end, and rejects where the query is refused. */
+  readonly begun: Promise<void>;
   unsubscribe(): void;
 }
 
-/** An observed query. Each emission is its whole result, which isn't to be changed. */
-export interface Observed<T = Document> extends AsyncIterable<readonly T[]> {
+/** A result. It is frozen, since all who observe the query share it. */
+export type Rows<T = Document> = readonly Readonly<T>[];
+
+/**
+ * An observed query, of which each emission is its whole result. An iterator gets the newest one.
+ * A fault that no observer takes is a warning of Node, or is reported in a page.
+ */
+export interface Observed<T = Document> extends AsyncIterable<Rows<T>> {
   readonly name: string;
-  subscribe(observer?: Observer<readonly T[]>): Subscription;
-  subscribe(next?: (rows: readonly T[]) => void, error?: (fault: Refused | Stopped) => void, complete?: () => void): Subscription;
+  subscribe(observer?: Observer<Rows<T>>): Subscription;
+  subscribe(
+    next?: (rows: Rows<T>) => void, error?: (fault: Refused | Stopped) => void, complete?: () => void,
+  ): Subscription;
   explain(): Promise<Counts>;
 }
 
@@ -167,10 +210,10 @@ export interface Collection<T = Document> {
   readonly name: string;
   /** Whether it was made just now; undefined where no schema was given. */
   readonly isNew?: boolean;
-  insert(doc: T): Promise<string>;
-  bulk(docs: T[]): Promise<string[]>;
-  upsert(doc: T): Promise<string>;
-  patch(key: string, set: Partial<T>, rev?: string): Promise<string>;
+  insert(doc: Readonly<T>): Promise<string>;
+  bulk(docs: readonly Readonly<T>[]): Promise<string[]>;
+  upsert(doc: Readonly<T>): Promise<string>;
+  patch(key: string, set: Partial<Readonly<T>>, rev?: string): Promise<string>;
   remove(key: string, rev?: string): Promise<string>;
   get(key: string): Promise<Stored<T>>;
   find(query?: Query<T>): Promise<T[]>;
@@ -181,27 +224,59 @@ export interface Collection<T = Document> {
 }
 
 export interface Database {
+  /** Resolves once the program has ended, with why: its `stop` is `closed` after `close()`. */
+  readonly stopped: Promise<Stopped>;
   collection<T = Document>(name: string, schema?: Schema): Promise<Collection<T>>;
   replicate(replication: Replication): Promise<void>;
-  /** `link` is for a master of the same journal alone. */
-  turn(name: string, options?: { batch?: number; budget?: number; link?: (string | { late: number })[] }): Promise<Turn>;
+  turn(name: string, options?: TurnOptions): Promise<Turn>;
   explain(name: string): Promise<Counts>;
+  /** Sets the moment, which from then on is the caller's to set. */
   tick(at?: number): Promise<void>;
   restart(): Promise<number>;
   /** Any request, and any line. A blank line has no reply. */
   call(request: { do: string; [member: string]: unknown }): Promise<Reply>;
   line(text: string): Promise<Reply | null>;
+  /** Resolves while few lines are unanswered: to be awaited between writes that aren't awaited themselves. */
+  drained(): Promise<void>;
+  /** Ends the program once all lines are answered. Rejects where it had ended otherwise. */
   close(): Promise<void>;
 }
 
-/** What a transport tells of the program: text that it wrote, and its end, once. */
+/** What a transport tells: text that the program wrote, that nothing else is to be done, and its one end. */
 export interface Hooks {
   output(text: string): void;
+  leave(): void;
   ended(how: { status?: number | null; stop?: string; said?: string }): void;
 }
 
-export type Transport = (hooks: Hooks) => Promise<{ send(text: string): void; end(): void; kill(): void }>;
+export interface Running {
+  send(text: string): void;
+  /** No more is sent. */
+  end(): void;
+  kill(): void;
+  /** Whether the process has to go on for the program's sake. */
+  keepAlive?(is: boolean): void;
+}
 
-export function open(transport: Transport): Promise<Database>;
-export function child(program: string, journal: string, ...options: string[]): Transport;
-export function wasm(folder: string, journal: string, ...options: string[]): Transport;
+export interface Transport {
+  (hooks: Hooks): Promise<Running>;
+  /** Resolves when it is worth another try to have the journal. */
+  free?(): Promise<unknown>;
+}
+
+export interface Options {
+  /** The moment of a write, Date.now where it is left out. With null the caller ticks. */
+  clock?: (() => number) | null;
+  /** Called once where another has the journal. The database is then answered when it is free. */
+  waiting?: () => void;
+}
+
+export function open(transport: Transport, options?: Options): Promise<Database>;
+
+/** `program` is what RX names, or `rx` on the path, if it is left out; `maxJournal` is a number of bytes. */
+export function child(journal: string, options?: { program?: string; maxJournal?: number }): Transport;
+/** The masters that a page may dial: by the port of a replication, where its WebSocket leads. */
+export type Masters = { readonly [port: number]: string | { readonly url: string; readonly token?: string } };
+export function wasm(
+  folder: string, journal: string, options?: { maxJournal?: number; masters?: Masters },
+): Transport;

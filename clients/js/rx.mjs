@@ -1,18 +1,21 @@
 // A client of rx, the document database: it writes lines to the program and reads its answers.
 //
-//   const db = await open(child('rx', 'todos.journal')); // Node: the program as a child process
-//   const db = await open(wasm('wasm/out', 'todos'));    // a page: the program in a worker
+//   const db = await open(child('todos.journal')); // Node: the program as a child process
+//   const db = await open(wasm('out', 'todos'));   // a page: the program in a worker
 
 /** A line was refused, and changed nothing. */
 export class Refused extends Error {
-  constructor(reply) {
-    const more = ['cause', 'name', 'row', 'rev'].filter((it) => it in reply).map((it) => `, ${it} ${reply[it]}`);
-    super(`${reply.refused} (${reply.code})${more.join('')}`);
+  constructor(reply, request = {}, schema = undefined) {
+    const { value, limit, said } = detail(reply, request, schema);
+    const row = 'row' in reply ? ` in row ${reply.row}` : '';
+    super(`${reply.refused} (${reply.code})${row}${said ? `: ${said}` : ''}`);
     this.name = 'Refused';
     this.code = reply.code;
     this.word = reply.refused;
     this.cause = reply.cause;
     this.subject = reply.name; // an Error's own `name` is its class
+    this.value = value;
+    this.limit = limit;
     this.rev = reply.rev;
     this.row = reply.row;
   }
@@ -21,7 +24,8 @@ export class Refused extends Error {
 /** The program has ended, so there is no answer. `stop` is its own word for why, or one of the client's. */
 export class Stopped extends Error {
   constructor({ stop, status = null, said, limit, would }) {
-    super(said ? `${stop}: ${said}` : stop);
+    const full = limit && `the journal has at most ${limit} bytes, and would have ${would}`;
+    super([stop, said ?? full].filter(Boolean).join(': '));
     this.name = 'Stopped';
     this.stop = stop;
     this.status = status;
@@ -30,36 +34,74 @@ export class Stopped extends Error {
   }
 }
 
-/** Starts the program by a transport, and answers the database once it runs. */
-export async function open(transport) {
-  const db = new Database();
-  await db.start(transport);
-  return db;
+/**
+ * Starts the program by a transport, and answers the database once it has the journal. Before a write the
+ * moment is set from `clock`; where that is null the caller ticks, and a journal that can't be had is told by
+ * the first call. Where `waiting` is given it is called if the journal is in use, and the database is
+ * answered when it no longer is.
+ */
+export async function open(transport, { clock = Date.now, waiting } = {}) {
+  for (let isFirst = true; ; isFirst = false) {
+    const db = new Database(clock);
+    try {
+      await db.start(transport);
+      return db;
+    } catch (fault) {
+      if (fault.stop !== 'in_use' || !waiting || !transport.free) throw fault;
+      if (isFirst) waiting();
+      await transport.free();
+    }
+  }
 }
+
+const writes = new Set(['insert', 'bulk', 'upsert', 'patch', 'remove', 'turn']);
+const room = 1 << 18; // so many characters of lines may be unanswered before one waits for the program
 
 class Database {
   #transport;
+  #clock;
+  #moment = null; // that the program was told last
   #lines = 0; // how many were written
   #outgoing = ''; // lines of this turn of the event loop, which are written together
   #waiting = new Map(); // what to do with an answer, by the number of its line
+  #unanswered = 0; // characters of those lines
+  #drained = []; // who waits for fewer of them
   #observed = new Map(); // observations by the name of their query
+  #schemas = new Map(); // by the name of their collection, as far as they were given here
+  #due = null; // the query whose first emission comes next
   #names = 0; // how many were made up
   #rest = ''; // the front of a line of output
   #exchanges = []; // of the turn that is answered next
   #stop = null; // the program's stop line
   #end = null; // why no line is taken any more
-  #isOver = false;
-  #tellClosed;
-  #closed = new Promise((tell) => { this.#tellClosed = tell; });
+  #isOver = false; // the program has ended
+  #isAlive = true; // it keeps Node from ending
+  #heardAll = 0; // how many lines were written when all emissions had come
+  #tellStopped;
+  /** Resolves once the program has ended, with why: `closed` where it was asked to. */
+  stopped = new Promise((tell) => { this.#tellStopped = tell; });
+
+  constructor(clock) {
+    this.#clock = clock && (() => Math.floor(clock()));
+  }
 
   /** @internal */
   async start(transport) {
-    this.#transport = await transport({ output: (text) => this.#hear(text), ended: (how) => this.#finish(how) });
+    this.#transport = await transport({
+      output: (text) => this.#hear(text),
+      ended: (how) => this.#finish(how),
+      leave: () => this.#leave().catch(() => {}),
+    });
+    this.#keepAlive();
+    if (!this.#clock) return;
+    this.#moment = this.#clock();
+    await this.call({ do: 'tick', at: this.#moment }); // its answer tells that the journal was opened
   }
 
   /** The collection of this name, made where it isn't there. Without a schema nothing is asked. */
   async collection(name, schema) {
     const reply = schema && (await this.call({ do: 'collection', name, schema }));
+    if (schema) this.#schemas.set(name, schema);
     return new Collection(this, name, reply?.new);
   }
 
@@ -80,8 +122,9 @@ class Database {
     return counts;
   }
 
-  /** Sets the present moment, which write times are made of. */
+  /** Sets the present moment, which write times are made of. From then on it is the caller's to set. */
   async tick(at = Date.now()) {
+    this.#clock = null;
     await this.call({ do: 'tick', at });
   }
 
@@ -90,40 +133,53 @@ class Database {
     return (await this.call({ do: 'restart' })).epoch;
   }
 
-  /** Ends the program once all lines are answered. */
-  close() {
+  /** Resolves while few lines are unanswered: to be awaited between writes that aren't awaited themselves. */
+  drained() {
+    if (this.#end) return Promise.reject(new Stopped(this.#end));
+    if (this.#unanswered <= room) return Promise.resolve();
+    return new Promise((resolve, reject) => this.#drained.push({ resolve, reject }));
+  }
+
+  /** Ends the program once all lines are answered. Rejects where it had ended otherwise. */
+  async close() {
     if (!this.#end) {
       this.#flush();
       this.#end = { stop: 'closed' };
+      this.#keepAlive();
       this.#transport.end();
     }
-    return this.#closed;
+    const why = await this.stopped;
+    if (why.stop !== 'closed') throw why;
   }
 
   /** Writes a request and answers its reply. Members that are undefined are left out. */
-  async call(request) {
-    return this.line(JSON.stringify(request));
+  call(request) {
+    return new Promise((resolve, reject) => this.#ask(request, resolve, reject));
   }
 
   /** Writes a line as it stands and answers its reply. A blank one is counted and not answered. */
   line(text) {
-    if (text.includes('\n')) return Promise.reject(new TypeError('a line has no line break'));
     return new Promise((resolve, reject) => {
-      this.#write(text, resolve, reject);
-      if (!text.trim()) resolve(null);
+      if (text.includes('\n')) throw new TypeError('a line has no line break');
+      if (isBroken(text)) throw new Refused(surrogate);
+      this.#write(text, resolve, reject, text);
+      if (!text.trim() && !this.#end) resolve(null);
     });
   }
 
   /** @internal */
   observe(request, observation) {
-    const begun = () => this.#observed.set(request.name, observation);
-    this.#write(JSON.stringify(request), begun, observation.error);
+    const begun = () => {
+      this.#observed.set(request.name, observation);
+      this.#due = request.name;
+    };
+    this.#ask(request, begun, observation.error);
   }
 
   /** @internal */
   unobserve(name, observation) {
     const over = () => this.#observed.get(name) === observation && this.#observed.delete(name);
-    this.#write(JSON.stringify({ do: 'unobserve', name }), over, () => {});
+    this.#ask({ do: 'unobserve', name }, over, () => {});
   }
 
   /** @internal */
@@ -132,18 +188,58 @@ class Database {
     return `observed-${this.#names}`;
   }
 
-  #write(text, resolve, reject) {
+  #ask(request, resolve, reject) {
+    let text;
+    try {
+      text = JSON.stringify(request);
+    } catch (fault) {
+      return queueMicrotask(() => reject(fault));
+    }
+    const name = text.includes('\\ud') ? brokenText(request) : undefined;
+    if (name !== undefined) return queueMicrotask(() => reject(new Refused({ ...surrogate, name })));
+    if (this.#clock && writes.has(request.do)) this.#tellMoment();
+    this.#write(text, resolve, reject, request);
+  }
+
+  #tellMoment() {
+    const at = this.#clock();
+    if (at === this.#moment) return;
+    this.#moment = at;
+    this.#write(JSON.stringify({ do: 'tick', at }), () => {}, () => {});
+  }
+
+  #write(text, resolve, reject, request) {
     if (this.#end) return queueMicrotask(() => reject(new Stopped(this.#end)));
     if (!this.#outgoing) queueMicrotask(() => this.#flush());
     this.#outgoing += `${text}\n`;
     this.#lines += 1;
-    if (text.trim()) this.#waiting.set(this.#lines, { resolve, reject });
+    if (!text.trim()) return;
+    this.#waiting.set(this.#lines, { resolve, reject, request, length: text.length });
+    this.#unanswered += text.length;
+    if (this.#waiting.size === 1) this.#keepAlive();
   }
 
   #flush() {
     const text = this.#outgoing;
     this.#outgoing = '';
     if (text && !this.#end) this.#transport.send(text);
+  }
+
+  // The program keeps Node from ending while something is expected of it, and not because it wasn't closed.
+  #keepAlive() {
+    const isAlive = this.#waiting.size > 0 || this.#due !== null || this.#end !== null;
+    if (isAlive === this.#isAlive) return;
+    this.#isAlive = isAlive;
+    this.#transport.keepAlive?.(isAlive);
+  }
+
+  // Nothing else is to be done. What is observed may still have to be heard; an answer comes behind it.
+  async #leave() {
+    const [name] = this.#observed.keys();
+    if (name === undefined || this.#lines === this.#heardAll) return this.close();
+    const asked = this.explain(name);
+    this.#heardAll = this.#lines;
+    await asked;
   }
 
   #hear(text) {
@@ -158,35 +254,61 @@ class Database {
         return this.#finish({ stop: 'output', said: line.slice(0, 200) });
       }
     }
+    this.#keepAlive();
   }
 
   #take(it) {
-    if ('emit' in it) this.#observed.get(it.emit)?.next(it.rows);
+    if ('emit' in it) this.#emit(it.emit, it.rows);
     else if ('stop' in it) this.#stop = it;
     else if ('exchange' in it) this.#exchanges.push(it);
     else this.#answer(it);
   }
 
+  #emit(name, rows) {
+    if (name === this.#due) this.#due = null;
+    this.#observed.get(name)?.next(rows);
+  }
+
   #answer(reply) {
-    const { resolve, reject } = this.#waiting.get(reply.line);
+    const { resolve, reject, request, length } = this.#waiting.get(reply.line);
     this.#waiting.delete(reply.line);
+    this.#unanswered -= length;
+    if (this.#unanswered <= room) for (const it of this.#drained.splice(0)) it.resolve();
     if (reply.ok === 'turn') reply.each = this.#exchanges.splice(0);
-    if ('refused' in reply) reject(new Refused(reply));
+    if ('refused' in reply) reject(this.#refusal(reply, request));
     else resolve(reply);
   }
 
-  // The program's own word comes first. It gives none where it was asked to end.
+  // A request may be a line as it stands.
+  #refusal(reply, request) {
+    const members = typeof request === 'string' ? parsed(request) : request;
+    return new Refused(reply, members, this.#schemas.get(members.in));
+  }
+
+  // The program's own word comes first, but where the client knows more than that the disk failed. It gives
+  // none where it was asked to end.
   #finish({ status = null, stop = 'ended', said }) {
     if (this.#isOver) return;
     this.#isOver = true;
-    const asked = this.#end?.stop === 'closed' && status !== null && !this.#stop;
-    if (!asked) this.#end = { status, said, ...(this.#stop ?? { stop }) };
-    const waiting = [...this.#waiting.values()], observed = [...this.#observed.values()];
+    const own = stop === 'in_use' ? { stop } : this.#stop ?? { stop };
+    const asked = this.#end?.stop === 'closed' && (status === 0 || status === 1) && !this.#stop;
+    if (!asked) this.#end = { status, said, ...own };
+    const waiting = [...this.#waiting.values(), ...this.#drained];
+    const observed = [...this.#observed.values()];
     this.#waiting.clear();
     this.#observed.clear();
     for (const { reject } of waiting) reject(new Stopped(this.#end));
     for (const it of observed) asked ? it.complete() : it.error(new Stopped(this.#end));
-    this.#tellClosed();
+    this.#tellStopped(new Stopped(this.#end));
+  }
+}
+
+// The members of a line, as far as it has any.
+function parsed(line) {
+  try {
+    return Object(JSON.parse(line));
+  } catch {
+    return {};
   }
 }
 
@@ -214,9 +336,19 @@ class Collection {
     return (await this.#db.call({ do: 'upsert', in: this.name, doc })).rev;
   }
 
-  /** Sets fields of a document, and where a revision is given only of that one. */
+  /**
+   * Sets fields of a document, and where a revision is given only of that one. A field that is undefined is
+   * left as it is, and where each is nothing is written: the answer is the revision that is there.
+   */
   async patch(key, set, rev) {
-    return (await this.#db.call({ do: 'patch', in: this.name, key, set, rev })).rev;
+    const fields = Object.values(set);
+    if (!fields.length || fields.some((it) => it !== undefined)) {
+      return (await this.#db.call({ do: 'patch', in: this.name, key, set, rev })).rev;
+    }
+    const held = (await this.get(key)).rev;
+    const conflict = { code: 14, refused: 'conflict', rev: held };
+    if (rev !== undefined && rev !== held) throw new Refused(conflict, { key });
+    return held;
   }
 
   async remove(key, rev) {
@@ -279,14 +411,15 @@ class Observed {
     return subscription;
   }
 
+  /** The newest emission each time, without those that came and went before it was asked for. */
   [Symbol.asyncIterator]() {
-    const emissions = new Emissions();
-    const subscription = this.subscribe(emissions);
+    const newest = new Newest();
+    const subscription = this.subscribe(newest);
     return {
-      next: () => emissions.take(),
+      next: () => newest.take(),
       return: () => {
         subscription.unsubscribe();
-        emissions.complete();
+        newest.drop();
         return Promise.resolve({ value: undefined, done: true });
       },
       [Symbol.asyncIterator]() { return this; },
@@ -302,8 +435,8 @@ class Observed {
     const observation = {
       rows: null,
       next: (rows) => {
-        observation.rows = rows;
-        for (const it of this.#all(observation)) it.next(rows);
+        observation.rows = Object.freeze(rows.map(Object.freeze)); // subscribers share them
+        for (const it of this.#all(observation)) it.next(observation.rows);
       },
       error: (fault) => {
         for (const it of this.#end(observation)) it.error(fault);
@@ -347,6 +480,9 @@ class Subscription {
   #observer;
   #leave;
   #hasHeard = false;
+  #fault = null; // that came before the first rows
+  #begun = null;
+  #tellBegun = null;
   closed = false;
 
   constructor(observer, leave) {
@@ -354,9 +490,20 @@ class Subscription {
     this.#leave = leave;
   }
 
+  /** Resolves once the first rows are there, or it is over, and rejects where the query is refused. */
+  get begun() {
+    this.#begun ??= new Promise((resolve, reject) => {
+      this.#tellBegun = { resolve, reject };
+      if (this.#fault) reject(this.#fault);
+      else if (this.#hasHeard || this.closed) resolve();
+    });
+    return this.#begun;
+  }
+
   unsubscribe() {
     if (this.closed) return;
     this.closed = true;
+    this.#tellBegun?.resolve();
     this.#leave(this);
   }
 
@@ -367,112 +514,343 @@ class Subscription {
 
   /** @internal */
   next(rows) {
+    if (this.closed) return;
     this.#hasHeard = true;
-    if (!this.closed) this.#tell('next', rows);
+    this.#tellBegun?.resolve();
+    this.#tell('next', rows);
   }
 
   /** @internal */
   error(fault) {
     if (this.closed) return;
     this.closed = true;
+    if (!this.#hasHeard) this.#fault = fault;
+    this.#tellBegun?.reject(fault);
     if (this.#observer.error) this.#tell('error', fault);
-    else report(fault);
+    else if (!this.#fault || !this.#begun) warn(fault);
   }
 
   /** @internal */
   complete() {
     if (this.closed) return;
     this.closed = true;
+    this.#tellBegun?.resolve();
     this.#tell('complete');
   }
 
+  // An observer's own fault is nobody else's: it is thrown where nobody calls.
   #tell(what, value) {
     try {
       this.#observer[what]?.(value);
     } catch (fault) {
-      report(fault);
+      setTimeout(() => { throw fault; });
     }
   }
 }
 
-// The emissions between an observed query and an iterator: either some are ready, or some are asked for.
-class Emissions {
-  #ready = [];
+// Between an observed query and its iterator: the newest emission that wasn't taken, or who asks for one.
+class Newest {
+  #ready = null;
+  #fault = null;
   #asked = [];
   #isOver = false;
 
   next(rows) {
-    this.#put(Promise.resolve({ value: rows, done: false }));
+    const asked = this.#asked.shift();
+    if (asked) asked.resolve({ value: rows, done: false });
+    else this.#ready = { value: rows, done: false };
   }
 
   error(fault) {
-    const failed = Promise.reject(fault);
-    failed.catch(() => {}); // it may never be asked for
-    this.#put(failed);
+    const asked = this.#asked.shift();
+    if (asked) asked.reject(fault);
+    else this.#fault = fault;
     this.complete();
   }
 
   complete() {
     this.#isOver = true;
-    for (const give of this.#asked.splice(0)) give({ value: undefined, done: true });
+    for (const { resolve } of this.#asked.splice(0)) resolve({ value: undefined, done: true });
   }
 
-  take() {
-    if (this.#ready.length) return this.#ready.shift();
-    if (this.#isOver) return Promise.resolve({ value: undefined, done: true });
-    return new Promise((give) => this.#asked.push(give));
+  drop() {
+    this.#ready = this.#fault = null;
+    this.complete();
   }
 
-  #put(result) {
-    const give = this.#asked.shift();
-    if (give) give(result);
-    else this.#ready.push(result);
+  async take() {
+    const ready = this.#ready, fault = this.#fault;
+    this.#ready = null;
+    if (ready) return ready;
+    this.#fault = null;
+    if (fault) throw fault;
+    if (this.#isOver) return { value: undefined, done: true };
+    return new Promise((resolve, reject) => this.#asked.push({ resolve, reject }));
   }
 }
 
-// An observer's own fault, or one that it doesn't want, is nobody else's: it is thrown where nobody calls.
-function report(fault) {
-  setTimeout(() => { throw fault; });
+// What nobody takes is said, and ends nothing.
+function warn(fault) {
+  if (globalThis.process?.emitWarning) process.emitWarning(fault);
+  else reportError(fault);
 }
 
-/** The program as a child process of Node. */
-export function child(program, journal, ...options) {
-  return async ({ output, ended }) => {
-    const { spawn } = await import('node:child_process');
-    const { once } = await import('node:events');
-    const it = spawn(program, ['run', journal, ...options], { stdio: ['pipe', 'pipe', 'inherit'] });
-    await once(it, 'spawn').catch((fault) => { throw new Stopped({ stop: 'start', said: fault.message }); });
+// JSON writes a text that is no Unicode as an escape, which the program doesn't take.
+const surrogate = { code: 2, refused: 'not_json', cause: 'surrogate' };
+const isBroken = (text) => /\p{Surrogate}/u.test(text);
+
+/** The name of the member whose text, or whose name itself, has a lone surrogate. */
+function brokenText(value, name) {
+  if (typeof value === 'string') return isBroken(value) ? name : undefined;
+  if (typeof value !== 'object' || !value) return undefined;
+  for (const [key, member] of Object.entries(value)) {
+    const found = isBroken(key) ? key : brokenText(member, Array.isArray(value) ? name : key);
+    if (found !== undefined) return found;
+  }
+  return undefined;
+}
+
+const things = { collection: 'collections', observe: 'observed queries', replicate: 'replications' };
+const limits = { // docs/SCRIPT.md, "Limits"
+  line: 1_048_576,
+  name: 64,
+  batch: 100,
+  budget: 100_000,
+  collection: 64,
+  observe: 256,
+  replicate: 64,
+  skip: 1_000_000_000,
+  limit: 1_000_000_000,
+  depth: 32,
+  version: 65_535,
+};
+
+function show(value) {
+  const text = value === undefined ? 'missing' : JSON.stringify(value);
+  return text.length > 60 ? `${text.slice(0, 57)}...` : text;
+}
+
+// What was wrong with a request, as far as it can be told: its value, the limit that it passed, and words.
+function detail({ refused, cause, name, rev, row }, request, schema) {
+  const out = (said, value, limit) => ({ said, value, limit });
+  const most = limits[request.do], own = request[name];
+  const doc = request.doc ?? request.docs?.[row] ?? { [schema?.primaryKey]: request.key, ...request.set };
+  const key = request.key ?? doc[schema?.primaryKey];
+  switch (refused) {
+    case 'too_long': return out(`a line has at most ${limits.line} bytes`, undefined, limits.line);
+    case 'not_json':
+      return out(cause ? `${name ?? 'the line'} has half of a surrogate pair` : 'the line is no JSON');
+    case 'not_object': return out('the line is no object');
+    case 'unknown_do': return out(`${name} is nothing that can be done`, name);
+    case 'missing': return out(`${name} is missing`);
+    case 'unexpected': return out(`${name} isn't expected`, own);
+    case 'wrong_type': return out(`${name} is ${show(own)}, of another kind or none of its numbers`, own);
+    case 'name':
+      return out(`${name} is ${show(own)}, and no name: a lower-case letter and then up to 63 lower-case `
+        + 'letters, digits, _ or -', own, limits.name);
+    case 'exists': return out(`the name ${request.name} is taken`, request.name);
+    case 'no_collection': return out(`there is no collection ${name}`, name);
+    case 'schema': return ofSchema(cause, name, request.schema);
+    case 'schema_differs':
+      return out('it is held with another schema, or the fork has another than its master', request.name);
+    case 'invalid': return ofField(cause, name, doc[name], schema?.properties[name]);
+    case 'conflict': return out(`${show(key ?? 'the key')} has the revision ${rev}`, key);
+    case 'no_document': return out(`no document has the key ${show(key)}`, key);
+    case 'query': return ofQuery(cause, name, request.query);
+    case 'no_query': return out(`no query of the name ${request.name} is observed`, request.name);
+    case 'no_replication': return out(`there is no replication ${request.name}`, request.name);
+    case 'no_handler':
+      return out(`no handler ${request.handler} with the field ${request.field}`, request.handler);
+    case 'batch': return out(`${name} is ${own}, and from 1 to ${limits[name]}`, own, limits[name]);
+    case 'chain': return out('the fork is the master, or one of them is a fork or a master already');
+    case 'clock': return out('no write time is left', undefined, Number.MAX_SAFE_INTEGER);
+    case 'too_many':
+      return out(most && `there are at most ${most} ${things[request.do]}`, request.name, most);
+    case 'key': return out('the primary key is missing or no text, or would become another', key);
+    case 'twice': return out(`the key ${show(key)} stands there twice`, key);
+    default: return out(name);
+  }
+}
+
+function ofField(cause, name, value, property) {
+  const out = (limit, words) => ({ value, limit, said: `${name} ${words}` });
+  const { type, minimum, maximum, multipleOf, maxLength } = property ?? {};
+  switch (cause) {
+    case 'missing': return out(undefined, 'is missing');
+    case 'unknown': return out(undefined, 'is no property of the schema');
+    case 'kind': return out(undefined, `is ${show(value)}, and no ${type ?? 'text, flag or whole number'}`);
+    case 'range': return out(Number.MAX_SAFE_INTEGER, `is ${value}, and from -(2^53 - 1) to 2^53 - 1`);
+    case 'length':
+      if (value === '') return out(1, 'is empty, and the primary key');
+      return out(maxLength, `has ${[...value ?? ''].length} characters, above ${maxLength ?? 'its most'}`);
+    case 'bounds':
+      if (value < minimum) return out(minimum, `is ${value}, below ${minimum}`);
+      if (value > maximum) return out(maximum, `is ${value}, above ${maximum}`);
+      return out(multipleOf, `is ${value}, ${multipleOf ? `no multiple of ${multipleOf}` : 'out of bounds'}`);
+    default: return {};
+  }
+}
+
+function ofSchema(cause, name, schema) {
+  const out = (words, limit) => ({ value: schema?.properties?.[name] ?? schema?.[name], limit, said: words });
+  switch (cause) {
+    case 'not_object': return out('it is no object');
+    case 'keyword': return out(`${name} is no member that stands there, or is of another form`);
+    case 'version': return out(`version is from 0 to ${limits.version}`, limits.version);
+    case 'field_name':
+      return out(`${name} is no name here: a letter and then up to 63 letters, digits or _`, limits.name);
+    case 'kind': return out(`${name} is no string, integer or boolean, and no number with a multipleOf`);
+    case 'bounds': return out(`${name} has bounds that are none, or a maxLength that isn't from 1 to 131072`);
+    case 'primary': return out('primaryKey names no string property with a maxLength');
+    case 'required': return out(`${name} is required, and no property`);
+    case 'index':
+      return out(`${name} is in an index: a string there has a maxLength, an integer bounds and multipleOf`);
+    case 'too_many':
+      return out('there are at most 64 properties, 16 indexes, and 131072 characters over all strings');
+    default: return {};
+  }
+}
+
+function ofQuery(cause, name, query) {
+  const most = limits[cause];
+  const out = (words, value, limit) => ({ value, limit, said: words });
+  switch (cause) {
+    case 'not_object': return out('a selector, or the query, is no object');
+    case 'member': return out(`${name} is no member of a query`);
+    case 'field': return out(`${name} is no property of the schema`);
+    case 'operator': return out(`${name} is no operator`);
+    case 'operand': return out(`what stands behind ${name} isn't what it takes`);
+    case 'sort':
+      return out(`sort by ${name}: it is a list of {"FIELD":"asc"} or "desc", each a property and once`);
+    case 'depth': return out(`a selector is at most ${most} deep`, undefined, most);
+    case 'skip': case 'limit':
+      return out(`${cause} is ${show(query?.[cause])}, and from 0 to ${most}`, query?.[cause], most);
+    default: return {};
+  }
+}
+
+// A name that bundlers for pages leave alone.
+const builtIn = (name) => import(/* webpackIgnore: true */ /* @vite-ignore */ `node:${name}`);
+const howToGet = "tools/install ~/.local, at the top of rx's repository, makes ~/.local/bin/rx; a program "
+  + 'elsewhere is named by { program } or RX';
+
+const wordsOf = (maxJournal) => (maxJournal === undefined ? [] : ['--max-journal', String(maxJournal)]);
+
+// Where Node has nothing else to do the programs are ended that nobody closed.
+const running = new Set();
+const leaveAll = () => running.forEach((leave) => leave());
+
+/** The program as a child process of Node: what `program` or RX names, or rx on the path. */
+export function child(journal, { program, maxJournal } = {}) {
+  const start = async ({ output, ended, leave }) => {
+    const { spawn } = await builtIn('child_process');
+    if ((await lockOf(journal)).isLocked) throw new Stopped(inUse(journal));
+    const command = program || process.env.RX || 'rx';
+    const words = wordsOf(maxJournal);
+    const it = spawn(command, ['run', journal, ...words], { stdio: ['pipe', 'pipe', 'inherit'] });
+    await new Promise((begun, fail) => it.once('spawn', begun).once('error', fail)).catch(({ code }) => {
+      const where = command.includes('/') ? `no program at ${command}` : `no ${command} on the path`;
+      throw new Stopped({ stop: 'start', said: `${where} (${code}): ${howToGet}` });
+    });
     it.stdout.setEncoding('utf8').on('data', output);
     it.stdin.on('error', () => {}); // the end is told by 'close', once all output is read
-    it.on('close', (status, signal) => ended(signal ? { stop: 'killed', said: signal } : { status }));
-    return { send: (text) => it.stdin.write(text), end: () => it.stdin.end(), kill: () => it.kill('SIGKILL') };
+    if (!running.size) process.on('beforeExit', leaveAll);
+    running.add(leave);
+    it.on('close', async (status, signal) => {
+      running.delete(leave);
+      if (!running.size) process.off('beforeExit', leaveAll);
+      if (signal) ended({ stop: 'killed', said: signal });
+      else ended({ status, ...(await ofStatus(status, journal, words)) });
+    });
+    return {
+      send: (text) => it.stdin.write(text),
+      end: () => it.stdin.end(),
+      kill: () => it.kill('SIGKILL'),
+      keepAlive: (is) => [it, it.stdin, it.stdout].forEach((handle) => (is ? handle.ref() : handle.unref())),
+    };
   };
+  return Object.assign(start, { free: () => new Promise((go) => setTimeout(go, 200)) });
+}
+
+const inUse = (journal) => ({ stop: 'in_use', said: `another process has ${journal}` });
+
+// What there is to say of a status. Of 3 there are two causes: the disk failed, or another has the journal.
+async function ofStatus(status, journal, words) {
+  if (status === 2) return { said: [`run ${show(journal)}`, ...words].join(' ') };
+  if (status === 7) return { said: `${journal} is none` };
+  if (status !== 3) return {};
+  const { isLocked, fault } = await lockOf(journal);
+  return isLocked ? inUse(journal) : { said: fault?.message ?? journal };
+}
+
+// Whether a process has the lock of a file, as Linux tells, or why the file can't be opened.
+async function lockOf(journal) {
+  const { closeSync, existsSync, fstatSync, openSync, readFileSync } = await builtIn('fs');
+  try {
+    const file = openSync(journal, 'r+');
+    const { dev, ino } = fstatSync(file);
+    closeSync(file);
+    const hex = (number) => number.toString(16).padStart(2, '0');
+    const id = `${hex(dev >>> 8 & 0xfff)}:${hex(dev & 0xff | dev >>> 12 & 0xfff00)}:${ino}`;
+    const locks = existsSync('/proc/locks') ? readFileSync('/proc/locks', 'utf8') : '';
+    return { isLocked: locks.includes(` ${id} `) };
+  } catch (fault) {
+    return { isLocked: false, fault };
+  }
 }
 
 /**
  * The program in a worker of a page, with its journal in the origin's private file system.
- * `folder` holds what wasm/build.sh makes.
+ * `folder` holds what wasm/build.sh makes, and is looked for from this file's own address. `masters` has, by
+ * the port of a replication, the URL of the WebSocket that leads to its master, or `{ url, token }`.
  */
-export function wasm(folder, journal, ...options) {
-  return ({ output, ended }) => new Promise((resolve, reject) => {
-    const at = (name) => new URL(name, new URL(`${folder}/`, location.href));
+export function wasm(folder, journal, { maxJournal, masters = {} } = {}) {
+  const words = wordsOf(maxJournal);
+  return alone(journal, ({ output, ended }) => new Promise((resolve, reject) => {
+    const at = (name) => new URL(name, new URL(`${folder}/`, ownAddress()));
     const worker = new Worker(at('host.mjs'), { type: 'module' });
     const finish = (how) => {
       worker.terminate();
-      reject(new Stopped({ stop: 'start', said: how.said }));
+      reject(new Stopped({ stop: how.stop === 'in_use' ? how.stop : 'start', said: how.said }));
       ended(how);
     };
-    const fail = (fault) => finish({ stop: 'trap', said: fault.message ?? 'the worker does not start' });
+    const fail = ({ message }) => finish({ stop: 'trap', said: message ?? `no worker at ${at('host.mjs')}` });
     const kill = () => finish({ stop: 'killed' });
     const transport = { send: (text) => worker.postMessage(text), end: () => worker.postMessage(null), kill };
     worker.onmessage = ({ data }) => {
       if (typeof data === 'string') output(data);
       else if (data.ready) resolve(transport);
-      else finish(data.ended === null ? { stop: 'trap', said: data.said } : { status: data.ended });
+      else finish(data.ended === null ? { stop: stopOf(data), said: data.said } : { status: data.ended });
     };
     worker.onerror = fail;
     // The program is compiled while the worker starts.
-    const compiled = WebAssembly.compileStreaming(fetch(at('rx.wasm')));
-    compiled.then((program) => worker.postMessage({ program, journal, words: options })).catch(fail);
+    const compiled = compile(at('rx.wasm'));
+    compiled.then((program) => worker.postMessage({ program, journal, words, masters })).catch(fail);
+  }));
+}
+
+// Some bundlers take the client's own address away, and then it is the page's.
+const own = import.meta.url;
+const ownAddress = () => (own?.startsWith('http') ? own : location.href);
+
+async function compile(url) {
+  const response = await fetch(url).catch((fault) => { throw new Error(`${url}: ${fault.message}`); });
+  if (!response.ok) throw new Error(`${url}: ${response.status} ${response.statusText}`);
+  return WebAssembly.compileStreaming(response);
+}
+
+const stopOf = ({ said }) => (said.includes('NoModificationAllowedError') ? 'in_use' : 'trap');
+
+// One page of an origin at a time has a journal. The lock is free once that page is gone, however it went.
+function alone(journal, transport) {
+  const name = `rx ${journal}`;
+  const start = (hooks) => new Promise((resolve, reject) => {
+    if (!navigator.locks) throw new Stopped({ stop: 'start', said: 'pages want https or localhost' });
+    navigator.locks.request(name, { ifAvailable: true }, (lock) => new Promise((over) => {
+      const fail = (fault) => { reject(fault); over(); };
+      if (!lock) return fail(new Stopped({ stop: 'in_use', said: `another page has ${journal}` }));
+      transport({ ...hooks, ended: (how) => { hooks.ended(how); over(); } }).then(resolve, fail);
+    })).catch(reject);
   });
+  return Object.assign(start, { free: () => navigator.locks.request(name, () => {}) });
 }

@@ -98,7 +98,7 @@ function show(todos) {
     subscription?.unsubscribe();
     subscription = todos
       .observe({ sort: [{ done: 'asc' }, { made: 'desc' }], limit })
-      .subscribe({ next: render, error: (fault) => say(`The database has stopped: ${fault.message}`) });
+      .subscribe({ next: render, error: (fault) => say(`Not shown: ${fault.message}`) });
   }
 
   part('h2').textContent = name;
@@ -170,7 +170,9 @@ async function sync(db) {
 }
 
 try {
-  const db = await open(wasm('../../wasm/out', 'todos'));
+  const waiting = () => say('These todos are open in another tab. Close that one, and they open here.');
+  const db = await open(wasm('../../wasm/out', 'todos'), { waiting });
+  db.stopped.then((why) => say(`The database has stopped: ${why.message}`));
   const places = await Promise.all(['phone', 'server', 'laptop'].map((name) => collection(db, name)));
   await Promise.all(devices.map((name) => follow(db, name)));
   element('places').append(...places.map(show));
@@ -180,6 +182,5 @@ try {
   say('Ready. Everything you do is kept in this browser.');
   navigator.storage.persist?.(); // so that the browser doesn't drop the journal when it is short of room
 } catch (fault) {
-  const inUse = fault.message.includes('NoModificationAllowedError');
-  say(inUse ? 'These todos are open in another tab. Close it, and load this page again.' : `The database didn’t start. ${fault.message}`);
+  say(`The database didn’t start. ${fault.message}`);
 }

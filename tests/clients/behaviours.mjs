@@ -1,4 +1,5 @@
-// How the client behaves, whatever its transport. Each takes what it needs and throws where it is not so; they run in Node and in a page.
+// How the client behaves, whatever its transport. Each takes what it needs and throws where it is not so.
+// They run in Node and in a page. The moment is 0 where nothing else is said.
 import { schema } from './schema.mjs';
 
 function same(found, wanted, what) {
@@ -114,7 +115,7 @@ export const behaviours = {
     await db.close();
   },
 
-  async 'as an async iterator, with each emission, until it is left or the database is closed'({ open, transport }) {
+  async 'as an async iterator, until it is left or the database is closed'({ open, transport }) {
     const db = await open(transport());
     const c = await db.collection('c', schema);
     const heard = [];
@@ -122,7 +123,7 @@ export const behaviours = {
     for await (const rows of query) {
       heard.push(rows.length);
       if (rows.length === 2) break;
-      if (rows.length === 0) for (let n = 1; n < 4; n++) await c.insert({ id: `k${n}`, n });
+      c.insert({ id: `k${rows.length}` });
     }
     same(heard, [0, 1, 2], 'emissions');
     same((await fault(() => query.explain())).code, 17, 'left');
@@ -200,7 +201,7 @@ export const behaviours = {
   },
 
   async 'a turn that a full journal ends has no answer, and a restart keeps a replication'({ open, transport }) {
-    const db = await open(transport('--max-journal', '1500'));
+    const db = await open(transport({ maxJournal: 1500 }));
     const master = await db.collection('m', schema);
     await db.collection('f', schema);
     await db.replicate({ name: 'r', fork: 'f', master: 'm', handler: 'join' });
@@ -209,6 +210,7 @@ export const behaviours = {
     await master.bulk(Array.from({ length: 10 }, (_, n) => ({ id: `k${n}` })));
     const stopped = await fault(() => db.turn('r', { batch: 1 }));
     same([stopped.stop, stopped.limit], ['full', 1500], 'in the middle of a turn');
+    same((await fault(() => db.close())).stop, 'full', 'close');
   },
 
   async 'a master at a port that nobody serves: the turn is lost, and what was written stays'({ open, transport }) {
@@ -241,10 +243,196 @@ export const behaviours = {
     const stopped = await fault(() => c.count());
     same([stopped.name, stopped.stop], ['Stopped', 'closed'], 'closed');
     same((await new Promise((go) => c.observe().subscribe({ error: go }))).stop, 'closed', 'an observer');
+    for (const text of ['{"do":"restart"}', ' ', '']) {
+      same((await fault(() => db.line(text))).stop, 'closed', 'a line');
+    }
+    same((await fault(() => db.drained())).stop, 'closed', 'drained');
+    same((await db.stopped).stop, 'closed', 'stopped');
+  },
+
+  async 'an idle reader gets the newest emission, and no other is kept for it'({ open, transport }) {
+    const db = await open(transport());
+    const c = await db.collection('c', schema);
+    const iterator = c.observe({ sort: [{ n: 'asc' }] })[Symbol.asyncIterator]();
+    const first = (await iterator.next()).value;
+    for (let n = 1; n <= 50; n++) await c.insert({ id: `k${n}`, n });
+    await c.count();
+    same([first.length, (await iterator.next()).value.length], [0, 50], 'the newest');
+    const next = iterator.next();
+    await c.remove('k1');
+    same((await next).value.length, 49, 'the next');
+    await c.remove('k2');
+    await db.close();
+    const last = [(await iterator.next()).value?.length, (await iterator.next()).done];
+    same(last, [48, true], 'the last before the end');
+  },
+
+  async 'rows that subscribers share are frozen, and those that were asked for are not'({ open, transport }) {
+    const db = await open(transport());
+    const c = await db.collection('c', schema);
+    await c.insert({ id: 'a', n: 1 });
+    const query = c.observe();
+    const rows = await new Promise((go) => query.subscribe(go));
+    same([Object.isFrozen(rows), Object.isFrozen(rows[0])], [true, true], 'frozen');
+    for (const change of [() => { rows[0].n = 2; }, () => rows.push({ id: 'b' }), () => rows.pop()]) {
+      same((await fault(change)).name, 'TypeError', 'a change');
+    }
+    same(await new Promise((go) => query.subscribe(go)), [{ id: 'a', n: 1 }], 'a later subscriber');
+    const own = await c.find();
+    own[0].n = 3;
+    await db.close();
+  },
+
+  async 'a refused query is told to who observes it'({ open, transport }) {
+    const db = await open(transport());
+    const c = await db.collection('c', schema);
+    const bad = () => c.observe({ selector: { m: 1 } });
+    same((await fault(() => bad().subscribe(() => {}).begun)).subject, 'm', 'begun');
+    same((await new Promise((go) => bad().subscribe(() => {}, go))).subject, 'm', 'an error handler');
+    same((await fault(() => bad()[Symbol.asyncIterator]().next())).subject, 'm', 'an iterator');
+    const refused = bad().subscribe({ error() {} });
+    await c.count();
+    same((await fault(() => refused.begun)).subject, 'm', 'begun, asked for later');
+    const subscription = c.observe().subscribe(() => {});
+    await subscription.begun;
+    subscription.unsubscribe();
+    await subscription.begun;
+    await c.observe().subscribe().begun;
+    const left = c.observe().subscribe();
+    left.unsubscribe();
+    await left.begun;
+    await db.close();
+  },
+
+  async 'refusals tell the value that was wrong and the limit that it passed'({ open, transport }) {
+    const db = await open(transport());
+    const rank = { type: 'integer', minimum: 1, maximum: 9, multipleOf: 2 };
+    const c = await db.collection('c', { ...schema, properties: { ...schema.properties, rank } });
+    const told = async (call) => (({ value, limit, message }) => [value, limit, message])(await fault(call));
+    const cases = [
+      [() => db.collection('myTodos', schema), 'myTodos', 64, 'name (8): name is "myTodos", and no name: a'
+        + ' lower-case letter and then up to 63 lower-case letters, digits, _ or -'],
+      [() => c.insert({ id: 'a', rank: 11 }), 11, 9, 'invalid (13): rank is 11, above 9'],
+      [() => c.insert({ id: 'a', rank: 0 }), 0, 1, 'invalid (13): rank is 0, below 1'],
+      [() => c.insert({ id: 'a', rank: 5 }), 5, 2, 'invalid (13): rank is 5, no multiple of 2'],
+      [() => c.bulk([{ id: 'a' }, { id: 'k'.repeat(21) }]), 'k'.repeat(21), 20,
+        'invalid (13) in row 1: id has 21 characters, above 20'],
+      [() => c.insert({ id: '' }), '', 1, 'invalid (13): id is empty, and the primary key'],
+      [() => c.insert({ id: 'a', n: 2 ** 53 }), 2 ** 53, 2 ** 53 - 1,
+        'invalid (13): n is 9007199254740992, and from -(2^53 - 1) to 2^53 - 1'],
+      [() => c.insert({ id: 'a', n: [1] }), [1], undefined, 'invalid (13): n is [1], and no integer'],
+      [() => c.insert({ id: 'a', m: 1 }), 1, undefined, 'invalid (13): m is no property of the schema'],
+      [() => c.find({ limit: -1 }), -1, 1e9, 'query (16): limit is -1, and from 0 to 1000000000'],
+      [() => c.find({ selector: { $not: 1 } }), undefined, undefined, 'query (16): $not is no operator'],
+      [() => db.line('{"do":"find","in":"c","query":{"skip":2.5}}'), 2.5, 1e9,
+        'query (16): skip is 2.5, and from 0 to 1000000000'],
+      [() => db.line('[]'), undefined, undefined, 'not_object (3): the line is no object'],
+      [() => db.line('{'), undefined, undefined, 'not_json (2): the line is no JSON'],
+      [() => c.get('z'), 'z', undefined, 'no_document (15): no document has the key "z"'],
+      [() => db.turn('r', { batch: 101 }), 101, 100, 'batch (20): batch is 101, and from 1 to 100'],
+      [() => c.insert({ id: 'a'.repeat(2 ** 20) }), undefined, 2 ** 20,
+        'too_long (1): a line has at most 1048576 bytes'],
+      [() => db.collection('d', { ...schema, properties: { tags: { type: 'array' } } }),
+        { type: 'array' }, undefined,
+        'schema (11): tags is no string, integer or boolean, and no number with a multipleOf'],
+    ];
+    for (const [call, ...due] of cases) same(await told(call), due, due[2]);
+    for (let n = 2; n <= 64; n++) await db.collection(`c${n}`, schema);
+    const tooMany = ['more', 64, 'too_many (23): there are at most 64 collections'];
+    same(await told(() => db.collection('more', schema)), tooMany, 'too many');
+    await c.insert({ id: 'a', rank: 2 });
+    const above = [12, 9, 'invalid (13): rank is 12, above 9'];
+    same(await told(() => c.patch('a', { rank: 12 })), above, 'a patch');
+    const conflict = 'conflict (14): "a" has the revision 1-c';
+    same((await fault(() => c.insert({ id: 'a' }))).message, conflict, 'a conflict');
+    await db.close();
+  },
+
+  async 'a lone surrogate is refused by the name of its member'({ open, transport }) {
+    const db = await open(transport());
+    const c = await db.collection('c', schema);
+    const told = async (call) => {
+      const { code, word, cause, subject } = await fault(call);
+      return [code, word, cause, subject];
+    };
+    const due = (name) => [2, 'not_json', 'surrogate', name];
+    same(await told(() => c.insert({ id: 'a\ud800' })), due('id'), 'a field');
+    same(await told(() => c.bulk([{ id: 'a' }, { id: 'b', '\udc00': 1 }])), due('\udc00'), 'a name');
+    same(await told(() => c.get('\udfff')), due('key'), 'a key');
+    const query = c.observe({ selector: { id: { $in: ['a', '\ud83d'] } } });
+    same(await told(() => query.subscribe(() => {}).begun), due('$in'), 'a query');
+    same(await told(() => db.line('{"do":"\ud800"}')), due(undefined), 'a line');
+    await c.insert({ id: '\ud83d\ude00 \\ud800' });
+    same(await c.find(), [{ id: '😀 \\ud800' }], 'a pair, and what looks like one');
+    await db.close();
+  },
+
+  async 'a patch of nothing but undefined fields writes nothing'({ open, transport }) {
+    const db = await open(transport());
+    const c = await db.collection('c', schema);
+    await c.insert({ id: 'a', n: 1 });
+    let heard = 0;
+    await c.observe().subscribe(() => { heard += 1; }).begun;
+    const set = { n: undefined };
+    for (const rev of [undefined, '1-c']) same(await c.patch('a', set, rev), '1-c', 'the revision');
+    same((await fault(() => c.patch('a', { n: undefined }, '2-c'))).rev, '1-c', 'another revision');
+    same((await fault(() => c.patch('b', { n: undefined }))).word, 'no_document', 'no document');
+    same([await c.get('a'), heard], [{ doc: { id: 'a', n: 1 }, lwt: 1, rev: '1-c' }, 1], 'the document');
+    same(await c.patch('a', { n: undefined, id: 'a' }), '2-c', 'a field that is set');
+    await db.close();
+  },
+
+  async 'write times are the clock, and the caller may tick'({ open, transport }) {
+    const before = Date.now();
+    const db = await open(transport(), { clock: undefined });
+    const c = await db.collection('c', schema);
+    await c.insert({ id: 'a' });
+    await new Promise((go) => setTimeout(go, 5));
+    await c.bulk([{ id: 'b' }]);
+    const [a, b] = [(await c.get('a')).lwt, (await c.get('b')).lwt];
+    same([a >= before, b >= a + 4, b <= Date.now()], [true, true, true], `${before} ${a} ${b}`);
+    await db.close();
+    let now = 7.9;
+    const set = await open(transport(), { clock: () => now });
+    const d = await set.collection('c', schema);
+    await d.insert({ id: 'a' });
+    now = 12;
+    await d.patch('a', { n: 1 });
+    same((await d.get('a')).lwt, 12, 'a clock of the caller');
+    await set.tick(100);
+    now = 1000;
+    await d.insert({ id: 'b' });
+    same((await d.get('b')).lwt, 100, 'a moment that was set by hand');
+    await set.close();
+    const own = await open(transport(), { clock: null });
+    const e = await own.collection('c', schema);
+    await e.insert({ id: 'a' });
+    await own.tick(100);
+    await e.insert({ id: 'b' });
+    same([(await e.get('a')).lwt, (await e.get('b')).lwt], [1, 100], 'without a clock');
+    same((await own.line('{"do":"tick","at":1}')).line, 7, 'no line but those of the caller');
+    await own.close();
+  },
+
+  async 'writes that are not awaited wait for the program by drained'({ open, transport }) {
+    let unanswered = 0, most = 0;
+    const db = await open(transport());
+    const properties = { ...schema.properties, t: { type: 'string' } };
+    const c = await db.collection('c', { ...schema, properties });
+    const t = 'x'.repeat(1000);
+    for (let n = 0; n < 1000; n++) {
+      unanswered += 1;
+      c.upsert({ id: `k${n}`, t }).then(() => { unanswered -= 1; });
+      most = Math.max(most, unanswered);
+      await db.drained();
+    }
+    same([most > 100, most < 400], [true, true], `${most} were unanswered`);
+    same(await c.count(), 1000, 'all');
+    await db.close();
   },
 
   async 'a full journal ends the program, by its name and both numbers, and loses no answer'({ open, transport }) {
-    const db = await open(transport('--max-journal', '600'));
+    const db = await open(transport({ maxJournal: 600 }));
     const c = await db.collection('c', schema);
     const ended = new Promise((go) => c.observe({ limit: 1 }).subscribe({ error: go }));
     const calls = await Promise.allSettled(Array.from({ length: 20 }, (_, i) => c.insert({ id: `k${i}` })));
@@ -252,5 +440,11 @@ export const behaviours = {
     same(calls.map((it) => it.status === 'fulfilled'), Array.from({ length: 20 }, (_, i) => i < kept), 'a front is answered');
     same([kept > 0 && kept < 20, calls[kept].reason.stop, calls[kept].reason.status, calls[kept].reason.limit], [true, 'full', 8, 600], 'full');
     same([calls[19].reason.would > 600, (await ended).stop], [true, 'full'], 'all that is open');
+    const stopped = await db.stopped;
+    same([stopped.stop, stopped.limit, stopped.would > 600], ['full', 600, true], 'stopped');
+    const words = `full: the journal has at most 600 bytes, and would have ${stopped.would}`;
+    same(stopped.message, words, 'in words');
+    same((await fault(() => db.close())).stop, 'full', 'close');
+    same((await fault(() => db.drained())).stop, 'full', 'drained');
   },
 };

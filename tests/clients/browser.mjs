@@ -31,8 +31,8 @@ let served, chromium;
 const empty = () => chromium.page(`${served.origin}/empty`);
 
 // Adds a test that has the files of this repository served, and a Chromium.
-function test(name, work) {
-  tests[name] = async (folder) => {
+function test(name, work, needs = []) {
+  tests[name] = Object.assign(async (folder) => {
     served = await serve(root, counted());
     chromium = await launch(join(folder, 'profile'));
     try {
@@ -41,7 +41,7 @@ function test(name, work) {
       await chromium.close();
       served.close();
     }
-  };
+  }, { needs });
 }
 
 // These run in the page.
@@ -59,7 +59,10 @@ const behaveInPage = async (name) => {
   const { open, wasm } = await import('/clients/js/rx.mjs');
   const { behaviours } = await import('/tests/clients/behaviours.mjs');
   let count = 0;
-  await behaviours[name]({ open, transport: (...options) => wasm('/wasm/out', `${name.slice(0, 20)}${++count}`, ...options) });
+  await behaviours[name]({
+    open: (transport, options) => open(transport, { clock: () => 0, ...options }),
+    transport: (options) => wasm('/wasm/out', `${name.slice(0, 20)}${++count}`, options),
+  });
 };
 
 for (const { name, after, script, out } of examples()) {
@@ -156,18 +159,86 @@ test('no room is left: the program ends by disk, and what was answered is there'
   await page.close();
 });
 
-test('a journal that another page has, and a folder without the program', async (folder) => {
-  const file = journalName(), first = await empty(), second = await empty();
+test('a journal that another page has is in use, and may be waited for', async (folder) => {
+  const file = journalName(), [first, second, third] = [await empty(), await empty(), await empty()];
   await first.run(writeInPage, file, schema);
   const stopped = await second.run(async (name) => {
     const { open, wasm } = await import('/clients/js/rx.mjs');
-    const told = (it) => [it.name, it.stop, it.message.includes('NoModificationAllowedError')].join(' ');
-    return [await open(wasm('/wasm/out', name)).catch(told), await open(wasm('/clients', name)).catch(told)];
+    const fault = await open(wasm('/wasm/out', name)).catch((it) => it);
+    globalThis.waits = 0;
+    globalThis.later = open(wasm('/wasm/out', name), { waiting: () => { globalThis.waits += 1; } });
+    return `${fault.name}: ${fault.message}`;
   }, file);
-  same(stopped.join(), 'Stopped start true,Stopped start false', 'the second page');
+  same(stopped, `Stopped: in_use: another page has ${file}`, 'the second page');
+  await second.until('waits === 1');
+  const answered = await first.evaluate('answered');
   await first.close();
+  const count = await second.run(async () => {
+    const db = await globalThis.later;
+    const c = await db.collection('c');
+    globalThis.leave = async () => { await db.close(); };
+    return [await c.count(), globalThis.waits];
+  });
+  same(count[0] >= answered && count[1] === 1, true, `${count} of ${answered}`);
+  // A journal that was closed is free, though its page stays.
+  await second.run(() => globalThis.leave());
+  fronts(await third.run(keysInPage, file), count[0]);
   await second.close();
+  await third.close();
 });
+
+test('what could not be had is told by its address', async () => {
+  const page = await empty();
+  const told = await page.run(async () => {
+    const { open, wasm } = await import('/clients/js/rx.mjs');
+    const message = (it) => `${it.stop} ${it.message}`;
+    return [await open(wasm('out', 'a')).catch(message), await open(wasm('/nowhere', 'b')).catch(message)];
+  });
+  const own = `${served.origin}/clients/js/out/`;
+  same(told[0].startsWith('start start: ') && told[0].includes(own), true, told[0]);
+  same(told[1].includes(`${served.origin}/nowhere/`), true, told[1]);
+  await page.close();
+});
+
+test('a program that ends is told to a page without observers', async () => {
+  const page = await empty(), file = journalName();
+  const told = await page.run(async (name, schema) => {
+    const { open, wasm } = await import('/clients/js/rx.mjs');
+    const db = await open(wasm('/wasm/out', name, { maxJournal: 500 }));
+    const c = await db.collection('c', schema);
+    for (let n = 0; n < 20; n++) c.insert({ id: `k${n}` }).catch(() => {});
+    const { stop, limit } = await db.stopped;
+    return [stop, limit, (await db.close().catch((it) => it)).stop].join(' ');
+  }, file, schema);
+  same(told, 'full 500 full', 'stopped');
+  await page.close();
+});
+
+test('a page that esbuild made', async (folder) => {
+  const own = mkdtempSync(join(folder, 'bundle-'));
+  cpSync(join(root, 'wasm/out'), join(own, 'out'), { recursive: true });
+  writeFileSync(join(own, 'app.mjs'), `
+    import { open, wasm } from ${JSON.stringify(join(root, 'clients/js/rx.mjs'))};
+    async function run() {
+      const db = await open(wasm('out', 'bundled'));
+      const c = await db.collection('c', ${JSON.stringify(schema)});
+      await c.upsert({ id: 'a', n: 1 });
+      document.title = JSON.stringify(await c.find());
+    }
+    run();`);
+  const site = await serve(own);
+  for (const [format, type] of [['esm', 'module'], ['iife', 'text/javascript']]) {
+    const words = ['app.mjs', '--bundle', `--format=${format}`, `--outfile=${format}.js`];
+    const { status, stderr } = spawnSync('esbuild', words, { cwd: own, encoding: 'utf8' });
+    same(status, 0, stderr);
+    const page = `<!doctype html><title>-</title><script type="${type}" src="${format}.js"></script>`;
+    writeFileSync(join(own, `${format}.html`), page);
+    const it = await chromium.page(`${site.origin}/${format}.html`);
+    await it.until(`document.title === '[{"id":"a","n":1}]'`);
+    await it.close();
+  }
+  site.close();
+}, ['esbuild']);
 
 test('each answer comes after its sync, and the journal is appended to', async (folder) => {
   const page = await empty(), file = journalName(), count = 200;
@@ -298,6 +369,21 @@ test('the page of todos, edited apart and synced: a conflict shows its answer', 
   site.close();
 });
 
+test('the page of todos in a second tab: it says that it waits, and takes over', async () => {
+  const site = await serve(root); // an origin of its own, where nothing is stored
+  const first = await chromium.page(`${site.origin}/clients/web/`);
+  await first.until(`document.querySelectorAll('#phone .todos li').length === 3`);
+  const second = await chromium.page(`${site.origin}/clients/web/`);
+  await second.until(`document.getElementById('status').textContent.includes('open in another tab')`);
+  await take(second, 'second-tab');
+  same(await second.evaluate(`document.getElementById('sync').disabled`), true, 'nothing to sync');
+  await first.close();
+  await second.until(`document.querySelectorAll('#phone .todos li').length === 3`);
+  await second.until(`document.getElementById('status').textContent.startsWith('Ready')`);
+  await second.close();
+  site.close();
+});
+
 test('the quickstart page of clients/README.md', async (folder) => {
   const own = mkdtempSync(join(folder, 'quick-'));
   cpSync(join(root, 'clients/js/rx.mjs'), join(own, 'rx.mjs'));
@@ -306,7 +392,8 @@ test('the quickstart page of clients/README.md', async (folder) => {
   const site = await serve(own);
   const page = await chromium.page(`${site.origin}/`);
   for (const title of ['Buy milk', 'Bake bread']) {
-    await page.until(`document.activeElement.name === 'title' && document.activeElement.value === '' && document.querySelector('form').onsubmit`);
+    await page.until(`document.activeElement.matches('[name=title]') && document.activeElement.value === ''
+      && !document.querySelector('button').disabled`);
     await page.type(title);
     await page.key('Enter');
     await page.until(`document.querySelector('ul').textContent.includes('${title}')`);

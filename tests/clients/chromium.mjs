@@ -7,6 +7,7 @@ import { extname, join, normalize } from 'node:path';
 const kinds = {
   '.html': 'text/html; charset=utf-8',
   '.css': 'text/css',
+  '.js': 'text/javascript',
   '.mjs': 'text/javascript',
   '.wasm': 'application/wasm',
   '.svg': 'image/svg+xml',

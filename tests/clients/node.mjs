@@ -1,15 +1,25 @@
 // The client for JavaScript over a child process.
 import { spawn, spawnSync } from 'node:child_process';
-import { cpSync, readFileSync, writeFileSync } from 'node:fs';
+import { cpSync, mkdirSync, readFileSync, symlinkSync, writeFileSync } from 'node:fs';
 import { connect, createServer } from 'node:net';
 import { join } from 'node:path';
-import { child, open } from '../../clients/js/rx.mjs';
+import { child as childOf, open as openWith } from '../../clients/js/rx.mjs';
 import { behaviours } from './behaviours.mjs';
 import { emissionsOf, playScript } from './play.mjs';
 import { schema } from './schema.mjs';
 import { examples, journalName, program, quickstart, root, same, tryOne } from './shared.mjs';
 
 const tests = {};
+const client = JSON.stringify(join(root, 'clients/js/rx.mjs'));
+const child = (journal, options) => childOf(journal, { program, ...options });
+const open = (transport, options) => openWith(transport, { clock: () => 0, ...options });
+
+/** What a program of Node does that has the client, in words of its own. */
+function node(code, { env, cwd } = {}) {
+  const words = ['--input-type=module', '-e', `import { child, open } from ${client};\n${code}`];
+  const options = { encoding: 'utf8', cwd, env: { ...process.env, RX: program, ...env }, timeout: 60000 };
+  return spawnSync(process.execPath, words, options);
+}
 
 for (const { name, after, script, out } of examples()) {
   tests[`examples/${name}, by the calls`] = async (folder) => {
@@ -18,7 +28,7 @@ for (const { name, after, script, out } of examples()) {
       const first = examples().find((it) => it.name === after).script;
       for (const it of [path, native]) spawnSync(program, ['run', it], { input: first });
     }
-    const played = await playScript(open, child(program, path), script);
+    const played = await playScript(open, child(path), script);
     same(played.written, script, 'the lines that were written');
     same(played.output, out, 'the output');
     same(JSON.stringify(played.heard), JSON.stringify(emissionsOf(out)), 'what observers heard');
@@ -29,7 +39,7 @@ for (const { name, after, script, out } of examples()) {
 
 for (const [name, test] of Object.entries(behaviours)) {
   tests[name] = (folder) => {
-    const transport = (...options) => child(program, join(folder, journalName()), ...options);
+    const transport = (options) => child(join(folder, journalName()), options);
     return test({ open, transport });
   };
 }
@@ -37,7 +47,7 @@ for (const [name, test] of Object.entries(behaviours)) {
 tests['a child that is killed in mid-call'] = async (folder) => {
   const path = join(folder, 'journal');
   let running;
-  const db = await open(async (hooks) => (running = await child(program, path)(hooks)));
+  const db = await open(async (hooks) => (running = await child(path)(hooks)));
   const c = await db.collection('c', schema);
   const stopped = new Promise((go) => c.observe({ limit: 1 }).subscribe({ error: go }));
   const answered = [];
@@ -49,8 +59,9 @@ tests['a child that is killed in mid-call'] = async (folder) => {
   same(faults.length > 0 && faults.every((it) => it.name === 'Stopped' && it.stop === 'killed'), true, 'each open call fails');
   same((await stopped).stop, 'killed', 'the observer');
   same((await c.count().catch((it) => it.stop)), 'killed', 'a later call');
-  await db.close();
-  const again = await open(child(program, path));
+  same((await db.stopped).stop, 'killed', 'stopped');
+  same(await db.close().catch((it) => it.stop), 'killed', 'close');
+  const again = await open(child(path));
   const rows = await (await again.collection('c')).find();
   same(answered.length >= 20 && answered.every((id) => rows.some((it) => it.id === id)), true, 'what was answered is there');
   await again.close();
@@ -71,7 +82,7 @@ const dialled = (port) => new Promise((go) => {
 
 tests['a fork of a master that another process serves'] = async (folder) => {
   const path = join(folder, 'master'), port = await freePort();
-  const before = await open(child(program, path));
+  const before = await open(child(path));
   await (await before.collection('m', schema)).bulk([{ id: 'a', n: 1 }, { id: 'b', n: 1 }]);
   await before.close();
   const served = spawn(program, ['serve', path, 'm', String(port), '3'], { stdio: ['ignore', 'pipe', 'inherit'] });
@@ -80,7 +91,7 @@ tests['a fork of a master that another process serves'] = async (folder) => {
   const over = new Promise((go) => served.on('close', go));
   await dialled(port);
 
-  const db = await open(child(program, join(folder, 'fork')));
+  const db = await open(child(join(folder, 'fork')));
   const fork = await db.collection('f', schema);
   await db.replicate({ name: 'r', fork: 'f', port, handler: 'fork_wins' });
   const heard = [];
@@ -97,21 +108,92 @@ tests['a fork of a master that another process serves'] = async (folder) => {
   same(await over, 0, 'the status of the server');
   const due = [0, 1, 5].map((requests, i) => `{"connection":${i + 1},"end":"peer","requests":${requests}}\n`);
   same(said, due.join(''), 'what it said');
-  const after = await open(child(program, path));
+  const after = await open(child(path));
   const master = await after.collection('m');
   same(JSON.stringify(await master.digest()), JSON.stringify(mine), 'both sides');
   same((await master.get('a')).rev, '2-m', 'a push');
   await after.close();
 };
 
-tests['a program that does not start, and a file that is no journal'] = async (folder) => {
+tests['a journal that can not be had: open rejects, with the program\'s stop word'] = async (folder) => {
   const path = join(folder, 'journal');
-  const missing = await open(child(join(folder, 'none'), path)).catch((it) => it);
-  same(`${missing.name} ${missing.stop}`, 'Stopped start', 'no program');
   writeFileSync(path, 'something else than a journal');
-  const db = await open(child(program, path));
-  const fault = await db.collection('c', schema).catch((it) => it);
-  same(`${fault.stop} ${fault.status}`, 'not_journal 7', 'no journal');
+  mkdirSync(join(folder, 'inner'));
+  const cases = [
+    [path, 'not_journal 7', `not_journal: ${path} is none`],
+    [join(folder, 'none/journal'), 'disk 3', 'disk: ENOENT'],
+    [join(folder, 'inner'), 'disk 3', 'disk: EISDIR'],
+    ['', 'usage 2', 'usage: run ""'],
+    ['--help', 'usage 2', 'usage: run "--help"'],
+  ];
+  for (const [journal, due, words] of cases) {
+    const fault = await open(child(journal)).catch((it) => it);
+    same(`${fault.stop} ${fault.status} ${fault.message.slice(0, words.length)}`, `${due} ${words}`, journal);
+    const db = await open(child(journal), { clock: null });
+    same((await db.collection('c', schema).catch((it) => it)).stop, due.split(' ')[0], 'the first call');
+    same((await db.close().catch((it) => it)).stop, due.split(' ')[0], 'close');
+  }
+  same(readFileSync(path, 'utf8'), 'something else than a journal', 'it is left alone');
+};
+
+tests['a journal that another process has is in use, and may be waited for'] = async (folder) => {
+  const path = join(folder, 'journal'), first = await open(child(path));
+  await first.collection('c', schema);
+  const fault = await open(child(path)).catch((it) => it);
+  same(fault.message, `in_use: another process has ${path}`, 'in use');
+  let times = 0, isOpen = false;
+  const second = open(child(path), { waiting: () => { times += 1; } });
+  second.then(() => { isOpen = true; });
+  await new Promise((go) => setTimeout(go, 700));
+  same(`${times} ${isOpen}`, '1 false', 'it waits');
+  await first.close();
+  same(await (await (await second).collection('c')).count(), 0, 'and goes on');
+  await (await second).close();
+};
+
+tests['the program is found by argument, RX or the path, or it is said how to get it'] = async (folder) => {
+  const bin = join(folder, 'bin');
+  mkdirSync(bin);
+  symlinkSync(program, join(bin, 'rx'));
+  const code = (options) => `
+    const db = await open(child('journal', ${options})).catch((it) => it);
+    console.log(db.close ? (await db.close(), 'open') : db.message);`;
+  const told = (options, env) => node(code(options), { env, cwd: folder }).stdout;
+  const path = join(folder, 'none');
+  same(told('{}', { PATH: bin, RX: '' }), 'open\n', 'on the path');
+  same(told('{}', { PATH: path }), 'open\n', 'by RX');
+  same(told(`{ program: '${program}' }`, { PATH: path, RX: path }), 'open\n', 'by its argument');
+  const how = 'tools/install ~/.local';
+  const none = told('{}', { PATH: path, RX: '' }), named = told('{}', { RX: path });
+  same(none.startsWith('start: no rx on the path (ENOENT)') && none.includes(how), true, none);
+  same(named.startsWith(`start: no program at ${path} (ENOENT)`) && named.includes(how), true, named);
+};
+
+tests['Node ends where close is forgotten, once all is answered and heard'] = async (folder) => {
+  const { status, signal, stdout, stderr } = node(`
+    const db = await open(child('journal'));
+    const c = await db.collection('c', ${JSON.stringify(schema)});
+    const next = (rows) => console.log(rows.length);
+    c.observe({ limit: 1 }).subscribe({ next, complete: () => console.log('over') });
+    await c.insert({ id: 'a' });
+    c.insert({ id: 'b' });
+    for await (const rows of c.observe()) console.log(rows.length);
+    console.log('left');`, { cwd: folder });
+  same(`${status} ${signal} ${stdout}${stderr}`, '0 null 0\n1\n2\nover\nleft\n', 'it ends');
+  const db = await open(child(join(folder, 'journal')), { waiting() {} });
+  same(await (await db.collection('c')).count(), 2, 'what is kept');
+  await db.close();
+};
+
+tests['a refused query that nobody takes is a warning, and Node goes on'] = async (folder) => {
+  const { status, stdout, stderr } = node(`
+    const db = await open(child('journal'));
+    const c = await db.collection('c', ${JSON.stringify(schema)});
+    c.observe({ limit: -1 }).subscribe(() => {});
+    console.log(await c.count());
+    await db.close();`, { cwd: folder });
+  const said = stderr.includes('Refused: query (16): limit is -1, and from 0 to 1000000000');
+  same(`${status} ${stdout}${said}`, '0 0\ntrue', stderr);
 };
 
 // Lines as a program would write them, to be delivered in whatever pieces.
@@ -127,6 +209,19 @@ const scripted = (answers, pieces) => async (hooks) => ({
   kill() {},
 });
 
+tests['emissions that are still to come when it is closed are heard, without a word'] = async (folder) => {
+  const { status, stdout, stderr } = node(`
+    const db = await open(child('journal'));
+    const c = await db.collection('c', ${JSON.stringify(schema)});
+    await c.bulk(Array.from({ length: 500 }, (_, n) => ({ id: 'k' + n, n })));
+    let heard = 0;
+    await c.observe().subscribe(() => { heard += 1; }).begun;
+    for (let n = 0; n < 200; n++) c.patch('k' + n, { n: n + 1 });
+    await db.close();
+    console.log(heard);`, { cwd: folder });
+  same(`${status} ${stdout}${stderr}`, '0 201\n', 'what was heard');
+};
+
 tests['replicate and turn, with the exchanges, over a scripted program'] = async () => {
   const exchanges = [
     '{"conflicts":["ä"],"exchange":1,"rows":["ä","b"],"sent":"push"}',
@@ -140,7 +235,7 @@ tests['replicate and turn, with the exchanges, over a scripted program'] = async
     '{"do":"turn","name":"s"}': '{"code":18,"line":4,"refused":"no_replication"}\n',
   };
   for (const pieces of [/[^]/g, /[^]{1,7}/g, /[^]+/g]) {
-    const db = await open(scripted(answers, pieces));
+    const db = await open(scripted(answers, pieces), { clock: null });
     await db.replicate({ name: 'r', fork: 'f', master: 'm', handler: 'greater', field: 'n' });
     const turn = await db.turn('r', { batch: 2 });
     same(JSON.stringify(turn), `{"end":"quiet","exchanges":2,"each":[${exchanges}]}`, 'a turn');
@@ -151,16 +246,15 @@ tests['replicate and turn, with the exchanges, over a scripted program'] = async
 };
 
 tests['output that is no answer ends the database'] = async () => {
-  const db = await open(scripted({ '{"do":"restart"}': 'Segmentation fault\n' }, /[^]+/g));
+  const db = await open(scripted({ '{"do":"restart"}': 'Segmentation fault\n' }, /[^]+/g), { clock: null });
   same((await db.restart().catch((it) => it)).stop, 'output', 'output');
 };
 
-tests['an observer that throws disturbs no other'] = (folder) => new Promise((done, fail) => {
-  const code = `
-    import { open, child } from ${JSON.stringify(join(root, 'clients/js/rx.mjs'))};
+tests['an observer that throws disturbs no other'] = async (folder) => {
+  const { stdout, stderr } = node(`
     const faults = [];
     process.on('uncaughtException', (it) => faults.push(it.message));
-    const db = await open(child(${JSON.stringify(program)}, ${JSON.stringify(join(folder, 'journal'))}));
+    const db = await open(child('journal'));
     const c = await db.collection('c', ${JSON.stringify(schema)});
     const query = c.observe();
     let heard = 0;
@@ -170,11 +264,9 @@ tests['an observer that throws disturbs no other'] = (folder) => new Promise((do
     await c.count();
     await db.close();
     await new Promise((go) => setTimeout(go, 20));
-    console.log(heard, faults.join());`;
-  const { stdout, stderr } = spawnSync(process.execPath, ['--input-type=module', '-e', code], { encoding: 'utf8' });
-  if (stdout === '2 its own,its own\n') done();
-  else fail(new Error(stdout + stderr));
-});
+    console.log(heard, faults.join());`, { cwd: folder });
+  same(stdout, '2 its own,its own\n', stderr);
+};
 
 tests['the quickstart of clients/README.md'] = async (folder) => {
   cpSync(join(root, 'clients/js/rx.mjs'), join(folder, 'rx.mjs'));

@@ -44,13 +44,14 @@ async function play(db, text, observed) {
   }
 }
 
+/** The caller ticks, so that no line is written but those of the script. */
 export async function playScript(open, transport, script) {
   let written = '', output = '';
   const observed = new Map();
   const db = await open(async (hooks) => {
     const it = await transport({ ...hooks, output(text) { output += text; hooks.output(text); } });
     return { ...it, send(text) { written += text; it.send(text); } };
-  });
+  }, { clock: null });
   for (const text of script.split('\n').slice(0, -1)) await refusals(() => play(db, text, observed));
   await db.close();
   const heard = {};

@@ -30,11 +30,11 @@ export function same(found, wanted, what) {
   throw new Error(`${what}, line ${at + 1}:\n  ${mine[at]}\nand not\n  ${due[at]}`);
 }
 
-/** Tries the test that is this program's word, in a folder of its own, or prints the names of all. */
+/** Tries the test that is this program's word, in a folder of its own, or prints all with what each needs. */
 export async function tryOne(tests) {
   const name = process.argv[2];
   if (name === undefined) {
-    for (const it of Object.keys(tests)) console.log(JSON.stringify({ name: it }));
+    for (const [it, { needs }] of Object.entries(tests)) console.log(JSON.stringify({ name: it, needs }));
     return;
   }
   const folder = mkdtempSync(join(tmpdir(), 'rx-'));

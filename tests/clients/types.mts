@@ -1,0 +1,87 @@
+// What users write, for tsc --strict: it has to take all but the lines that say that it mustn't.
+import { child, open, Refused, Stopped, wasm } from './rx.mjs';
+import type { Database, DocumentOf, Query, Schema } from './rx.mjs';
+
+const schema = {
+  version: 0,
+  primaryKey: 'id',
+  type: 'object',
+  properties: {
+    id: { type: 'string', maxLength: 20 },
+    title: { type: 'string', maxLength: 80 },
+    done: { type: 'boolean' },
+    rank: { type: 'integer', minimum: 0, maximum: 9, multipleOf: 1 },
+  },
+  required: ['title', 'done'],
+  indexes: ['rank', ['done', 'rank']],
+};
+const constant = {
+  version: 0,
+  primaryKey: 'id',
+  type: 'object',
+  properties: {
+    id: { type: 'string', maxLength: 20 },
+    title: { type: 'string', maxLength: 80 },
+    done: { type: 'boolean' },
+    rank: { type: 'integer' },
+  },
+  required: ['title', 'done'],
+  indexes: [['done']],
+} as const;
+type Todo = DocumentOf<typeof constant>;
+interface Plain { id: string; title: string; done: boolean; rank?: number }
+
+const options = { clock: () => 5, waiting() {} };
+const db: Database = await open(child('todos.journal', { maxJournal: 1000 }), options);
+const any = await db.collection('any', schema);
+const todos = await db.collection<Todo>('todos', constant);
+const plain = await db.collection<Plain>('plain', schema);
+
+// Queries in a variable of their own.
+const query = {
+  selector: { done: false, $or: [{ rank: { $gt: 3 } }, { title: 'Tea' }] },
+  sort: [{ title: 'asc' }],
+  limit: 3,
+};
+const fixed = { selector: { rank: { $in: [1, 2], $mod: [2, 1] } }, sort: [{ rank: 'desc' }] } as const;
+const own: Query<Plain> = query, held: Schema = constant;
+for (const it of [query, fixed]) {
+  await any.find(it);
+  await todos.find(it);
+  await plain.count(it);
+}
+await any.find({ selector: { $or: [{ a: 1 }, { b: { $not: { $eq: 2 } } }] } });
+await any.observe({ selector: { $nor: [{ a: 1 }], b: 'x' } }).subscribe((rows) => rows.length).begun;
+
+// Documents have the types of their fields, and RxJS takes what is an AsyncIterable.
+const done: boolean = (await todos.find())[0].done;
+const rank: number | undefined = (await todos.get('a')).doc.rank;
+const input: AsyncIterable<readonly Readonly<Todo>[]> = todos.observe(own);
+for await (const rows of plain.observe(query)) {
+  const title: string = rows[0].title;
+  break;
+}
+await todos.insert({ id: 'a', title: 'A', done: false });
+await todos.patch('a', { rank: 3, title: undefined });
+await db.replicate({ name: 'sync', fork: 'todos', port: 4001, handler: 'greater', field: 'rank' });
+
+// @ts-expect-error
+await todos.insert({ id: 'a' });
+// @ts-expect-error
+await todos.find({ selector: { nothing: 1 } });
+// @ts-expect-error
+await plain.find({ selector: { done: 'yes' } });
+// @ts-expect-error
+plain.observe().subscribe((rows) => { rows[0].title = 'x'; });
+// @ts-expect-error
+plain.observe().subscribe((rows) => { rows.push(rows[0]); });
+// @ts-expect-error
+await db.collection('none', { version: 0 });
+
+db.stopped.then(({ stop, limit }) => console.log(stop, limit));
+await db.drained();
+await db.close();
+open(wasm('out', 'x')).catch((fault: unknown) => {
+  if (fault instanceof Refused) console.log(fault.limit, fault.value, fault.subject);
+  if (fault instanceof Stopped) console.log(fault.stop, fault.would);
+});
