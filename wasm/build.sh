@@ -1,5 +1,5 @@
 #!/bin/bash
-# wasm/build.sh [OUT]: the proved program for a browser, as rx.wasm and host.mjs in the folder OUT (wasm/out).
+# wasm/build.sh [OUT]: the proved program for a browser, as rx.wasm in the folder OUT (wasm/out), with its host.
 #
 # `rt` proves and builds the program as ever. Then it builds it again for a plain x86-64, and sees a view of
 # the kit, by links in a temporary folder, in which `clang` is a script that keeps the LLVM module it is

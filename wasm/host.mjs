@@ -1,6 +1,9 @@
 // The worker that the program runs in, with its journal in the origin's private file system.
-// The page first sends { program, journal, words }, the program compiled, then lines as text, and null at their end.
+// The page first sends { program, journal, words, masters }, the program compiled and the masters that it may
+// dial, then lines as text, and null at their end. A `command` beside them may stand in the place of `run`.
 // The worker sends { ready }, then what the program writes as text, and { ended, said } at the end.
+
+import { Wires, front } from './wire.mjs';
 
 const encoder = new TextEncoder();
 const decoder = new TextDecoder(); // of output, whose pieces may end within a character
@@ -14,15 +17,6 @@ let said = '';
 function speak() {
   if (said) postMessage(said);
   said = '';
-}
-
-function take(into) {
-  const first = incoming[0];
-  const count = Math.min(first.length, into.length);
-  into.set(first.subarray(0, count));
-  if (count === first.length) incoming.shift();
-  else incoming[0] = first.subarray(count);
-  return BigInt(count);
 }
 
 function hear({ data }) {
@@ -46,7 +40,7 @@ async function locked(name) {
 }
 
 // The calls of system.c. A call that fails answers less than 0: here always an error of input and output.
-function calls(program, journal, name, words) {
+function calls(program, journal, name, words, wires) {
   const files = new Map();
   let next = 3;
   const part = (at, count) => new Uint8Array(program().memory.buffer, Number(at), Number(count));
@@ -61,12 +55,12 @@ function calls(program, journal, name, words) {
   return {
     // All that was read is answered, so where nothing is left the page is told, and the program waits.
     read(_file, at, count) {
-      if (incoming.length) return take(part(at, count));
+      if (incoming.length) return front(incoming, part(at, count));
       speak();
       if (!open) return 0n;
       return new Promise((go) => { wake = go; }).then(() => {
         wake = null;
-        return incoming.length ? take(part(at, count)) : 0n;
+        return incoming.length ? front(incoming, part(at, count)) : 0n;
       });
     },
     write(_file, at, count) {
@@ -79,7 +73,19 @@ function calls(program, journal, name, words) {
       files.set(next, new TextDecoder().decode(part(at, count)) === name ? journal : null);
       return BigInt(next++);
     },
-    close: (file) => (files.delete(file) ? 0n : -9n),
+    close(file) {
+      wires.close(file);
+      return files.delete(file) ? 0n : -9n;
+    },
+    socket() {
+      files.set(next, null);
+      return BigInt(next++);
+    },
+    dial: (file, port) => wires.dial(file, Number(port)),
+    dialled: (file, ms) => wires.dialled(file, Number(ms)),
+    send: (file, at, count, ms) => wires.send(file, part(at, count), Number(ms)),
+    receive: (file, at, count, ms) => wires.receive(file, () => part(at, count), Number(ms)),
+    now: () => BigInt(Math.floor(performance.now())),
     pread: (file, at, count, from) => attempt(() => files.get(file).read(part(at, count), { at: Number(from) })),
     pwrite: (file, at, count, to) => attempt(() => files.get(file).write(part(at, count), { at: Number(to) })),
     sync: (file) => attempt(() => (files.get(file)?.flush(), 0)),
@@ -93,13 +99,13 @@ function calls(program, journal, name, words) {
   };
 }
 
-async function run({ program: module, journal, words }) {
+async function run({ program: module, command = 'run', journal, words, masters = {} }) {
   if (!WebAssembly.Suspending) throw new Error('this browser cannot suspend WebAssembly (JSPI)');
   const file = await locked(journal);
-  const all = ['rx', 'run', journal, ...words].map((word) => encoder.encode(word));
+  const all = ['rx', command, journal, ...words].map((word) => encoder.encode(word));
   let program;
-  const host = calls(() => program, file, journal, all);
-  host.read = new WebAssembly.Suspending(host.read);
+  const host = calls(() => program, file, journal, all, new Wires(masters, speak));
+  for (const it of ['read', 'dialled', 'send', 'receive']) host[it] = new WebAssembly.Suspending(host[it]);
   program = (await WebAssembly.instantiate(module, { host })).exports;
   self.onmessage = hear;
   postMessage({ ready: true });

@@ -1,5 +1,5 @@
 #!/bin/bash
-# wasm/retarget.sh MODULE.bc OUT: an LLVM module that rattle made for x86-64 as OUT/rx.wasm, with host.mjs beside it.
+# wasm/retarget.sh MODULE.bc OUT: an LLVM module that rattle made for x86-64 as OUT/rx.wasm, with its host beside it.
 set -euo pipefail
 here=$(cd "$(dirname "$0")" && pwd)
 kit=$(dirname "$(dirname "$(realpath "$(command -v rt)")")")
@@ -27,5 +27,5 @@ for name in heap system wide; do
 done
 "$tools/ld.lld" -flavor wasm -mwasm64 --no-entry --stack-first -z stack-size=8388608 --gc-sections --threads=1 --fatal-warnings \
     --export=main -o "$out/rx.wasm" module.o heap.o system.o wide.o
-cp "$here/host.mjs" "$out/host.mjs"
+cp "$here/host.mjs" "$here/wire.mjs" "$out/"
 ls -l "$out"

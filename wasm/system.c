@@ -10,6 +10,12 @@ HOST(open) long host_open(const byte *path, size_t n);
 HOST(close) long host_close(int file);
 HOST(sync) long host_sync(int file);
 HOST(arg) long host_arg(size_t i, byte *at, size_t n);
+HOST(socket) long host_socket(void);
+HOST(dial) long host_dial(int file, long port);
+HOST(dialled) long host_dialled(int file, long ms);
+HOST(send) long host_send(int file, const byte *at, size_t n, long ms);
+HOST(receive) long host_receive(int file, byte *at, size_t n, long ms);
+HOST(now) long host_now(void);
 
 static int error;
 
@@ -42,19 +48,62 @@ int fchmod(int file, int mode) { return 0; }
 long lseek(int file, long to, int whence) { return told(-ENOSYS); }
 int ftruncate(int file, long n) { return (int)told(-ENOSYS); }
 
-// A page has no sockets: what serves or dials gets none. Serving and dialling alone ask for the time.
-int socket(int family, int kind, int protocol) { return (int)told(-ENOSYS); }
-int setsockopt(int file, int level, int name, const void *at, unsigned n) { return (int)told(-ENOSYS); }
+// A page dials by WebSocket, whose URL the host has from the page. It serves nobody.
 int bind(int file, const void *address, unsigned n) { return (int)told(-ENOSYS); }
 int listen(int file, int waiting) { return (int)told(-ENOSYS); }
-int connect(int file, const void *address, unsigned n) { return (int)told(-ENOSYS); }
-int getsockopt(int file, int level, int name, void *at, unsigned *n) { return (int)told(-ENOSYS); }
-int poll(void *files, unsigned long n, int milliseconds) { return (int)told(-ENOSYS); }
-int rattle_set_nonblocking(int file, _Bool on) { return (int)told(-ENOSYS); }
 int accept4(int file, void *address, void *n, int flags) { return (int)told(-ENOSYS); }
-long recv(int file, byte *at, size_t n, int flags) { return told(-ENOSYS); }
-long send(int file, const byte *at, size_t n, int flags) { return told(-ENOSYS); }
-int clock_gettime(int clock, void *at) { return (int)told(-ENOSYS); }
+int socket(int family, int kind, int protocol) { return (int)told(host_socket()); }
+
+// An address has its port in the bytes 2 and 3. The host begins to dial, and the program waits by poll.
+#define EINPROGRESS 115
+int connect(int file, const byte *address, unsigned n) {
+    long begun = host_dial(file, address[2] << 8 | address[3]);
+    return (int)told(begun < 0 ? begun : -EINPROGRESS);
+}
+
+// A socket that didn't come up is told by poll, and then by getsockopt. The program polls one, to dial.
+#define POLLOUT 4
+#define POLLERR 8
+static long refused;
+struct polled { int file; short asked, came; };
+int poll(struct polled *it, unsigned long n, int milliseconds) {
+    long answer = host_dialled(it->file, milliseconds);
+    refused = answer < 0 ? -answer : 0;
+    it->came = answer == 0 ? 0 : answer < 0 ? POLLOUT | POLLERR : POLLOUT;
+    return answer != 0;
+}
+
+#define SOL_SOCKET 1
+#define SO_ERROR 4
+#define SO_RCVTIMEO 20
+#define SO_SNDTIMEO 21
+int getsockopt(int file, int level, int name, int *at, unsigned *n) {
+    if (level != SOL_SOCKET || name != SO_ERROR) return (int)told(-ENOSYS);
+    *at = (int)refused;
+    return 0;
+}
+
+// The program has one connection at a time, and gives it both limits before it says anything. 0 is forever.
+static long receive_ms = -1, send_ms = -1;
+int setsockopt(int file, int level, int name, const long *at, unsigned n) {
+    if (level == SOL_SOCKET && (name == SO_RCVTIMEO || name == SO_SNDTIMEO)) {
+        long ms = at[0] * 1000 + at[1] / 1000;
+        *(name == SO_RCVTIMEO ? &receive_ms : &send_ms) = ms ? ms : -1;
+    }
+    return 0;
+}
+
+int rattle_set_nonblocking(int file, _Bool on) { return 0; }
+long recv(int file, byte *at, size_t n, int flags) { return told(host_receive(file, at, n, receive_ms)); }
+long send(int file, const byte *at, size_t n, int flags) { return told(host_send(file, at, n, send_ms)); }
+
+// Only the limit of a dial asks for the time.
+int clock_gettime(int clock, long *at) {
+    long ms = host_now();
+    at[0] = ms / 1000;
+    at[1] = ms % 1000 * 1000000;
+    return 0;
+}
 
 long rattle_arg(size_t i, byte *at, size_t n) { return host_arg(i, at, n); } // -1: none, -2: no room
 long rattle_env_at(size_t i, byte *at, size_t n) { return -1; }

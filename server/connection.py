@@ -1,0 +1,163 @@
+"""One connection of a fork: bytes to lines, lines to requests, and to each its reply, one after another."""
+import asyncio
+import time
+from collections import deque
+from collections.abc import AsyncIterator, Awaitable, Callable
+from dataclasses import dataclass
+from typing import Any
+
+import tokens
+from counts import Counts
+from store import Collection, Store
+from tokens import Grant
+from wire import (LONGEST_LINE, Fault, Pull, Push, conflicts_line, docs_line, fault_line, longest_request,
+                  read_request)
+
+# A revoked token is known so many seconds later.
+FRESH_SECONDS = 5.0
+# A longer line is read in a thread, so that others go on.
+SHORT_LINE = 16_384
+# So many rows are written in one transaction, or one push.
+MOST_ROWS = 1_000
+
+Send = Callable[[bytes], Awaitable[None]]
+Work = Callable[..., Awaitable[Any]]
+
+
+@dataclass(frozen=True, slots=True)
+class Limits:
+    """Of one connection. A line may be as long as a right request, where its bytes aren't given."""
+    line_bytes: int | None = None
+    requests_a_second: int = 500
+    rows_a_second: int = 20_000
+    idle_seconds: int = 60
+    connections: int = 2_000
+
+    def longest(self, collection: Collection) -> int:
+        return min(self.line_bytes or longest_request(collection.schema), LONGEST_LINE)
+
+
+class Pace:
+    """At most so many a second, after a second's worth at once. Whoever is faster waits."""
+
+    def __init__(self, most: int):
+        self.most, self.free, self.since = most, float(most), time.monotonic()
+
+    async def take(self, count: int) -> None:
+        moment = time.monotonic()
+        self.free = min(self.most, self.free + (moment - self.since) * self.most) - count
+        self.since = moment
+        if self.free < 0:
+            await asyncio.sleep(-self.free / self.most)
+
+
+async def lines(pieces: AsyncIterator[bytes], longest: int) -> AsyncIterator[bytes]:
+    """The lines in pieces of bytes. What is left at the end is no line, unless it is too long for one."""
+    rest = bytearray()
+    async for piece in pieces:
+        looked = len(rest)
+        rest += piece
+        while (end := rest.find(b"\n", looked)) >= 0:
+            if end > longest:
+                raise Fault("too_long")
+            line = bytes(rest[:end])
+            del rest[:end + 1]
+            looked = 0
+            yield line
+        if len(rest) > longest:
+            raise Fault("too_long")
+
+
+class Writer:
+    """The pushes to one collection. Those that come while others are written are written together, as each
+    commit waits for the disk."""
+
+    def __init__(self, store: Store, collection: Collection, work: Work):
+        self.store, self.collection, self.work = store, collection, work
+        self.waiting: deque[tuple[Push, asyncio.Future]] = deque()
+        self.task: asyncio.Task | None = None
+
+    async def push(self, request: Push) -> list[str] | None:
+        answer = asyncio.get_running_loop().create_future()
+        self.waiting.append((request, answer))
+        if self.task is None:
+            self.task = asyncio.create_task(self.write_all())
+        return await answer
+
+    async def write_all(self) -> None:
+        while self.waiting:
+            batch = self.next_batch()
+            try:
+                told = await self.work(self.store.push, self.collection, [it for it, _ in batch], writes=True)
+            except Exception as fault:  # pylint: disable=broad-except
+                for _, answer in batch:
+                    answer.done() or answer.set_exception(fault)
+            else:
+                for (_, answer), conflicts in zip(batch, told):
+                    answer.done() or answer.set_result(conflicts)
+        self.task = None
+
+    def next_batch(self) -> list[tuple[Push, asyncio.Future]]:
+        batch, rows = [], 0
+        while self.waiting and rows < MOST_ROWS:
+            batch.append(self.waiting.popleft())
+            rows += len(batch[-1][0].rows)
+        return batch
+
+
+class Connection:
+    """A fork that may use a collection, and how it is answered. `work` runs a call in a thread, as the
+    database is waited for there."""
+
+    def __init__(self, writer: Writer, grant: Grant, limits: Limits, counts: Counts):
+        self.writer, self.store, self.collection = writer, writer.store, writer.collection
+        self.work, self.grant, self.limits, self.counts = writer.work, grant, limits, counts
+        self.requests, self.rows = Pace(limits.requests_a_second), Pace(limits.rows_a_second)
+        self.answered, self.seen = 0, time.monotonic()
+
+    async def converse(self, pieces: AsyncIterator[bytes], send: Send) -> str:
+        """Answers until an end, which is told: as `rx serve` has it, or that the token may not."""
+        try:
+            async for line in lines(pieces, self.limits.longest(self.collection)):
+                await self.requests.take(1)
+                request = await self.read(line)
+                if not await self.may(request):
+                    return "forbidden"
+                begun = time.monotonic()
+                reply, ask, states = await self.reply(request)
+                if reply is None:
+                    return "clock"
+                self.counts.add(ask, time.monotonic() - begun, states)
+                await send(reply)
+                self.answered += 1
+                await self.rows.take(sum(states.values()))
+        except Fault as fault:
+            self.counts.faults[str(fault)] += 1
+            await send(fault_line(str(fault)))
+            return "request"
+        return "peer"
+
+    async def read(self, line: bytes) -> Pull | Push:
+        if len(line) < SHORT_LINE:
+            return read_request(line, self.collection.schema)
+        return await self.work(read_request, line, self.collection.schema)
+
+    async def may(self, request: Pull | Push) -> bool:
+        """Whether the token may still do this."""
+        if time.monotonic() - self.seen > FRESH_SECONDS:
+            grant = await self.work(tokens.grant_of, self.store, self.grant.token, self.grant.collection)
+            if grant is None:
+                return False
+            self.grant, self.seen = grant, time.monotonic()
+        return self.grant.may_write or isinstance(request, Pull)
+
+    async def reply(self, request: Pull | Push) -> tuple[bytes | None, str, dict[str, int]]:
+        """The line that answers a request, if there is one, and the states that went either way."""
+        if isinstance(request, Pull):
+            count, states, place = await self.work(self.store.pull, self.collection, request)
+            return docs_line(request, states, place), "pull", {"pulled": count}
+        conflicts = await self.writer.push(request)
+        if conflicts is None:
+            return None, "push", {}
+        taken = len(request.rows) - len(conflicts)
+        return conflicts_line(request, conflicts), "push", {"conflict": len(conflicts), "taken": taken}
