@@ -45,11 +45,7 @@ pub(crate) fn own_fields(alloc: Global, bytes: &[u8]) -> Owned<'_, Fields>
 }
 
 // The state at the front of bytes, its key lent too, and the bytes behind it.
-fn own_state<'a>(
-    alloc: Global,
-    last: Option<&str>,
-    bytes: &'a [u8],
-) -> Owned<'a, (State, &'a str)>
+fn own_state<'a>(alloc: Global, last: Option<&str>, bytes: &'a [u8]) -> Owned<'a, (State, &'a str)>
     requires { IsTrue (is_read (state_of (option_map (λ t. t.now) last) bytes.now)) }
     ensures state { IfOk result (λ p. state_of (option_map (λ t. t.now) last.entry) bytes.now
         ≡ Ok (p.0.0, p.1.now)) }
@@ -71,11 +67,7 @@ fn own_state<'a>(
 }
 
 // The same of a row.
-fn own_row<'a>(
-    alloc: Global,
-    last: Option<&str>,
-    bytes: &'a [u8],
-) -> Owned<'a, (RowOut, &'a str)>
+fn own_row<'a>(alloc: Global, last: Option<&str>, bytes: &'a [u8]) -> Owned<'a, (RowOut, &'a str)>
     requires { IsTrue (is_read (row_of (option_map (λ t. t.now) last) bytes.now)) }
     ensures row { IfOk result (λ p. row_of (option_map (λ t. t.now) last.entry) bytes.now
         ≡ Ok (p.0.0, p.1.now)) }

@@ -148,11 +148,7 @@ impl<H: Holder + Drop> World<H> {
 
     /// The record of a view, where it may come next. One of several rows is tested first, from its
     /// lent parts, so that none is copied whole that is refused.
-    pub fn accept(
-        &self,
-        alloc: Global,
-        view: &RecordView<'_>,
-    ) -> Result<Option<Record>, AllocError>
+    pub fn accept(&self, alloc: Global, view: &RecordView<'_>) -> Result<Option<Record>, AllocError>
         ensures some { IfOk result (λ taken. IfSome taken
             (λ entry. content entry ≡ content_in view.now)) }
         ensures legal { IfOk result (λ taken. is_some taken
