@@ -4,6 +4,7 @@ pub mod Places
 pub mod Members
 pub mod Beside
 pub mod Setting
+pub mod Removed
 pub mod Written
 pub mod Tokens
 pub mod Lists

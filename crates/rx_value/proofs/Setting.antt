@@ -1,15 +1,17 @@
 -- Fields stay fields when one is set.
-use Rattle.std.proofs.Common.{◌≡◌, ℕ, true, List, [], ◌∷◌, get_or, set, ap, sym, subst, ◌∙◌}
+use Rattle.std.proofs.Common.{◌≡◌, ℕ, true, false, cond, List, [], ◌∷◌, get_or, set, Some, ap, sym, subst, ◌∙◌}
 use Rattle.std.specs.List.{AllByRecursion, insert}
 use Rattle.std.specs.Ordering.{match_ordering}
+use Rattle.std.specs.Str.{bytes_eq}
 use Rattle.std.specs.declared.cmp.Ordering.TheVariants.{Less, Equal, Greater}
 use Rattle.rx_value.specs.Fields.{Pair, Pairs, AreFields}
-use Rattle.rx_value.specs.Named.{put_in_order}
+use Rattle.rx_value.specs.Named.{named, put_in_order}
 use Rattle.rx_value.specs.Order.{text_cmp}
 use Rattle.rx_value.specs.Place.{StandsAt, BelongsAt}
 use Rattle.rx_value.specs.Value.{is_value}
 use Rattle.rx_value.specs.declared.value.Value.{Value}
 use Rattle.rx_value.proofs.Named.{put_in_order-rising}
+use Rattle.rx_value.proofs.Outcomes.{some_same}
 
 -- a number in range keeps the numbers in range
 in_range : (ps : Pairs) (name : List ℕ) (v : Value) → is_value v ≡ true
@@ -42,3 +44,14 @@ pub insert_fields : (ps : Pairs) (name : List ℕ) (v : Value) (i : ℕ) → Bel
     → AreFields ps → is_value v ≡ true → AreFields (insert ps i (name, v))
 insert_fields ps name v i belongs fields is =
     subst AreFields (sym (belongs.puts v)) (put_fields ps name v fields is)
+
+-- the value of a name is in range
+pub value_in : (ps : Pairs) (name : List ℕ) → AllByRecursion (λ p. is_value p.1 ≡ true) ps
+    → (v : Value) → named ps name ≡ Some v → is_value v ≡ true
+value_in [] name all v at = absurd (cc)
+value_in (p ∷ ps) name all v at =
+    elim (bytes_eq name p.0)
+    as (λ b. cond b (Some p.1) (named ps name) ≡ Some v → is_value v ≡ true) [
+      | true ↦ (λ is. subst (λ (u : Value). is_value u ≡ true) (some_same is) all.0)
+      | false ↦ (λ is. value_in ps name all.1 v is)
+    ] at

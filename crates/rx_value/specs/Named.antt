@@ -3,7 +3,7 @@ use Rattle.std.specs.Prelude.{ℕ, List, [], ◌∷◌, map, Option, String, str
 use Rattle.std.specs.declared.alloc.Global.{Global}
 use Rattle.std.specs.BTreeMap.{insert_entry}
 use Rattle.std.specs.List.Sorted.{IsStrictlySortedBy}
-use Rattle.std.specs.Map.{keys_of, lookup}
+use Rattle.std.specs.Map.{keys_of, lookup, remove_entry}
 use Rattle.std.specs.Str.{bytes_eq}
 use Rattle.rx_value.specs.Order.{text_cmp}
 
@@ -38,3 +38,7 @@ AreRising es = IsStrictlySortedBy text_cmp (keys_of es)
 -- with a thing for a name among rising names: in the name's place, or else where the name belongs
 abbrev pub put_in_order : {X : Type 0} → List (List ℕ × X) → List ℕ → X → List (List ℕ × X)
 put_in_order = insert_entry text_cmp
+
+-- without the pair of a name
+abbrev pub without : {X : Type 0} → List (List ℕ × X) → List ℕ → List (List ℕ × X)
+without es name = remove_entry (bytes_eq name) es

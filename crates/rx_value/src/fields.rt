@@ -3,7 +3,7 @@ ghost use Rattle.std.specs.Cmp.{partial_equiv_from_equiv};
 ghost use Rattle.rx_value.specs.Equal.{fields_eq};
 ghost use Rattle.rx_value.specs.Equality.{equivalence, fields_eq-Decides};
 ghost use Rattle.rx_value.specs.Fields.{AreFields};
-ghost use Rattle.rx_value.specs.Named.{named, put_in_order};
+ghost use Rattle.rx_value.specs.Named.{named, put_in_order, without};
 ghost use Rattle.rx_value.specs.Value.{is_value};
 
 use crate::place::place;
@@ -35,6 +35,14 @@ impl Fields {
         Fields {
             pairs: Vec::new(alloc),
         }
+    }
+
+    /// The fields of pairs that are in order, in the memory that those have.
+    pub fn from_rising(pairs: Vec<(RxText, Value)>) -> Fields
+        requires { AreFields pairs.items }
+        ensures { result ≡ pairs.items }
+    {
+        Fields { pairs }
     }
 
     /// How many pairs there are.
@@ -77,6 +85,21 @@ impl Fields {
                 make_room(&mut self.pairs)?;
                 Ok(self.pairs.insert(i, (name, value))?)
             }
+        }
+    }
+
+    /// Takes the pair of a name out, and gives its value.
+    pub fn remove(&mut self, name: &str) -> Option<Value>
+        ensures old { result ≡ named self.old name.now }
+        ensures others { self.new ≡ without self.old name.now }
+        ensures lawful { AreFields self.old }
+    {
+        match place(self.pairs.as_slice(), name) {
+            Ok(i) => {
+                let (_, value) = self.pairs.remove(i);
+                Some(value)
+            }
+            Err(_) => None,
         }
     }
 
