@@ -7,12 +7,13 @@ use Rattle.std.specs.List.Sorted.{IsStrictlySortedBy, IsPartitionedBy, IsPartiti
 use Rattle.std.specs.Map.{keys_of}
 use Rattle.std.specs.Ordering.{is_le}
 use Rattle.std.specs.declared.cmp.Ordering.TheVariants.{Less, Equal, Greater}
-use Rattle.rx_value.specs.Named.{named, put_in_order, AreRising}
+use Rattle.rx_value.specs.Named.{named, put_in_order, without, AreRising}
 use Rattle.rx_value.specs.Order.{text_cmp}
 use Rattle.rx_value.proofs.Named.{put_in_order-rising}
 use Rattle.rx_value.proofs.Ordered.{text_total}
-use Rattle.rx_runs.specs.Run.{flat, AllAbove, AllBelow, AllFrom, AreParted, IsRooted, AreChunks, IsIn, without, from_name, below_name, between}
-use Rattle.rx_runs.proofs.Joined.{turned, below_greater, all_parts, all_joined, all_at, all_put, rising_parts, below_second, none_rising, one_rising, named-first, put-first, named-second, put-second, without-first, without-second, all_without, without_rising, from-parts, from-above, from-below, all_from, below-parts, below-below, below-above}
+use Rattle.rx_value.proofs.Removed.{all_without, without_rising}
+use Rattle.rx_runs.specs.Run.{flat, AllAbove, AllBelow, AllFrom, AreParted, IsRooted, AreChunks, IsIn, from_name, below_name, between}
+use Rattle.rx_runs.proofs.Joined.{turned, below_greater, all_parts, all_joined, all_at, all_put, rising_parts, below_second, none_rising, one_rising, named-first, put-first, named-second, put-second, without-first, without-second, from-parts, from-above, from-below, all_from, below-parts, below-below, below-above}
 
 -- ---- orders
 

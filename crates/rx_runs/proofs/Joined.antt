@@ -2,20 +2,20 @@
 use Rattle.std.proofs.Common.{◌≡◌, ℕ, zero, suc, ◌+◌, ◌<◌, ◌≤◌, length, arith, true, false, cond, List, [], ◌∷◌, ◌++◌, get_or, set, take, drop, Option, Some, None, is_some, true≢false, refl, sym, ap, ◌∙◌, subst}
 use Rattle.std.proofs.lemmas.List.{take-append-drop}
 use Rattle.std.proofs.lemmas.Map.Text.{is_eq-slice_cmp}
-use Rattle.std.proofs.lemmas.Slice.Eq.{bytes_eq-Decides}
-use Rattle.std.specs.List.{AllByRecursion, insert, remove}
+use Rattle.std.specs.List.{AllByRecursion, insert}
 use Rattle.std.specs.List.Sorted.{IsStrictlySortedBy, IsPartitionedBy, IsPartitionPoint}
 use Rattle.std.specs.Map.{keys_of}
 use Rattle.std.specs.Ordering.{is_eq, is_le, is_lt, match_ordering, ordering_reverse}
 use Rattle.std.specs.Str.{bytes_eq}
 use Rattle.std.specs.declared.cmp.Ordering.{Ordering}
 use Rattle.std.specs.declared.cmp.Ordering.TheVariants.{Less, Equal, Greater}
-use Rattle.rx_value.specs.Named.{named, put_in_order, AreRising}
+use Rattle.rx_value.specs.Named.{named, put_in_order, without, AreRising}
 use Rattle.rx_value.specs.Order.{text_cmp}
 use Rattle.rx_value.specs.Place.{StandsAt, BelongsAt}
 use Rattle.rx_value.proofs.Named.{put_in_order-rising}
 use Rattle.rx_value.proofs.Ordered.{text_total}
-use Rattle.rx_runs.specs.Run.{AllAbove, AllBelow, without, from_name, below_name, between}
+use Rattle.rx_value.proofs.Removed.{without_none}
+use Rattle.rx_runs.specs.Run.{AllAbove, AllBelow, from_name, below_name, between}
 
 -- the order, the other way round
 pub turned : (a b : List ℕ) (o : Ordering) → text_cmp a b ≡ o → text_cmp b a ≡ ordering_reverse o
@@ -246,15 +246,6 @@ module _ {X : Type 0} where
   -- ---- without the pair of a name
 
   -- which isn't there
-  pub without_none : (k : List ℕ) (es : List (List ℕ × X)) → named es k ≡ None → without es k ≡ es
-  without_none k [] none = refl
-  without_none k (e ∷ es) none =
-      elim (bytes_eq k e.0) as (λ b. cond b (Some e.1) (named es k) ≡ None
-      → cond b es (e ∷ without es k) ≡ e ∷ es) [
-        | true ↦ (λ found. absurd (cc))
-        | false ↦ (λ rest. ap (λ r. e ∷ r) (without_none k es rest))
-      ] none
-
   pub without_absent : (es : List (List ℕ × X)) (k : List ℕ) (o : Option X) → o ≡ named es k
       → is_some o ≡ false
       → without es k ≡ es
@@ -280,29 +271,6 @@ module _ {X : Type 0} where
       (other k x.0 Greater (turned x.0 k Less below.0) refl)
       ∙ ap (λ r. x ∷ r) (without-second k xs ys below.1)
 
-  -- what holds of all names holds of the others
-  pub all_without : (P : List ℕ → Type 0) (es : List (List ℕ × X)) (k : List ℕ)
-      → AllByRecursion P (keys_of es) → AllByRecursion P (keys_of (without es k))
-  all_without P [] k all = tt
-  all_without P (e ∷ es) k all =
-      elim (bytes_eq k e.0) as (λ b. AllByRecursion P (keys_of (cond b es (e ∷ without es k))))
-      [ true ↦ all.1 | false ↦ (all.0, all_without P es k all.1) ]
-
-  -- they rise
-  pub without_rising : (es : List (List ℕ × X)) (k : List ℕ) → AreRising es
-      → AreRising (without es k)
-  unfolding IsStrictlySortedBy
-  without_rising [] k rising = tt
-  without_rising (e ∷ es) k rising =
-      elim (bytes_eq k e.0) as (λ b. AreRising (cond b es (e ∷ without es k))) [
-        | true ↦ rising.1
-        | false ↦ (
-          all_without (λ q. text_cmp e.0 q ≡ Less) es k rising.0,
-          without_rising es k
-              rising.1,
-        )
-      ]
-
   -- they are one less where it is there
   pub length_without : (es : List (List ℕ × X)) (k : List ℕ) (o : Option X) → o ≡ named es k
       → is_some o ≡ true
@@ -315,21 +283,6 @@ module _ {X : Type 0} where
         | true ↦ (λ here. omega arith)
         | false ↦ (λ rest. let less = length_without es k o rest some in omega arith)
       ] is
-
-  -- to remove what stands at its place is to be without it
-  pub remove_is : (es : List (List ℕ × X)) (k : List ℕ) (i : ℕ) → i < length es → AreRising es
-      → ((d : List ℕ × X) → (get_or es i d).0 ≡ k) → remove es i ≡ without es k
-  unfolding IsStrictlySortedBy
-  remove_is [] k i lt rising there = absurd (omega arith)
-  remove_is (e ∷ es) k zero lt rising there =
-      let same : bytes_eq k e.0 ≡ true = (bytes_eq-Decides k e.0).1 (sym (there e)) in
-      sym (ap (λ b. cond b es (e ∷ without es k)) same)
-  remove_is (e ∷ es) k (suc i) lt rising there =
-      let below : text_cmp e.0 k ≡ Less = ap (text_cmp e.0) (sym (there e))
-      ∙ all_at (λ q. text_cmp e.0 q ≡ Less) es i e (omega arith) rising.0 in
-      ap (λ r. e ∷ r) (remove_is es k i (omega arith) rising.1 there)
-      ∙ sym (ap (λ b. cond b es (e ∷ without es k)) (other k e.0 Greater (turned e.0 k Less below)
-      refl))
 
   -- ---- the pairs from a name on
 

@@ -1,8 +1,7 @@
 -- Chunks of pairs with rising names, and the run of all pairs that they make.
 use Rattle.std.specs.Prelude.{⊤, ◌≡◌, ℕ, ◌<◌, ◌≤◌, true, false, List, [], ◌∷◌, ◌++◌, length, slice_index_or}
 use Rattle.std.specs.List.{AllByRecursion, filter}
-use Rattle.std.specs.Map.{keys_of, remove_entry}
-use Rattle.std.specs.Str.{bytes_eq}
+use Rattle.std.specs.Map.{keys_of}
 use Rattle.std.specs.Ordering.{is_le, is_lt}
 use Rattle.std.specs.declared.cmp.Ordering.TheVariants.{Less}
 use Rattle.rx_value.specs.Named.{AreRising}
@@ -51,10 +50,6 @@ pub record IsIn {X : Type 0} (cs : List (List ℕ × List (List ℕ × X))) (nam
       → is_le (text_cmp (slice_index_or cs j d).0 name) ≡ true
   pub high : (j : ℕ) (d : List ℕ × List (List ℕ × X)) → i < j → j < length cs
       → is_le (text_cmp (slice_index_or cs j d).0 name) ≡ false
-
--- without the pair of a name
-abbrev pub without : {X : Type 0} → List (List ℕ × X) → List ℕ → List (List ℕ × X)
-without es name = remove_entry (bytes_eq name) es
 
 -- the pairs of names that are at least the one
 abbrev pub from_name : {X : Type 0} → List (List ℕ × X) → List ℕ → List (List ℕ × X)

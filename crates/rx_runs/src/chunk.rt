@@ -1,8 +1,8 @@
 ghost use Rattle.std.specs.Prelude.{◌≡◌, ◌<◌, ◌≤◌, [], ◌∷◌, length, take, drop, slice_get, Some, IfSome, IfOk, IfErr, OnOk, OnErr, option_map};
 ghost use Rattle.std.specs.List.{insert};
-ghost use Rattle.rx_value.specs.Named.{named, put_in_order, AreRising};
+ghost use Rattle.rx_value.specs.Named.{named, put_in_order, without, AreRising};
 ghost use Rattle.rx_value.specs.Place.{StandsAt, BelongsAt};
-ghost use Rattle.rx_runs.specs.Run.{without, from_name, below_name};
+ghost use Rattle.rx_runs.specs.Run.{from_name, below_name};
 
 use crate::name::Name;
 use std::alloc::{AllocError, Global};

@@ -1,6 +1,7 @@
 ghost use Rattle.std.specs.Prelude.{◌≡◌, ◌≤◌, length, IfOk};
 ghost use Rattle.rx_value.specs.Order.{text_cmp};
 
+use crate::bytes;
 use std::alloc::{AllocError, Global};
 use std::cmp::Ordering;
 use std::marker::Model;
@@ -120,6 +121,6 @@ impl Name {
     pub fn compare(&self, other: &[u8]) -> Ordering
         ensures { result ≡ text_cmp self.now other.now }
     {
-        self.as_bytes().cmp(&other)
+        bytes::compare(self.as_bytes(), other)
     }
 }

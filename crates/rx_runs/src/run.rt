@@ -1,6 +1,6 @@
 ghost use Rattle.std.specs.Prelude.{◌≡◌, ◌<◌, ◌≤◌, ℕ, List, [], length, slice_index_or, slice_set, IfSome, IfOk, IfErr, OnOk, OnErr, option_map};
-ghost use Rattle.rx_value.specs.Named.{named, put_in_order, AreRising};
-ghost use Rattle.rx_runs.specs.Run.{flat, AreChunks, IsIn, without, from_name, between};
+ghost use Rattle.rx_value.specs.Named.{named, put_in_order, without, AreRising};
+ghost use Rattle.rx_runs.specs.Run.{flat, AreChunks, IsIn, from_name, between};
 
 use crate::chunk::{Chunk, below};
 use crate::name::Name;

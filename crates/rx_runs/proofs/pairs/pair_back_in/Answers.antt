@@ -1,4 +1,4 @@
-use Rattle.std.proofs.Common.{◌≡◌, ◌+◌, ◌-◌, length, arith}
+use Rattle.std.proofs.Common.{◌-◌, arith}
 use Rattle.rx_runs.proofs.Places.{found_back_in}
 use Rattle.rx_runs.proofs.pairs.pair_back_in.Goals as goal
 

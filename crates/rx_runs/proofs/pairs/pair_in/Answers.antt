@@ -1,5 +1,4 @@
-use Rattle.std.proofs.Common.{◌≡◌, ◌+◌, ◌-◌, ◌∙◌, length, get_or, take, ap, arith}
-use Rattle.rx_runs.specs.Run.{flat}
+use Rattle.std.proofs.Common.{◌≡◌, ◌∙◌, length, get_or, ap, arith}
 use Rattle.rx_runs.proofs.Chunks.{length_more}
 use Rattle.rx_runs.proofs.Places.{found_in}
 use Rattle.rx_runs.proofs.pairs.pair_in.Goals as goal

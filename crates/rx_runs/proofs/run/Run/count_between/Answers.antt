@@ -1,5 +1,4 @@
-use Rattle.std.proofs.Common.{◌≡◌, ◌∙◌, ◌≤◌, length, ap, sym, arith}
-use Rattle.rx_runs.specs.Run.{between}
+use Rattle.std.proofs.Common.{length, ap, arith}
 use Rattle.rx_runs.proofs.Joined.{length_between}
 use Rattle.rx_runs.proofs.run.Run.count_between.Goals as goal
 
