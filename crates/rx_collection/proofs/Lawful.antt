@@ -41,6 +41,16 @@ module _ (c : Held) (row : Stored) (lawful : IsLawful c) (next : IsNext c row) w
       row.state.key d next.above at in
       (held.keyed, held.counted, held.lower, earlier (place_of d) (place_of row) held.keyed below)
 
+  -- is the first of its key where its height is 1
+  of_first : (o : Option Stored) → named c.documents row.state.key ≡ o
+      → IsNextHeight o row.lwt row.rev.height → row.rev.height ≡ 1
+      → named c.documents row.state.key ≡ None
+  of_first None at is one = at
+  of_first (Some d) at is one = let l = later d at in absurd (omega (arith, is, one, l.1))
+
+  pub none_before_first : row.rev.height ≡ 1 → named c.documents row.state.key ≡ None
+  none_before_first = of_first (named c.documents row.state.key) refl next.height
+
   -- counts its writes from 1
   counted : (o : Option Stored) → named c.documents row.state.key ≡ o
       → IsNextHeight o row.lwt row.rev.height → (1 ≤ row.rev.height) × (row.rev.height ≤ row.lwt)

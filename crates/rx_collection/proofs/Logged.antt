@@ -317,6 +317,18 @@ shown_slot rows names k d slots is =
           (s, v.1 ∙ sym (shown_some rows names k s v.0 slots.within some v.1) ∙ is))
     ] refl
 
+-- a name that shows nothing has no slot
+pub none_slotted : (rows : List Stored) (names : List (List ℕ × ℕ)) (k : List ℕ)
+    → AreSlots rows names → named (shown rows names) k ≡ None → named names k ≡ None
+none_slotted rows names k slots none =
+    elim (named names k) as (λ o. named names k ≡ o → o ≡ None) [
+      | None ↦ (λ is. refl)
+      | Some s ↦ (λ is.
+          let v = slot_some rows s (named_slot (λ t. t < length rows) names k s slots.within is) in
+          let clash : Some v.0 ≡ None =
+          sym (shown_some rows names k s v.0 slots.within is v.1) ∙ none in absurd (cc))
+    ] refl
+
 -- a document of a slot is the one of its key
 keyed_shown : (rows : List Stored) (names : List (List ℕ × ℕ)) (log : List (ℕ × ℕ))
     → AreSlots rows names

@@ -107,8 +107,13 @@ impl Collection {
     pub fn slot_for(&self, key: &str) -> u32 {
         match slot_of(&self.names, &self.rows, &self.hints, key) {
             Some(slot) => slot,
-            None => u32::try_from(self.rows.len()).unwrap_or(u32::MAX),
+            None => self.free_slot(),
         }
+    }
+
+    /// The slot that the next new key gets, as a hint too.
+    pub fn free_slot(&self) -> u32 {
+        u32::try_from(self.rows.len()).unwrap_or(u32::MAX)
     }
 
     /// The greatest write time, 0 where there is no document.

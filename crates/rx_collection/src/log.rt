@@ -84,6 +84,19 @@ pub(crate) fn slot_of(
     }
 }
 
+// The slot of the document in whose place a row comes.
+fn old_slot(names: &Run<u32>, rows: &Slots<Stored>, hints: &Hints, row: &Stored) -> Option<u32>
+    requires keyed { AreKeyed rows.now names.now }
+    requires first { row.now.rev.height ≡ 1 → named names.now row.now.state.key ≡ None }
+    ensures { result ≡ named names.now row.now.state.key }
+{
+    // The first row of a key has none, so it isn't searched for.
+    if row.rev.height == 1 {
+        return None;
+    }
+    slot_of(names, rows, hints, row.state.key.as_str())
+}
+
 /// Writes a row into its key's slot, or into a new one, and gives the slot.
 pub(crate) fn write(
     names: &mut Run<u32>,
@@ -94,11 +107,12 @@ pub(crate) fn write(
 ) -> Result<u32, AllocError>
     requires slots { AreSlots rows.old names.old }
     requires keyed { AreKeyed rows.old names.old }
+    requires first { row.rev.height ≡ 1 → named names.old row.state.key ≡ None }
     ensures ok { IfOk result (λ s. IsWritten rows.old names.old row rows.new names.new s) }
     ensures err_rows { OnErr result (rows.new ≡ rows.old) }
     ensures err_names { OnErr result (names.new ≡ names.old) }
 {
-    match slot_of(names, rows, hints, row.state.key.as_str()) {
+    match old_slot(names, rows, hints, &row) {
         Some(slot) => {
             let _old = rows.replace(slot as usize, row);
             Ok(slot)

@@ -1,9 +1,19 @@
 use Rattle.std.proofs.Common.{◌∙◌, ◌++◌, ◌∷◌, [], ap, sym, subst}
+use Rattle.rx_runs.specs.Rows.{shown}
 use Rattle.rx_collection.specs.Commit.{IsNext, with_row}
 use Rattle.rx_collection.specs.Held.{held_with}
 use Rattle.rx_collection.specs.Log.{IsWhole}
-use Rattle.rx_collection.proofs.Logged.{whole_put}
+use Rattle.rx_collection.proofs.Lawful.{none_before_first}
+use Rattle.rx_collection.proofs.Logged.{none_slotted, whole_put}
 use Rattle.rx_collection.proofs.collection.Collection.put.Goals as goal
+
+pub write-requires-clause-first : goal.write-requires-clause-first
+write-requires-clause-first c one =
+    let i = c.self.inside in
+    let next = subst (λ h. IsNext h c.args.row) (sym c.self.view_is) c.requires in
+    none_slotted i.rows i.names c.args.row.state.key c.self.invariant.slots
+    (none_before_first (held_with i.name i.schema (shown i.rows i.names)) c.args.row
+    c.self.invariant.lawful next one)
 
 pub invariant_of-self-2 : goal.invariant_of-self-2
 invariant_of-self-2 c =
