@@ -10,9 +10,9 @@ use Rattle.std.specs.Ordering.{is_eq, is_le, is_lt, ordering_reverse, match_orde
 use Rattle.std.specs.Str.{bytes_eq}
 use Rattle.std.specs.declared.cmp.Ordering.{Ordering}
 use Rattle.rx_document.specs.declared.stored.Stored.{Stored}
-use Rattle.rx_runs.specs.Run.{without, from_name, below_name, between}
+use Rattle.rx_runs.specs.Run.{from_name, below_name, between}
 use Rattle.rx_value.proofs.Ordered.{text_ties}
-use Rattle.rx_value.specs.Named.{named, put_in_order, AreRising}
+use Rattle.rx_value.specs.Named.{named, put_in_order, without, AreRising}
 use Rattle.rx_value.specs.Order.{text_cmp}
 use Rattle.rx_value.specs.declared.value.Value.{Value}
 use Rattle.rx_value.specs.declared.value.Value.TheVariants.{Flag, Text}
@@ -139,6 +139,33 @@ pub added : (es : List (List ℕ × ℕ)) (name : List ℕ) (slot : ℕ) (k : Po
 added es name slot k =
     put_key es name slot k
     ∙ ap (λ b. cond b true (has_key (positions es) k)) (flipped k (unpacked name))
+
+-- a key more at the end
+pub added_last : (es : List (List ℕ × ℕ)) (name : List ℕ) (slot : ℕ) (k : Position)
+    → has_key (positions (es ++ (name, slot) ∷ [])) k
+    ≡ cond (is_eq (position_cmp (unpacked name) k)) true (has_key (positions es) k)
+added_last [] name slot k =
+    or_if (is_eq (position_cmp k (unpacked name))) false
+    ∙ ap (λ b. cond b true false) (flipped k (unpacked name))
+added_last (e ∷ es) name slot k =
+    ap (λ b. is_eq (position_cmp k (unpacked e.0)) || b) (added_last es name slot k)
+    ∙ or_behind (is_eq (position_cmp (unpacked name) k)) (is_eq (position_cmp k (unpacked e.0)))
+    (has_key (positions es) k)
+
+-- a key that goes from those to come to those that are there
+or_over : (b c d : Bool) → (cond b true c || d) ≡ (c || (b || d))
+or_over true true d = refl
+or_over true false d = refl
+or_over false c d = refl
+
+pub added_over : (keys : List Position) (name : List ℕ) (slot : ℕ) (es : List (List ℕ × ℕ))
+    (k : Position)
+    → (cond (is_eq (position_cmp (unpacked name) k)) true (has_key keys k)
+    || has_key (positions es) k)
+    ≡ (has_key keys k || has_key (positions ((name, slot) ∷ es)) k)
+added_over keys name slot es k =
+    ap (λ b. cond b true (has_key keys k) || has_key (positions es) k) (flipped (unpacked name) k)
+    ∙ or_over (is_eq (position_cmp k (unpacked name))) (has_key keys k) (has_key (positions es) k)
 
 -- no key ties with one below them all
 none_above : (p : Position) (ps : List Position) → AllByRecursion (λ q. position_cmp p q ≡ Less) ps

@@ -4,4 +4,5 @@ pub mod Digits
 pub mod Packing
 pub mod Characters
 pub mod Keys
+pub mod Taken
 pub mod Ids

@@ -108,7 +108,7 @@ impl Index {
     }
 
     // The name of a document's key.
-    fn key(&self, document: &Stored) -> Result<Name, AllocError>
+    pub(crate) fn key(&self, document: &Stored) -> Result<Name, AllocError>
         ensures { IfOk result (IsKeyOf self.now.fields document.now) }
     {
         let mut bytes = Vec::with_capacity(self.alloc, ROOM)?;
@@ -120,7 +120,7 @@ impl Index {
         Ok(Name::new(self.alloc, bytes.as_slice())?)
     }
 
-    fn add(&mut self, key: Name, slot: u32) -> Result<(), AllocError>
+    pub(crate) fn add(&mut self, key: Name, slot: u32) -> Result<(), AllocError>
         requires { IsKey key }
         ensures ok { OnOk result ((k : Position) → has_key self.new.keys k
             ≡ (if is_eq (position_cmp (unpacked key) k) then true else has_key self.old.keys k)) }

@@ -2,11 +2,13 @@
 #![tactic(auto)]
 
 mod bound;
+mod filled;
 mod index;
 mod packed;
 mod range;
 
 pub use bound::{Bound, bound_laws};
+pub use filled::Filling;
 pub use index::Index;
 pub use range::{Entry, Range};
 

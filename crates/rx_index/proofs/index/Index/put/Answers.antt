@@ -1,4 +1,4 @@
-use Rattle.std.proofs.Common.{◌≡◌, List, ℕ, Bool, true, false, cond, Option, Some, None, IfSome, option_map, ◌∙◌, ap, sym, subst}
+use Rattle.std.proofs.Common.{◌≡◌, List, ℕ, true, false, Option, Some, IfSome, option_map, ◌∙◌, ap, sym, subst}
 use Rattle.std.proofs.lemmas.Result.{on_ok_weaker}
 use Rattle.std.specs.Ordering.{is_eq}
 use Rattle.rx_document.specs.Documents.{Documents}
@@ -7,31 +7,10 @@ use Rattle.rx_value.specs.Named.{put_in_order}
 use Rattle.rx_index.specs.Index.{Indexed, indexed_by, has_key, has_same_key, Holds, Replaces}
 use Rattle.rx_index.specs.Packed.{IsKeyOf, unpacked}
 use Rattle.rx_index.specs.Position.{Position, position_cmp}
-use Rattle.rx_index.proofs.Held.{held_same, held_fresh, held_moved}
+use Rattle.rx_index.proofs.Taken.{Has, has_so, made_fresh}
+use Rattle.rx_index.proofs.Held.{held_same, held_moved}
 use Rattle.rx_index.proofs.Keys.{unpacked-key, key_is}
 use Rattle.rx_index.proofs.index.Index.put.Goals as goal
-
--- the second index has the keys of the first and one more, or one less
-abbrev Has : Bool → List ℕ → Indexed → Indexed → Type 0
-Has there bs i j =
-    (k : Position)
-    → has_key j.keys k ≡ cond (is_eq (position_cmp (unpacked bs) k)) there (has_key i.keys k)
-
-has_so : (there : Bool) (bs : List ℕ) (i j : Indexed) (p : Position) → unpacked bs ≡ p
-    → Has there bs i j → (k : Position)
-    → has_key j.keys k ≡ cond (is_eq (position_cmp p k)) there (has_key i.keys k)
-has_so there bs i j p is has k =
-    subst (λ q. has_key j.keys k ≡ cond (is_eq (position_cmp q k)) there (has_key i.keys k)) is (has k)
-
--- where there was no document of the key
-made_fresh : (i j : Indexed) (new : Stored) (bs : List ℕ) → IsKeyOf i.fields new bs
-    → j.fields ≡ i.fields → (old : Option Stored) → old ≡ None → Has true bs i j
-    → (documents : Documents) → Replaces i documents old new
-    → Holds j (put_in_order documents new.state.key new)
-made_fresh i j new bs key same old none adds documents r =
-    subst (λ fs. Holds (indexed_by fs j.keys) (put_in_order documents new.state.key new)) (sym same)
-    (held_fresh i.fields documents new i.keys r.held (r.old_one ∙ none) j.keys
-    (has_so true bs i j _ (unpacked-key i.fields new bs key) adds))
 
 -- where there was one with another key
 made_moved : (i j l : Indexed) (before new : Stored) (bs cs : List ℕ) → IsKeyOf i.fields before cs

@@ -1,6 +1,6 @@
 use Rattle.std.proofs.Common.{◌≡◌, ◌≤◌, false, cond, length, ◌∙◌, ap, sym, subst, arith}
 use Rattle.std.specs.Ordering.{is_eq}
-use Rattle.rx_runs.specs.Run.{without}
+use Rattle.rx_value.specs.Named.{without}
 use Rattle.rx_index.specs.Index.{has_key}
 use Rattle.rx_index.specs.Packed.{AreKeys, positions, unpacked}
 use Rattle.rx_index.specs.Position.{position_cmp}
