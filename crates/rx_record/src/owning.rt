@@ -33,15 +33,15 @@ pub(crate) fn own_fields(alloc: Global, bytes: &[u8]) -> Owned<'_, Fields>
     requires { IsTrue (is_read (fields_of bytes.now)) }
     ensures { IfOk result (λ p. fields_of bytes.now ≡ Ok (p.0, p.1.now)) }
 {
-    let mut fields = Fields::new(alloc);
     let mut pairs = PairViews::new(bytes);
+    let mut owned = Vec::with_capacity(alloc, pairs.left as usize)?;
     while let Some(pair) = pairs.next() {
-        fields.set(
+        owned.push((
             RxText::new(alloc, pair.name)?,
             own_value(alloc, &pair.value)?,
-        )?;
+        ))?;
     }
-    Ok((fields, pairs.bytes))
+    Ok((Fields::from_rising(owned), pairs.bytes))
 }
 
 // The state at the front of bytes, its key lent too, and the bytes behind it.
