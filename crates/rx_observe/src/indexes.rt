@@ -1,4 +1,4 @@
-ghost use Rattle.std.specs.Prelude.{◌≡◌, IfOk, OnOk, option_map};
+ghost use Rattle.std.specs.Prelude.{◌≡◌, [], IfOk, OnOk, option_map};
 ghost use Rattle.rx_value.specs.Named.{named};
 ghost use Rattle.rx_collection.specs.Commit.{IsNext, with_row};
 ghost use Rattle.rx_collection.specs.Lawful.{IsLawful};
@@ -6,7 +6,7 @@ ghost use Rattle.rx_observe.specs.Indexes.{IsIndexOf, AreIndexesOf};
 
 use rx_collection::Collection;
 use rx_document::Stored;
-use rx_index::Index;
+use rx_index::{Filling, Index};
 use rx_value::RxText;
 use std::alloc::{AllocError, Global};
 
@@ -15,7 +15,7 @@ pub(crate) fn indexes_of(alloc: Global, collection: &Collection) -> Result<Vec<I
     ensures { IfOk result (λ all. AreIndexesOf collection.now all.items) }
 {
     let mut indexes = Vec::new(alloc);
-    indexes.push(index_by(alloc, collection, &[])?)?;
+    indexes.push(index_by_key(alloc, collection)?)?;
     let schema = collection.schema();
     for i in 0..schema.index_count() {
         indexes.push(index_by(alloc, collection, schema.index(i))?)?;
@@ -23,15 +23,30 @@ pub(crate) fn indexes_of(alloc: Global, collection: &Collection) -> Result<Vec<I
     Ok(indexes)
 }
 
-fn index_by(alloc: Global, collection: &Collection, fields: &[RxText]) -> Result<Index, AllocError>
-    ensures index { IfOk result (IsIndexOf collection.now fields.now) }
+// The index by the primary key alone. The documents come by rising key, so each goes to the end.
+fn index_by_key(alloc: Global, collection: &Collection) -> Result<Index, AllocError>
+    ensures index { IfOk result (IsIndexOf collection.now []) }
     ensures lawful { OnOk result (IsLawful collection.now) }
 {
-    let mut index = Index::new(alloc, fields)?;
+    let mut index = Index::new(alloc, &[])?;
     for document in collection.all() {
         let slot = collection.slot_for(document.state.key.as_str());
         index.put(None, document, slot)?;
     }
+    Ok(index)
+}
+
+// An index by fields, in whose order the documents don't come.
+fn index_by(alloc: Global, collection: &Collection, fields: &[RxText]) -> Result<Index, AllocError>
+    ensures index { IfOk result (IsIndexOf collection.now fields.now) }
+    ensures lawful { OnOk result (IsLawful collection.now) }
+{
+    let mut filling = Filling::new(alloc, fields, collection.len())?;
+    for document in collection.all() {
+        let slot = collection.slot_for(document.state.key.as_str());
+        filling.take(document, slot)?;
+    }
+    let index = filling.done()?;
     Ok(index)
 }
 
@@ -47,7 +62,11 @@ pub(crate) fn put_in_each(
     requires indexed { AreIndexesOf collection.now indexes.old.items }
     ensures { OnOk result (AreIndexesOf (with_row collection.now row.now) indexes.new.items) }
 {
-    let slot = collection.slot_for(row.state.key.as_str());
+    // A new key isn't searched for.
+    let slot = match old {
+        Some(_) => collection.slot_for(row.state.key.as_str()),
+        None => collection.free_slot(),
+    };
     for i in 0..indexes.len() {
         let index = &mut indexes[i];
         index.put(old, row, slot)?;

@@ -3,12 +3,12 @@ use Rattle.rx_collection.specs.Lawful.{IsLawful}
 use Rattle.rx_observe.proofs.Making.{IsTaking}
 use Rattle.rx_observe.proofs.indexes.index_by.Given as goal
 
--- the index has taken the documents so far
+-- the documents so far are taken up
 abbrev pub invariant-loop-document : goal.invariant-loop-document
 invariant-loop-document l = record {
   lawful : IsLawful l.collection;
-  fields : l.index.fields ≡ l.fields;
-  taking : IsTaking l.collection.documents l.document-iterator l.index;
+  fields : l.filling.fields ≡ l.fields;
+  taking : IsTaking l.collection.documents l.document-iterator l.filling;
   can_next : (goal.iterator-loop-document).can_next l.document-iterator;
   finite : (goal.iterator-loop-document).is_finite l.document-iterator;
 }

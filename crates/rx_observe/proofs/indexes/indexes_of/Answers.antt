@@ -16,6 +16,6 @@ loop-i-preserved c =
       lawful = inv.lawful;
       made =
           subst (λ fs. AreMade held ([] ∷ fs) now) (sym (take_up_to all i of c.index.ensures))
-          (one_more held first of c.loop-i.indexes.items now c.in_ok-index_by-2.field-0 inv.made
-          c.in_ok-index_by-2.ensures.index c.in_ok-push-2.ensures.items);
+          (one_more held first of c.loop-i.indexes.items now c.in_ok-index_by.field-0 inv.made
+          c.in_ok-index_by.ensures.index c.in_ok-push-2.ensures.items);
     }
