@@ -6,20 +6,20 @@ use Rattle.std.specs.List.{AllByRecursion}
 use Rattle.std.specs.Prelude.{pos, ◌*ℤ◌}
 use Rattle.std.specs.Str.{bytes_eq}
 use Rattle.rx_value.specs.Fields.{Pairs, AreFields}
-use Rattle.rx_value.specs.Named.{named, put_in_order}
+use Rattle.rx_value.specs.Named.{named, put_in_order, without}
 use Rattle.rx_value.specs.Name.{is_field_name}
 use Rattle.rx_value.specs.Value.{is_number, is_value}
 use Rattle.rx_value.specs.declared.value.Value.{Value}
 use Rattle.rx_value.specs.declared.value.Value.TheVariants.{Int}
 use Rattle.rx_value.proofs.Outcomes.{some_then, some_same}
-use Rattle.rx_value.proofs.Setting.{put_fields}
-use Rattle.rx_migrate.specs.Migrated.{without, renamed, filled, product, scaled, made, all_made}
+use Rattle.rx_value.proofs.Removed.{without_fields}
+use Rattle.rx_value.proofs.Setting.{put_fields, value_in}
+use Rattle.rx_migrate.specs.Migrated.{renamed, filled, product, scaled, made, all_made}
 use Rattle.rx_migrate.specs.Migrated.{migrated, EqualStaysEqual, KeepsTheKey, KeepsTheMark}
 use Rattle.rx_migrate.specs.Migrated.{MigratesToFields}
 use Rattle.rx_migrate.specs.Step.{is_step}
 use Rattle.rx_migrate.specs.declared.step.Step.{Step}
 use Rattle.rx_migrate.specs.declared.step.Step.TheVariants.{Rename, Set, Unset, Scale}
-use Rattle.rx_migrate.proofs.Kept.{without-fields}
 
 -- ---- a state
 
@@ -34,17 +34,6 @@ mark ss s t is = sym (ap (λ u. u.deleted) (some_same (some_then (all_made ss s.
 
 -- ---- fields stay fields
 
--- the value of a name is in range
-pub value_in : (ps : Pairs) (name : List ℕ) → AllByRecursion (λ p. is_value p.1 ≡ true) ps
-    → (v : Value) → named ps name ≡ Some v → is_value v ≡ true
-value_in [] name all v at = absurd (cc)
-value_in (p ∷ ps) name all v at =
-    elim (bytes_eq name p.0)
-    as (λ b. cond b (Some p.1) (named ps name) ≡ Some v → is_value v ≡ true) [
-      | true ↦ (λ is. subst (λ (u : Value). is_value u ≡ true) (some_same is) all.0)
-      | false ↦ (λ is. value_in ps name all.1 v is)
-    ] at
-
 -- a product is in range
 in_range : (z m : ℤ) → cond (is_number z) (Some z) None ≡ Some m → is_number m ≡ true
 in_range z m is =
@@ -58,7 +47,7 @@ renamed-fields : (ps : Pairs) (field to : List ℕ) (o : Option Value) → AreFi
     → named ps field ≡ o → AreFields (renamed ps field to o)
 renamed-fields ps field to None fields at = fields
 renamed-fields ps field to (Some v) fields at =
-    put_fields (without field ps) to v (without-fields field ps fields)
+    put_fields (without ps field) to v (without_fields ps field fields)
     (value_in ps field fields.in_range v at)
 
 filled-fields : (ps : Pairs) (field : List ℕ) (v : Value) (o : Option Value) → AreFields ps
@@ -83,7 +72,7 @@ made-fields (Set field v) ps qs step fields is =
     (filled-fields ps field v (named ps field) fields
     (and_parts (is_field_name field) (is_value v) step).1)
 made-fields (Unset field) ps qs step fields is =
-    subst AreFields (some_same is) (without-fields field ps fields)
+    subst AreFields (some_same is) (without_fields ps field fields)
 made-fields (Scale field by) ps qs step fields is =
     scaled-fields ps field by (named ps field) qs fields is
 

@@ -1,5 +1,5 @@
 -- A field that no step names stays as it is.
-use Rattle.std.proofs.Common.{◌≡◌, ℕ, true, false, cond, not, List, [], ◌∷◌, Option, Some}
+use Rattle.std.proofs.Common.{◌≡◌, ℕ, true, false, cond, List, [], ◌∷◌, Option, Some}
 use Rattle.std.proofs.Common.{None, refl, sym, ap, ◌∙◌}
 use Rattle.std.proofs.lemmas.Bool.{or_parts}
 use Rattle.std.proofs.lemmas.Slice.Eq.{bytes_eq-Decides}
@@ -7,12 +7,12 @@ use Rattle.std.specs.Bool.{one_answer}
 use Rattle.std.specs.Str.{bytes_eq}
 use Rattle.rx_value.specs.Equality.{decides_as}
 use Rattle.rx_value.specs.Fields.{Pairs}
-use Rattle.rx_value.specs.Named.{named, put_in_order}
+use Rattle.rx_value.specs.Named.{named, put_in_order, without}
 use Rattle.rx_value.specs.declared.value.Value.{Value}
 use Rattle.rx_value.specs.declared.value.Value.TheVariants.{Int}
 use Rattle.rx_value.proofs.Named.{named-put_in_order}
 use Rattle.rx_value.proofs.Outcomes.{some_then, some_same}
-use Rattle.rx_migrate.specs.Migrated.{without, renamed, filled, product, scaled, made, all_made}
+use Rattle.rx_migrate.specs.Migrated.{renamed, filled, product, scaled, made, all_made}
 use Rattle.rx_migrate.specs.Migrated.{KeepsOtherFields}
 use Rattle.rx_migrate.specs.Step.{is_named, is_named_in}
 use Rattle.rx_migrate.specs.declared.step.Step.{Step}
@@ -28,19 +28,19 @@ apart a b other =
 -- ---- one change
 
 without_other : (field name : List ℕ) (ps : Pairs) → bytes_eq field name ≡ false
-    → named (without field ps) name ≡ named ps name
+    → named (without ps field) name ≡ named ps name
 without_other field name [] other = refl
 without_other field name (p ∷ ps) other =
-    let rest = without_other field name ps other in
-    elim (bytes_eq p.0 field)
-    as (λ b. bytes_eq p.0 field ≡ b
-    → named (cond (not b) (p ∷ without field ps) (without field ps)) name
+    elim (bytes_eq field p.0)
+    as (λ b. bytes_eq field p.0 ≡ b
+    → named (cond b ps (p ∷ without ps field)) name
     ≡ cond (bytes_eq name p.0) (Some p.1) (named ps name)) [
       | true ↦ (λ is.
-          let not_here = ap (bytes_eq name) ((bytes_eq-Decides p.0 field).0 is)
+          let not_here = ap (bytes_eq name) (sym ((bytes_eq-Decides field p.0).0 is))
           ∙ apart field name other in
-          rest ∙ sym (ap (λ b. cond b (Some p.1) (named ps name)) not_here))
-      | false ↦ (λ is. ap (cond (bytes_eq name p.0) (Some p.1)) rest)
+          sym (ap (λ b. cond b (Some p.1) (named ps name)) not_here))
+      | false ↦ (λ is.
+          ap (cond (bytes_eq name p.0) (Some p.1)) (without_other field name ps other))
     ] refl
 
 put_other : (field name : List ℕ) (v : Value) (ps : Pairs) → bytes_eq field name ≡ false
@@ -56,7 +56,7 @@ renamed_other : (ps : Pairs) (field to name : List ℕ) (o : Option Value)
     → named (renamed ps field to o) name ≡ named ps name
 renamed_other ps field to name None here there = refl
 renamed_other ps field to name (Some v) here there =
-    put_other to name v (without field ps) there ∙ without_other field name ps here
+    put_other to name v (without ps field) there ∙ without_other field name ps here
 
 filled_other : (ps : Pairs) (field name : List ℕ) (v : Value) (o : Option Value)
     → bytes_eq field name ≡ false → named (filled ps field v o) name ≡ named ps name

@@ -1,11 +1,10 @@
 -- What the steps of a migration make of a state.
-use Rattle.std.specs.Prelude.{◌≡◌, ℕ, ℤ, pos, ◌*ℤ◌, List, [], ◌∷◌, true, false, not, Option, Some}
+use Rattle.std.specs.Prelude.{◌≡◌, ℕ, ℤ, pos, ◌*ℤ◌, List, [], ◌∷◌, true, false, Option, Some}
 use Rattle.std.specs.Prelude.{None}
-use Rattle.std.specs.List.{AllByRecursion, filter}
-use Rattle.std.specs.Str.{bytes_eq}
+use Rattle.std.specs.List.{AllByRecursion}
 use Rattle.rx_value.specs.Due.{◌>>=◌, only_if}
 use Rattle.rx_value.specs.Fields.{Pairs, AreFields}
-use Rattle.rx_value.specs.Named.{named, put_in_order}
+use Rattle.rx_value.specs.Named.{named, put_in_order, without}
 use Rattle.rx_value.specs.Value.{is_number}
 use Rattle.rx_value.specs.declared.state.State.{State}
 use Rattle.rx_value.specs.declared.value.Value.{Value}
@@ -16,14 +15,10 @@ use Rattle.rx_migrate.specs.declared.step.Step.TheVariants.{Rename, Set, Unset, 
 
 -- ---- one step
 
--- fields but the one of a name
-abbrev pub without : List ℕ → Pairs → Pairs
-without name ps = filter (λ p. not (bytes_eq p.0 name)) ps
-
 -- the value of one field, where it is there, at another instead, over what that had
 abbrev pub renamed : Pairs → List ℕ → List ℕ → Option Value → Pairs
 renamed ps field to None = ps
-renamed ps field to (Some v) = put_in_order (without field ps) to v
+renamed ps field to (Some v) = put_in_order (without ps field) to v
 
 -- a value where a field is missing
 abbrev pub filled : Pairs → List ℕ → Value → Option Value → Pairs
@@ -44,7 +39,7 @@ scaled ps field by _ = Some ps
 abbrev pub made : Step → Pairs → Option Pairs
 made (Rename field to) ps = Some (renamed ps field to (named ps field))
 made (Set field v) ps = Some (filled ps field v (named ps field))
-made (Unset field) ps = Some (without field ps)
+made (Unset field) ps = Some (without ps field)
 made (Scale field by) ps = scaled ps field by (named ps field)
 
 -- ---- a migration

@@ -1,9 +1,8 @@
 ghost use Rattle.std.specs.Prelude.{◌≡◌, true, IfOk, IsTrue};
 ghost use Rattle.std.specs.List.{AllByRecursion};
-ghost use Rattle.rx_value.specs.Fields.{AreFields};
-ghost use Rattle.rx_value.specs.Named.{named};
+ghost use Rattle.rx_value.specs.Named.{named, without};
 ghost use Rattle.rx_value.specs.Value.{is_value};
-ghost use Rattle.rx_migrate.specs.Migrated.{without, renamed, filled, product, scaled, made};
+ghost use Rattle.rx_migrate.specs.Migrated.{renamed, filled, product, scaled, made};
 ghost use Rattle.rx_migrate.specs.Migrated.{all_made, EqualStaysEqual, KeepsTheKey, KeepsTheMark};
 ghost use Rattle.rx_migrate.specs.Migrated.{KeepsOtherFields, MigratesToFields};
 ghost use Rattle.rx_migrate.specs.Step.{is_step};
@@ -38,7 +37,7 @@ fn make(alloc: Global, step: &Step, fields: Fields) -> Result<Option<Fields>, Al
     match step {
         Step::Rename { field, to } => Ok(Some(rename(alloc, fields, field.as_str(), to)?)),
         Step::Set { field, value } => Ok(Some(fill(alloc, fields, field, value)?)),
-        Step::Unset { field } => Ok(Some(without(alloc, &fields, field.as_str())?)),
+        Step::Unset { field } => Ok(Some(without(fields, field.as_str()))),
         Step::Scale { field, by } => scale(alloc, fields, field, *by),
     }
 }
@@ -47,12 +46,14 @@ fn rename(alloc: Global, fields: Fields, field: &str, to: &RxText) -> Result<Fie
     ensures { IfOk result
         (λ r. r ≡ renamed fields field.now to.now (named fields field.now)) }
 {
-    let Some(value) = fields.get(field) else {
-        return Ok(fields);
-    };
-    let mut rest = without(alloc, &fields, field)?;
-    rest.set(to.copy(alloc)?, value.copy(alloc)?)?;
-    Ok(rest)
+    let mut fields = fields;
+    match fields.remove(field) {
+        None => Ok(fields),
+        Some(value) => {
+            fields.set(to.copy(alloc)?, value)?;
+            Ok(fields)
+        }
+    }
 }
 
 fn fill(alloc: Global, fields: Fields, field: &RxText, value: &Value) -> Result<Fields, AllocError>
@@ -67,19 +68,12 @@ fn fill(alloc: Global, fields: Fields, field: &RxText, value: &Value) -> Result<
 }
 
 // The fields but the one of that name.
-fn without(alloc: Global, fields: &Fields, name: &str) -> Result<Fields, AllocError>
-    ensures exact { IfOk result (λ r. r ≡ without name.now fields.now) }
-    ensures lawful { AreFields fields.now }
+fn without(fields: Fields, name: &str) -> Fields
+    ensures { result ≡ without fields name.now }
 {
-    let mut rest = Fields::new(alloc);
-    for i in 0..fields.len() {
-        let (held, value) = fields.at(i);
-        if held.as_str() == name {
-            continue;
-        }
-        rest.set(held.copy(alloc)?, value.copy(alloc)?)?;
-    }
-    Ok(rest)
+    let mut fields = fields;
+    fields.remove(name);
+    fields
 }
 
 fn scale(
