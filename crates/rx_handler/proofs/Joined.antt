@@ -15,7 +15,7 @@ use Rattle.rx_value.specs.Value.{is_value}
 use Rattle.rx_value.specs.declared.value.Value.{Value}
 use Rattle.rx_value.proofs.Named.{named-put_in_order}
 use Rattle.rx_value.proofs.Ordered.{text_total}
-use Rattle.rx_value.proofs.Setting.{put_fields}
+use Rattle.rx_value.proofs.Setting.{put_fields, value_in}
 use Rattle.rx_value.proofs.Outcomes.{some_same}
 use Rattle.rx_handler.specs.Resolve.{greater_of, raised_to, joined_at, JoinsFieldByField, JoinsToFields}
 
@@ -166,17 +166,6 @@ joins ps qs name =
       | false ↦ (λ is. sym (ap (greater_of (named ps name)) (named-absent qs name is)
           ∙ greater_of-none (named ps name)))
     ] refl
-
--- the value of a name is in range
-value_in : (qs : Pairs) (name : List ℕ) → AllByRecursion (λ q. is_value q.1 ≡ true) qs
-    → (v : Value) → named qs name ≡ Some v → is_value v ≡ true
-value_in [] name all v at = absurd (cc)
-value_in (q ∷ qs) name all v at =
-    elim (bytes_eq name q.0)
-    as (λ b. cond b (Some q.1) (named qs name) ≡ Some v → is_value v ≡ true) [
-      | true ↦ (λ is. subst (λ (u : Value). is_value u ≡ true) (some_same is) all.0)
-      | false ↦ (λ is. value_in qs name all.1 v is)
-    ] at
 
 joined_at-fields : (qs : Pairs) (names : List (List ℕ)) (ps : Pairs) → AreFields ps
     → AllByRecursion (λ q. is_value q.1 ≡ true) qs → AreFields (joined_at qs names ps)
