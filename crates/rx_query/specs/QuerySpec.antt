@@ -1,5 +1,5 @@
 -- Queries, whatever memory they lie in.
-use Rattle.std.specs.Prelude.{ℕ, Bool, List, Option}
+use Rattle.std.specs.Prelude.{ℕ, Bool, List, Option, Some}
 use Rattle.rx_selector.specs.Tree.{Clauses, selector_clauses}
 use Rattle.rx_query.specs.declared.query.Query.{Query}
 
@@ -23,5 +23,15 @@ asked q = record {
   sorts = q.sorts.items;
   skip = q.skip;
   limit = q.limit;
+  primary = q.primary;
+}
+
+-- the same with another limit
+abbrev pub with_limit : ℕ → QuerySpec → QuerySpec
+with_limit limit q = record {
+  clauses = q.clauses;
+  sorts = q.sorts;
+  skip = q.skip;
+  limit = Some limit;
   primary = q.primary;
 }

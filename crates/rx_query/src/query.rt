@@ -19,7 +19,7 @@ pub struct Query {
 }
 
 impl Query {
-    ghost use Rattle.rx_query.specs.QuerySpec.{asked};
+    ghost use Rattle.rx_query.specs.QuerySpec.{asked, with_limit};
     ghost use Rattle.rx_query.specs.Order.{query_cmp};
 
     /// How two documents stand in the order of the query.
@@ -77,6 +77,13 @@ impl Query {
         ensures some { IfSome result (λ limit. 0 < limit) }
     {
         self.limit
+    }
+
+    pub fn set_limit(&mut self, limit: u64)
+        requires { 0 < limit }
+        ensures { asked self.new ≡ with_limit limit (asked self.old) }
+    {
+        self.limit = Some(limit);
     }
 
     pub fn primary(&self) -> &str

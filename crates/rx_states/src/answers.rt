@@ -38,7 +38,7 @@ pub(crate) fn answer(query: &Query, change: &Change, results: &Results, which: S
     }
 }
 
-fn live_before(change: &Change) -> Option<&Fields>
+pub(crate) fn live_before(change: &Change) -> Option<&Fields>
     ensures { option_copied result ≡ live_before change.now.before }
 {
     match &change.before {
@@ -98,7 +98,7 @@ fn was_in_result(change: &Change, results: &Results) -> bool
     false
 }
 
-fn is_match(query: &Query, fields: Option<&Fields>) -> bool
+pub(crate) fn is_match(query: &Query, fields: Option<&Fields>) -> bool
     ensures { result ≡ some_passes (is_match (asked query.now)) (option_copied fields.entry) }
 {
     match fields {

@@ -3,5 +3,7 @@
 
 mod answers;
 mod facts;
+mod matches;
 
 pub use facts::Facts;
+pub use matches::Matches;
