@@ -13,7 +13,8 @@ second or more; the two take turns, three runs each over files of their own, and
 Then 10,000 documents, and 100,000 where DOCUMENTS says 1,000,000, are written to at random (one line in ten
 inserts, one removes, the others set the numbers of a document) while 64 and 256 windows are observed, each
 over an open selector without an index, a sort by rank, rising or falling, and a limit of 20. sqlite3 gets the
-same writes and is asked for all windows after each. Last, the share of the changes that led to a full run.
+same writes and is asked for all windows after each. Last, the share of the changes for which the decision table
+wants a full run; the rows behind a window may spare it.
 """
 import json
 import os
@@ -187,7 +188,7 @@ def writes(size: int, lines: int) -> Iterator[tuple[str, str]]:
 
 
 def full_runs(folder: str, lines: list[str], count: int) -> float:
-    """The share of the changes heard by windows that led to a full run."""
+    """The share of the changes heard by windows for which the decision table wants a full run."""
     explains = [compact({"do": "explain", "name": f"q{q}"}) for q in range(count)]
     source = "".join(f"{line}\n" for line in [*lines, *explains]).encode()
     done = subprocess.run(peers(folder)[0], input=source, stdout=subprocess.PIPE, check=True)
@@ -206,7 +207,7 @@ def observe(size: int, count: int) -> None:
         rx, peer = costs(folder, begins, begun(folder, begins), streams)
         share = full_runs(folder, begins[0] + streams[0][:2_000], count)
     print(f"{count} windows, {size:,} documents: rx {rx * 1e6:,.1f} us a write, sqlite3 asked again "
-          f"{peer * 1e6:,.1f} us: {peer / rx:.1f} times as fast; a full run after {share:.3%} of the changes",
+          f"{peer * 1e6:,.1f} us: {peer / rx:.1f} times as fast; a full run is wanted after {share:.3%} of the changes",
           flush=True)
     figure("writes", documents=size, queries=count, ratio=rx / peer, rx=1 / rx, sqlite3=1 / peer, full=share)
 

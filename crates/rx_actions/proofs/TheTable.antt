@@ -62,7 +62,7 @@ module _ (P : Row → Type 0) where
 
 module _ (q : QuerySpec) (es : Documents) (col : IsCollection q.primary es) where
   -- those of live documents
-  live_carry : AllByRecursion (Carries q) (live_rows es)
+  pub live_carry : AllByRecursion (Carries q) (live_rows es)
   live_carry = all_live (Carries q) es col.carried
 
   -- those of the result
@@ -76,7 +76,7 @@ module _ (q : QuerySpec) (es : Documents) (col : IsCollection q.primary es) wher
       (all_passed (Carries q) (rows_query q).matches (live_rows es) live_carry)))
 
   -- that of a key
-  key_carries : (id : List ℕ) (o : Option Pairs) → o ≡ live (named es id) → (x : Pairs)
+  pub key_carries : (id : List ℕ) (o : Option Pairs) → o ≡ live (named es id) → (x : Pairs)
       → o ≡ Some x → Carries q (row_with id x)
   key_carries id o is x at =
       all_held (Carries q) (λ r. bytes_eq r.id id) (live_rows es) live_carry (row_with id x)
@@ -85,7 +85,7 @@ module _ (q : QuerySpec) (es : Documents) (col : IsCollection q.primary es) wher
 -- ---- the table
 
 -- what was before is what the old document says
-was_live : (o : Option Pairs) → live_before (before_of o) ≡ o
+pub was_live : (o : Option Pairs) → live_before (before_of o) ≡ o
 was_live None = refl
 was_live (Some x) = refl
 

@@ -219,6 +219,7 @@ all_cold qs now is = subst AllCold (sym is) (cold_cooled qs)
 
 -- where no query is observed all is well
 pub none_observed : (c : Held) (indexes : List Indexed) → AreIndexesOf c indexes
-    → IsWhole c [] indexes
+    → IsWhole c [] [] indexes
 unfolding IsDistinct
-none_observed c indexes indexed = record { names = tt; right = tt; indexed = indexed }
+none_observed c indexes indexed =
+    record { names = tt; right = tt; fronts = tt; indexed = indexed }

@@ -5,5 +5,8 @@ pub mod Done
 pub mod Steps
 pub mod Emitting
 pub mod Putting
+pub mod FrontLists
+pub mod Fronts
+pub mod Beside
 pub mod Making
 pub mod Indexing

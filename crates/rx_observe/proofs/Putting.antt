@@ -4,10 +4,12 @@ use Rattle.rx_document.specs.declared.stored.Stored.{Stored}
 use Rattle.rx_collection.specs.Commit.{with_row}
 use Rattle.rx_collection.specs.Held.{Held}
 use Rattle.rx_index.specs.Index.{Indexed}
+use Rattle.rx_observe.specs.Front.{AreFronts}
 use Rattle.rx_observe.specs.Indexes.{AreIndexesOf}
 use Rattle.rx_observe.specs.Lived.{IsWhole}
 use Rattle.rx_observe.specs.Observing.{Observing, Queries, AllRight, each, queries_after, change_by, watch_after, put_all}
 use Rattle.rx_observe.specs.Watched.{Watched, stepped}
+use Rattle.rx_observe.specs.declared.front.Front.{Front}
 use Rattle.rx_observe.proofs.Emitting.{distinct_each}
 use Rattle.rx_observe.proofs.Steps.{right_after}
 
@@ -43,12 +45,13 @@ module _ (c new : Held) (row : Stored) (qs now : Queries) (new_is : new ≡ with
       (subst (AllRight (with_row c row)) (sym now_is)
       (right_after c (with_row c row) (change_by c row) qs refl all))
 
-  pub whole_put : (before after : List Indexed) → IsWhole c qs before → AreIndexesOf new after
-      → IsWhole new now after
-  whole_put before after kept indexed = record {
+  pub whole_put : (fs gs : List Front) (before after : List Indexed) → IsWhole c qs fs before
+      → AreFronts new now gs → AreIndexesOf new after → IsWhole new now gs after
+  whole_put fs gs before after kept fronts indexed = record {
     names = distinct_each (stepped (with_row c row).documents (change_by c row)) qs now now_is
         kept.names;
     right = right_put kept.right;
+    fronts = fronts;
     indexed = indexed;
   }
 

@@ -22,8 +22,10 @@ use Rattle.rx_collection.proofs.Lawful.{lawful_put}
 use Rattle.rx_observe.specs.Applied.{answer_for}
 use Rattle.rx_observe.specs.declared.observed.Applied.TheVariants.{Patched, NeedsFull}
 use Rattle.rx_observe.specs.Following.{Becomes, Follows, AllFollow}
+use Rattle.rx_observe.specs.Front.{IsFront, AreFronts, StaysFront}
 use Rattle.rx_observe.specs.Observing.{Queries, AllRight, each, change_by}
 use Rattle.rx_observe.specs.Watched.{Watched, action_at, counted_at, rows_after, applied, IsReady, stepped, kept}
+use Rattle.rx_observe.specs.declared.front.Front.{Front}
 use Rattle.rx_observe.proofs.Applying.{cold_full, ready, gives_fresh, rows_patched}
 use Rattle.rx_observe.proofs.Fresh.{is_collection_for}
 
@@ -84,12 +86,25 @@ module _ (q : QuerySpec) (limited : q.limit ≢ Some 0) (c : Change) (old new : 
       becomes.differ
       becomes.change known)) answer
 
-module _ (c : Change) (w : Watched) (new : Held) (f : Follows c w new) where
+module _ (c : Change) (w : Watched) (x : Front) (new : Held) (f : Follows c w x new) where
   -- the action's rows are there
   pub ready_for : IfSome w.rows (IsReady w.query c)
   ready_for =
       ready_at w.query f.right.limited c f.old new f.becomes f.right.keyed w.rows w.emitted
       f.right.from_scratch
+
+  -- it goes by the primary key
+  pub keyed_after : w.query.primary ≡ new.schema.primary
+  keyed_after = f.right.keyed ∙ ap (λ s. s.primary) (sym f.becomes.schema)
+
+  -- its front stays one
+  pub front_for : (y : Front) → StaysFront w.query c x y → IsFront w.query new.documents y
+  front_for y stays =
+      stays f.old.documents new.documents
+      (is_collection_for w.query.primary f.old f.right.keyed f.becomes.lawful_old)
+      (is_collection_for w.query.primary new
+      (keyed_new w.query f.right.limited c f.old new f.becomes f.right.keyed)
+      f.becomes.lawful_new) f.becomes.differ f.becomes.change f.front
 
   -- patched, it is as it is to be
   pub patched : answer_for (action_at w.query c w.rows) ≡ Patched
@@ -139,12 +154,12 @@ change_is c row = (λ i. record {
 })
 
 -- the queries were right before it
-pub all_follow : (c new : Held) (row : Stored) (qs : Queries) (x : Change) → IsLawful c
-    → IsNext c row → AllRight c qs → x ≡ change_by c row → new ≡ with_row c row
-    → AllFollow x qs new
-all_follow c new row qs x lawful next right is new_is =
-    subst (λ y. AllFollow y qs new) (sym is)
-    (subst (λ d. AllFollow (change_by c row) qs d) (sym new_is) (record {
+pub all_follow : (c new : Held) (row : Stored) (qs : Queries) (fs : List Front) (x : Change)
+    → IsLawful c → IsNext c row → AllRight c qs → AreFronts c qs fs → x ≡ change_by c row
+    → new ≡ with_row c row → AllFollow x qs fs new
+all_follow c new row qs fs x lawful next right fronts is new_is =
+    subst (λ y. AllFollow y qs fs new) (sym is)
+    (subst (λ d. AllFollow (change_by c row) qs fs d) (sym new_is) (record {
       old = c;
       becomes = record {
         differ = with_row-differs c row;
@@ -154,6 +169,7 @@ all_follow c new row qs x lawful next right is new_is =
         lawful_new = lawful_put c row lawful next;
       };
       right = right;
+      fronts = fronts;
     }))
 
 -- and are right after it

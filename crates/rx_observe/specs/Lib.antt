@@ -4,6 +4,7 @@ pub mod Codes
 pub mod Applied
 pub mod Rows
 pub mod Observing
+pub mod Front
 pub mod Laws
 pub mod Inside
 pub mod Following

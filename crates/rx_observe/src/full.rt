@@ -1,9 +1,11 @@
-ghost use Rattle.std.specs.Prelude.{◌<◌, ◌^◌, ◌≡◌, filter, length, map, IfOk};
+ghost use Rattle.std.specs.Prelude.{◌<◌, ◌^◌, ◌≡◌, filter, length, map, true, Some, IfOk, OnOk};
 ghost use Rattle.std.specs.Map.{values_of};
-ghost use Rattle.rx_query.specs.QuerySpec.{asked};
+ghost use Rattle.rx_query.specs.QuerySpec.{asked, with_limit};
 ghost use Rattle.rx_query.specs.Result.{is_due, result_of, row_of, fresh_rows};
+ghost use Rattle.rx_observe.specs.Front.{kept_limit, suffices, IsFront};
 ghost use Rattle.rx_observe.specs.Indexes.{AreIndexesOf};
 
+use crate::front::{Front, kept_limit, most_kept};
 use rx_collection::{All, Collection};
 use rx_document::Stored;
 use rx_index::Index;
@@ -85,8 +87,58 @@ fn count_due(query: &Query, documents: All<'_>) -> usize
     documents.filter(|document| query.is_due(document)).count()
 }
 
+// The rows of a query, by its front where that tells them, and else from scratch, with a new front.
+pub(crate) fn rows_of(
+    alloc: Global,
+    collection: &Collection,
+    indexes: &[Index],
+    query: &mut Query,
+    front: &mut Front,
+) -> Result<Results, AllocError>
+    requires keyed { (asked query.old).primary ≡ collection.now.schema.primary }
+    requires indexed { AreIndexesOf collection.now indexes.now }
+    requires front { IsFront (asked query.old) collection.now.documents front.old }
+    ensures query { asked query.new ≡ asked query.old }
+    ensures rows { IfOk result (λ rows. rows ≡ fresh_rows (asked query.old) collection.now.documents) }
+    ensures front { OnOk result (IsFront (asked query.old) collection.now.documents front.new) }
+{
+    let Some(limit) = kept_limit(query) else {
+        return run_in_full(alloc, collection, indexes, query);
+    };
+    if front.suffices(limit) {
+        return front.window(alloc, limit);
+    }
+    let fetched = run_front(alloc, collection, indexes, query, limit)?;
+    *front = fetched;
+    front.window(alloc, limit)
+}
+
+// The front of a query, from scratch.
+fn run_front(
+    alloc: Global,
+    collection: &Collection,
+    indexes: &[Index],
+    query: &mut Query,
+    limit: u64,
+) -> Result<Front, AllocError>
+    requires keyed { (asked query.old).primary ≡ collection.now.schema.primary }
+    requires indexed { AreIndexesOf collection.now indexes.now }
+    requires limit { kept_limit (asked query.old) ≡ Some limit }
+    ensures query { asked query.new ≡ asked query.old }
+    ensures front { IfOk result (IsFront (asked query.old) collection.now.documents) }
+    ensures suffices { IfOk result (λ front. suffices limit front ≡ true) }
+{
+    let most = most_kept(limit);
+    query.set_limit(most);
+    let rows = run_in_full(alloc, collection, indexes, query);
+    query.set_limit(limit);
+    let rows = rows?;
+    let whole = (rows.len() as u64) < most;
+    Ok(Front { rows, whole })
+}
+
 // The rows of a query, from scratch.
-pub(crate) fn run_in_full(
+fn run_in_full(
     alloc: Global,
     collection: &Collection,
     indexes: &[Index],

@@ -2,6 +2,7 @@
 #![tactic(auto)]
 
 mod emission;
+mod front;
 mod full;
 mod indexes;
 mod laws;

@@ -9,7 +9,8 @@ ghost use Rattle.rx_observe.specs.Rows.{emissions_due};
 ghost use Rattle.rx_observe.specs.Watched.{IsRight};
 
 use crate::emission::{Emission, Unseen, emit_all, look_all};
-use crate::full::{count_by, count_in, find_by, find_in, run_in_full};
+use crate::front::{Front, align};
+use crate::full::{count_by, count_in, find_by, find_in, rows_of};
 use crate::indexes::indexes_of;
 use crate::observed::Observed;
 use crate::step::put_row;
@@ -32,6 +33,8 @@ pub struct Live {
     /// One for the primary key, and then one for each of the schema's.
     indexes: Vec<Index>,
     queries: Vec<(RxText, Observed)>,
+    /// One for each query, in the same order; those of the last queries may be missing.
+    fronts: Vec<Front>,
     /// A share of the one diagram.
     diagram: Rc<Diagram>,
     broken: bool,
@@ -67,13 +70,14 @@ impl Live {
             collection,
             indexes,
             queries: Vec::new(alloc),
+            fronts: Vec::new(alloc),
             diagram,
             broken: false,
         })
     }
 
     /// Observes a query after all others. It runs once, which isn't counted.
-    pub fn observe(&mut self, name: RxText, query: Query) -> Result<(), AllocError>
+    pub fn observe(&mut self, name: RxText, mut query: Query) -> Result<(), AllocError>
         requires whole { self.old.broken ≡ false }
         requires new { named self.old.queries name ≡ None }
         requires keyed { (asked query).primary ≡ self.old.collection.schema.primary }
@@ -82,9 +86,18 @@ impl Live {
         ensures err { OnErr result (self.new ≡ self.old) }
     {
         let indexes = self.indexes.as_slice();
-        let rows = run_in_full(self.alloc, &self.collection, indexes, &query)?;
+        let mut front = Front::none(self.alloc);
+        let rows = rows_of(
+            self.alloc,
+            &self.collection,
+            indexes,
+            &mut query,
+            &mut front,
+        )?;
         let mut observed = Observed::new(self.alloc, query);
         observed.fill(rows);
+        align(self.alloc, &mut self.fronts, self.queries.len())?;
+        self.fronts.push(front)?;
         self.queries.push((name, observed))?;
         Ok(())
     }
@@ -98,6 +111,7 @@ impl Live {
         requires right { AllRight self.old.collection queries.items }
         ensures { self.new ≡ with_queries self.old queries.items }
     {
+        self.fronts.clear();
         self.queries = queries;
     }
 
@@ -118,6 +132,7 @@ impl Live {
         ensures gone { named self.new.queries name.now ≡ None }
     {
         let was_observed = self.observed(name).is_some();
+        self.fronts.clear();
         remove_query(&mut self.queries, name);
         was_observed
     }
@@ -238,6 +253,7 @@ impl Holder for Live {
                 &mut self.collection,
                 &mut self.indexes,
                 &mut self.queries,
+                &mut self.fronts,
                 row,
             )?;
         }

@@ -6,18 +6,26 @@ ghost use Rattle.rx_table.specs.Rows.{table_of};
 ghost use Rattle.rx_table.specs.declared.action.Action.TheVariants.{RunFullQueryAgain};
 ghost use Rattle.rx_query.specs.After.{after, AreThere};
 ghost use Rattle.rx_query.specs.QuerySpec.{asked};
+ghost use Rattle.rx_query.specs.Result.{fresh_rows};
 ghost use Rattle.rx_query.specs.States.{bits_of, OnlyMatchingInside};
+ghost use Rattle.rx_states.specs.Matches.{TellMatches};
+ghost use Rattle.rx_observe.specs.Front.{IsFront};
+ghost use Rattle.rx_observe.specs.Indexes.{AreIndexesOf};
 ghost use Rattle.rx_observe.specs.Applied.{answer_for, changes_rows};
 ghost use Rattle.rx_observe.specs.Rows.{unseen, emitted};
 ghost use Rattle.rx_observe.specs.Observing.{cooled};
 ghost use Rattle.rx_observe.specs.Watched.{cold, bits_at, action_at, asked_at, applied, IsReady, StaysFresh};
 
+use crate::front::Front;
+use crate::full::rows_of;
 use crate::rows::are_same_rows;
 use rx_actions::act;
+use rx_collection::Collection;
 use rx_diagram::{Decided, Diagram};
 use rx_document::Change;
+use rx_index::Index;
 use rx_query::{Query, Results};
-use rx_states::Facts;
+use rx_states::{Facts, Matches};
 use rx_table::{Action, Counts};
 use std::alloc::{AllocError, Global};
 use std::marker::Model;
@@ -114,7 +122,28 @@ impl Observed {
             (StaysFresh self.old.query change.now self.old.rows self.new.rows) }
         ensures err { OnErr result (self.new ≡ self.old) }
     {
-        let decided = self.decide(diagram, change);
+        let matches = Matches::of(&self.query, change);
+        self.hear(diagram, change, matches)
+    }
+
+    /// The same where it is known already what the selector says.
+    pub(crate) fn hear(
+        &mut self,
+        diagram: &Diagram,
+        change: &Change,
+        matches: Matches,
+    ) -> Result<Applied, AllocError>
+        requires matches { TellMatches self.old.query change.now matches }
+        requires cold { self.old.rows ≡ None → change.now.before ≡ Unknown }
+        requires ready { IfSome self.old.rows (IsReady self.old.query change.now) }
+        ensures answer { IfOk result (λ a. a
+            ≡ answer_for (action_at self.old.query change.now self.old.rows)) }
+        ensures value { OnOk result (self.new ≡ applied change.now self.old) }
+        ensures fresh { OnOk result
+            (StaysFresh self.old.query change.now self.old.rows self.new.rows) }
+        ensures err { OnErr result (self.new ≡ self.old) }
+    {
+        let decided = self.decide(diagram, change, matches);
         self.follow(decided.action, decided.asked.count_ones(), change)
     }
 
@@ -141,15 +170,19 @@ impl Observed {
         Ok(Applied::Patched)
     }
 
-    fn decide(&self, diagram: &Diagram, change: &Change) -> Decided
+    fn decide(&self, diagram: &Diagram, change: &Change, matches: Matches) -> Decided
+        requires matches { TellMatches self.now.query change.now matches }
         requires cold { self.now.rows ≡ None → change.now.before ≡ Unknown }
         requires ready { IfSome self.now.rows (IsReady self.now.query change.now) }
         ensures action { result.action ≡ action_at self.now.query change.now self.now.rows }
         ensures asked { result.asked ≡ asked_of (bits_at self.now.query change.now self.now.rows) }
     {
         match &self.rows {
-            Some(rows) => decide(diagram, &self.query, change, rows),
-            None => decide(diagram, &self.query, change, &Results::new(self.alloc)),
+            Some(rows) => decide(diagram, &self.query, change, rows, matches),
+            None => {
+                let none = Results::new(self.alloc);
+                decide(diagram, &self.query, change, &none, matches)
+            }
         }
     }
 
@@ -187,6 +220,24 @@ impl Observed {
         }
     }
 
+    /// The rows that it has over a collection, by its front where that tells them.
+    pub(crate) fn run(
+        &mut self,
+        collection: &Collection,
+        indexes: &[Index],
+        front: &mut Front,
+    ) -> Result<Results, AllocError>
+        requires keyed { self.old.query.primary ≡ collection.now.schema.primary }
+        requires indexed { AreIndexesOf collection.now indexes.now }
+        requires front { IsFront self.old.query collection.now.documents front.old }
+        ensures same { self.new ≡ self.old }
+        ensures rows { IfOk result
+            (λ rows. rows ≡ fresh_rows self.old.query collection.now.documents) }
+        ensures front { OnOk result (IsFront self.old.query collection.now.documents front.new) }
+    {
+        rows_of(self.alloc, collection, indexes, &mut self.query, front)
+    }
+
     /// Makes it cold.
     pub(crate) fn cool(&mut self)
         ensures { self.new ≡ cooled self.old }
@@ -195,12 +246,19 @@ impl Observed {
     }
 }
 
-fn decide(diagram: &Diagram, query: &Query, change: &Change, rows: &Results) -> Decided
-    requires { OnlyMatchingInside (asked query.now) change.now rows.now }
+fn decide(
+    diagram: &Diagram,
+    query: &Query,
+    change: &Change,
+    rows: &Results,
+    matches: Matches,
+) -> Decided
+    requires inside { OnlyMatchingInside (asked query.now) change.now rows.now }
+    requires matches { TellMatches (asked query.now) change.now matches }
     ensures action { result.action ≡ table_of (bits_of (asked query.now) change.now rows.now) }
     ensures asked { result.asked ≡ asked_of (bits_of (asked query.now) change.now rows.now) }
 {
-    let mut facts = Facts::of_result(query, change, rows);
+    let mut facts = Facts::by_matches(query, change, rows, matches);
     diagram.decide(&mut facts)
 }
 

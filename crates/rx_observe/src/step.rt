@@ -1,23 +1,26 @@
-ghost use Rattle.std.specs.Prelude.{◌≡◌, Some, IfSome, IfOk, OnOk, option_map};
+ghost use Rattle.std.specs.Prelude.{◌≡◌, length, Some, IfSome, IfOk, OnOk, option_map};
 ghost use Rattle.rx_value.specs.Named.{named};
 ghost use Rattle.rx_document.specs.Change.{before_of};
 ghost use Rattle.rx_document.specs.Documents.{live};
 ghost use Rattle.rx_collection.specs.Commit.{IsNext, with_row};
 ghost use Rattle.rx_collection.specs.Lawful.{IsLawful};
 ghost use Rattle.rx_query.specs.QuerySpec.{asked};
+ghost use Rattle.rx_states.specs.Matches.{TellMatches};
 ghost use Rattle.rx_observe.specs.Applied.{answer_for};
 ghost use Rattle.rx_observe.specs.Following.{Follows, AllFollow};
+ghost use Rattle.rx_observe.specs.Front.{IsFront, AreFronts};
 ghost use Rattle.rx_observe.specs.Indexes.{AreIndexesOf};
 ghost use Rattle.rx_observe.specs.Observing.{AllRight, each, change_by, queries_after};
 ghost use Rattle.rx_observe.specs.Watched.{unknown, action_at, applied, IsReady, stepped};
 
-use crate::full::run_in_full;
+use crate::front::{Front, align};
 use crate::indexes::put_in_each;
 use crate::observed::{Applied, Observed};
 use rx_collection::Collection;
 use rx_diagram::Diagram;
 use rx_document::{Before, Change, Stored};
 use rx_index::Index;
+use rx_states::Matches;
 use rx_value::{Fields, RxText};
 use std::alloc::{AllocError, Global};
 
@@ -28,15 +31,18 @@ pub(crate) fn put_row(
     collection: &mut Collection,
     indexes: &mut Vec<Index>,
     queries: &mut Vec<(RxText, Observed)>,
+    fronts: &mut Vec<Front>,
     row: Stored,
 ) -> Result<(), AllocError>
     requires next { IsNext collection.old row }
     requires indexed { AreIndexesOf collection.old indexes.old.items }
     requires right { AllRight collection.old queries.old.items }
+    requires fronts { AreFronts collection.old queries.old.items fronts.old.items }
     ensures collection { OnOk result (collection.new ≡ with_row collection.old row) }
     ensures indexed { OnOk result (AreIndexesOf collection.new indexes.new.items) }
     ensures queries { OnOk result
         (queries.new.items ≡ queries_after collection.old row queries.old.items) }
+    ensures fronts { OnOk result (AreFronts collection.new queries.new.items fronts.new.items) }
 {
     let old = held_before(collection, &row);
     put_in_each(collection, indexes, old, &row)?;
@@ -45,10 +51,12 @@ pub(crate) fn put_row(
     }
     let change = change_by(alloc, collection, old, &row)?;
     collection.put(row)?;
+    align(alloc, fronts, queries.len())?;
     step_all(
         alloc,
         diagram,
         queries,
+        fronts,
         collection,
         indexes.as_slice(),
         &change,
@@ -109,18 +117,30 @@ fn step_all(
     alloc: Global,
     diagram: &Diagram,
     queries: &mut Vec<(RxText, Observed)>,
+    fronts: &mut Vec<Front>,
     collection: &Collection,
     indexes: &[Index],
     change: &Change,
 ) -> Result<(), AllocError>
-    requires follow { AllFollow change.now queries.old.items collection.now }
+    requires follow { AllFollow change.now queries.old.items fronts.old.items collection.now }
+    requires aligned { length fronts.old.items ≡ length queries.old.items }
     requires indexed { AreIndexesOf collection.now indexes.now }
-    ensures { OnOk result (queries.new.items
+    ensures queries { OnOk result (queries.new.items
         ≡ each (stepped collection.now.documents change.now) queries.old.items) }
+    ensures fronts { OnOk result (AreFronts collection.now queries.new.items fronts.new.items) }
 {
     for i in 0..queries.len() {
         let query = &mut queries[i];
-        step(alloc, diagram, &mut query.1, collection, indexes, change)?;
+        let front = &mut fronts[i];
+        step(
+            alloc,
+            diagram,
+            &mut query.1,
+            front,
+            collection,
+            indexes,
+            change,
+        )?;
     }
     Ok(())
 }
@@ -130,19 +150,25 @@ fn step(
     alloc: Global,
     diagram: &Diagram,
     observed: &mut Observed,
+    front: &mut Front,
     collection: &Collection,
     indexes: &[Index],
     change: &Change,
 ) -> Result<(), AllocError>
-    requires follows { Follows change.now observed.old collection.now }
+    requires follows { Follows change.now observed.old front.old collection.now }
     requires indexed { AreIndexesOf collection.now indexes.now }
-    ensures { OnOk result
+    ensures observed { OnOk result
         (observed.new ≡ stepped collection.now.documents change.now observed.old) }
+    ensures front { OnOk result
+        (IsFront observed.old.query collection.now.documents front.new) }
 {
-    match apply(alloc, diagram, observed, change)? {
+    let query = observed.query();
+    let matches = Matches::of(query, change);
+    front.follow(alloc, query, change, matches)?;
+    match apply(alloc, diagram, observed, change, matches)? {
         Applied::Patched => Ok(()),
         Applied::NeedsFull => {
-            let rows = run_in_full(alloc, collection, indexes, observed.query())?;
+            let rows = observed.run(collection, indexes, front)?;
             observed.fill(rows);
             Ok(())
         }
@@ -155,8 +181,10 @@ fn apply(
     diagram: &Diagram,
     observed: &mut Observed,
     change: &Change,
+    matches: Matches,
 ) -> Result<Applied, AllocError>
-    requires { IfSome observed.old.rows (IsReady observed.old.query change.now) }
+    requires matches { TellMatches observed.old.query change.now matches }
+    requires ready { IfSome observed.old.rows (IsReady observed.old.query change.now) }
     ensures answer { IfOk result (λ a. a
         ≡ answer_for (action_at observed.old.query change.now observed.old.rows)) }
     ensures value { OnOk result (observed.new ≡ applied change.now observed.old) }
@@ -164,7 +192,7 @@ fn apply(
     if observed.rows().is_none() {
         return observed.apply(diagram, &unknown(alloc, change)?);
     }
-    observed.apply(diagram, change)
+    observed.hear(diagram, change, matches)
 }
 
 // The change as a cold query gets it.

@@ -11,7 +11,9 @@ use Rattle.rx_observe.proofs.step.put_row.Goals as goal
 pub step_all-requires-clause-follow : goal.step_all-requires-clause-follow
 step_all-requires-clause-follow c =
     all_follow c.args.collection.now c.put-2.new.self c.args.row c.args.queries.now.items
-    c.in_ok-change.change c.requires.indexed.lawful c.requires.next c.requires.right
+    c.align.new.fronts.items c.in_ok-change.change c.requires.indexed.lawful c.requires.next
+    c.requires.right
+    (c.align.ensures.kept c.args.collection.now c.args.queries.now.items c.requires.fronts)
     c.in_ok-change.ensures c.in_ok-put.ensures.ok
 
 pub step_all-requires-clause-indexed : goal.step_all-requires-clause-indexed
@@ -31,4 +33,4 @@ returns-clause-queries c =
     (now ≡ each (stepped (with_row held row).documents x) before)) c.in_ok-change.ensures
     (subst (λ (d : Held). OnOk c.step_all.result
     (now ≡ each (stepped d.documents c.in_ok-change.change) before)) c.in_ok-put.ensures.ok
-    c.step_all.ensures)
+    c.step_all.ensures.queries)

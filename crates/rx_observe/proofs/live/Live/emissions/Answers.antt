@@ -1,7 +1,9 @@
-use Rattle.std.proofs.Common.{ap, ◌∙◌}
+use Rattle.std.proofs.Common.{refl, sym, ap, ◌∙◌, subst}
+use Rattle.rx_observe.specs.Front.{AreFronts}
 use Rattle.rx_observe.specs.Lived.{observing}
 use Rattle.rx_observe.specs.Observing.{Observing, each, with_queries, settled}
 use Rattle.rx_observe.specs.Rows.{emitted, emissions_of, emissions_due}
+use Rattle.rx_observe.proofs.Beside.{each_beside}
 use Rattle.rx_observe.proofs.Emitting.{distinct_each, emitted_settled, all_right_settled, none_left, emissions_are_due}
 use Rattle.rx_observe.proofs.live.Live.emissions.Goals as goal
 
@@ -14,6 +16,9 @@ invariant_of-self c =
       names = distinct_each emitted i.queries.items now c.emit_all.ensures kept.names;
       right = all_right_settled i.collection i.queries.items now
           (c.emit_all.ensures ∙ emitted_settled i.collection i.queries.items kept.right) kept.right;
+      fronts = subst (λ qs. AreFronts i.collection qs i.fronts.items) (sym c.emit_all.ensures)
+          (each_beside i.collection emitted (λ w. refl) i.queries.items i.fronts.items
+          kept.fronts);
       indexed = kept.indexed;
     }
 

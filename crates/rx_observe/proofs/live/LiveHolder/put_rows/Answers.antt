@@ -38,7 +38,8 @@ loop-row-preserved c =
     let next : AreNext i.collection (row ∷ rest) =
     subst (AreNext i.collection) step c.loop-row.invariant.2 in (
       whole_put i.collection now row i.queries.items queries put.collection put.queries
-          i.indexes.items c.put_row.new.indexes.items c.loop-row.invariant.0 put.indexed,
+          i.fronts.items c.put_row.new.fronts.items i.indexes.items c.put_row.new.indexes.items
+          c.loop-row.invariant.0 put.fronts put.indexed,
       put_on i.collection now row i.queries.items queries put.collection put.queries rest
           ∙ ap (put_all (whole i.collection i.queries.items)) (sym step)
           ∙ c.loop-row.invariant.1,

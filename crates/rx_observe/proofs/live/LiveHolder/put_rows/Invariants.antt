@@ -10,7 +10,8 @@ use Rattle.rx_observe.proofs.live.LiveHolder.put_rows.Given as goal
 -- written, and give what all rows give
 abbrev pub invariant-loop-row : goal.invariant-loop-row
 invariant-loop-row l =
-    IsWhole l.self-inside.collection l.self-inside.queries.items l.self-inside.indexes.items
+    IsWhole l.self-inside.collection l.self-inside.queries.items l.self-inside.fronts.items
+    l.self-inside.indexes.items
     × (put_all (whole l.self-inside.collection l.self-inside.queries.items)
     (into_iter_items l.row-iterator) ≡ put_all l.fn.self l.fn.rows.items)
     × AreNext l.self-inside.collection (into_iter_items l.row-iterator)

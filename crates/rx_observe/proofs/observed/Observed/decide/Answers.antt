@@ -32,8 +32,8 @@ returns-in-None-clause-action c =
     let given = c.requires.cold cold in
     let same : change ≡ unknown change =
     λ i. record { id = change.id; before = given i; after = change.after } in
-    c.decide-in-None-2.ensures.action
-    ∙ ap (λ (rows : List Row). table_of (bits_of q change rows)) c.new.ensures
+    c.decide-in-None.ensures.action
+    ∙ ap (λ (rows : List Row). table_of (bits_of q change rows)) c.new-none.ensures
     ∙ ap (λ (x : Change). table_of (bits_of q x [])) same
     ∙ ap (λ rows. table_of (bits_at q change rows)) (sym c.in-None.is)
     ∙ ap (λ (w : Watched). table_of (bits_at w.query change w.rows)) c.self.view_is
@@ -47,8 +47,8 @@ returns-in-None-clause-asked c =
     let given = c.requires.cold cold in
     let same : change ≡ unknown change =
     λ i. record { id = change.id; before = given i; after = change.after } in
-    c.decide-in-None-2.ensures.asked
-    ∙ ap (λ (rows : List Row). asked_of (bits_of q change rows)) c.new.ensures
+    c.decide-in-None.ensures.asked
+    ∙ ap (λ (rows : List Row). asked_of (bits_of q change rows)) c.new-none.ensures
     ∙ ap (λ (x : Change). asked_of (bits_of q x [])) same
     ∙ ap (λ rows. asked_of (bits_at q change rows)) (sym c.in-None.is)
     ∙ ap (λ (w : Watched). asked_of (bits_at w.query change w.rows)) c.self.view_is
