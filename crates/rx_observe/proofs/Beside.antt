@@ -1,12 +1,12 @@
 -- Fronts beside their queries.
-use Rattle.std.proofs.Common.{◌≡◌, ℕ, zero, suc, ◌+◌, ◌<◌, List, [], ◌∷◌, ◌++◌, length, take, get_or, refl, sym, ap, ◌∙◌, subst, arith, add-one}
+use Rattle.std.proofs.Common.{◌≡◌, ℕ, zero, suc, ◌<◌, List, [], ◌∷◌, ◌++◌, length, take, get_or, sym, subst, arith}
 use Rattle.std.proofs.Math.ListN.{set}
 use Rattle.rx_document.specs.declared.change.Change.{Change}
 use Rattle.rx_collection.specs.Held.{Held}
-use Rattle.rx_observe.specs.Following.{Becomes, AllFollow}
+use Rattle.rx_observe.specs.Following.{Becomes}
 use Rattle.rx_observe.specs.Front.{no_front, IsFront, AreFronts}
 use Rattle.rx_observe.specs.Observing.{Queries, AllRight, each, and_query}
-use Rattle.rx_observe.specs.Watched.{Watched, stepped}
+use Rattle.rx_observe.specs.Watched.{Watched}
 use Rattle.rx_observe.specs.declared.front.Front.{Front}
 use Rattle.rx_observe.proofs.Fronts.{nothing_kept}
 

@@ -1,4 +1,4 @@
-use Rattle.std.proofs.Common.{◌≤◌, ◌++◌, [], ◌∷◌, length, take, length-take, length-append, sym, ap, ◌∙◌, subst, arith}
+use Rattle.std.proofs.Common.{◌++◌, [], ◌∷◌, length, length-take, length-append, sym, ap, ◌∙◌, subst, arith}
 use Rattle.rx_observe.specs.Front.{AreFronts}
 use Rattle.rx_observe.proofs.Beside.{fewer, one_empty}
 use Rattle.rx_observe.proofs.front.align.Goals as goal

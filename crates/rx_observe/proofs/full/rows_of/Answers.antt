@@ -1,6 +1,5 @@
-use Rattle.std.proofs.Common.{◌≡◌, IfOk, List, sym, ap, ◌∙◌, subst}
-use Rattle.rx_query.specs.QuerySpec.{QuerySpec, asked}
-use Rattle.rx_query.specs.Result.{fresh_rows}
+use Rattle.std.proofs.Common.{◌≡◌, IfOk, List, sym, ◌∙◌, subst}
+use Rattle.rx_query.specs.QuerySpec.{asked}
 use Rattle.rx_query.specs.declared.results.Row.{Row}
 use Rattle.rx_observe.proofs.Fronts.{window_is}
 use Rattle.rx_observe.proofs.full.rows_of.Goals as goal

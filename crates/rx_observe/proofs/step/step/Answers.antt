@@ -1,4 +1,4 @@
-use Rattle.std.proofs.Common.{◌≡◌, ◌≤◌, length, IfSome, sym, ap, ◌∙◌, subst}
+use Rattle.std.proofs.Common.{◌≤◌, length, IfSome, sym, ap, ◌∙◌, subst}
 use Rattle.rx_query.specs.Result.{fresh_rows}
 use Rattle.rx_states.specs.Matches.{TellMatches}
 use Rattle.rx_observe.specs.Front.{kept_limit, most_kept, IsFront, StaysFront}

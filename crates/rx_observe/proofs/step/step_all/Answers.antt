@@ -1,7 +1,6 @@
 use Rattle.std.proofs.Common.{◌≡◌, ℕ, List, length, get_or, arith, set, length-set, add-one, refl, sym, ap, ◌∙◌, subst}
 use Rattle.rx_observe.specs.Front.{IsFront, AreFronts}
 use Rattle.rx_observe.specs.Watched.{Watched, stepped, IsRight}
-use Rattle.rx_observe.specs.declared.front.Front.{Front}
 use Rattle.rx_observe.proofs.Beside.{Until, until_at, until_step, until_end, each_beside}
 use Rattle.rx_observe.proofs.Done.{read-done, length-done, step-done, end-done, all_at}
 use Rattle.rx_observe.proofs.step.step_all.Goals as goal

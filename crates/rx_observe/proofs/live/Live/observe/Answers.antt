@@ -1,4 +1,4 @@
-use Rattle.std.proofs.Common.{◌≡◌, ◌++◌, [], ◌∷◌, Some, refl, sym, ap, ◌∙◌, subst}
+use Rattle.std.proofs.Common.{◌≡◌, Some, refl, sym, ap, ◌∙◌, subst}
 use Rattle.rx_query.specs.QuerySpec.{asked}
 use Rattle.rx_value.specs.Named.{named}
 use Rattle.rx_observe.specs.Front.{IsFront}
