@@ -191,11 +191,12 @@ fn add_lying(file: &mut Vec<u8>, size: &[u8]) -> Result<(), AllocError> {
     file.extend_from_slice(&[7; 5])
 }
 
-const SHORT: [&[u8]; 6] = [
+const SHORT: [&[u8]; 7] = [
     b"",
     b"RXJOURN1",
     b"RXJOURN1\0",
     b"RXJOURN1\x01",
+    b"RXJOURN2\0",
     b"anything!",
     b"RXJOURN1\x05bytes",
 ];
@@ -206,7 +207,8 @@ fn short_files_and_bytes_behind_the_gate(rt: HostRuntime) -> Result<(), Fail> {
     for file in SHORT.iter() {
         try_short(alloc, file)?;
     }
-    if lent_by_windows(alloc, b"RXJOURN2\0 ", None)?
+    if lent_by_windows(alloc, b"RXJOURN2\0 ", Some(&[]))?
+        && lent_by_windows(alloc, b"RXJOURN3\0 ", None)?
         && lent_by_windows(alloc, b"RXJOURN1\x01 ", None)?
     {
         return Ok(());

@@ -1,5 +1,4 @@
-use Rattle.std.proofs.Common.{◌≡◌, ℕ, ◌+◌, List, ◌++◌, length, drop, ◌∙◌, ap, arith}
-use Rattle.rx_journal.specs.Window.{ahead, held}
+use Rattle.std.proofs.Common.{ℕ, ◌+◌, List, ◌++◌, length, drop, ap, arith}
 use Rattle.rx_journal.proofs.Holds.{ahead_now, if_either, if_true, then_ahead}
 use Rattle.rx_journal.proofs.record.hold_whole.Goals as goal
 
