@@ -1,13 +1,14 @@
 -- Runs that leave legal files join.
-use Rattle.std.proofs.Common.{◌≡◌, inr, ℕ, ◌<◌, ◌≤◌, ◌^◌, List, [], ◌++◌, Some, refl, sym, ◌∙◌, ap, subst, arith, append_assoc, append-nil}
+use Rattle.std.proofs.Common.{◌≡◌, inl, inr, ⊎_elim, ℕ, ◌<◌, ◌≤◌, ◌^◌, List, [], ◌++◌, Some, refl, sym, ◌∙◌, ap, subst, arith, append_assoc, append-nil}
 use Rattle.rx_disk.specs.declared.disk.Disk.{Ghosts}
+use Rattle.rx_disk.specs.Moments.{LeavesOnly}
 use Rattle.rx_disk.proofs.Moments.{started, weaker, joined}
-use Rattle.rx_frame.specs.File.{StandsFor, IsWhole, end_of}
+use Rattle.rx_frame.specs.File.{header, BeginsWith, IsWhole, end_of}
 use Rattle.rx_journal.specs.declared.journal.Journal.{Journal}
 use Rattle.rx_world.specs.World.{World}
 use Rattle.rx_world.specs.Replay.{replay}
 use Rattle.rx_world.specs.Sound.{IsSoundWorld}
-use Rattle.rx_store.specs.Holds.{StandsLegally, GrowsLegally, Holds, ImagesStandFor, IsLegalFile, Leaves}
+use Rattle.rx_store.specs.Holds.{StandsInFirst, StandsLegally, GrowsLegally, Holds, ImagesStandFor, IsLegalFile, Leaves}
 
 -- a front of some bodies is a front of more
 pub longer : (bodies xs ys : List (List ℕ)) (c : List ℕ) → StandsLegally bodies xs c
@@ -33,7 +34,7 @@ behind bodies xs ys c s =
       front = xs ++ s.front;
       rest = s.rest;
       whole = ap (λ l. xs ++ l) s.whole ∙ sym (append_assoc xs s.front s.rest);
-      stands = subst (λ (bs : List (List ℕ)). StandsFor c bs) all s.stands;
+      stands = subst (λ (bs : List (List ℕ)). StandsInFirst c bs) all s.stands;
       short = subst (λ (bs : List (List ℕ)). end_of bs < 2 ^ 32) all s.short;
       world = s.world;
       legal = subst (λ (bs : List (List ℕ)). replay bs ≡ Some s.world) all s.legal;
@@ -42,14 +43,15 @@ behind bodies xs ys c s =
 
 -- none of the new bodies yet
 pub none_yet : (bodies more : List (List ℕ)) (w : World) (c : List ℕ) → replay bodies ≡ Some w
-    → IsSoundWorld w → StandsFor c bodies → end_of bodies < 2 ^ 32 → StandsLegally bodies more c
+    → IsSoundWorld w → StandsInFirst c bodies → end_of bodies < 2 ^ 32
+    → StandsLegally bodies more c
 none_yet bodies more w c plays sound stands short =
     let same = sym (append-nil bodies) in
     record {
       front = [];
       rest = more;
       whole = refl;
-      stands = subst (λ (bs : List (List ℕ)). StandsFor c bs) same stands;
+      stands = subst (λ (bs : List (List ℕ)). StandsInFirst c bs) same stands;
       short = subst (λ (bs : List (List ℕ)). end_of bs < 2 ^ 32) same short;
       world = w;
       legal = subst (λ (bs : List (List ℕ)). replay bs ≡ Some w) same plays;
@@ -57,6 +59,17 @@ none_yet bodies more w c plays sound stands short =
     }
 
 module _ {D : Type 0} (d : Ghosts D) where
+  -- a crash leaves only what has both
+  pub both : (old new : D) (P Q : List ℕ → Type 0) → LeavesOnly d old new P
+      → LeavesOnly d old new Q → LeavesOnly d old new (λ c. P c × Q c)
+  both old new P Q p q = record {
+    later = p.later;
+    each = λ c left. (p.each c left, q.each c left);
+    before = λ t c le left.
+        ⊎_elim (λ b. inl b) (λ x. ⊎_elim (λ b. inl b) (λ y. inr (x, y)) (q.before t c le left))
+        (p.before t c le left);
+  }
+
   -- two runs join
   pub grows_on : (old mid new : D) (bodies xs ys : List (List ℕ))
       → GrowsLegally d old mid bodies xs → GrowsLegally d mid new (bodies ++ xs) ys
@@ -70,26 +83,24 @@ module _ {D : Type 0} (d : Ghosts D) where
   grows_longer old new bodies xs ys run = weaker d old new _ _ (longer bodies xs ys) run
 
   -- each image of a disk that holds bodies is a legal file of them
+  pub held_alike : (disk : D) (journal : Journal) (bodies : List (List ℕ)) (w : World)
+      → Holds d disk journal bodies w → ImagesStandFor d disk bodies
+  held_alike disk journal bodies w holds c now =
+      inr (subst (λ (l : List ℕ). IsWhole l bodies × BeginsWith header l)
+      (sym (holds.ready.durable c now)) (holds.ready.whole, holds.first))
+
   pub held : (disk : D) (journal : Journal) (bodies more : List (List ℕ)) (w : World)
       → Holds d disk journal bodies w → Leaves d disk bodies more
   held disk journal bodies more w holds c now =
       let short : end_of bodies < 2 ^ 32 = omega (arith, holds.ready.ends, journal.short) in
       none_yet bodies more w c holds.played holds.sound
-      (inr (subst (λ (l : List ℕ). IsWhole l bodies)
-      (sym (holds.ready.durable c now)) holds.ready.whole))
-      short
-
-  pub held_alike : (disk : D) (journal : Journal) (bodies : List (List ℕ)) (w : World)
-      → Holds d disk journal bodies w → ImagesStandFor d disk bodies
-  held_alike disk journal bodies w holds c now =
-      inr (subst (λ (l : List ℕ). IsWhole l bodies)
-      (sym (holds.ready.durable c now)) holds.ready.whole)
+      (held_alike disk journal bodies w holds c now) short
 
   -- and so is what a read gives
   pub held_legal : (disk : D) (journal : Journal) (bodies : List (List ℕ)) (w : World)
       → Holds d disk journal bodies w → IsLegalFile (d.content disk) bodies w
   held_legal disk journal bodies w holds = record {
-    stands = inr holds.ready.whole;
+    stands = inr (holds.ready.whole, holds.first);
     short = omega (arith, holds.ready.ends, journal.short);
     plays = holds.played;
     sound = holds.sound;

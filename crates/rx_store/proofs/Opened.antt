@@ -1,11 +1,11 @@
 -- Opening a journal that is a legal file.
 use Rattle.std.proofs.Common.{◌≡◌, ◌≤◌, ◌<◌, inl, inr, ℕ, true, false, true≢false, List, [], length, Option, Some, None, is_some, Result, Ok, Err, IsErrOf, refl, sym, ◌∙◌, ap, subst, arith, append-nil}
 use Rattle.std.proofs.Math.Dec.{leb}
-use Rattle.std.proofs.lemmas.Bool.{leb-true, leb-false}
+use Rattle.std.proofs.lemmas.Bool.{cases_lt, leb-true, leb-false}
 use Rattle.rx_disk.specs.declared.disk.Disk.{Ghosts}
 use Rattle.rx_disk.specs.Moments.{LeavesOnly}
 use Rattle.rx_disk.proofs.Moments.{weaker, joined, leaves_now}
-use Rattle.rx_frame.specs.File.{StandsFor, IsWhole, shortest}
+use Rattle.rx_frame.specs.File.{header, BeginsWith, IsSecond, StandsFor, IsWhole, shortest}
 use Rattle.rx_frame.proofs.Records.{stands_for_one}
 use Rattle.rx_journal.specs.Opening.{IsJournal, IsNoWorse}
 use Rattle.rx_journal.specs.Reading.{IsUntouched}
@@ -22,11 +22,12 @@ use Rattle.rx_world.specs.Sound.{IsSoundWorld}
 use Rattle.rx_world.specs.World.{World, empty}
 use Rattle.rx_world.proofs.Replays.{replay_from-nothing}
 use Rattle.rx_world.proofs.Sounds.{sound_empty}
-use Rattle.rx_store.specs.Holds.{Holds, GrowsLegally, ImagesStandFor, IsIllegalFile, IsLegalFile}
+use Rattle.rx_store.specs.Holds.{Holds, GrowsLegally, ImagesStandFor, IsIllegalFile, IsLegalFile, StandsInFirst}
 use Rattle.rx_store.specs.Safe.{IsCrashSafe}
 use Rattle.rx_store.specs.Stops.{of_open}
 use Rattle.rx_store.proofs.Crashes.{other_stop}
 use Rattle.rx_store.proofs.Growing.{none_yet}
+use Rattle.rx_store.proofs.Versions.{long_begins, not_second, stands_for}
 
 -- one world
 pub some_is : (a b : World) → Some a ≡ Some b → a ≡ b
@@ -39,17 +40,30 @@ some_is a b e = ap (or_else a) e
 pub some_is_not_none : (o : Option World) (w : World) → o ≡ Some w → o ≡ None → ⊥
 some_is_not_none o w is none = true≢false (ap is_some (sym is ∙ none))
 
--- a journal was opened, its records were read to their end, and they make this world
+-- a journal of the first version was opened, its records were read to their end, and they make
+-- this world
 module _ {D : Type 0} (d : Ghosts D) (old mid new : D) (windows : Windows)
-    (begin : Begin d old mid windows)
+    (begin : Begin d old mid windows) (other : IsSecond (d.content old) → ⊥)
     (same : d.content new ≡ d.content mid) (journal : Journal) (lent : List (List ℕ)) (v : World)
     (ready : IsReady d new journal lent) (plays : replay lent ≡ Some v) where
   lent_stand : StandsFor (d.content old) lent
   lent_stand = begin.stood lent (subst (λ (l : List ℕ). IsWhole l lent) same ready.whole)
 
+  lent_first : StandsInFirst (d.content old) lent
+  lent_first = not_second (d.content old) lent other lent_stand
+
+  begins : BeginsWith header (d.content new)
+  begins =
+      subst (λ (l : List ℕ). BeginsWith header l) (sym same)
+      (elim (cases_lt shortest (length (d.content old))) [
+        | inl long ↦ subst (λ (l : List ℕ). BeginsWith header l) (sym (begin.long long))
+            (long_begins (d.content old) lent long lent_first)
+        | inr short ↦ begin.first short
+      ])
+
   pub is_legal : IsSoundWorld v → IsLegalFile (d.content old) lent v
   is_legal sound = record {
-    stands = lent_stand;
+    stands = lent_first;
     short = omega (arith, ready.ends, journal.short);
     plays = plays;
     sound = sound;
@@ -59,11 +73,14 @@ module _ {D : Type 0} (d : Ghosts D) (old mid new : D) (windows : Windows)
   module _ (bodies : List (List ℕ)) (w : World)
       (lawful : IsLegalFile (d.content old) bodies w) where
     same_bodies : lent ≡ bodies
-    same_bodies = stands_for_one (d.content old) lent bodies lent_stand lawful.stands
+    same_bodies =
+        stands_for_one (d.content old) lent bodies lent_stand
+        (stands_for (d.content old) bodies lawful.stands)
 
     pub holds_these : Holds d new journal bodies w
     holds_these = record {
       ready = subst (λ (bs : List (List ℕ)). IsReady d new journal bs) same_bodies ready;
+      first = begins;
       played = lawful.plays;
       sound = lawful.sound;
     }
@@ -91,10 +108,13 @@ module _ {D : Type 0} (d : Ghosts D) (old mid new : D)
 module _ {D : Type 0} (d : Ghosts D) (old mid : D) (bodies : List (List ℕ)) (w : World)
     (lawful : IsLegalFile (d.content old) bodies w)
     (run : LeavesOnly d old mid (IsNoWorse d old)) where
-  still : ImagesStandFor d old bodies → (c : List ℕ) → IsNoWorse d old c → StandsFor c bodies
+  lawful_stands : StandsFor (d.content old) bodies
+  lawful_stands = stands_for (d.content old) bodies lawful.stands
+
+  still : ImagesStandFor d old bodies → (c : List ℕ) → IsNoWorse d old c → StandsInFirst c bodies
   still alike c (inl before) = alike c before
   still alike c (inr brief) =
-      inl (brief.1, stands_for_one (d.content old) bodies [] lawful.stands (inl (brief.0, refl)))
+      inl (brief.1, stands_for_one (d.content old) bodies [] lawful_stands (inl (brief.0, refl)))
 
   -- nothing came
   pub no_more : ImagesStandFor d old bodies → GrowsLegally d old mid bodies []
@@ -133,7 +153,7 @@ module _ {D : Type 0} (d : Ghosts D) (old mid : D) (bodies : List (List ℕ)) (w
   journal_fault : {T : Type 0} (fault : OpenFault)
       → (IsErrOf {T = T} (Err fault) opening.NotJournal → IsJournal (d.content old) → ⊥)
       → IsErrOf {T = T} (Err (of_open fault)) NotJournal → ⊥
-  journal_fault opening.NotJournal refused is = refused refl (bodies, lawful.stands, lawful.short)
+  journal_fault opening.NotJournal refused is = refused refl (bodies, lawful_stands, lawful.short)
   journal_fault opening.Memory refused is = absurd (cc)
   journal_fault opening.Disk refused is = absurd (cc)
 

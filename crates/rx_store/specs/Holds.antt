@@ -1,8 +1,8 @@
 -- Legal files, and what a disk holds.
-use Rattle.std.specs.Prelude.{◌≡◌, ◌<◌, ◌^◌, ℕ, List, ◌++◌, Some}
+use Rattle.std.specs.Prelude.{◌≡◌, ◌⊎◌, ◌<◌, ◌≤◌, ◌^◌, ℕ, List, [], ◌++◌, length, Some}
 use Rattle.rx_disk.specs.declared.disk.Disk.{Ghosts}
 use Rattle.rx_disk.specs.Moments.{LeavesOnly}
-use Rattle.rx_frame.specs.File.{StandsFor, end_of}
+use Rattle.rx_frame.specs.File.{header, BeginsWith, IsWhole, end_of, shortest}
 use Rattle.rx_journal.specs.Ready.{IsReady}
 use Rattle.rx_journal.specs.declared.journal.Journal.{Journal}
 use Rattle.rx_world.specs.Sound.{IsSoundWorld}
@@ -11,10 +11,15 @@ use Rattle.rx_world.specs.Replay.{replay}
 
 -- ---- files
 
--- a file is legal: it stands for bodies that end where a journal may end, and they make a sound
--- world
+-- a file of the first version stands for the bodies; none of the second version is legal, so far
+abbrev pub StandsInFirst : List ℕ → List (List ℕ) → Type 0
+StandsInFirst file bodies =
+    ((length file ≤ shortest) × (bodies ≡ [])) ⊎ (IsWhole file bodies × BeginsWith header file)
+
+-- a file is legal: it is of the first version and stands for bodies that end where a journal may
+-- end, and they make a sound world
 pub record IsLegalFile (file : List ℕ) (bodies : List (List ℕ)) (w : World) : Type 0 where
-  pub stands : StandsFor file bodies
+  pub stands : StandsInFirst file bodies
   pub short : end_of bodies < 2 ^ 32
   pub plays : replay bodies ≡ Some w
   pub sound : IsSoundWorld w
@@ -32,7 +37,7 @@ pub record StandsLegally (bodies more : List (List ℕ)) (c : List ℕ) : Type 0
   pub front : List (List ℕ)
   pub rest : List (List ℕ)
   pub whole : more ≡ front ++ rest
-  pub stands : StandsFor c (bodies ++ front)
+  pub stands : StandsInFirst c (bodies ++ front)
   pub short : end_of (bodies ++ front) < 2 ^ 32
   pub world : World
   pub legal : replay (bodies ++ front) ≡ Some world
@@ -40,9 +45,9 @@ pub record StandsLegally (bodies more : List (List ℕ)) (c : List ℕ) : Type 0
 
 -- ---- disks
 
--- a crash now leaves a file of these bodies
+-- a crash now leaves a file of these bodies, in the first version
 abbrev pub ImagesStandFor : {D : Type 0} → Ghosts D → D → List (List ℕ) → Type 0
-ImagesStandFor d disk bodies = (c : List ℕ) → d.image disk c → StandsFor c bodies
+ImagesStandFor d disk bodies = (c : List ℕ) → d.image disk c → StandsInFirst c bodies
 
 -- a crash now leaves a legal file of the bodies and a front of some more
 abbrev pub Leaves : {D : Type 0} → Ghosts D → D → List (List ℕ) → List (List ℕ) → Type 0
@@ -54,7 +59,8 @@ abbrev pub GrowsLegally
     : {D : Type 0} → Ghosts D → D → D → List (List ℕ) → List (List ℕ) → Type 0
 GrowsLegally d old new bodies more = LeavesOnly d old new (StandsLegally bodies more)
 
--- the disk holds exactly these bodies, and they make the world, which is sound
+-- the disk holds exactly these bodies, in a file of the first version, and they make the world,
+-- which is sound
 pub record Holds
     {D : Type 0}
     (d : Ghosts D)
@@ -63,5 +69,6 @@ pub record Holds
     (bodies : List (List ℕ))
     (w : World) : Type 0 where
   pub ready : IsReady d disk journal bodies
+  pub first : BeginsWith header (d.content disk)
   pub played : replay bodies ≡ Some w
   pub sound : IsSoundWorld w

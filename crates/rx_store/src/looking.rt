@@ -56,6 +56,9 @@ pub fn look<H: Holder + Drop, D: Disk, F: Fn(Collection) -> Result<H, AllocError
         Ok(windows) => windows,
         Err(fault) => return Err(of_open(fault)),
     };
+    if windows.version() != 1 {
+        return Err(Stop::NotJournal);
+    }
     let replayed = replay(alloc, disk, &mut windows, make)?;
     if !replayed.world.sound() {
         return Err(Stop::NotJournal);

@@ -180,3 +180,15 @@ returns-in-Err-clause-only_reads g c = λ told.
 pub returns-in_err-world-clause-only_reads : goal.returns-in_err-world-clause-only_reads
 returns-in_err-world-clause-only_reads g c = λ told.
     c.in-Ok-Some.ensures.only_reads told ∙ c.loop-body.invariant.only_reads told
+
+pub returns-in-Ok-None-clause-ok : goal.returns-in-Ok-None-clause-ok
+returns-in-Ok-None-clause-ok g c = λ told lent.
+    let now = c.next.follows.lender-at-none in
+    let move : Move g.D.Disk c.loop-body.disk c.next.new.disk c.loop-body.windows now
+    (λ (b : Bor (List ℕ)). b.now) (Ok None) =
+    subst (λ (r : Result (Option (Bor (List ℕ))) OpenFault).
+    Move g.D.Disk c.loop-body.disk c.next.new.disk
+    c.loop-body.windows now (λ (b : Bor (List ℕ)). b.now) r)
+    (c.in-Ok-None.is ∙ ap (λ o. Ok o) c.in-Ok-None.field-0-is) c.next.follows.holds-at-none in
+    let played = c.loop-body.invariant.lent told lent in
+    (played.0, move.lent told played.0 played.1, played.2)
