@@ -1,0 +1,54 @@
+ghost use Rattle.std.specs.Prelude.{◌≡◌, ◌++◌, ◌∷◌, [], OnOk, OnErr, option_map};
+ghost use Rattle.rx_value.specs.Due.{Due};
+ghost use Rattle.rx_value.specs.Named.{named};
+ghost use Rattle.rx_update.specs.Hooks.{room_for};
+ghost use Rattle.rx_update.specs.Shown.{kinds_of};
+ghost use Rattle.rx_update.specs.declared.fault.HookFault.TheVariants.{Memory};
+
+use crate::fault::HookFault;
+use crate::hook::Hook;
+use std::alloc::{AllocError, Global};
+
+/// Hooks by name, in the order of adding. There are few, so one is looked for in turn.
+#[derive(Drop)]
+pub struct Hooks {
+    held: Vec<Hook>,
+}
+
+impl Hooks {
+    pub fn new(alloc: Global) -> Hooks
+        ensures { kinds_of result ≡ [] }
+    {
+        Hooks {
+            held: Vec::new(alloc),
+        }
+    }
+
+    /// Adds a hook at the end. A name is there once.
+    pub fn add(&mut self, hook: Hook) -> Result<(), HookFault>
+        ensures exact { Due Memory result (room_for hook.name (kinds_of self.old)) }
+        ensures ok { OnOk result (kinds_of self.new
+            ≡ kinds_of self.old ++ (hook.name, hook.kind) ∷ []) }
+        ensures err { OnErr result (kinds_of self.new ≡ kinds_of self.old) }
+    {
+        if self.find(hook.name().as_str()).is_some() {
+            return Err(HookFault::Twice(hook.into_name()));
+        }
+        match self.held.push(hook) {
+            Ok(()) => Ok(()),
+            Err(refused) => Err(AllocError::from(refused).into()),
+        }
+    }
+
+    /// The hook of that name.
+    pub fn find(&self, name: &str) -> Option<&Hook>
+        ensures { option_map (λ h. h.now.kind) result ≡ named (kinds_of self.now) name.now }
+    {
+        for hook in &self.held {
+            if name == hook.name().as_str() {
+                return Some(hook);
+            }
+        }
+        None
+    }
+}

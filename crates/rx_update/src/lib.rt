@@ -1,0 +1,18 @@
+//! Changes by operators, and hooks: what becomes of a document's fields, and the stored calls that
+//! stand before a local write.
+#![tactic(auto)]
+
+mod fault;
+mod hook;
+mod hooks;
+mod kind;
+mod operation;
+mod reading;
+mod update;
+
+pub use fault::{HookFault, UpdateFault};
+pub use hook::Hook;
+pub use hooks::Hooks;
+pub use kind::{HookKind, hook_laws, hooked};
+pub use operation::Operation;
+pub use update::{Update, update_laws};
