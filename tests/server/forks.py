@@ -241,7 +241,7 @@ class Load:
 
 @case("kills of the server and of PostgreSQL", seconds=7_200, needs=["program"])
 def kills(folder):
-    rounds, numbers = int(os.environ.get("KILLS", "8")), random.Random(SEED)
+    rounds, numbers = int(os.environ.get("KILLS", "5")), random.Random(SEED)
     place = Place(folder, {"c": SCHEMA}).start()
     load, fork = Load(place, 5), Fork(folder, "fork", place.ports["c"], HANDLERS[3])
     for number in range(rounds):

@@ -3,6 +3,7 @@ import asyncio
 import hashlib
 import json
 import os
+import resource
 import socket
 import ssl
 import subprocess
@@ -144,6 +145,24 @@ def limits(folder):
     same(waited(text_message(place)), 1003, "a text message")
     place.end()
     return "requests and rows a second, silence, connections, long and text messages"
+
+
+@case("more connections than files at first")
+def many_connections(folder):
+    place, count = Place(folder, {"c": SCHEMA}, limits="connections = 300"), 300
+    before = resource.getrlimit(resource.RLIMIT_NOFILE)
+    resource.setrlimit(resource.RLIMIT_NOFILE, (100, before[1]))
+    try:
+        place.start()
+    finally:
+        resource.setrlimit(resource.RLIMIT_NOFILE, before)
+    wires = [place.dial("c") for _ in range(count)]
+    for n, wire in enumerate(wires, 1):
+        same(ask(wire, pull_line(n))["n"], n, "a pull")
+    for it in wires:
+        it.close()
+    place.end()
+    return f"{count} connections at once, by a server that began with 100 files"
 
 
 async def too_many(place):
