@@ -1,6 +1,7 @@
 // The worker that the program runs in, with its journal in the origin's private file system.
 // The page first sends { program, journal, words, masters }, the program compiled and the masters that it may
-// dial, then lines as text, and null at their end. A `command` beside them may stand in the place of `run`.
+// dial, then lines as text, and null at their end; and { drop } where connections are to be given up. A `command`
+// beside the first may stand in the place of `run`.
 // The worker sends { ready }, then what the program writes as text, and { ended, said } at the end.
 
 import { Wires, front } from './wire.mjs';
@@ -19,9 +20,9 @@ function speak() {
   said = '';
 }
 
-function hear({ data }) {
-  if (data === null) open = false;
-  else if (data) incoming.push(encoder.encode(data));
+function hear(text) {
+  if (text === null) open = false;
+  else if (text) incoming.push(encoder.encode(text));
   wake?.();
 }
 
@@ -103,11 +104,12 @@ async function run({ program: module, command = 'run', journal, words, masters =
   if (!WebAssembly.Suspending) throw new Error('this browser cannot suspend WebAssembly (JSPI)');
   const file = await locked(journal);
   const all = ['rx', command, journal, ...words].map((word) => encoder.encode(word));
+  const wires = new Wires(masters, speak);
   let program;
-  const host = calls(() => program, file, journal, all, new Wires(masters, speak));
+  const host = calls(() => program, file, journal, all, wires);
   for (const it of ['read', 'dialled', 'send', 'receive']) host[it] = new WebAssembly.Suspending(host[it]);
   program = (await WebAssembly.instantiate(module, { host })).exports;
-  self.onmessage = hear;
+  self.onmessage = ({ data }) => (data?.drop ? wires.drop() : hear(data));
   postMessage({ ready: true });
   try {
     return await WebAssembly.promising(program.main)(0, 0n);

@@ -59,14 +59,15 @@ class Connection {
 
   #hear(data) {
     const size = typeof data === 'string' ? Infinity : data.byteLength;
-    if (this.#held + size > ahead) return this.#break();
+    if (this.#held + size > ahead) return this.drop();
     if (!size) return;
     this.#held += size;
     this.#came.push(new Uint8Array(data));
     this.#wake();
   }
 
-  #break() {
+  /** Breaks it: who waits for it is answered at once. */
+  drop() {
     this.close();
     this.#turn('broken');
   }
@@ -182,6 +183,13 @@ export class Wires {
     if (!connection?.isClear()) return connection?.close();
     this.#kept.get(port)?.close();
     this.#kept.set(port, connection);
+  }
+
+  /** Gives up all connections, as their network may be gone. */
+  drop() {
+    for (const { connection } of this.#open.values()) connection.drop();
+    for (const it of this.#kept.values()) it.close();
+    this.#kept.clear();
   }
 
   #at(file) {

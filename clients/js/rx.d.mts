@@ -190,20 +190,55 @@ export interface Subscription {
   unsubscribe(): void;
 }
 
+/**
+ * What may be observed. An iterator gets the newest emission.
+ * A fault that no observer takes is a warning of Node, or is reported in a page.
+ */
+export interface Observable<R> extends AsyncIterable<R> {
+  subscribe(observer?: Observer<R>): Subscription;
+  subscribe(
+    next?: (value: R) => void, error?: (fault: Refused | Stopped) => void, complete?: () => void,
+  ): Subscription;
+}
+
 /** A result. It is frozen, since all who observe the query share it. */
 export type Rows<T = Document> = readonly Readonly<T>[];
 
-/**
- * An observed query, of which each emission is its whole result. An iterator gets the newest one.
- * A fault that no observer takes is a warning of Node, or is reported in a page.
- */
-export interface Observed<T = Document> extends AsyncIterable<Rows<T>> {
+/** An observed query, of which each emission is its whole result. */
+export interface Observed<T = Document> extends Observable<Rows<T>> {
   readonly name: string;
-  subscribe(observer?: Observer<Rows<T>>): Subscription;
-  subscribe(
-    next?: (rows: Rows<T>) => void, error?: (fault: Refused | Stopped) => void, complete?: () => void,
-  ): Subscription;
   explain(): Promise<Counts>;
+}
+
+/** How a fork and its master stand. */
+export interface SyncStatus {
+  /** `offline` once a turn was lost, until one goes well; `in sync` where the last one was quiet. */
+  readonly state: 'offline' | 'syncing' | 'in sync';
+  /**
+   * How many documents are to be sent, as far as the client knows: of those that it didn't write itself it
+   * learns from a turn, also from one that is lost, and then of as many as a batch.
+   */
+  readonly pending: number;
+  /** Why it is offline. */
+  readonly lost?: Lost | 'clock';
+}
+
+export interface FollowOptions {
+  /** Milliseconds between two turns while all is in sync, 1,000 where it is left out. */
+  readonly every?: number;
+  /** The longest wait between two turns that are lost, or in a page that nobody sees: 30,000. */
+  readonly longest?: number;
+  readonly batch?: number;
+  /** Exchanges of a turn at most, 1 where it is left out. All other calls wait for a turn. */
+  readonly budget?: number;
+}
+
+/** A fork that is kept in sync: by a turn at once, after each write, and from time to time. */
+export interface Following extends Observable<SyncStatus> {
+  readonly name: string;
+  /** Makes a turn at once, whatever was lost before. */
+  now(): void;
+  close(): void;
 }
 
 export interface Collection<T = Document> {
@@ -229,6 +264,8 @@ export interface Database {
   collection<T = Document>(name: string, schema?: Schema): Promise<Collection<T>>;
   replicate(replication: Replication): Promise<void>;
   turn(name: string, options?: TurnOptions): Promise<Turn>;
+  /** Keeps a fork in sync until it is closed. Of a replication that is followed it answers the same again. */
+  follow(name: string, options?: FollowOptions): Following;
   explain(name: string): Promise<Counts>;
   /** Sets the moment, which from then on is the caller's to set. */
   tick(at?: number): Promise<void>;
@@ -254,6 +291,8 @@ export interface Running {
   /** No more is sent. */
   end(): void;
   kill(): void;
+  /** Gives up the connections to masters, whose network may be gone. */
+  drop?(): void;
   /** Whether the process has to go on for the program's sake. */
   keepAlive?(is: boolean): void;
 }

@@ -69,6 +69,8 @@ class Database {
   #observed = new Map(); // observations by the name of their query
   #schemas = new Map(); // by the name of their collection, as far as they were given here
   #due = null; // the query whose first emission comes next
+  #replications = new Map(); // as far as they were told here, by name
+  #followed = new Map(); // by the name of their replication
   #names = 0; // how many were made up
   #rest = ''; // the front of a line of output
   #exchanges = []; // of the turn that is answered next
@@ -107,6 +109,7 @@ class Database {
 
   /** Makes a collection the fork of a master: of another collection, or of one that is served at a port. */
   async replicate({ name, fork, master, port, handler, field }) {
+    this.#replications.set(name, { fork, master });
     await this.call({ do: 'replicate', name, fork, master, port, handler, field });
   }
 
@@ -114,6 +117,19 @@ class Database {
   async turn(name, { batch, budget, link } = {}) {
     const { end, exchanges, each } = await this.call({ do: 'turn', name, batch, budget, link });
     return { end, exchanges, each };
+  }
+
+  /** Keeps a fork in sync with its master by turns, until it is closed, and tells how the two stand. */
+  follow(name, options = {}) {
+    const held = this.#followed.get(name);
+    if (held) return held;
+    const following = new Following(name, {
+      turn: (how) => this.turn(name, how),
+      drop: () => this.#transport.drop?.(),
+      over: () => this.#followed.delete(name),
+    }, options);
+    this.#followed.set(name, following);
+    return following;
   }
 
   /** What an observed query heard since it was observed. */
@@ -143,6 +159,7 @@ class Database {
   /** Ends the program once all lines are answered. Rejects where it had ended otherwise. */
   async close() {
     if (!this.#end) {
+      for (const it of [...this.#followed.values()]) it.close();
       this.#flush();
       this.#end = { stop: 'closed' };
       this.#keepAlive();
@@ -275,13 +292,31 @@ class Database {
     this.#unanswered -= length;
     if (this.#unanswered <= room) for (const it of this.#drained.splice(0)) it.resolve();
     if (reply.ok === 'turn') reply.each = this.#exchanges.splice(0);
+    if (this.#followed.size && writes.has(reply.ok)) this.#tellFollowed(reply, membersOf(request));
     if ('refused' in reply) reject(this.#refusal(reply, request));
     else resolve(reply);
   }
 
+  // Of a write those hear whose fork or master it is, and all of which the client wasn't told.
+  #tellFollowed(reply, request) {
+    if (reply.ok === 'turn') return this.#followed.get(request.name)?.turned(reply, request.batch);
+    for (const [name, it] of this.#followed) {
+      const { fork, master } = this.#replications.get(name) ?? { master: request.in };
+      if (request.in === fork) it.wrote(this.#keysOf(request));
+      else if (request.in === master) it.wrote([]);
+    }
+  }
+
+  // The keys of a write. A document whose schema wasn't given is one that no other write is about.
+  #keysOf({ in: name, key, doc, docs = [doc] }) {
+    if (key !== undefined) return [key];
+    const primary = this.#schemas.get(name)?.primaryKey;
+    return docs.map((it) => it[primary] ?? Symbol(name));
+  }
+
   // A request may be a line as it stands.
   #refusal(reply, request) {
-    const members = typeof request === 'string' ? parsed(request) : request;
+    const members = membersOf(request);
     return new Refused(reply, members, this.#schemas.get(members.in));
   }
 
@@ -294,19 +329,21 @@ class Database {
     const asked = this.#end?.stop === 'closed' && (status === 0 || status === 1) && !this.#stop;
     if (!asked) this.#end = { status, said, ...own };
     const waiting = [...this.#waiting.values(), ...this.#drained];
-    const observed = [...this.#observed.values()];
+    const observed = [...this.#observed.values()], followed = [...this.#followed.values()];
     this.#waiting.clear();
     this.#observed.clear();
     for (const { reject } of waiting) reject(new Stopped(this.#end));
+    for (const it of followed) it.fail(new Stopped(this.#end));
     for (const it of observed) asked ? it.complete() : it.error(new Stopped(this.#end));
     this.#tellStopped(new Stopped(this.#end));
   }
 }
 
-// The members of a line, as far as it has any.
-function parsed(line) {
+// The members of a request, which may be a line as it stands: as far as it has any.
+function membersOf(request) {
+  if (typeof request !== 'string') return request;
   try {
-    return Object(JSON.parse(line));
+    return Object(JSON.parse(request));
   } catch {
     return {};
   }
@@ -387,30 +424,8 @@ class Collection {
   }
 }
 
-// The program observes the query from the first subscription until none is left. Later ones share it, and get
-// the last result first, though never before `subscribe` has returned.
-class Observed {
-  #db;
-  #request;
-  #subscriptions = new Set();
-  #observation = null;
-
-  constructor(db, request) {
-    this.#db = db;
-    this.#request = request;
-    this.name = request.name;
-  }
-
-  /** Takes { next, error, complete }, or these as functions. */
-  subscribe(next, error, complete) {
-    const observer = typeof next === 'object' && next ? next : { next, error, complete };
-    const subscription = new Subscription(observer, (it) => this.#leave(it));
-    this.#subscriptions.add(subscription);
-    if (this.#observation) queueMicrotask(() => subscription.catchUp(this.#observation));
-    else this.#begin();
-    return subscription;
-  }
-
+// What may be observed: by `subscribe`, as an async iterable, and by libraries that take observables.
+class Observable {
   /** The newest emission each time, without those that came and went before it was asked for. */
   [Symbol.asyncIterator]() {
     const newest = new Newest();
@@ -424,6 +439,40 @@ class Observed {
       },
       [Symbol.asyncIterator]() { return this; },
     };
+  }
+}
+
+// Such libraries look for one of these, by whether the platform has the symbol.
+for (const key of new Set(['@@observable', Symbol.observable ?? '@@observable'])) {
+  Object.defineProperty(Observable.prototype, key, { value() { return this; } });
+}
+
+// An observer is { next, error, complete }, or these as functions.
+const observerOf = (next, error, complete) =>
+  (typeof next === 'object' && next ? next : { next, error, complete });
+
+// The program observes the query from the first subscription until none is left. Later ones share it, and get
+// the last result first, though never before `subscribe` has returned.
+class Observed extends Observable {
+  #db;
+  #request;
+  #subscriptions = new Set();
+  #observation = null;
+
+  constructor(db, request) {
+    super();
+    this.#db = db;
+    this.#request = request;
+    this.name = request.name;
+  }
+
+  /** Takes { next, error, complete }, or these as functions. */
+  subscribe(next, error, complete) {
+    const subscription = new Subscription(observerOf(next, error, complete), (it) => this.#leave(it));
+    this.#subscriptions.add(subscription);
+    if (this.#observation) queueMicrotask(() => subscription.catchUp(this.#observation?.rows));
+    else this.#begin();
+    return subscription;
   }
 
   /** What the query heard since it was observed. */
@@ -471,9 +520,139 @@ class Observed {
   }
 }
 
-// Libraries that take observables look for one of these, by whether the platform has the symbol.
-for (const key of new Set(['@@observable', Symbol.observable ?? '@@observable'])) {
-  Object.defineProperty(Observed.prototype, key, { value() { return this; } });
+const firstWait = 500; // milliseconds after the first turn that was lost; each further one doubles them
+const isHidden = () => globalThis.document?.hidden ?? false;
+
+// A fork that is kept in sync. One turn is made at a time, and another one soon where something was written
+// meanwhile. All other calls of the database wait for a turn, so by default it makes a single exchange.
+class Following extends Observable {
+  #calls; // to the database
+  #how; // of a turn: its batch and budget
+  #every;
+  #longest;
+  #subscriptions = new Set();
+  #pending = new Set(); // keys
+  #now = Object.freeze({ state: 'syncing', pending: 0 }); // as it was told last
+  #losses = 0; // turns that were lost one after another
+  #isTurning = false;
+  #isAgain = false; // another turn comes at once
+  #timer;
+  #end = null; // how subscriptions end once it is over
+
+  constructor(name, calls, { every = 1_000, longest = 30_000, batch, budget = 1 }) {
+    super();
+    this.name = name;
+    this.#calls = calls;
+    this.#how = { batch, budget };
+    [this.#every, this.#longest] = [every, longest];
+    for (const [target, event] of this.#events()) target.addEventListener?.(event, this);
+    this.#later(0);
+  }
+
+  /** Takes { next, error, complete }, or these as functions. */
+  subscribe(next, error, complete) {
+    const leave = (it) => this.#subscriptions.delete(it);
+    const subscription = new Subscription(observerOf(next, error, complete), leave);
+    if (this.#end) queueMicrotask(() => this.#end(subscription));
+    else this.#subscriptions.add(subscription);
+    queueMicrotask(() => subscription.catchUp(this.#now));
+    return subscription;
+  }
+
+  /** Makes a turn at once, whatever was lost before. */
+  now() {
+    this.#losses = 0;
+    this.#sync();
+  }
+
+  close() {
+    this.#over((it) => it.complete());
+  }
+
+  /** @internal */
+  fail(fault) {
+    if (!this.#end && !this.#subscriptions.size) warn(fault);
+    this.#over((it) => it.error(fault));
+  }
+
+  /** @internal */
+  wrote(keys) {
+    for (const it of keys) this.#pending.add(it);
+    const isOffline = this.#now.state === 'offline'; // then the next turn has its time
+    this.#tell(isOffline ? this.#now : { state: 'syncing' });
+    if (this.#isTurning) this.#isAgain = true;
+    else if (!isOffline) this.#later(0);
+  }
+
+  // A push has all that is pending, up to its batch, and before a pull nothing is. What was in conflict may have
+  // to be sent once more.
+  /** @internal */
+  turned({ end, each }, batch = limits.batch) {
+    for (const { sent, rows = [], conflicts = [], lost } of each) {
+      if (sent === 'pull' || rows.length < batch) this.#pending.clear();
+      if (sent === 'pull') continue;
+      for (const it of rows) lost ? this.#pending.add(it) : this.#pending.delete(it);
+      for (const it of conflicts) this.#pending.add(it);
+    }
+    const isLost = end === 'lost' || end === 'clock';
+    this.#losses = isLost ? this.#losses + 1 : 0;
+    if (!isLost) this.#tell({ state: end === 'quiet' ? 'in sync' : 'syncing' });
+    else if (!this.#isAgain) this.#tell({ state: 'offline', lost: each.at(-1)?.lost ?? end });
+  }
+
+  // The network came or went, or the page was looked at again. A connection of before may be dead without
+  // knowing, and would be waited for.
+  /** @internal */
+  handleEvent() {
+    if (isHidden()) return;
+    this.#calls.drop();
+    this.now();
+  }
+
+  #events() {
+    const page = globalThis.document ? [[document, 'visibilitychange']] : [];
+    return [[globalThis, 'online'], [globalThis, 'offline'], ...page];
+  }
+
+  async #sync() {
+    if (this.#end) return;
+    clearTimeout(this.#timer);
+    if (this.#isTurning) return (this.#isAgain = true);
+    this.#isTurning = true;
+    this.#isAgain = false;
+    const end = await this.#calls.turn(this.#how).then((it) => it.end, (fault) => this.fail(fault));
+    this.#isTurning = false;
+    this.#later(this.#isAgain || end === 'more' ? 0 : this.#wait());
+  }
+
+  // Waits after losses differ, so that not all who lost a server are back at once.
+  #wait() {
+    if (isHidden()) return this.#longest;
+    if (!this.#losses) return this.#every;
+    return Math.min(firstWait * 2 ** (this.#losses - 1), this.#longest) * (0.75 + Math.random() / 2);
+  }
+
+  #later(milliseconds) {
+    clearTimeout(this.#timer);
+    if (!this.#end) this.#timer = setTimeout(() => this.#sync(), milliseconds);
+  }
+
+  #tell({ state, lost }) {
+    const pending = this.#pending.size, before = this.#now;
+    if (state === before.state && pending === before.pending && lost === before.lost) return;
+    this.#now = Object.freeze({ state, pending, ...(lost && { lost }) });
+    for (const it of [...this.#subscriptions]) it.next(this.#now);
+  }
+
+  #over(end) {
+    if (this.#end) return;
+    this.#end = end;
+    clearTimeout(this.#timer);
+    for (const [target, event] of this.#events()) target.removeEventListener?.(event, this);
+    this.#calls.over();
+    for (const it of [...this.#subscriptions]) end(it);
+    this.#subscriptions.clear();
+  }
 }
 
 class Subscription {
@@ -508,8 +687,8 @@ class Subscription {
   }
 
   /** @internal */
-  catchUp(observation) {
-    if (!this.#hasHeard && observation?.rows) this.next(observation.rows);
+  catchUp(value) {
+    if (!this.#hasHeard && value) this.next(value);
   }
 
   /** @internal */
@@ -548,7 +727,7 @@ class Subscription {
   }
 }
 
-// Between an observed query and its iterator: the newest emission that wasn't taken, or who asks for one.
+// Between what is observed and its iterator: the newest emission that wasn't taken, or who asks for one.
 class Newest {
   #ready = null;
   #fault = null;
@@ -816,7 +995,12 @@ export function wasm(folder, journal, { maxJournal, masters = {} } = {}) {
     };
     const fail = ({ message }) => finish({ stop: 'trap', said: message ?? `no worker at ${at('host.mjs')}` });
     const kill = () => finish({ stop: 'killed' });
-    const transport = { send: (text) => worker.postMessage(text), end: () => worker.postMessage(null), kill };
+    const transport = {
+      send: (text) => worker.postMessage(text),
+      end: () => worker.postMessage(null),
+      drop: () => worker.postMessage({ drop: true }),
+      kill,
+    };
     worker.onmessage = ({ data }) => {
       if (typeof data === 'string') output(data);
       else if (data.ready) resolve(transport);

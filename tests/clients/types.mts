@@ -65,6 +65,13 @@ await todos.insert({ id: 'a', title: 'A', done: false });
 await todos.patch('a', { rank: 3, title: undefined });
 await db.replicate({ name: 'sync', fork: 'todos', port: 4001, handler: 'greater', field: 'rank' });
 
+const following = db.follow('sync', { every: 500, budget: 10 });
+following.subscribe(({ state, pending, lost }) => console.log(state === 'in sync', pending + 1, lost ?? ''));
+for await (const { state } of following) if (state === 'offline') following.now();
+following.close();
+
+// @ts-expect-error
+db.follow('sync').subscribe(({ state }) => state === 'online');
 // @ts-expect-error
 await todos.insert({ id: 'a' });
 // @ts-expect-error

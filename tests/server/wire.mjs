@@ -208,6 +208,29 @@ test('a connection is kept for the next turn, where each line has its answer and
   same(String(sockets.at(-1) !== it.socket), 'true', 'and another one is dialled');
 });
 
+test('connections that are given up: who waits is told at once, and the next turn dials', async () => {
+  const it = await opened();
+  const read = it.read();
+  it.wires.drop();
+  same(await read, '-104', 'reading');
+  same(String(it.socket.code), '1000', 'it is closed');
+  same(await told(it.wires.send(file, encoder.encode('x'), -1)), '-32', 'sending');
+  it.wires.close(file);
+  it.wires.dial(file, port);
+  const dialled = it.wires.dialled(file, -1);
+  it.wires.drop();
+  same(await told(dialled), '-111', 'dialling');
+  it.wires.close(file);
+
+  const kept = await opened();
+  await kept.ask('{}\n', '{}\n');
+  kept.wires.close(file);
+  kept.wires.drop();
+  same(String(kept.socket.code), '1000', 'one that is kept is closed');
+  kept.wires.dial(file, port);
+  same(String(sockets.at(-1) !== kept.socket), 'true', 'and another one is dialled');
+});
+
 test('two masters have a connection each', async () => {
   const it = await opened({ [port]: url, 4002: 'wss://notes.example/notes' });
   await it.ask('{}\n', '{}\n');
