@@ -195,8 +195,8 @@ def checked(journal):
 class Talk:
     """A run that gets one line at a time, and whose replies are read."""
 
-    def __init__(self, journal):
-        self.child = subprocess.Popen([RX, "run", journal], stdin=subprocess.PIPE,
+    def __init__(self, journal, *more):
+        self.child = subprocess.Popen([RX, "run", journal, *more], stdin=subprocess.PIPE,
                                       stdout=subprocess.PIPE, stderr=subprocess.DEVNULL)
 
     def send(self, lines):

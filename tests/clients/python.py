@@ -20,6 +20,7 @@ CLIENT = os.path.join(ROOT, "clients", "python")
 sys.path.insert(0, CLIENT)
 import rx  # noqa: E402
 from rx import calls  # noqa: E402
+from rx.following import Account  # noqa: E402
 from rx.lines import Lines  # noqa: E402
 
 os.environ["RX"] = RX
@@ -669,6 +670,41 @@ def a_fork_of_a_master_that_another_process_serves(folder):
         same(fault(lambda: db.turn("r", link=["ok"])).subject, "link")
         same(fault(lambda: db.replicate("s", "f", "m", port=server.port, handler="join")).subject, "port")
     same_as_served(server, [1, 5], digest)
+
+
+def exchange(sent, rows, **more):
+    return {"sent": sent, "rows": rows, **more}
+
+
+@case(needs=[])
+def how_a_followed_fork_stands_by_what_its_turns_come_to(_folder):
+    account = Account(1.0, 3.0, None)
+    hundred = [f"k{n}" for n in range(100)]
+
+    def turned(end, *each):
+        account.turned({"end": end, "each": list(each)})
+        return tuple(account.now)
+
+    same(turned("lost", exchange("push", ["a", "b"], lost="dial")), ("offline", 2, "dial"))
+    account.wrote(["b", "c"])
+    same(tuple(account.now), ("offline", 3, "dial"))
+    same(turned("more", exchange("push", ["a", "b", "c"], conflicts=["b"])), ("syncing", 1, None))
+    same(turned("quiet", exchange("push", ["b"], conflicts=[]), exchange("pull", [])), ("in sync", 0, None))
+    same(account.wait(), 1.0)
+    account.wrote([])
+    same(tuple(account.now), ("syncing", 0, None))
+    same(turned("lost", exchange("push", hundred, lost="wire")), ("offline", 100, "wire"))
+    account.wrote(["x"])
+    same(turned("more", exchange("push", hundred, conflicts=[])), ("syncing", 1, None))
+    same(turned("lost", {"sent": "pull", "lost": "reply"}), ("offline", 0, "reply"))
+    waits = [account.wait()]
+    for _ in range(4):
+        same(turned("clock"), ("offline", 0, "clock"))
+        waits.append(account.wait())
+    due = [0.5, 1, 2, 3, 3]
+    same([0.75 * it <= wait <= 1.25 * it for wait, it in zip(waits, due)], [True] * 5, f"{waits}")
+    account.hurry()
+    same(account.wait(), 1.0)
 
 
 @case()

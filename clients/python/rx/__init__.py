@@ -12,16 +12,18 @@ The two have the same calls. A database of `open` may be shared by threads, one 
 from typing import TYPE_CHECKING, Any
 
 from .calls import Changes, Digest, Document, Fields, Json, Object, Stored, Turn, Value
-from .database import Collection, Database, Observed, open
+from .database import Collection, Database, Following, Observed, open
 from .faults import Refused, Stopped
+from .following import SyncStatus
 from .lines import Clock, now
 
 if TYPE_CHECKING:
-    from .tasks import AsyncCollection, AsyncDatabase, AsyncObserved, open_async
+    from .tasks import AsyncCollection, AsyncDatabase, AsyncFollowing, AsyncObserved, open_async
 
 __all__ = [
     "AsyncCollection",
     "AsyncDatabase",
+    "AsyncFollowing",
     "AsyncObserved",
     "Changes",
     "Clock",
@@ -30,12 +32,14 @@ __all__ = [
     "Digest",
     "Document",
     "Fields",
+    "Following",
     "Json",
     "Object",
     "Observed",
     "Refused",
     "Stopped",
     "Stored",
+    "SyncStatus",
     "Turn",
     "Value",
     "now",
@@ -46,7 +50,7 @@ __all__ = [
 
 def __getattr__(name: str) -> Any:
     """What is for asyncio is loaded by its first use: asyncio takes as long to load as all the rest."""
-    if name in ("AsyncCollection", "AsyncDatabase", "AsyncObserved", "open_async"):
+    if name in ("AsyncCollection", "AsyncDatabase", "AsyncFollowing", "AsyncObserved", "open_async"):
         from . import tasks
 
         return getattr(tasks, name)

@@ -9,7 +9,8 @@ from typing import Any, TypeVar
 
 from . import calls, program as programs
 from .calls import Call, Changes, Digest, Document, Fields, Json, Object, Stored, Turn
-from .faults import Stopped
+from .faults import Refused, Stopped
+from .following import Account, SyncStatus
 from .lines import Answer, Clock, Lines, Newest, closed, now
 
 T = TypeVar("T")
@@ -101,6 +102,7 @@ class Database:
         field: str | None = None,
     ) -> None:
         """Makes a collection the fork of a master: another collection, or one that is served at a port."""
+        self._lines.followed.sides[name] = fork, master
         self.ask(calls.replicate(name, fork, master, handler, port, field))
 
     def turn(
@@ -113,6 +115,22 @@ class Database:
     ) -> Turn:
         """Syncs a fork with its master, exchange after exchange."""
         return self.ask(calls.turn(name, batch, budget, link))
+
+    def follow(
+        self,
+        name: str,
+        *,
+        every: float = 1.0,
+        longest: float = 30.0,
+        batch: int | None = None,
+        budget: int | None = 100,
+    ) -> Following:
+        """Keeps a fork in sync until it is closed, by turns in a thread of its own.
+
+        One comes at once, one after each write, and one `every` so many seconds. After turns that were lost
+        the waits grow, up to `longest`. All other calls wait for a turn, of at most `budget` exchanges.
+        """
+        return Following(self, name, Account(every, longest, batch), batch, budget)
 
     def explain(self, name: str) -> Json:
         """What an observed query heard since it was observed."""
@@ -136,6 +154,8 @@ class Database:
 
     def close(self) -> None:
         """Ends the program once all lines are answered."""
+        for it in list(self._lines.followed.by_name.values()):
+            it.end(None)
         with self._writing:
             self._end()
         self._reader.join()
@@ -317,3 +337,95 @@ class Observed:
         with self._heard:
             self._newest.end(fault)
             self._heard.notify_all()
+
+
+class Following:
+    """A fork that is kept in sync, and an iterator of how it stands, which waits until that changes."""
+
+    def __init__(
+        self, db: Database, name: str, account: Account, batch: int | None, budget: int | None
+    ) -> None:
+        if name in db._lines.followed.by_name:
+            raise ValueError(f"{name} is followed already")
+        self.name = name
+        self._db, self._account = db, account
+        self._batch, self._budget = batch, budget
+        self._heard = threading.Condition()
+        self._told: SyncStatus | None = None
+        self._hurries = self._over = False
+        self._fault: Exception | None = None
+        db._lines.followed.by_name[name] = self
+        threading.Thread(target=self._run, name=f"rx {name}", daemon=True).start()
+
+    def __enter__(self) -> Following:
+        return self
+
+    def __exit__(self, *_: object) -> None:
+        self.close()
+
+    def __iter__(self) -> Iterator[SyncStatus]:
+        return self
+
+    def __next__(self) -> SyncStatus:
+        status = self.next()
+        if status is None:
+            raise StopIteration
+        return status
+
+    def next(self, timeout: float | None = None) -> SyncStatus | None:
+        """How it stands once that isn't what was told last, or None after the end. What ended it is raised."""
+        with self._heard:
+            if not self._heard.wait_for(lambda: self._over or self._account.now != self._told, timeout):
+                raise TimeoutError("it stands as it stood")
+            if self._account.now != self._told:
+                self._told = self._account.now
+                return self._told
+            fault, self._fault = self._fault, None
+        if fault is not None:
+            raise fault
+        return None
+
+    @property
+    def status(self) -> SyncStatus:
+        """How it stands now."""
+        return self._account.now
+
+    def now(self) -> None:
+        """Makes a turn at once, whatever was lost before."""
+        with self._heard:
+            self._account.hurry()
+            self._hurries = True
+            self._heard.notify_all()
+
+    def close(self) -> None:
+        self.end(None)
+
+    def wrote(self, keys: Iterable[object]) -> None:
+        with self._heard:
+            self._account.wrote(keys)
+            self._hurries = self._hurries or self._account.now.state != "offline"
+            self._heard.notify_all()
+
+    def turned(self, turn: Json) -> None:
+        with self._heard:
+            self._account.turned(turn)
+            self._heard.notify_all()
+
+    def end(self, fault: Exception | None) -> None:
+        with self._heard:
+            if not self._over:
+                self._over, self._fault = True, fault
+                self._db._lines.followed.by_name.pop(self.name, None)
+            self._heard.notify_all()
+
+    def _run(self) -> None:
+        while not self._over:
+            self._hurries = False
+            try:
+                end = self._db.turn(self.name, batch=self._batch, budget=self._budget).end
+            except (Refused, Stopped) as fault:
+                return self.end(fault)
+            with self._heard:
+                wait = 0 if end == "more" else self._account.wait()
+                self._heard.wait_for(lambda: self._over or self._hurries, wait)
+        return None

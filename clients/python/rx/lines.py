@@ -8,6 +8,7 @@ from typing import Any, Callable, Protocol
 
 from .calls import Call, Document, Json, tick
 from .faults import Refused, Stopped
+from .following import Followed
 
 Answer = Callable[[Json, Exception | None], None]
 # What tells the present moment, in milliseconds.
@@ -76,6 +77,7 @@ class Lines:
         self._names = 0
         self._waiting: dict[int, tuple[bytes, Answer]] = {}
         self._observed: dict[str, Observer] = {}
+        self.followed = Followed()
         self._schemas: dict[str, Json] = {}
         self._rest = b""
         self._exchanges: list[Json] = []
@@ -150,6 +152,8 @@ class Lines:
             elif it["ok"] == "collection":
                 made = json.loads(line)
                 self._schemas[made["name"]] = made["schema"]
+            if self.followed.by_name and it["ok"] in WRITES:
+                self.followed.hear(line, it, self._schemas)
             answer(it, None)
 
     def _schema_of(self, line: bytes, refused: Json) -> Json | None:
@@ -165,11 +169,14 @@ class Lines:
                 self.stopped = why(self._stop, status, stop, said, in_use)
             waiting, self._waiting = self._waiting, {}
             observed, self._observed = self._observed, {}
+            followed = list(self.followed.by_name.values())
         assert self.stopped is not None
         for _, answer in waiting.values():
             answer({}, self.stopped())
         for observer in observed.values():
             observer.end(None if asked else self.stopped())
+        for follower in followed:
+            follower.end(None if asked else self.stopped())
 
 
 def closed() -> Stopped:

@@ -8,7 +8,8 @@ from typing import Any, TypeVar
 
 from . import calls, program as programs
 from .calls import Call, Changes, Digest, Document, Fields, Json, Object, Stored, Turn
-from .faults import Stopped
+from .faults import Refused, Stopped
+from .following import Account, SyncStatus
 from .lines import Answer, Clock, Lines, Newest, closed, now
 
 T = TypeVar("T")
@@ -66,6 +67,7 @@ class AsyncDatabase:
         port: int | None = None,
         field: str | None = None,
     ) -> None:
+        self._lines.followed.sides[name] = fork, master
         await self.ask(calls.replicate(name, fork, master, handler, port, field))
 
     async def turn(
@@ -77,6 +79,18 @@ class AsyncDatabase:
         link: Sequence[Any] | None = None,
     ) -> Turn:
         return await self.ask(calls.turn(name, batch, budget, link))
+
+    def follow(
+        self,
+        name: str,
+        *,
+        every: float = 1.0,
+        longest: float = 30.0,
+        batch: int | None = None,
+        budget: int | None = 100,
+    ) -> AsyncFollowing:
+        self._insist_on_open()
+        return AsyncFollowing(self, name, Account(every, longest, batch), batch, budget)
 
     async def explain(self, name: str) -> Json:
         return await self.ask(calls.explain(name))
@@ -97,6 +111,8 @@ class AsyncDatabase:
         """Ends the program once all lines are answered."""
         if self._child is None:
             return
+        for it in list(self._lines.followed.by_name.values()):
+            it.end(None)
         if self._lines.stopped is None:
             self._lines.stopped = closed
         self._stdin.close()
@@ -299,3 +315,84 @@ class AsyncObserved:
     def end(self, fault: Exception | None) -> None:
         self._newest.end(fault)
         self._heard.set()
+
+
+class AsyncFollowing:
+    """A fork that is kept in sync by a task, as `Following` is by a thread."""
+
+    def __init__(
+        self, db: AsyncDatabase, name: str, account: Account, batch: int | None, budget: int | None
+    ) -> None:
+        if name in db._lines.followed.by_name:
+            raise ValueError(f"{name} is followed already")
+        self.name = name
+        self._db, self._account = db, account
+        self._batch, self._budget = batch, budget
+        self._heard, self._hurry = asyncio.Event(), asyncio.Event()
+        self._told: SyncStatus | None = None
+        self._over = False
+        self._fault: Exception | None = None
+        db._lines.followed.by_name[name] = self
+        self._task = asyncio.ensure_future(self._run())
+
+    async def __aenter__(self) -> AsyncFollowing:
+        return self
+
+    async def __aexit__(self, *_: object) -> None:
+        await self.close()
+
+    def __aiter__(self) -> AsyncIterator[SyncStatus]:
+        return self
+
+    async def __anext__(self) -> SyncStatus:
+        while not self._over and self._account.now == self._told:
+            self._heard.clear()
+            await self._heard.wait()
+        if self._account.now != self._told:
+            self._told = self._account.now
+            return self._told
+        fault, self._fault = self._fault, None
+        if fault is not None:
+            raise fault
+        raise StopAsyncIteration
+
+    @property
+    def status(self) -> SyncStatus:
+        return self._account.now
+
+    def now(self) -> None:
+        self._account.hurry()
+        self._hurry.set()
+
+    async def close(self) -> None:
+        self.end(None)
+
+    def wrote(self, keys: Iterable[object]) -> None:
+        self._account.wrote(keys)
+        self._heard.set()
+        if self._account.now.state != "offline":
+            self._hurry.set()
+
+    def turned(self, turn: Json) -> None:
+        self._account.turned(turn)
+        self._heard.set()
+
+    def end(self, fault: Exception | None) -> None:
+        if not self._over:
+            self._over, self._fault = True, fault
+            self._db._lines.followed.by_name.pop(self.name, None)
+        self._heard.set()
+        self._hurry.set()
+
+    async def _run(self) -> None:
+        while not self._over:
+            self._hurry.clear()
+            try:
+                end = (await self._db.turn(self.name, batch=self._batch, budget=self._budget)).end
+            except (Refused, Stopped) as fault:
+                return self.end(fault)
+            try:
+                await asyncio.wait_for(self._hurry.wait(), 0 if end == "more" else self._account.wait())
+            except asyncio.TimeoutError:
+                pass
+        return None
