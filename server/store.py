@@ -130,7 +130,7 @@ class Store:
             connection.execute(collection.query(
                 "CREATE TABLE {table} (key bytea CONSTRAINT {by_key} PRIMARY KEY, state text NOT NULL, "
                 "lwt bigint NOT NULL, deleted boolean NOT NULL)"))
-            connection.execute(collection.query("CREATE UNIQUE INDEX {by_place} ON {table} (lwt, key)"))
+            connection.execute(collection.query("CREATE UNIQUE INDEX {by_place} ON {table} (lwt ASC, key ASC)"))
             return True
 
         return self.transact(call)
