@@ -3,7 +3,6 @@ import { open, wasm } from '../../clients/js/rx.mjs';
 
 const master = new URLSearchParams(location.search).get('master') ?? `ws://${location.hostname}:4000/todos`;
 const port = 4000; // only a name here: the page has its URL
-const shortest = 500, longest = 30_000; // milliseconds between two turns that brought nothing
 const byId = (id) => document.getElementById(id);
 
 function say(state, text) {
@@ -39,13 +38,12 @@ todos.observe({ sort: [{ done: 'asc' }, { title: 'asc' }] }).subscribe((rows) =>
     item.className = row.done ? 'done' : '';
     title.textContent = row.title;
     Object.assign(box, { type: 'checkbox', checked: row.done, ariaLabel: `${row.title}: done` });
-    box.onchange = () => todos.patch(row.id, { done: box.checked, edited: Date.now() }).then(sync);
+    box.onchange = () => todos.patch(row.id, { done: box.checked, edited: Date.now() });
     Object.assign(remove, { textContent: '×', ariaLabel: `Remove ${row.title}` });
     // A removal counts as an edit, so that it is the greater one where another browser edited before.
     remove.onclick = async () => {
       await todos.patch(row.id, { edited: Date.now() });
       await todos.remove(row.id);
-      sync();
     };
     item.append(box, title, remove);
     return item;
@@ -57,29 +55,14 @@ byId('add').onsubmit = async (event) => {
   event.target.reset();
   if (!title) return;
   await todos.insert({ id: crypto.randomUUID(), title, done: false, edited: Date.now() });
-  sync();
 };
 byId('add').hidden = false;
 
-// One turn at a time, and another where something was written meanwhile. All other calls wait for a turn,
-// so it makes one exchange, and the next turn the rest.
-let turning = false, again = false, wait = shortest, timer;
-async function sync() {
-  if (turning) return (again = true);
-  turning = true;
-  clearTimeout(timer);
-  const { end, each } = await db.turn('sync', { budget: 1 });
-  turning = false;
-  const last = each.at(-1);
-  if (end === 'quiet') say('in sync', 'In sync.');
-  else if (end === 'lost') say('offline', `Offline (${last.lost}). What you write is kept, and sent later.`);
-  else say('syncing', 'Syncing …');
-  if (again || end === 'more') return (again = false), sync();
-  wait = end === 'quiet' ? shortest : Math.min(2 * wait, longest);
-  timer = setTimeout(sync, document.hidden ? longest : wait);
-}
-const now = () => { wait = shortest; sync(); };
-addEventListener('online', now);
-document.addEventListener('visibilitychange', () => document.hidden || now());
-sync();
-Object.assign(window, { db, todos, sync }); // for the console
+const following = db.follow('sync');
+following.subscribe(({ state, pending, lost }) => {
+  const kept = pending ? ` To be sent later: ${pending}.` : '';
+  if (state === 'in sync') say(state, 'In sync.');
+  else if (state === 'offline') say(state, `Offline (${lost}). What you write is kept.${kept}`);
+  else say(state, 'Syncing …');
+});
+Object.assign(window, { db, todos, following }); // for the console

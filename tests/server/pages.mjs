@@ -248,7 +248,7 @@ test('the demonstration on two browsers: edits apart, then in sync', async (fold
     await pages[0].go(url);
     await state(pages[0], 'in sync');
     same(await titles(pages[0]), due, 'after a reload, with the token that the browser keeps');
-    for (const page of pages) await page.evaluate(`sync()`);
+    for (const page of pages) await page.evaluate(`following.now()`);
     const held = async () => text(await place.ask('digest'));
     await until(async () => text(await pages[0].evaluate('todos.digest()')) === await held(), 'one digest');
   } finally {
