@@ -436,6 +436,67 @@ const WINDOWS: &str = r#"
 < {"line":L,"ok":"patch","rev":"2-c"}
 < {"emit":"q","rows":[{"id":"d","n":0},{"id":"e","n":1}]}
 
+== a window runs dry, is filled again and runs dry once more
+> C(c)
+< made
+> {"do":"bulk","in":"c","docs":[{"id":"a","n":1},{"id":"b","n":2},{"id":"d","n":3},{"id":"e","n":4},{"id":"f","n":5},{"id":"g","n":6},{"id":"h","n":7}]}
+< {"line":L,"ok":"bulk","revs":["1-c","1-c","1-c","1-c","1-c","1-c","1-c"]}
+> {"do":"observe","name":"q","in":"c","query":{"sort":[{"n":"asc"}],"limit":2}}
+< {"line":L,"ok":"observe"}
+< {"emit":"q","rows":[{"id":"a","n":1},{"id":"b","n":2}]}
+> {"do":"remove","in":"c","key":"a"}
+< {"line":L,"ok":"remove","rev":"2-c"}
+< {"emit":"q","rows":[{"id":"b","n":2},{"id":"d","n":3}]}
+> {"do":"remove","in":"c","key":"d"}
+< {"line":L,"ok":"remove","rev":"2-c"}
+< {"emit":"q","rows":[{"id":"b","n":2},{"id":"e","n":4}]}
+> {"do":"remove","in":"c","key":"b"}
+< {"line":L,"ok":"remove","rev":"2-c"}
+< {"emit":"q","rows":[{"id":"e","n":4},{"id":"f","n":5}]}
+> {"do":"remove","in":"c","key":"e"}
+< {"line":L,"ok":"remove","rev":"2-c"}
+< {"emit":"q","rows":[{"id":"f","n":5},{"id":"g","n":6}]}
+> {"do":"remove","in":"c","key":"g"}
+< {"line":L,"ok":"remove","rev":"2-c"}
+< {"emit":"q","rows":[{"id":"f","n":5},{"id":"h","n":7}]}
+> {"do":"remove","in":"c","key":"f"}
+< {"line":L,"ok":"remove","rev":"2-c"}
+< {"emit":"q","rows":[{"id":"h","n":7}]}
+> {"do":"remove","in":"c","key":"h"}
+< {"line":L,"ok":"remove","rev":"2-c"}
+< {"emit":"q","rows":[]}
+> I(c,i,8)
+< {"line":L,"ok":"insert","rev":"1-c"}
+< {"emit":"q","rows":[{"id":"i","n":8}]}
+
+== documents come, move and go behind a window
+> C(c)
+< made
+> {"do":"bulk","in":"c","docs":[{"id":"a","n":1},{"id":"b","n":2},{"id":"d","n":3},{"id":"e","n":5},{"id":"f","n":7}]}
+< {"line":L,"ok":"bulk","revs":["1-c","1-c","1-c","1-c","1-c"]}
+> {"do":"observe","name":"q","in":"c","query":{"sort":[{"n":"asc"}],"limit":2}}
+< {"line":L,"ok":"observe"}
+< {"emit":"q","rows":[{"id":"a","n":1},{"id":"b","n":2}]}
+> I(c,g,4)
+< insert 1-c
+> {"do":"patch","in":"c","key":"d","set":{"n":6}}
+< {"line":L,"ok":"patch","rev":"2-c"}
+> {"do":"remove","in":"c","key":"a"}
+< {"line":L,"ok":"remove","rev":"2-c"}
+< {"emit":"q","rows":[{"id":"b","n":2},{"id":"g","n":4}]}
+> {"do":"patch","in":"c","key":"b","set":{"n":8}}
+< {"line":L,"ok":"patch","rev":"2-c"}
+< {"emit":"q","rows":[{"id":"g","n":4},{"id":"e","n":5}]}
+> {"do":"remove","in":"c","key":"g"}
+< {"line":L,"ok":"remove","rev":"2-c"}
+< {"emit":"q","rows":[{"id":"e","n":5},{"id":"d","n":6}]}
+> {"do":"remove","in":"c","key":"e"}
+< {"line":L,"ok":"remove","rev":"2-c"}
+< {"emit":"q","rows":[{"id":"d","n":6},{"id":"f","n":7}]}
+> {"do":"remove","in":"c","key":"d"}
+< {"line":L,"ok":"remove","rev":"3-c"}
+< {"emit":"q","rows":[{"id":"f","n":7},{"id":"b","n":8}]}
+
 == a change while all matching documents are skipped
 > C(c)
 < made

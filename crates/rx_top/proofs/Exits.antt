@@ -9,8 +9,8 @@ use Rattle.rx_store.specs.Holds.{GrowsLegally, ImagesStandFor, Leaves}
 use Rattle.rx_engine.specs.Standing.{Standing}
 use Rattle.rx_engine.specs.declared.engine.Engine.{Engine}
 use Rattle.rx_store.specs.Safe.{IsCrashSafe, IsFull}
-use Rattle.rx_store.proofs.Growing.{held}
-use Rattle.rx_frame.specs.File.{IsWhole, end_of}
+use Rattle.rx_store.proofs.Growing.{held, held_alike}
+use Rattle.rx_frame.specs.File.{end_of}
 use Rattle.rx_outside.specs.Sink.{WritesFront}
 use Rattle.rx_outside.specs.declared.stop.Stop.{Stop}
 use Rattle.rx_outside.specs.declared.stop.Stop.TheVariants.{Memory}
@@ -96,8 +96,7 @@ leaves_at d disk e bodies more at = held d disk e.journal bodies more (session_o
 
 pub images_at : {D : Type 0} (d : Ghosts D) (disk : D) (e : Engine) (bodies : List (List ℕ))
     → IsAt d disk e bodies → ImagesStandFor d disk bodies
-images_at d disk e bodies at c now =
-    inr (subst (λ (l : List ℕ). IsWhole l bodies) (sym (at.ready.durable c now)) at.ready.whole)
+images_at d disk e bodies at = held_alike d disk e.journal bodies (session_of e).world at
 
 leaves_all : {D : Type 0} (d : Ghosts D) (disk : D) (x : Option Engine) (bodies : List (List ℕ))
     → HasAll d disk x bodies → Leaves d disk bodies []

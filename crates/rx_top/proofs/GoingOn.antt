@@ -1,8 +1,7 @@
 -- What a run may begin with: a file that a run left, and an empty one.
 use Rattle.std.proofs.Common.{◌≡◌, refl, sym, subst, ℕ, List, [], ◌++◌, Some, inl, arith}
 use Rattle.rx_disk.specs.declared.disk.Disk.{Ghosts}
-use Rattle.rx_store.specs.Holds.{IsLegalFile, StandsLegally}
-use Rattle.rx_frame.specs.File.{StandsFor}
+use Rattle.rx_store.specs.Holds.{IsLegalFile, StandsInFirst, StandsLegally}
 use Rattle.rx_world.specs.World.{World, empty}
 use Rattle.rx_world.specs.Replay.{replay, replay_from}
 use Rattle.rx_world.proofs.Sounds.{sound_empty}
@@ -19,7 +18,7 @@ starts e disk file bodies more s settled = (
     legal = subst (λ (f : List ℕ). IsLegalFile f (bodies ++ s.front) s.world) (sym settled.content)
         (record { stands = s.stands; short = s.short; plays = s.legal; sound = s.sound });
     alike = λ c here.
-        subst (λ (f : List ℕ). StandsFor f (bodies ++ s.front))
+        subst (λ (f : List ℕ). StandsInFirst f (bodies ++ s.front))
         (sym (settled.only c here)) s.stands;
   },
 )
@@ -32,7 +31,7 @@ plays_nothing : replay [] ≡ Some empty
 unfolding replay_from
 plays_nothing = refl
 
-nothing_stands : StandsFor [] []
+nothing_stands : StandsInFirst [] []
 nothing_stands = inl (omega arith, refl)
 
 pub starts_empty : {D : Type 0} (d : Ghosts D) → StartsEmpty d
@@ -45,5 +44,5 @@ starts_empty d = λ disk settled. record {
         sound = sound_empty;
       });
   alike = λ c here.
-      subst (λ (f : List ℕ). StandsFor f []) (sym (settled.only c here)) nothing_stands;
+      subst (λ (f : List ℕ). StandsInFirst f []) (sym (settled.only c here)) nothing_stands;
 }
