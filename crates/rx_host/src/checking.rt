@@ -1,5 +1,6 @@
 // Reports what a journal holds.
 ghost use Rattle.std.specs.Prelude.{◌≡◌, ◌++◌, ℕ, List, length, IfOk, OnOk, IsErrOf, string_bytes};
+ghost use Rattle.rx_disk.specs.Calls.{OnlyReads};
 ghost use Rattle.rx_frame.specs.File.{end_of};
 ghost use Rattle.rx_host.specs.Report.{report_of};
 ghost use Rattle.rx_journal.specs.Reading.{IsUntouched};
@@ -15,7 +16,7 @@ use rx_outside::Stop;
 use rx_store::look;
 use std::alloc::Global;
 
-/// The lines that tell what a journal holds. Nothing is written to it.
+/// The lines that tell what a journal holds. It is read alone.
 pub fn check<D: Disk>(alloc: Global, disk: &mut D) -> Result<String, Stop>
     // The file is legal, and the lines are those of its world; no other file is reported of.
     ensures report { D.tells → (bodies : List (List ℕ)) (w : worlds.World)
@@ -28,6 +29,7 @@ pub fn check<D: Disk>(alloc: Global, disk: &mut D) -> Result<String, Stop>
         → IsIllegalFile (D.content disk.old) }
 
     ensures untouched { D.tells → IsUntouched D.Disk disk.old disk.new }
+    ensures only_reads { D.tells → OnlyReads D.Disk disk.old disk.new }
     ensures no_full { (would most : ℕ) → IsErrOf result (Stop.Full would most) → ⊥ }
     ensures cause { HasDiskCause (D.faults disk.old) (D.faults disk.new) result }
 {

@@ -1,6 +1,7 @@
 -- The command `check`: what it promises, wherever it ends.
 use Rattle.std.specs.Prelude.{◌≡◌, ◌≤◌, ◌⊎◌, ℕ, List, ◌++◌, length, codes}
 use Rattle.rx_disk.specs.declared.disk.Disk.{Ghosts}
+use Rattle.rx_disk.specs.Calls.{OnlyReads}
 use Rattle.rx_frame.specs.File.{end_of}
 use Rattle.rx_host.specs.Report.{report_of}
 use Rattle.rx_journal.specs.Reading.{IsUntouched}
@@ -44,8 +45,9 @@ pub record ReportsJournal
   -- A legal file is never refused, and no other is reported of.
   pub not_journal : status ≡ 7 → d.tells → IsIllegalFile (d.content disk)
   pub stood : (status ≡ 0) ⊎ (status ≡ 5) → d.tells → IsJournalOfSome (d.content disk)
-  -- Nothing is written to the journal.
+  -- Nothing is written to the journal, nor synced.
   pub untouched : d.tells → IsUntouched d disk disk'
+  pub only_reads : d.tells → OnlyReads d disk disk'
   -- no other status comes, and counts don't fall
   pub statuses : (status ≡ 0) ⊎ (status ≡ 3) ⊎ (status ≡ 5) ⊎ (status ≡ 6) ⊎ (status ≡ 7)
   pub sink_faults : k.faults out ≤ k.faults out'

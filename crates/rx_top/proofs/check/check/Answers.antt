@@ -50,6 +50,7 @@ returns g c =
             (by.not_journal tells f0 f1 w0 w1 status stop text was is).0);
         stood = λ is t. by.ok_so told _ (done is) (c.check-told.ensures.stood t);
         untouched = c.check-told.ensures.untouched;
+        only_reads = c.check-told.ensures.only_reads;
         statuses = by.five tells f0 f1 w0 w1 status stop text was
             (λ would limit is. c.check-told.ensures.no_full would limit
             (by.was_err told (Full would limit) is));
