@@ -1,35 +1,31 @@
 -- What was read of a record stands in its bytes, and can be written.
-use Rattle.std.proofs.Common.{◌≡◌, ℕ, suc, List, [], ◌∷◌, ◌++◌, length, Bool, true, false, Ok, refl, ap, sym, ◌∙◌, arith, ◌==◌, eqb-true, ◌≤◌, w64}
+use Rattle.std.proofs.Common.{ℕ, List, ◌∷◌, ◌++◌, refl, w64}
 use Rattle.std.specs.List.{AllByRecursion}
-use Rattle.rx_record.specs.Parts.{number_bytes, text_bytes}
-use Rattle.rx_record.specs.Content.{Content, collection, rows, replication, exchange, epoch, collection_kind, rows_kind, replication_kind, exchange_kind, epoch_kind, Kind, kinds, behind_kind, content_bytes, collection_of, written_of, replication_of, exchange_of, epoch_of, content_of}
+use Rattle.rx_record.specs.Parts.{number_bytes, text_bytes, option_bytes}
+use Rattle.rx_record.specs.Content.{collection, rows, replication, exchange, epoch, migration, part, known_part, end, collection_kind, rows_kind, replication_kind, exchange_kind, epoch_kind, migration_kind, part_kind, known_part_kind, end_kind, kinds, content_bytes, collection_of, written_of, replication_of, exchange_of, epoch_of, migration_of, part_of, known_part_of, end_epoch_of, content_of}
 use Rattle.rx_record.specs.Rows.{rows_bytes, states_bytes}
-use Rattle.rx_record.specs.Parts.{option_bytes}
 use Rattle.rx_record.specs.Places.{place_bytes}
 use Rattle.rx_record.specs.Masters.{master_bytes}
 use Rattle.rx_record.specs.Writable.{IsWritable}
-use Rattle.rx_record.proofs.Steps.{IsRead, AreBytes}
-use Rattle.rx_record.proofs.Within.{IsWithin, grows, either}
-use Rattle.rx_record.proofs.Formats.{IsBehind, next, last, long_format, text_format, rows_format, states_format, option_format, place_format, master_format}
+use Rattle.rx_record.proofs.Formats.{IsFormat, next, last, long_format, text_format, rows_format, states_format, option_format, place_format, master_format}
+use Rattle.rx_record.proofs.ByKind.{IsKind, kinds_format}
+use Rattle.rx_record.proofs.StepFormats.{steps_format}
+use Rattle.rx_record.proofs.PartFormats.{part_rows_format}
 
--- a kind's reader reads what stands behind its byte
-abbrev IsKind : Kind → Type 0
-IsKind k = IsBehind content_bytes IsWritable (λ l. k.0 ∷ l) k.1
-
-collection_is_kind : IsKind (collection_kind, collection_of)
+collection_is_kind : IsKind content_bytes IsWritable (collection_kind, collection_of)
 collection_is_kind =
     next content_bytes IsWritable text_format (λ l. collection_kind ∷ l) _ (λ name name_fits.
     last content_bytes IsWritable text_format (λ l. collection_kind ∷ (text_bytes name ++ l)) (collection name)
     (λ schema. refl) (λ schema schema_fits. (name_fits, schema_fits)))
 
-rows_is_kind : IsKind (rows_kind, written_of)
+rows_is_kind : IsKind content_bytes IsWritable (rows_kind, written_of)
 rows_is_kind =
     next content_bytes IsWritable text_format (λ l. rows_kind ∷ l) _ (λ name name_fits.
     next content_bytes IsWritable long_format (λ l. rows_kind ∷ (text_bytes name ++ l)) _ (λ lwt _.
     last content_bytes IsWritable rows_format (λ l. rows_kind ∷ (text_bytes name ++ (number_bytes w64 lwt ++ l)))
     (rows name lwt) (λ written. refl) (λ written all. (name_fits, all))))
 
-replication_is_kind : IsKind (replication_kind, replication_of)
+replication_is_kind : IsKind content_bytes IsWritable (replication_kind, replication_of)
 replication_is_kind =
     let front : List ℕ → List ℕ = λ l. replication_kind ∷ l in
     next content_bytes IsWritable text_format front _ (λ name name_fits.
@@ -47,7 +43,7 @@ replication_is_kind =
       field_fits = field_fits;
     })))))
 
-exchange_is_kind : IsKind (exchange_kind, exchange_of)
+exchange_is_kind : IsKind content_bytes IsWritable (exchange_kind, exchange_of)
 exchange_is_kind =
     let front : List ℕ → List ℕ = λ l. exchange_kind ∷ l in
     next content_bytes IsWritable text_format front _ (λ name name_fits.
@@ -67,77 +63,66 @@ exchange_is_kind =
       down_place = down_place;
     }))))))
 
-epoch_is_kind : IsKind (epoch_kind, epoch_of)
+epoch_is_kind : IsKind content_bytes IsWritable (epoch_kind, epoch_of)
 epoch_is_kind = last content_bytes IsWritable long_format (λ l. epoch_kind ∷ l) epoch (λ number. refl) (λ number _. tt)
 
-all_are_kinds : AllByRecursion IsKind kinds
-all_are_kinds =
-    (collection_is_kind, (rows_is_kind, (replication_is_kind, (exchange_is_kind, (epoch_is_kind, tt)))))
+migration_is_kind : IsKind content_bytes IsWritable (migration_kind, migration_of)
+migration_is_kind =
+    let front : List ℕ → List ℕ = λ l. migration_kind ∷ l in
+    next content_bytes IsWritable text_format front _ (λ name name_fits.
+    next content_bytes IsWritable text_format (λ l. front (text_bytes name ++ l)) _ (λ schema schema_fits.
+    last content_bytes IsWritable steps_format (λ l. front (text_bytes name ++ (text_bytes schema ++ l)))
+    (migration name schema) (λ steps. refl)
+    (λ steps written_steps. record {
+      name_fits = name_fits;
+      schema_fits = schema_fits;
+      written_steps = written_steps;
+    })))
 
--- ---- by the table
+part_is_kind : IsKind content_bytes IsWritable (part_kind, part_of)
+part_is_kind =
+    next content_bytes IsWritable text_format (λ l. part_kind ∷ l) _ (λ name name_fits.
+    last content_bytes IsWritable part_rows_format (λ l. part_kind ∷ (text_bytes name ++ l)) (part name)
+    (λ written. refl) (λ written all. (name_fits, all)))
 
--- what was read behind a byte
-record IsFound (ks : List Kind) (byte : ℕ) (bs : List ℕ) (c : Content) (rest : List ℕ) : Type 0 where
-  tail : List ℕ
-  spelled : bs ≡ tail ++ rest
-  whole : content_bytes c ≡ byte ∷ tail
-  again : (left : ℕ) (more : List ℕ) → behind_kind ks left byte (tail ++ more) ≡ Ok (c, more)
-  kept : IsWritable c
+known_part_is_kind : IsKind content_bytes IsWritable (known_part_kind, known_part_of)
+known_part_is_kind =
+    let front : List ℕ → List ℕ = λ l. known_part_kind ∷ l in
+    next content_bytes IsWritable text_format front _ (λ name name_fits.
+    next content_bytes IsWritable states_format (λ l. front (text_bytes name ++ l)) _ (λ known known_states.
+    next content_bytes IsWritable (option_format place_format)
+    (λ l. front (text_bytes name ++ (states_bytes known ++ l))) _ (λ up up_place.
+    last content_bytes IsWritable (option_format place_format)
+    (λ l. front (text_bytes name ++ (states_bytes known ++ (option_bytes place_bytes up ++ l))))
+    (known_part name known up) (λ down. refl)
+    (λ down down_place. record {
+      name_fits = name_fits;
+      known_states = known_states;
+      up_place = up_place;
+      down_place = down_place;
+    }))))
 
-found : (ks : List Kind) → AllByRecursion IsKind ks → (left byte : ℕ) (bs : List ℕ) (c : Content) (rest : List ℕ) → AreBytes bs
-    → behind_kind ks left byte bs ≡ Ok (c, rest) → IsFound ks byte bs c rest
-found [] all left byte bs c rest small h = cc
-found (k ∷ ks) all left byte bs c rest small h =
-    chosen (byte == k.0) refl (λ behind. found ks all.1 left byte bs c rest small behind)
-  where
-    chosen : (b : Bool) → (byte == k.0) ≡ b → (behind_kind ks left byte bs ≡ Ok (c, rest) → IsFound ks byte bs c rest)
-        → IsFound (k ∷ ks) byte bs c rest
-    chosen true is others =
-        let here : k.1 bs ≡ Ok (c, rest) = rw is at h in
-        let t = all.0.read bs c rest small here in
-        record {
-          tail = t.tail;
-          spelled = t.spelled;
-          whole = t.whole ∙ ap (λ n. n ∷ t.tail) (sym (eqb-true byte k.0 is));
-          again = λ left more. rw is (t.again more);
-          kept = t.kept;
-        }
-    chosen false is others =
-        let behind : behind_kind ks left byte bs ≡ Ok (c, rest) = rw is at h in
-        let t = others behind in
-        record {
-          tail = t.tail;
-          spelled = t.spelled;
-          whole = t.whole;
-          again = λ left more. rw is (t.again left more);
-          kept = t.kept;
-        }
+end_is_kind : IsKind content_bytes IsWritable (end_kind, end_epoch_of)
+end_is_kind = last content_bytes IsWritable long_format (λ l. end_kind ∷ l) end (λ number. refl) (λ number _. tt)
 
-found_within : (ks : List Kind) → AllByRecursion IsKind ks → (left byte n : ℕ) (bs : List ℕ) → AreBytes bs → left ≤ n → length bs ≤ n
-    → IsWithin (behind_kind ks left byte bs) n
-found_within [] all left byte n bs small less fewer = less
-found_within (k ∷ ks) all left byte n bs small less fewer =
-    either (byte == k.0) (k.1 bs) (behind_kind ks left byte bs) n
-    (grows (k.1 bs) (length bs) n fewer (all.0.within bs small))
-    (found_within ks all.1 left byte n bs small less fewer)
+all_are_kinds : AllByRecursion (IsKind content_bytes IsWritable) kinds
+all_are_kinds = (
+  collection_is_kind,
+  (
+    rows_is_kind,
+    (
+      replication_is_kind,
+      (
+        exchange_is_kind,
+        (
+          epoch_is_kind,
+          (migration_is_kind, (part_is_kind, (known_part_is_kind, (end_is_kind, tt)))),
+        ),
+      ),
+    ),
+  ),
+)
 
-pub content_is_read : (bs : List ℕ) (c : Content) (rest : List ℕ) → AreBytes bs
-    → content_of bs ≡ Ok (c, rest) → IsRead content_bytes content_of bs c rest
-content_is_read [] c rest small h = cc
-content_is_read (byte ∷ bs) c rest small h =
-    let t = found kinds all_are_kinds (length (byte ∷ bs)) byte bs c rest (λ i. small (suc i)) h in
-    record {
-      spelled = ap (λ l. byte ∷ l) t.spelled ∙ ap (λ l. l ++ rest) (sym t.whole);
-      again = λ more. ap (λ l. content_of (l ++ more)) t.whole ∙ t.again (length (byte ∷ (t.tail ++ more))) more;
-    }
-
-pub content_writable : (bs : List ℕ) (c : Content) (rest : List ℕ) → AreBytes bs → content_of bs ≡ Ok (c, rest) → IsWritable c
-content_writable [] c rest small h = cc
-content_writable (byte ∷ bs) c rest small h =
-    (found kinds all_are_kinds (length (byte ∷ bs)) byte bs c rest (λ i. small (suc i)) h).kept
-
--- a fault stands within the bytes
-pub content_within : (bs : List ℕ) → AreBytes bs → IsWithin (content_of bs) (length bs)
-content_within [] small = omega arith
-content_within (byte ∷ bs) small =
-    found_within kinds all_are_kinds (length (byte ∷ bs)) byte (length (byte ∷ bs)) bs (λ i. small (suc i)) (omega arith) (omega arith)
+-- by the table of kinds
+pub content_format : IsFormat content_bytes content_of IsWritable
+content_format = kinds_format content_bytes IsWritable kinds all_are_kinds

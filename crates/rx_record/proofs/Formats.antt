@@ -1,21 +1,23 @@
 -- What holds of each part of the format, and of parts one after another.
-use Rattle.std.proofs.Common.{◌≡◌, ◌≤◌, ℕ, List, [], ◌++◌, length, Bool, true, false, if◌then◌else◌, Some, None, IfSome, Ok, Err, refl, ap, sym, ◌∙◌, subst, append_assoc, arith, w16, w64}
+use Rattle.std.proofs.Common.{◌≡◌, ◌<◌, ◌≤◌, ◌^◌, ℕ, List, [], ◌++◌, length, Bool, true, false, if◌then◌else◌, Some, None, IfSome, Ok, Err, refl, ap, sym, ◌∙◌, subst, append_assoc, arith, w16, w32, w64}
 use Rattle.rx_document.specs.declared.place.Place.{Place}
 use Rattle.rx_record.specs.Reading.{Reading, ◌▸◌}
 use Rattle.rx_record.specs.Parts.{flag_bytes, flag_of, option_bytes, option_of, number_bytes, number_of, text_bytes, text_of}
+use Rattle.rx_value.specs.Value.{is_value}
+use Rattle.rx_record.specs.Fields.{value_bytes, value_of}
 use Rattle.rx_record.specs.Rows.{state_bytes, state_key, state_of, states_bytes, states_of, row_bytes, key_of, row_of, rows_bytes, rows_of}
 use Rattle.rx_record.specs.Places.{is_time, time_of, place_bytes, read_place}
 use Rattle.rx_record.specs.Masters.{master_bytes, master_of}
-use Rattle.rx_record.specs.Writable.{Fits, IsWritablePlace, MasterFits, AreWritableRows, AreWritableStates}
+use Rattle.rx_record.specs.Writable.{Fits, ValueFits, IsWritableState, IsWritablePlace, MasterFits, AreWritableRows, AreWritableStates}
 use Rattle.rx_record.specs.declared.record.MasterName.TheVariants.{Local, Port}
 use Rattle.rx_record.proofs.Steps.{parted, tested, joined, read_as, same_parts, IsRead, AreBytes, bytes_behind}
-use Rattle.rx_record.proofs.Numbers.{digits_16, digits_64, number_is_read}
+use Rattle.rx_record.proofs.Numbers.{digits_16, digits_32, digits_64, number_is_read, number_below_32}
 use Rattle.rx_record.proofs.Texts.{text_is_read, text_fits}
 use Rattle.rx_record.proofs.Lists.{list_is_read}
-use Rattle.rx_record.proofs.Values.{flag_is_read}
+use Rattle.rx_record.proofs.Values.{flag_is_read, value_is_read}
 use Rattle.rx_record.proofs.States.{state_is_read, row_is_read}
-use Rattle.rx_record.proofs.Within.{IsWithin, grows, either, flag_within, number_within, text_within, states_within, rows_within}
-use Rattle.rx_record.proofs.Kept.{states_writable, rows_writable}
+use Rattle.rx_record.proofs.Within.{IsWithin, grows, either, flag_within, number_within, text_within, value_within, state_within, states_within, rows_within}
+use Rattle.rx_record.proofs.Kept.{value_keeps, state_keeps, states_writable, rows_writable}
 
 -- a fault stands within the bytes, and what was read stands in them and keeps K
 pub record IsFormat {A : Type 0} (bytes : A → List ℕ) (of : List ℕ → Reading A) (K : A → Type 0) : Type 0 where
@@ -24,7 +26,7 @@ pub record IsFormat {A : Type 0} (bytes : A → List ℕ) (of : List ℕ → Rea
   pub keeps : (bs : List ℕ) (x : A) (rest : List ℕ) → AreBytes bs → of bs ≡ Ok (x, rest) → K x
 
 -- the first part, and then the others, which may go by what it read
-step_within : {A B : Type 0} (m : Reading A) (f : A → List ℕ → Reading B) (n : ℕ) → IsWithin m n
+pub step_within : {A B : Type 0} (m : Reading A) (f : A → List ℕ → Reading B) (n : ℕ) → IsWithin m n
     → ((x : A) (more : List ℕ) → m ≡ Ok (x, more) → length more ≤ n → IsWithin (f x more) n) → IsWithin (m ▸ f) n
 step_within (Ok p) f n h g = g p.0 p.1 refl h
 step_within (Err left) f n h g = h
@@ -173,26 +175,52 @@ option_format {bytes = bytes} {of = of} {P = P} part =
     (last (option_bytes bytes) (λ o. IfSome o P) part (λ l. flag_bytes true ++ l) (λ x. Some x) (λ x. refl) (λ x p. p))
     (nothing (option_bytes bytes) (λ o. IfSome o P) (λ l. flag_bytes false ++ l) None refl tt)
 
--- a write time
-time_format : IsFormat (number_bytes w64) time_of (λ n. is_time n ≡ true)
-time_format = record {
-  within = λ bs small. step_within (number_of w64 bs) (λ n more. if is_time n then Ok (n, more) else Err (length bs)) (length bs)
-      (number_within w64 bs)
-      (λ n more was less. either (is_time n) (Ok (n, more)) (Err (length bs)) (length bs) less (omega arith));
-  read = λ bs n rest small h.
-      let p = parted (number_of w64 bs) _ (n, rest) h in
-      let held = tested (is_time p.part) (Ok (p.part, p.more)) (length bs) (n, rest) p.second in
-      let number = number_is_read w64 digits_64 bs p.part p.more small p.first in
-      read_as p.part n p.more rest
+-- a part that passes a test
+pub tested_format : {A : Type 0} {bytes : A → List ℕ} {of : List ℕ → Reading A} {P : A → Type 0} → IsFormat bytes of P
+    → (test : A → Bool) (K : A → Type 0) → ((x : A) → test x ≡ true → P x → K x)
+    → IsFormat bytes (λ bs. of bs ▸ λ x more. if test x then Ok (x, more) else Err (length bs)) K
+tested_format {bytes = bytes} {of = of} part test K keeps = record {
+  within = λ bs small. step_within (of bs) (λ x more. if test x then Ok (x, more) else Err (length bs)) (length bs)
+      (part.within bs small)
+      (λ x more was less. either (test x) (Ok (x, more)) (Err (length bs)) (length bs) less (omega arith));
+  read = λ bs x rest small h.
+      let p = parted (of bs) (λ y more. if test y then Ok (y, more) else Err (length bs)) (x, rest) h in
+      let held = tested (test p.part) (Ok (p.part, p.more)) (length bs) (x, rest) p.second in
+      let one = part.read bs p.part p.more small p.first in
+      read_as p.part x p.more rest
       (record {
-        spelled = number.spelled;
-        again = λ more. rw (number.again more, held.0) refl;
+        spelled = one.spelled;
+        again = λ more. rw (one.again more, held.0) refl;
       })
       held.1;
-  keeps = λ bs n rest small h.
-      let p = parted (number_of w64 bs) _ (n, rest) h in
-      let held = tested (is_time p.part) (Ok (p.part, p.more)) (length bs) (n, rest) p.second in
-      subst (λ k. is_time k ≡ true) (same_parts p.part n p.more rest held.1).0 held.0;
+  keeps = λ bs x rest small h.
+      let p = parted (of bs) (λ y more. if test y then Ok (y, more) else Err (length bs)) (x, rest) h in
+      let held = tested (test p.part) (Ok (p.part, p.more)) (length bs) (x, rest) p.second in
+      subst K (same_parts p.part x p.more rest held.1).0 (keeps p.part held.0 (part.keeps bs p.part p.more small p.first));
+}
+
+-- a write time
+time_format : IsFormat (number_bytes w64) time_of (λ n. is_time n ≡ true)
+time_format = tested_format long_format is_time (λ n. is_time n ≡ true) (λ n time _. time)
+
+-- a count
+pub count_format : IsFormat (number_bytes w32) (number_of w32) (λ n. n < 2 ^ 32)
+count_format = record {
+  within = λ bs small. number_within w32 bs;
+  read = number_is_read w32 digits_32;
+  keeps = number_below_32;
+}
+
+-- a value
+pub value_format : IsFormat value_bytes value_of (λ v. (is_value v ≡ true) × ValueFits v)
+value_format = record { within = λ bs small. value_within bs; read = value_is_read; keeps = value_keeps }
+
+-- a state
+pub state_format : IsFormat state_bytes (state_of None) IsWritableState
+state_format = record {
+  within = λ bs small. state_within None bs;
+  read = state_is_read None;
+  keeps = λ bs s rest small h. (state_keeps None bs s rest small h).1;
 }
 
 pub place_format : IsFormat place_bytes read_place IsWritablePlace

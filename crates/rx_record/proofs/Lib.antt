@@ -4,10 +4,16 @@ pub mod Texts
 pub mod Lists
 pub mod Values
 pub mod States
-pub mod Skipped
 pub mod Within
 pub mod Kept
 pub mod Formats
+pub mod ByKind
+pub mod ListFormats
+pub mod StepFormats
+pub mod StepsOn
+pub mod PartFormats
+pub mod Skipped
 pub mod Contents
 pub mod AtEnd
 pub mod Written
+pub mod WrittenParts

@@ -6,7 +6,7 @@ use Rattle.rx_record.specs.Fields.{all_bytes, rising_of, list_bytes, list_of}
 use Rattle.rx_record.proofs.Steps.{parted, joined, same_parts, read_as, IsRead, AreBytes, bytes_behind}
 use Rattle.rx_record.proofs.Numbers.{digits_32, number_is_read}
 
-module _ {A : Type 0} (bytes name : A → List ℕ) (part : Option (List ℕ) → List ℕ → Reading A) where
+module _ {A L : Type 0} (bytes : A → List ℕ) (name : A → L) (part : Option L → List ℕ → Reading A) where
   -- what stands before does not change the end
   after_cons : (x : A) (m : Reading (List A)) → rest_after (m ▸ λ xs rest. Ok (x ∷ xs, rest))
       ≡ rest_after m
@@ -14,7 +14,7 @@ module _ {A : Type 0} (bytes name : A → List ℕ) (part : Option (List ℕ) �
   after_cons x (Err left) = refl
 
   -- past one thing
-  pub after_step : (n : ℕ) (last : Option (List ℕ)) (bs : List ℕ) (x : A) (more : List ℕ) → 0 < n
+  pub after_step : (n : ℕ) (last : Option L) (bs : List ℕ) (x : A) (more : List ℕ) → 0 < n
       → part last bs ≡ Ok (x, more)
       → rest_after (rising_of name part n last bs)
       ≡ rest_after (rising_of name part (n - 1) (Some (name x)) more)
@@ -29,7 +29,7 @@ module _ {A : Type 0} (bytes name : A → List ℕ) (part : Option (List ℕ) �
   first_of (Ok p) f h = refl
   first_of (Err left) f h = cc
 
-  pub first_read : (n : ℕ) (last : Option (List ℕ)) (bs : List ℕ) → 0 < n
+  pub first_read : (n : ℕ) (last : Option L) (bs : List ℕ) → 0 < n
       → is_read (rising_of name part n last bs) ≡ true → is_read (part last bs) ≡ true
   first_read zero last bs some h = absurd (omega arith)
   first_read (suc n) last bs some h = first_of (part last bs) _ h
@@ -40,7 +40,7 @@ module _ {A : Type 0} (bytes name : A → List ℕ) (part : Option (List ℕ) �
   others_of x (Ok p) h = (refl, refl)
   others_of x (Err left) h = cc
 
-  pub next_read : (n : ℕ) (last : Option (List ℕ)) (bs : List ℕ) (x : A) (more k : List ℕ) → 0 < n
+  pub next_read : (n : ℕ) (last : Option L) (bs : List ℕ) (x : A) (more : List ℕ) (k : L) → 0 < n
       → part last bs ≡ Ok (x, more) → name x ≡ k → is_read (rising_of name part n last bs) ≡ true
       → (is_read (rising_of name part (n - 1) (Some k) more) ≡ true)
       × (read_or [] (rising_of name part n last bs) ≡ x ∷ read_or [] (rising_of name part (n - 1) (Some k) more))
@@ -50,7 +50,7 @@ module _ {A : Type 0} (bytes name : A → List ℕ) (part : Option (List ℕ) �
       rw (less, ← named, h) (others_of x (rising_of name part n (Some (name x)) more) (rw h at all))
 
   -- a thing and the others are read back
-  pub rising_back : (n : ℕ) (last : Option (List ℕ)) (x : A) (xs : List A) (more : List ℕ)
+  pub rising_back : (n : ℕ) (last : Option L) (x : A) (xs : List A) (more : List ℕ)
       → part last (bytes x ++ (all_bytes bytes xs ++ more)) ≡ Ok (x, all_bytes bytes xs ++ more)
       → rising_of name part n (Some (name x)) (all_bytes bytes xs ++ more) ≡ Ok (xs, more)
       → rising_of name part (suc n) last (all_bytes bytes (x ∷ xs) ++ more) ≡ Ok (x ∷ xs, more)
@@ -68,17 +68,17 @@ module _ {A : Type 0} (bytes name : A → List ℕ) (part : Option (List ℕ) �
 
   -- what a part reads stands in the bytes
   abbrev pub PartIsRead : Type 0
-  PartIsRead = (last : Option (List ℕ)) (bs : List ℕ) (x : A) (rest : List ℕ) → AreBytes bs
+  PartIsRead = (last : Option L) (bs : List ℕ) (x : A) (rest : List ℕ) → AreBytes bs
       → part last bs ≡ Ok (x, rest) → IsRead bytes (part last) bs x rest
 
   -- so many things were read
-  pub record AreRead (n : ℕ) (last : Option (List ℕ)) (bs : List ℕ) (xs : List A)
+  pub record AreRead (n : ℕ) (last : Option L) (bs : List ℕ) (xs : List A)
       (rest : List ℕ) : Type 0 where
     pub many : length xs ≡ n
     pub read : IsRead (all_bytes bytes) (rising_of name part n last) bs xs rest
 
   pub rising_are_read : PartIsRead
-      → (n : ℕ) (last : Option (List ℕ)) (bs : List ℕ) (xs : List A) (rest : List ℕ)
+      → (n : ℕ) (last : Option L) (bs : List ℕ) (xs : List A) (rest : List ℕ)
       → AreBytes bs → rising_of name part n last bs ≡ Ok (xs, rest) → AreRead n last bs xs rest
   rising_are_read law zero last bs xs rest small h =
       let parts = same_parts [] xs bs rest h in

@@ -4,7 +4,11 @@ use Rattle.rx_record.specs.Reading.{Reading, rest_after, read_or, is_whole}
 use Rattle.rx_record.specs.Parts.{number_of}
 use Rattle.rx_record.specs.Fields.{pairs_of, fields_of, fields_bytes, all_bytes}
 use Rattle.rx_record.specs.Rows.{state_bytes, state_of, state_key, states_from, row_bytes, row_of, key_of, rows_from}
+use Rattle.rx_record.specs.PartRows.{part_row_bytes, row_place, part_row_of, part_rows_from}
+use Rattle.rx_record.specs.Steps.{steps_bytes, steps_from, steps_count_of, steps_of}
 use Rattle.rx_record.proofs.Lists.{rising_are_read}
+use Rattle.rx_record.proofs.PartFormats.{part_row_format}
+use Rattle.rx_record.proofs.StepFormats.{steps_format}
 use Rattle.rx_record.proofs.Steps.{done, IsRead, AreBytes, rest_within, read_alone}
 use Rattle.rx_record.proofs.States.{fields_are_read, state_is_read, row_is_read}
 
@@ -57,3 +61,18 @@ states_lent bs rest n small h =
     lent [] (all_bytes state_bytes) (states_from n None) bs rest
     (λ states read. (rising_are_read state_bytes state_key state_of state_is_read n None bs states
     rest small read).read) h
+
+-- and rows of a part
+pub part_rows_lent : (bs rest : List ℕ) (n : ℕ) → AreBytes bs → rest_after (part_rows_from n None bs)
+    ≡ Ok rest
+    → IsLent [] (part_rows_from n None) bs rest
+part_rows_lent bs rest n small h =
+    lent [] (all_bytes part_row_bytes) (part_rows_from n None) bs rest
+    (λ rows read. (rising_are_read part_row_bytes row_place part_row_of (λ last. (part_row_format last).read) n None bs rows
+    rest small read).read) h
+
+-- and steps, by their bytes
+pub steps_lent : (bs steps rest : List ℕ) (n : ℕ) → AreBytes bs → steps_count_of bs ≡ Ok (n, steps)
+    → rest_after (steps_from n None steps) ≡ Ok rest → IsLent [] steps_of bs rest
+steps_lent bs steps rest n small count h =
+    lent [] steps_bytes steps_of bs rest (λ ss. steps_format.read bs ss rest small) (rw count h)

@@ -31,7 +31,7 @@ onward (Ok p) f n h g = g p.0 p.1 h
 onward (Err left) f n h g = h
 
 -- a part of the bytes behind
-behind : {A : Type 0} (of : List ℕ → Reading A) → Bounded of → (more : List ℕ) (n : ℕ) → length more ≤ n
+pub behind : {A : Type 0} (of : List ℕ → Reading A) → Bounded of → (more : List ℕ) (n : ℕ) → length more ≤ n
     → IsWithin (of more) n
 behind of b more n less = grows (of more) (length more) n less (b more)
 
@@ -76,7 +76,7 @@ integer_within bs = onward (number_of w64 bs) (λ n more.
     (number_within w64 bs)
     (λ n more less. either (is_number (cast_signed w64 n)) (Ok (Int (cast_signed w64 n), more)) (Err (length bs)) (length bs) less (omega arith))
 
-value_within : Bounded value_of
+pub value_within : Bounded value_of
 value_within bs = onward (byte_of bs) (λ kind more.
     if kind == 0 then (flag_of more ▸ λ b rest. Ok (Flag b, rest))
     else if kind == 1 then integer_of more
@@ -100,9 +100,9 @@ pair_within last bs = onward (text_above last bs) (λ name more. value_of more �
     (λ name more less. onward (value_of more) (λ v rest. Ok ((name, v), rest)) (length bs)
     (behind value_of value_within more (length bs) less) (λ v rest fewer. fewer))
 
-module _ {A : Type 0} (name : A → List ℕ) (part : Option (List ℕ) → List ℕ → Reading A)
-    (part_within : (last : Option (List ℕ)) → Bounded (part last)) where
-  rising_within : (n : ℕ) (last : Option (List ℕ)) → Bounded (rising_of name part n last)
+module _ {A L : Type 0} (name : A → L) (part : Option L → List ℕ → Reading A)
+    (part_within : (last : Option L) → Bounded (part last)) where
+  pub rising_within : (n : ℕ) (last : Option L) → Bounded (rising_of name part n last)
   rising_within zero last bs = omega arith
   rising_within (suc n) last bs =
       onward (part last bs) (λ x more. rising_of name part n (Some (name x)) more ▸ λ xs rest. Ok (x ∷ xs, rest)) (length bs)
@@ -111,12 +111,12 @@ module _ {A : Type 0} (name : A → List ℕ) (part : Option (List ℕ) → List
       (behind (rising_of name part n (Some (name x))) (rising_within n (Some (name x))) more (length bs) less)
       (λ xs rest fewer. fewer))
 
-  list_within : Bounded (list_of name part)
+  pub list_within : Bounded (list_of name part)
   list_within bs = onward (number_of w32 bs) (λ n more. rising_of name part n None more) (length bs)
       (number_within w32 bs)
       (λ n more less. behind (rising_of name part n None) (rising_within n None) more (length bs) less)
 
-state_within : (last : Option (List ℕ)) → Bounded (state_of last)
+pub state_within : (last : Option (List ℕ)) → Bounded (state_of last)
 state_within last bs = onward (text_above last bs) _ (length bs)
     (above_within last bs)
     (λ key more less. onward (flag_of more) _ (length bs) (behind flag_of flag_within more (length bs) less)

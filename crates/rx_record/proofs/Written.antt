@@ -1,9 +1,10 @@
 -- What is written is read back.
-use Rattle.std.proofs.Common.{◌≡◌, ℕ, zero, suc, ◌+◌, ◌<◌, ◌≤◌, List, [], ◌∷◌, ◌++◌, length, take, map, slice_get, Option, Some, None, true, is_lt, Ok, Err, Result, IfOk, IsUtf8, refl, ap, sym, ◌∙◌, subst, arith, length-append, append_assoc, append-nil, w32, w64}
+use Rattle.std.proofs.Common.{◌≡◌, ℕ, zero, suc, ◌+◌, ◌<◌, ◌≤◌, List, [], ◌∷◌, ◌++◌, length, take, map, slice_get, Option, Some, None, Bool, true, is_lt, Ok, Err, Result, IfOk, IsUtf8, refl, ap, sym, ◌∙◌, subst, arith, length-append, append_assoc, append-nil, w32, w64}
 use Rattle.std.proofs.lemmas.List.{take_all}
 use Rattle.std.proofs.lemmas.Str.{is_utf8-from_IsUtf8}
 use Rattle.std.specs.List.{AllByRecursion}
 use Rattle.std.specs.List.Sorted.{IsStrictlySortedBy}
+use Rattle.std.specs.declared.cmp.Ordering.{Ordering}
 use Rattle.std.specs.declared.cmp.Ordering.TheVariants.{Less}
 use Rattle.rx_value.specs.Fields.{Pair, Pairs}
 use Rattle.rx_value.specs.Named.{AreRising}
@@ -11,7 +12,7 @@ use Rattle.rx_value.specs.Order.{text_cmp}
 use Rattle.rx_value.specs.declared.state.State.{State}
 use Rattle.rx_document.specs.declared.place.Place.{Place}
 use Rattle.rx_record.specs.Reading.{Reading, ◌▸◌}
-use Rattle.rx_record.specs.Parts.{flag_bytes, option_bytes, option_of, number_bytes, number_of, text_bytes, text_of, is_above}
+use Rattle.rx_record.specs.Parts.{flag_bytes, option_bytes, option_of, number_bytes, number_of, text_bytes, text_of, is_above, is_above_by}
 use Rattle.rx_record.specs.Fields.{value_bytes, value_of, pair_bytes, pair_of, all_bytes, rising_of, list_bytes, list_of, fields_bytes, fields_of}
 use Rattle.rx_record.specs.Rows.{row_bytes, row_of, key_of, rows_bytes, rows_of, state_bytes, state_of, state_key, states_bytes, states_of}
 use Rattle.rx_record.specs.Places.{place_bytes, read_place}
@@ -78,34 +79,28 @@ abbrev pub StateReadsBack : State → Type 0
 StateReadsBack s = (last : Option (List ℕ)) → is_above last s.key ≡ true
     → ShortReadsBack state_bytes (state_of last) s
 
-module _ {A : Type 0} (bytes name : A → List ℕ) (part : Option (List ℕ) → List ℕ → Reading A) where
+module _ {A L : Type 0} (bytes : A → List ℕ) (name : A → L) (part : Option L → List ℕ → Reading A)
+    (above : Option L → L → Bool) where
   -- a thing is, where its name is above the last
-  abbrev ThingReadsBack : A → Type 0
-  ThingReadsBack x = (last : Option (List ℕ)) → is_above last (name x) ≡ true
+  abbrev pub ThingReadsBack : A → Type 0
+  ThingReadsBack x = (last : Option L) → above last (name x) ≡ true
       → ShortReadsBack bytes (part last) x
 
-  -- the first name is above the last
-  abbrev BeginsAbove : Option (List ℕ) → List A → Type 0
-  BeginsAbove last [] = Unit {0}
-  BeginsAbove last (x ∷ xs) = is_above last (name x) ≡ true
-
-  begins_above : (x : A) (xs : List A) → AllByRecursion (λ k. text_cmp (name x) k ≡ Less)
-      (map name xs) → BeginsAbove (Some (name x)) xs
-  begins_above x [] all = tt
-  begins_above x (y ∷ ys) all = ap is_lt all.0
+  -- each name is above the one before it
+  abbrev pub AreAbove : Option L → List A → Type 0
+  AreAbove last [] = Unit {0}
+  AreAbove last (x ∷ xs) = (above last (name x) ≡ true) × AreAbove (Some (name x)) xs
 
   -- so many things with rising names
-  things_read_back : (xs : List A) (last : Option (List ℕ)) → BeginsAbove last xs
-      → IsStrictlySortedBy text_cmp (map name xs)
+  pub things_read_back : (xs : List A) (last : Option L) → AreAbove last xs
       → AllByRecursion ThingReadsBack xs → Fits (all_bytes bytes xs) → (more : List ℕ)
       → rising_of name part (length xs) last (all_bytes bytes xs ++ more) ≡ Ok (xs, more)
-  unfolding IsStrictlySortedBy
-  things_read_back [] last above rising back fits more = refl
-  things_read_back (x ∷ xs) last above rising back fits more =
+  things_read_back [] last rising back fits more = refl
+  things_read_back (x ∷ xs) last rising back fits more =
       rising_back bytes name part (length xs) last x xs more
-      (back.0 last above (first_fits (bytes x) (all_bytes bytes xs) fits)
+      (back.0 last rising.0 (first_fits (bytes x) (all_bytes bytes xs) fits)
       (all_bytes bytes xs ++ more))
-      (things_read_back xs (Some (name x)) (begins_above x xs rising.0) rising.1 back.1
+      (things_read_back xs (Some (name x)) rising.1 back.1
       (second_fits (bytes x) (all_bytes bytes xs) fits) more)
 
   -- each thing has a byte, so there are no more things than bytes
@@ -115,8 +110,7 @@ module _ {A : Type 0} (bytes name : A → List ℕ) (part : Option (List ℕ) �
       omega (arith, some x, many some xs, length-append (bytes x) (all_bytes bytes xs))
 
   -- a list
-  list_reads_back : ((x : A) → 0 < length (bytes x)) → (xs : List A)
-      → IsStrictlySortedBy text_cmp (map name xs)
+  pub list_reads_back : ((x : A) → 0 < length (bytes x)) → (xs : List A) → AreAbove None xs
       → AllByRecursion ThingReadsBack xs → ShortReadsBack (list_bytes bytes) (list_of name part) xs
   list_reads_back some xs rising back fits more =
       let short : Fits (all_bytes bytes xs) =
@@ -124,22 +118,32 @@ module _ {A : Type 0} (bytes name : A → List ℕ) (part : Option (List ℕ) �
       list_back bytes name part xs more
       (number_back w32 digits_32 (length xs) (all_bytes bytes xs ++ more)
       (omega (arith, short, many some xs)))
-      (things_read_back xs None (begins xs) rising back short more)
-    where
-      begins : (ys : List A) → BeginsAbove None ys
-      begins [] = tt
-      begins (y ∷ ys) = refl
+      (things_read_back xs None rising back short more)
 
-  -- one more thing is written
-  pub one_more : (xs : List A) (i : ℕ) (x : A) → slice_get xs i ≡ Some x
-      → all_bytes bytes (take (i + 1) xs) ≡ all_bytes bytes (take i xs) ++ bytes x
-  one_more [] i x h = cc
-  one_more (w ∷ xs) zero x h = let e : w ≡ x = cc in ap (λ v. bytes v ++ []) e
-      ∙ append-nil (bytes x)
-  one_more (w ∷ xs) (suc i) x h =
-      let n : suc i + 1 ≡ suc (i + 1) = omega arith in
-      rw n (ap (λ l. bytes w ++ l) (one_more xs i x h)
-      ∙ sym (append_assoc (bytes w) (all_bytes bytes (take i xs)) (bytes x)))
+-- names that rise are each above the one before
+module _ {A L : Type 0} (bytes : A → List ℕ) (name : A → L) (part : Option L → List ℕ → Reading A)
+    (cmp : L → L → Ordering) where
+  after_first : (x : A) (xs : List A) → AllByRecursion (λ k. cmp (name x) k ≡ Less) (map name xs)
+      → IsStrictlySortedBy cmp (map name xs) → AreAbove bytes name part (is_above_by cmp) (Some (name x)) xs
+  unfolding IsStrictlySortedBy
+  after_first x [] all rising = tt
+  after_first x (y ∷ ys) all rising = (ap is_lt all.0, after_first y ys rising.0 rising.1)
+
+  pub above_each : (xs : List A) → IsStrictlySortedBy cmp (map name xs)
+      → AreAbove bytes name part (is_above_by cmp) None xs
+  unfolding IsStrictlySortedBy
+  above_each [] rising = tt
+  above_each (x ∷ xs) rising = (refl, after_first x xs rising.0 rising.1)
+
+-- one more thing is written
+pub one_more : {A : Type 0} (bytes : A → List ℕ) (xs : List A) (i : ℕ) (x : A) → slice_get xs i ≡ Some x
+    → all_bytes bytes (take (i + 1) xs) ≡ all_bytes bytes (take i xs) ++ bytes x
+one_more bytes [] i x h = cc
+one_more bytes (w ∷ xs) zero x h = let e : w ≡ x = cc in ap (λ v. bytes v ++ []) e ∙ append-nil (bytes x)
+one_more bytes (w ∷ xs) (suc i) x h =
+    let n : suc i + 1 ≡ suc (i + 1) = omega arith in
+    rw n (ap (λ l. bytes w ++ l) (one_more bytes xs i x h)
+    ∙ sym (append_assoc (bytes w) (all_bytes bytes (take i xs)) (bytes x)))
 
 -- and what all keep
 pub all_more : {A : Type 0} (P : A → Type 0) (xs : List A) (i : ℕ) (x : A) → slice_get xs i ≡ Some x
@@ -154,7 +158,7 @@ all_more P (w ∷ xs) (suc i) x h all p =
 pub fields_read_back : (ps : Pairs) (i : ℕ) → length ps ≤ i → AreRising ps
     → AllByRecursion PairReadsBack (take i ps) → ShortReadsBack fields_bytes fields_of ps
 fields_read_back ps i long rising back =
-    list_reads_back pair_bytes (λ p. p.0) pair_of
+    list_reads_back pair_bytes (λ p. p.0) pair_of is_above
     (λ p. omega (
       arith,
       digits_32.long (length p.0),
@@ -162,33 +166,33 @@ fields_read_back ps i long rising back =
           (number_bytes w32 (length p.0)) p.0,
       length-append (text_bytes p.0) (value_bytes p.1),
     ))
-    ps rising (subst (AllByRecursion PairReadsBack) (take_all i ps long) back)
+    ps (above_each pair_bytes (λ p. p.0) pair_of text_cmp ps rising) (subst (AllByRecursion PairReadsBack) (take_all i ps long) back)
 
 -- rows
 pub rows_read_back : (rs : List RowOut) (i : ℕ) → length rs ≤ i → KeysRise rs
     → AllByRecursion RowReadsBack (take i rs) → ShortReadsBack rows_bytes rows_of rs
 rows_read_back rs i long rising back =
-    list_reads_back row_bytes key_of row_of
+    list_reads_back row_bytes key_of row_of is_above
     (λ r. omega (
       arith,
       digits_64.long r.height,
       length-append (number_bytes w64 r.height)
           (state_bytes r.state),
     ))
-    rs rising (subst (AllByRecursion RowReadsBack) (take_all i rs long) back)
+    rs (above_each row_bytes key_of row_of text_cmp rs rising) (subst (AllByRecursion RowReadsBack) (take_all i rs long) back)
 
 -- states
 pub states_read_back : (ss : List State) (i : ℕ) → length ss ≤ i → StatesRise ss
     → AllByRecursion StateReadsBack (take i ss) → ShortReadsBack states_bytes states_of ss
 states_read_back ss i long rising back =
-    list_reads_back state_bytes state_key state_of
+    list_reads_back state_bytes state_key state_of is_above
     (λ s. omega (
       arith,
       digits_32.long (length s.key),
       length-append (number_bytes w32 (length s.key)) s.key,
       length-append (text_bytes s.key) (flag_bytes s.deleted ++ fields_bytes s.fields),
     ))
-    ss rising (subst (AllByRecursion StateReadsBack) (take_all i ss long) back)
+    ss (above_each state_bytes state_key state_of text_cmp ss rising) (subst (AllByRecursion StateReadsBack) (take_all i ss long) back)
 
 -- ---- parts one after another
 
@@ -213,11 +217,11 @@ pub lastly : {A B : Type 0} (bytes : A → List ℕ) (of : List ℕ → Reading 
 lastly bytes of x made part fits more = ap (λ m. m ▸ λ z rest. Ok (made z, rest)) (part fits more)
 
 -- behind the byte of a kind
-behind_byte : (byte : ℕ) (tail : List ℕ) → Fits (byte ∷ tail) → Fits tail
+pub behind_byte : (byte : ℕ) (tail : List ℕ) → Fits (byte ∷ tail) → Fits tail
 behind_byte byte tail fits = omega arith
 
 -- what always reads back does if it is short
-abbrev long_back : (n : ℕ) → ReadsBack (number_bytes w64) (number_of w64) n
+abbrev pub long_back : (n : ℕ) → ReadsBack (number_bytes w64) (number_of w64) n
     → ShortReadsBack (number_bytes w64) (number_of w64) n
 long_back n back fits = back
 

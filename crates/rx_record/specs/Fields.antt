@@ -48,19 +48,19 @@ abbrev pub all_bytes : {A : Type 0} → (A → List ℕ) → List A → List ℕ
 all_bytes bytes [] = []
 all_bytes bytes (x ∷ xs) = bytes x ++ all_bytes bytes xs
 
--- so many things one after another, each with a name above the one before
-abbrev pub rising_of : {A : Type 0} → (A → List ℕ) → (Option (List ℕ) → List ℕ → Reading A)
-    → ℕ → Option (List ℕ) → List ℕ → Reading (List A)
+-- so many things one after another, each of which goes by the name or the place of the one before
+abbrev pub rising_of : {A L : Type 0} → (A → L) → (Option L → List ℕ → Reading A)
+    → ℕ → Option L → List ℕ → Reading (List A)
 rising_of name part zero last bs = Ok ([], bs)
 rising_of name part (suc n) last bs = part last bs ▸ λ x more.
     rising_of name part n (Some (name x)) more ▸ λ xs rest. Ok (x ∷ xs, rest)
 
--- a list: its count in four bytes, and that many things, each with a name above the one before
+-- a list: its count in four bytes, and that many things
 abbrev pub list_bytes : {A : Type 0} → (A → List ℕ) → List A → List ℕ
 list_bytes bytes xs = number_bytes w32 (length xs) ++ all_bytes bytes xs
 
-abbrev pub list_of : {A : Type 0} → (A → List ℕ) → (Option (List ℕ) → List ℕ → Reading A)
-    → List ℕ → Reading (List A)
+abbrev pub list_of : {A L : Type 0} → (A → L) → (Option L → List ℕ → Reading A) → List ℕ
+    → Reading (List A)
 list_of name part bs = number_of w32 bs ▸ λ n more. rising_of name part n None more
 
 -- fields: a list of pairs by rising name

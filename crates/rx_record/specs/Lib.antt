@@ -4,6 +4,9 @@ pub mod Fields
 pub mod Rows
 pub mod Places
 pub mod Masters
+pub mod Kinds
+pub mod Steps
+pub mod PartRows
 pub mod Views
 pub mod Content
 pub mod Shown

@@ -2,6 +2,7 @@
 use Rattle.std.specs.Prelude.{ℕ, List, [], ◌∷◌, ◌++◌, length, take, drop, Bool, true, false, ◌&&◌, ◌==◌, nat_le, if◌then◌else◌, Option, Some, None, Ok, Err}
 use Rattle.std.specs.Int.{Width, w32, byte_len, to_be_bytes, from_be_bytes}
 use Rattle.std.specs.Ordering.{is_lt}
+use Rattle.std.specs.declared.cmp.Ordering.{Ordering}
 use Rattle.std.specs.Str.{is_utf8}
 use Rattle.rx_value.specs.Order.{text_cmp}
 use Rattle.rx_record.specs.Reading.{Reading, ◌▸◌}
@@ -47,10 +48,14 @@ text_of bs = number_of w32 bs ▸ λ n more.
     if nat_le n (length more) && is_utf8 (take n more) then Ok (take n more, drop n more)
     else Err (length bs)
 
+-- it stands above the one before it in an order, if there is one
+abbrev pub is_above_by : {L : Type 0} → (L → L → Ordering) → Option L → L → Bool
+is_above_by cmp None x = true
+is_above_by cmp (Some last) x = is_lt (cmp last x)
+
 -- the text stands above the one before it, if there is one
 abbrev pub is_above : Option (List ℕ) → List ℕ → Bool
-is_above None t = true
-is_above (Some last) t = is_lt (text_cmp last t)
+is_above = is_above_by text_cmp
 
 -- a text above the one before it
 abbrev pub text_above : Option (List ℕ) → List ℕ → Reading (List ℕ)

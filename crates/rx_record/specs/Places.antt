@@ -5,6 +5,7 @@ use Rattle.rx_value.specs.Value.{largest}
 use Rattle.rx_document.specs.declared.place.Place.{Place}
 use Rattle.rx_record.specs.Reading.{Reading, ◌▸◌}
 use Rattle.rx_record.specs.Parts.{number_bytes, number_of, text_bytes, text_of}
+use Rattle.rx_record.specs.declared.place_view.PlaceView.{PlaceView}
 
 -- a write time of a document: from 1 to 2^53 - 1
 abbrev pub is_time : ℕ → Bool
@@ -22,3 +23,7 @@ read_place bs =
     time_of bs ▸ λ lwt more.
     text_of more ▸ λ id rest.
     Ok (record { lwt = lwt; id = id }, rest)
+
+-- the place that a view shows
+abbrev pub place_in : PlaceView → Place
+place_in p = record { lwt = p.lwt; id = p.id.now }

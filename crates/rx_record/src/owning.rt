@@ -2,7 +2,8 @@ ghost use Rattle.std.specs.Prelude.{◌≡◌, Ok, IfOk, IsTrue, option_map};
 ghost use Rattle.rx_record.specs.Reading.{is_read};
 ghost use Rattle.rx_record.specs.Fields.{fields_of};
 ghost use Rattle.rx_record.specs.Rows.{state_of, row_of, key_of};
-ghost use Rattle.rx_record.specs.Views.{value_in, rows_left, states_left, place_in};
+ghost use Rattle.rx_record.specs.Places.{place_in};
+ghost use Rattle.rx_record.specs.Views.{rows_left, states_left};
 
 use crate::pair_views::PairViews;
 use crate::place_view::PlaceView;
@@ -10,23 +11,13 @@ use crate::reading::{read_flag, read_long, read_text_above};
 use crate::record::RowOut;
 use crate::row_views::RowViews;
 use crate::state_views::StateViews;
-use crate::value_view::ValueView;
+use crate::value_view::own_value;
 use rx_document::Place;
-use rx_value::{Fields, RxText, State, Value};
+use rx_value::{Fields, RxText, State};
 use std::alloc::{AllocError, Global};
 
 // An owned part, and the bytes behind it.
 type Owned<'a, T> = Result<(T, &'a [u8]), AllocError>;
-
-fn own_value(alloc: Global, view: &ValueView<'_>) -> Result<Value, AllocError>
-    ensures { IfOk result (λ v. v ≡ value_in view.now) }
-{
-    match view {
-        ValueView::Flag(flag) => Ok(Value::Flag(*flag)),
-        ValueView::Int(number) => Ok(Value::Int(*number)),
-        ValueView::Text(text) => Ok(Value::Text(RxText::new(alloc, text)?)),
-    }
-}
 
 // The fields at the front of bytes, and the bytes behind them.
 pub(crate) fn own_fields(alloc: Global, bytes: &[u8]) -> Owned<'_, Fields>

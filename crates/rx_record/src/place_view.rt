@@ -1,8 +1,7 @@
 ghost use Rattle.std.specs.Prelude.{◌≡◌, option_map};
 ghost use Rattle.rx_record.specs.Reading.{Reads};
 ghost use Rattle.rx_record.specs.Parts.{option_of};
-ghost use Rattle.rx_record.specs.Places.{time_of, read_place};
-ghost use Rattle.rx_record.specs.Views.{place_in};
+ghost use Rattle.rx_record.specs.Places.{time_of, read_place, place_in};
 
 use crate::reading::{Read, read_flag, read_long, read_text};
 use rx_document::Place;

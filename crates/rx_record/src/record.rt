@@ -1,5 +1,6 @@
 use crate::writing::put_record;
 use rx_document::Place;
+use rx_migrate::Steps;
 use rx_value::{RxText, State};
 use std::alloc::{AllocError, Global};
 
@@ -42,6 +43,30 @@ pub enum Record {
     Epoch {
         number: u64,
     },
+    /// A collection and all that local replications join to it get the next version of their schema,
+    /// with its canonical text and the steps that their states take.
+    Migration {
+        name: RxText,
+        schema: RxText,
+        steps: Steps,
+    },
+    /// Of a journal that begins as a copy of another's world: documents of a collection, by rising
+    /// place.
+    Part {
+        name: RxText,
+        rows: Vec<PartRow>,
+    },
+    /// Of such a journal: known states of a replication, by rising key, and its checkpoints.
+    KnownPart {
+        name: RxText,
+        known: Vec<State>,
+        up: Option<Place>,
+        down: Option<Place>,
+    },
+    /// The end of the copy, with the epoch of the world that was copied.
+    End {
+        number: u64,
+    },
 }
 
 impl Record {
@@ -77,6 +102,16 @@ pub enum MasterName {
 #[derive(Debug, Drop)]
 pub struct RowOut {
     /// How often it was written, this time included.
+    pub height: u64,
+    pub state: State,
+}
+
+/// One document of a part.
+#[derive(Debug, Drop)]
+pub struct PartRow {
+    /// When it was written last.
+    pub lwt: u64,
+    /// How often it was written.
     pub height: u64,
     pub state: State,
 }

@@ -2,10 +2,13 @@ use crate::at::At;
 use crate::kinds::read_record;
 use crate::master_view::MasterView;
 use crate::owning::{own_place_if_there, own_rows, own_states, own_text_if_there};
+use crate::part_rows::own_part_rows;
+use crate::part_views::PartViews;
 use crate::place_view::PlaceView;
 use crate::record::Record;
 use crate::row_views::RowViews;
 use crate::state_views::StateViews;
+use crate::step_list::own_steps;
 use rx_value::RxText;
 use std::alloc::{AllocError, Global};
 
@@ -37,6 +40,25 @@ pub enum RecordView<'a> {
         down: Option<PlaceView<'a>>,
     },
     Epoch {
+        number: u64,
+    },
+    Migration {
+        name: &'a str,
+        schema: &'a str,
+        /// The bytes of the steps, from their count on.
+        steps: &'a [u8],
+    },
+    Part {
+        name: &'a str,
+        rows: PartViews<'a>,
+    },
+    KnownPart {
+        name: &'a str,
+        known: StateViews<'a>,
+        up: Option<PlaceView<'a>>,
+        down: Option<PlaceView<'a>>,
+    },
+    End {
         number: u64,
     },
 }
@@ -112,6 +134,31 @@ impl<'a> RecordView<'a> {
                 down: own_place_if_there(alloc, down)?,
             }),
             RecordView::Epoch { number } => Ok(Record::Epoch { number: *number }),
+            RecordView::Migration {
+                name,
+                schema,
+                steps,
+            } => Ok(Record::Migration {
+                name: RxText::new(alloc, name)?,
+                schema: RxText::new(alloc, schema)?,
+                steps: own_steps(alloc, steps)?,
+            }),
+            RecordView::Part { name, rows } => Ok(Record::Part {
+                name: RxText::new(alloc, name)?,
+                rows: own_part_rows(alloc, rows)?,
+            }),
+            RecordView::KnownPart {
+                name,
+                known,
+                up,
+                down,
+            } => Ok(Record::KnownPart {
+                name: RxText::new(alloc, name)?,
+                known: own_states(alloc, known)?,
+                up: own_place_if_there(alloc, up)?,
+                down: own_place_if_there(alloc, down)?,
+            }),
+            RecordView::End { number } => Ok(Record::End { number: *number }),
         }
     }
 }

@@ -1,10 +1,11 @@
-ghost use Rattle.std.specs.Prelude.{◌≡◌, option_map};
+ghost use Rattle.std.specs.Prelude.{◌≡◌, option_map, IfOk};
 ghost use Rattle.rx_record.specs.Reading.{Reads};
 ghost use Rattle.rx_record.specs.Fields.{value_of, integer_of};
 ghost use Rattle.rx_record.specs.Views.{value_in};
 
 use crate::reading::{Read, read_byte, read_flag, read_long, read_text};
-use rx_value::is_number;
+use rx_value::{RxText, Value, is_number};
+use std::alloc::{AllocError, Global};
 
 pub(crate) const FLAG: u8 = 0;
 
@@ -48,5 +49,15 @@ fn read_integer(bytes: &[u8]) -> Read<'_, ValueView<'_>>
         Ok((ValueView::Int(number), rest))
     } else {
         Err(bytes.len())
+    }
+}
+
+pub(crate) fn own_value(alloc: Global, view: &ValueView<'_>) -> Result<Value, AllocError>
+    ensures { IfOk result (λ v. v ≡ value_in view.now) }
+{
+    match view {
+        ValueView::Flag(flag) => Ok(Value::Flag(*flag)),
+        ValueView::Int(number) => Ok(Value::Int(*number)),
+        ValueView::Text(text) => Ok(Value::Text(RxText::new(alloc, text)?)),
     }
 }

@@ -10,7 +10,10 @@ ghost use Rattle.rx_record.specs.Content.{replication, exchange, content_bytes, 
 ghost use Rattle.rx_record.specs.Shown.{content};
 ghost use Rattle.rx_record.specs.Writable.{IsOrdered, IsOrderedExchange, KeysRise, StatesRise, HasTime, ReadsBack, ShortReadsBack};
 
-use crate::kinds::{COLLECTION, EPOCH, EXCHANGE, REPLICATION, ROWS};
+use crate::kinds::{COLLECTION, END, EPOCH, EXCHANGE, REPLICATION, ROWS};
+use crate::known_part::put_known_part;
+use crate::migration::put_migration;
+use crate::part_rows::put_part;
 use crate::record::{MasterName, Record, RowOut};
 use crate::value_view::{FLAG, NUMBER, TEXT};
 use rx_document::Place;
@@ -25,7 +28,7 @@ fn put_flag(out: &mut Vec<u8>, flag: bool) -> Result<(), AllocError>
 
 // The low four bytes of a count.
 #[tactic(auto, unfolding(crate::specs::Parts::number_bytes))]
-fn put_count(out: &mut Vec<u8>, count: usize) -> Result<(), AllocError>
+pub(crate) fn put_count(out: &mut Vec<u8>, count: usize) -> Result<(), AllocError>
     ensures { IfOk result (λ _. out.new.items ≡ out.old.items ++ number_bytes w32 count) }
 {
     let low = (count % (1 << 32)) as u32;
@@ -34,7 +37,7 @@ fn put_count(out: &mut Vec<u8>, count: usize) -> Result<(), AllocError>
 
 // A number in two bytes.
 #[tactic(auto, unfolding(crate::specs::Parts::number_bytes))]
-fn put_short(out: &mut Vec<u8>, number: u16) -> Result<(), AllocError>
+pub(crate) fn put_short(out: &mut Vec<u8>, number: u16) -> Result<(), AllocError>
     ensures bytes { IfOk result (λ _. out.new.items ≡ out.old.items ++ number_bytes w16 number) }
     ensures back { IfOk result (λ _. ReadsBack (number_bytes w16) (number_of w16) number) }
 {
@@ -43,7 +46,7 @@ fn put_short(out: &mut Vec<u8>, number: u16) -> Result<(), AllocError>
 
 // A number in eight bytes.
 #[tactic(auto, unfolding(crate::specs::Parts::number_bytes))]
-fn put_long(out: &mut Vec<u8>, number: u64) -> Result<(), AllocError>
+pub(crate) fn put_long(out: &mut Vec<u8>, number: u64) -> Result<(), AllocError>
     ensures bytes { IfOk result (λ _. out.new.items ≡ out.old.items ++ number_bytes w64 number) }
     ensures back { IfOk result (λ _. ReadsBack (number_bytes w64) (number_of w64) number) }
 {
@@ -51,7 +54,7 @@ fn put_long(out: &mut Vec<u8>, number: u64) -> Result<(), AllocError>
 }
 
 // A text with its length.
-fn put_text(out: &mut Vec<u8>, text: &str) -> Result<(), AllocError>
+pub(crate) fn put_text(out: &mut Vec<u8>, text: &str) -> Result<(), AllocError>
     ensures bytes { IfOk result (λ _. out.new.items ≡ out.old.items ++ text_bytes text.now) }
     ensures back { IfOk result (λ _. ShortReadsBack text_bytes text_of text.now) }
 {
@@ -85,7 +88,7 @@ fn put_place(out: &mut Vec<u8>, place: &Place) -> Result<(), AllocError>
 }
 
 // A place, if there is one.
-fn put_place_if_there(out: &mut Vec<u8>, place: &Option<Place>) -> Result<(), AllocError>
+pub(crate) fn put_place_if_there(out: &mut Vec<u8>, place: &Option<Place>) -> Result<(), AllocError>
     ensures bytes { IfOk result
         (λ _. out.new.items ≡ out.old.items ++ option_bytes place_bytes place.now) }
     ensures back { IfSome place.now HasTime → IfOk result
@@ -116,7 +119,7 @@ fn put_master(out: &mut Vec<u8>, master: &MasterName) -> Result<(), AllocError>
     }
 }
 
-fn put_value(out: &mut Vec<u8>, value: &Value) -> Result<(), AllocError>
+pub(crate) fn put_value(out: &mut Vec<u8>, value: &Value) -> Result<(), AllocError>
     requires { IsTrue (is_value value.now) }
     ensures bytes { IfOk result (λ _. out.new.items ≡ out.old.items ++ value_bytes value.now) }
     ensures back { IfOk result (λ _. ShortReadsBack value_bytes value_of value.now) }
@@ -148,7 +151,7 @@ fn put_fields(out: &mut Vec<u8>, fields: &Fields) -> Result<(), AllocError>
     Ok(())
 }
 
-fn put_state(out: &mut Vec<u8>, state: &State) -> Result<(), AllocError>
+pub(crate) fn put_state(out: &mut Vec<u8>, state: &State) -> Result<(), AllocError>
     ensures bytes { IfOk result (λ _. out.new.items ≡ out.old.items ++ state_bytes state.now) }
     ensures back { IfOk result (λ _. (last : Option (List ℕ)) → is_above last state.now.key ≡ true
         → ShortReadsBack state_bytes (state_of last) state.now) }
@@ -159,7 +162,7 @@ fn put_state(out: &mut Vec<u8>, state: &State) -> Result<(), AllocError>
 }
 
 // States, from their count on.
-fn put_states(out: &mut Vec<u8>, known: &[State]) -> Result<(), AllocError>
+pub(crate) fn put_states(out: &mut Vec<u8>, known: &[State]) -> Result<(), AllocError>
     ensures bytes { IfOk result (λ _. out.new.items ≡ out.old.items ++ states_bytes known.now) }
     ensures back { StatesRise known.now
         → IfOk result (λ _. ShortReadsBack states_bytes states_of known.now) }
@@ -219,6 +222,22 @@ pub(crate) fn put_record(out: &mut Vec<u8>, written: &Record) -> Result<(), Allo
         } => put_exchange(out, name, *lwt, rows.as_slice(), known.as_slice(), up, down),
         Record::Epoch { number } => {
             out.push(EPOCH)?;
+            put_long(out, *number)
+        }
+        Record::Migration {
+            name,
+            schema,
+            steps,
+        } => put_migration(out, name, schema, steps),
+        Record::Part { name, rows } => put_part(out, name, rows.as_slice()),
+        Record::KnownPart {
+            name,
+            known,
+            up,
+            down,
+        } => put_known_part(out, name, known.as_slice(), up, down),
+        Record::End { number } => {
+            out.push(END)?;
             put_long(out, *number)
         }
     }

@@ -1,4 +1,4 @@
-use Rattle.std.proofs.Common.{◌≡◌, [], ◌∷◌, ◌++◌, ◌-◌, Some, option_map, ap, sym, ◌∙◌, append_assoc, append-nil, rules}
+use Rattle.std.proofs.Common.{◌≡◌, [], ◌∷◌, ◌++◌, ◌-◌, Some, option_map, ap, sym, ◌∙◌, append_assoc, rules}
 use Rattle.rx_record.specs.Reading.{read_or}
 use Rattle.rx_record.specs.Rows.{row_of, key_of, rows_from}
 use Rattle.rx_record.proofs.AtEnd.{read_whole}

@@ -2,7 +2,7 @@ use Rattle.std.proofs.Common.{◌≡◌, true, List, ℕ, ◌++◌, take, ap, sy
 use Rattle.rx_value.specs.Value.{is_value}
 use Rattle.rx_value.proofs.Lists.{all_get}
 use Rattle.rx_record.specs.Parts.{text_bytes, text_of}
-use Rattle.rx_record.specs.Fields.{value_bytes, pair_bytes, pair_of, all_bytes}
+use Rattle.rx_record.specs.Fields.{value_bytes, pair_bytes, all_bytes}
 use Rattle.rx_record.specs.Writable.{ShortReadsBack}
 use Rattle.rx_record.proofs.Written.{one_more, all_more, PairReadsBack, pair_reads_back, fields_read_back}
 use Rattle.rx_record.proofs.writing.put_fields.Goals as goal
@@ -28,7 +28,7 @@ loop-i-preserved c =
           ∙ append_assoc (before ++ front) (text_bytes name) (value_bytes value)
           ∙ append_assoc before front (pair_bytes (name, value))
           ∙ ap (λ (l : List ℕ). before ++ l)
-          (sym (one_more pair_bytes (λ p. p.0) pair_of fields c.loop-i.i (name, value) c.at.ensures));
+          (sym (one_more pair_bytes fields c.loop-i.i (name, value) c.at.ensures));
       back =
           all_more PairReadsBack fields c.loop-i.i (name, value) c.at.ensures c.loop-i.invariant.back
           (pair_reads_back (name, value)

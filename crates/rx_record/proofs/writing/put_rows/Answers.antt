@@ -2,7 +2,7 @@ use Rattle.std.proofs.Common.{◌≡◌, List, ℕ, length, refl, ◌++◌, take
 use Rattle.std.proofs.lemmas.Option.{slice_get_read}
 use Rattle.rx_record.specs.Parts.{number_bytes}
 use Rattle.rx_record.specs.Fields.{all_bytes}
-use Rattle.rx_record.specs.Rows.{state_bytes, row_bytes, row_of, key_of}
+use Rattle.rx_record.specs.Rows.{state_bytes, row_bytes}
 use Rattle.rx_record.proofs.Written.{one_more, all_more, RowReadsBack, row_reads_back, rows_read_back}
 use Rattle.rx_record.proofs.writing.put_rows.Goals as goal
 
@@ -21,7 +21,7 @@ loop-row-preserved c =
           (c.in_ok-put_long.ensures.bytes ∙ ap (λ (l : List ℕ). l ++ number_bytes w64 row.height) c.loop-row.invariant.bytes)
           ∙ append_assoc (before ++ front) (number_bytes w64 row.height) (state_bytes row.state)
           ∙ append_assoc before front (row_bytes row)
-          ∙ ap (λ (l : List ℕ). before ++ l) (sym (one_more row_bytes key_of row_of rows c.loop-row.row-index row there));
+          ∙ ap (λ (l : List ℕ). before ++ l) (sym (one_more row_bytes rows c.loop-row.row-index row there));
       back =
           all_more RowReadsBack rows c.loop-row.row-index row there c.loop-row.invariant.back
           (row_reads_back row c.in_ok-put_long.ensures.back c.in_ok-put_state.ensures.back);

@@ -1,7 +1,7 @@
 use Rattle.std.proofs.Common.{◌≡◌, List, ℕ, length, refl, ◌++◌, take, slice_get, Some, ap, sym, ◌∙◌, append_assoc, arith}
 use Rattle.std.proofs.lemmas.Option.{slice_get_read}
 use Rattle.rx_record.specs.Fields.{all_bytes}
-use Rattle.rx_record.specs.Rows.{state_bytes, state_of, state_key}
+use Rattle.rx_record.specs.Rows.{state_bytes}
 use Rattle.rx_record.proofs.Written.{one_more, all_more, StateReadsBack, states_read_back}
 use Rattle.rx_record.proofs.writing.put_states.Goals as goal
 
@@ -18,7 +18,7 @@ loop-state-preserved c =
           c.in_ok-put_state.ensures.bytes
           ∙ ap (λ (l : List ℕ). l ++ state_bytes state) c.loop-state.invariant.bytes
           ∙ append_assoc before front (state_bytes state)
-          ∙ ap (λ (l : List ℕ). before ++ l) (sym (one_more state_bytes state_key state_of known c.loop-state.state-index state there));
+          ∙ ap (λ (l : List ℕ). before ++ l) (sym (one_more state_bytes known c.loop-state.state-index state there));
       back =
           all_more StateReadsBack known c.loop-state.state-index state there c.loop-state.invariant.back c.in_ok-put_state.ensures.back;
     }
