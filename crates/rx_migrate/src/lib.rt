@@ -10,5 +10,5 @@ mod steps;
 
 pub use fault::StepsFault;
 pub use migrating::migrate_laws;
-pub use step::{Step, is_step};
+pub use step::{MOST_BY, Step, is_step};
 pub use steps::{MOST_STEPS, Steps};

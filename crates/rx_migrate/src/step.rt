@@ -6,7 +6,7 @@ use rx_value::{RxText, Value, is_field_name, is_number};
 use std::alloc::{AllocError, Global};
 
 /// The greatest factor of a scale.
-pub(crate) const MOST_BY: u16 = 1000;
+pub const MOST_BY: u16 = 1000;
 
 /// One step of a migration.
 #[derive(Debug, Drop)]

@@ -28,17 +28,6 @@ module _ {H : Type 0} (Makes : Held → H → Type 0) (written : H → List Stor
     is = ap (λ h. written h more) m.is ∙ after_rows-append m.first m.taken more;
   }
 
-  -- what holds of new ones, and stays with each record, holds of all
-  pub all_along : (P : H → Type 0) → ((c : Held) (h : H) → Makes c h → P h)
-      → ((h : H) (more : List Stored) → P h → P (written h more))
-      → (h : H) → IsMade Makes written h → P h
-  all_along P new keeps h m =
-      subst P (sym m.is) (go m.taken m.first (new m.collection m.first m.made))
-    where
-      go : (taken : List (List Stored)) (h : H) → P h → P (after_rows written h taken)
-      go [] h p = p
-      go (x ∷ taken) h p = go taken (written h x) (keeps h x p)
-
   -- all are made so after a record
   pub made_after : (held : H → Held) (t : Touch) (old new : List (List ℕ × H))
       → After held written Makes t old new → AreMade Makes written old → AreMade Makes written new

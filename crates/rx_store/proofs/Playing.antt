@@ -15,7 +15,7 @@ use Rattle.rx_collection.specs.Held.{Held}
 use Rattle.rx_document.specs.declared.place.Place.{Place}
 use Rattle.rx_document.specs.declared.stored.Stored.{Stored}
 use Rattle.rx_value.specs.Named.{by_name, by_bytes}
-use Rattle.rx_record.specs.Content.{Content, collection, rows, replication, exchange, epoch, record_of}
+use Rattle.rx_record.specs.Content.{Content, collection, rows, replication, exchange, epoch, migration, part, known_part, end, record_of}
 use Rattle.rx_record.specs.Writable.{HasTime, IsWritablePlace, IsWritable, IsOrdered}
 use Rattle.rx_record.specs.declared.at.At.{At}
 use Rattle.rx_world.specs.Holders.{Holders, holders_in, world_in}
@@ -132,6 +132,14 @@ ordered (exchange name lwt written known up down) w = record {
   down_has_time = timed down w.down_place;
 }
 ordered (epoch number) w = tt
+ordered (migration name schema steps) w = tt
+ordered (part name written) w = w.1.rising
+ordered (known_part name known up down) w = record {
+  states_rise = w.known_states.rising;
+  up_has_time = timed up w.up_place;
+  down_has_time = timed down w.down_place;
+}
+ordered (end number) w = tt
 
 -- a legal record leaves the epoch, or gives it the next number
 pub epoch_next : (c : Content) (w : World) → legal c w ≡ true → epoch_after c w.epoch ≤ w.epoch + 1
@@ -140,6 +148,7 @@ epoch_next (rows name lwt written) w is = omega arith
 epoch_next (replication name fork master handler field) w is = omega arith
 epoch_next (exchange name lwt written known up down) w is = omega arith
 epoch_next (epoch number) w is = omega (arith, eqb-true number (w.epoch + 1) is)
+epoch_next other w is = omega arith
 
 -- nothing was read yet
 pub not_yet : {D : Type 0} (d : Ghosts D) (old : D)

@@ -1,5 +1,5 @@
 -- Tests that decide whether replications are sound.
-use Rattle.std.proofs.Common.{◌≡◌, ◌↔◌, ℕ, ◌||◌, not, Bool, true, false, true≢false, cond, List, [], ◌∷◌, Option, Some, is_some, String, Global, refl, sym, ap, ◌∙◌, ◌⊎◌, inl, inr, subst}
+use Rattle.std.proofs.Common.{◌≡◌, ◌↔◌, ℕ, ◌||◌, not, Bool, true, false, true≢false, cond, List, [], ◌∷◌, Option, Some, is_some, String, Global, refl, sym, ap, ◌∙◌, inl, inr, subst}
 use Rattle.std.proofs.lemmas.Bool.{and_parts, or_cases, or_left, or_right, not-true}
 use Rattle.std.specs.Bool.{Decides}
 use Rattle.std.specs.Cmp.Derive.{both_true}
@@ -17,11 +17,10 @@ use Rattle.rx_document.specs.declared.stored.Stored.{Stored}
 use Rattle.rx_collection.specs.Held.{Held}
 use Rattle.rx_collection.specs.Lawful.{IsLawful}
 use Rattle.rx_collection.specs.Since.{place_of}
-use Rattle.rx_collection.proofs.Named.{at_name, all_named, named_later}
-use Rattle.rx_meta.specs.Side.{Side, AreKnownByKey}
+use Rattle.rx_collection.proofs.Named.{at_name, all_named}
+use Rattle.rx_meta.specs.Side.{AreKnownByKey}
 use Rattle.rx_replication.specs.Known.{KnownStates, is_state}
 use Rattle.rx_replication.specs.Sound.{AreKnownUpTo, HoldKnown, IsSoundSide, Reach}
-use Rattle.rx_replication.specs.Write.{is_up_to, AreByKey}
 use Rattle.rx_replication.proofs.Commits.{lawful-by_key, key_at}
 use Rattle.rx_replication.proofs.Orders.{is_state-some, is_state-itself}
 

@@ -2,16 +2,14 @@
 use Rattle.std.proofs.Common.{◌≡◌, ℕ, List, [], ◌∷◌, Option, Some, None, sym, subst}
 use Rattle.std.specs.List.{AllByRecursion}
 use Rattle.std.specs.Option.{option_map_or}
-use Rattle.rx_value.specs.Named.{named, change_named}
-use Rattle.rx_value.specs.declared.state.State.{State}
-use Rattle.rx_document.specs.declared.place.Place.{Place}
+use Rattle.rx_value.specs.Named.{change_named}
 use Rattle.rx_document.specs.declared.stored.Stored.{Stored}
 use Rattle.rx_collection.specs.Held.{Held, held_with}
-use Rattle.rx_record.specs.Content.{Content, rows, exchange}
+use Rattle.rx_record.specs.Content.{Content, rows}
 use Rattle.rx_record.specs.declared.record.RowOut.{RowOut}
 use Rattle.rx_world.specs.Holders.{After}
 use Rattle.rx_world.specs.Step.{stored_rows}
-use Rattle.rx_world.specs.Touch.{Touch, no_collection, new_collection, new_rows, fork_rows, exchange_touch, touch}
+use Rattle.rx_world.specs.Touch.{Touch, no_collection, new_collection, new_rows, fork_rows, touch}
 use Rattle.rx_world.specs.World.{World}
 use Rattle.rx_world.specs.declared.replication.Replication.{Replication}
 use Rattle.rx_world.proofs.Looked.{all_put_named, all_change_named}

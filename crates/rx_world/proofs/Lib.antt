@@ -11,6 +11,8 @@ pub mod Alike
 pub mod Holding
 pub mod Forks
 pub mod Sides
+pub mod Beginning
+pub mod Trees
 pub mod Links
 pub mod Making
 pub mod Deciding

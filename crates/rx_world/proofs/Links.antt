@@ -1,5 +1,5 @@
 -- Replications stay linked.
-use Rattle.std.proofs.Common.{◌≡◌, ◌≢◌, ◌≤◌, ℕ, ◌&&◌, ◌||◌, not, Bool, true, false, true≢false, cond, List, [], ◌∷◌, map, length, Option, Some, None, is_some, is_none, nat_lt, IfSome, option_map, option_and_then, Result, Ok, Err, refl, sym, ap, ◌∙◌, inl, inr, subst, arith}
+use Rattle.std.proofs.Common.{◌≡◌, ◌≢◌, ℕ, ◌||◌, not, true, false, true≢false, cond, List, [], ◌∷◌, map, Option, Some, None, is_some, IfSome, option_map, option_and_then, Result, Ok, Err, refl, sym, ap, ◌∙◌, inl, inr, subst, arith}
 use Rattle.std.proofs.lemmas.Bool.{and_parts, or_parts, not-true, ltb-true}
 use Rattle.std.proofs.lemmas.Slice.Eq.{bytes_eq-Decides}
 use Rattle.std.specs.Borrow.{Bor}
@@ -7,10 +7,9 @@ use Rattle.std.specs.List.{AllByRecursion, IsDistinct, list_all, list_any}
 use Rattle.std.specs.Map.{values_of}
 use Rattle.std.specs.Option.{option_map_or}
 use Rattle.std.specs.Str.{bytes_eq}
-use Rattle.rx_value.specs.Name.{is_name}
-use Rattle.rx_value.specs.Named.{named, put_named, change_named, put_in_order, AreRising}
+use Rattle.rx_value.specs.Named.{named, put_named, change_named, put_in_order}
 use Rattle.rx_value.specs.declared.state.State.{State}
-use Rattle.rx_value.proofs.Outcomes.{none_is, some_same, not_none}
+use Rattle.rx_value.proofs.Outcomes.{some_same, not_none}
 use Rattle.rx_value.proofs.Bytes.{bytes_cases}
 use Rattle.serde_json.specs.Read.{read}
 use Rattle.rx_schema.specs.Reading.{schema_of}
@@ -24,24 +23,26 @@ use Rattle.rx_collection.specs.Held.{Held, held_with}
 use Rattle.rx_collection.proofs.Named.{at_name, all_put}
 use Rattle.rx_collection.proofs.Lawful.{rising_none}
 use Rattle.rx_meta.specs.Side.{AreKnownByKey}
-use Rattle.rx_record.specs.Content.{Content, collection, rows, replication, exchange, epoch}
+use Rattle.rx_record.specs.Content.{Content, collection, rows, replication, exchange}
 use Rattle.rx_record.specs.Writable.{IsOrdered, IsOrderedExchange}
 use Rattle.rx_record.specs.declared.record.MasterName.{MasterName}
 use Rattle.rx_record.specs.declared.record.MasterName.TheVariants.{Local, Port}
 use Rattle.rx_record.specs.declared.record.RowOut.{RowOut}
 use Rattle.rx_replication.specs.Known.{KnownStates, with_learnt}
 use Rattle.rx_replication.proofs.Commits.{learn-rising}
-use Rattle.rx_world.specs.Chain.{has_fork, is_fork, is_master, may_follow}
-use Rattle.rx_world.specs.Linked.{IsMasterOf, HasMaster, IsLinked, AreLinked, forks_of}
+use Rattle.rx_world.specs.Chain.{has_fork, is_fork, tree_root, IsForest, may_follow}
+use Rattle.rx_world.specs.Linked.{HasMaster, IsLinked, AreLinked, forks_of}
 use Rattle.rx_world.specs.Replicating.{new_replication, with_exchange, has_schema_of, is_fitting}
 use Rattle.rx_world.specs.Schema.{if_canonical, schema_in}
-use Rattle.rx_world.specs.Step.{IsValidState, is_valid_state, is_held_with, fork_takes, takes_rows, has_key, may_begin, legal, step, collections_after, stored_rows, written_to}
+use Rattle.rx_world.specs.Step.{IsValidState, is_valid_state, is_held_with, takes_rows, has_key, legal, step, collections_after, stored_rows, written_to}
 use Rattle.rx_world.specs.Touch.{no_collection, new_where, fork_rows}
 use Rattle.rx_world.specs.Valid.{AllSpelled, IsSpelled}
-use Rattle.rx_world.specs.World.{World, Collections, Replications, empty, max_replications}
+use Rattle.rx_world.specs.World.{World, Collections, Replications, empty}
 use Rattle.rx_world.specs.declared.replication.Replication.{Replication}
 use Rattle.rx_world.proofs.Looked.{named-put_other, named-change_same, named-change_other, all_put_named, all_change_named}
+use Rattle.rx_world.proofs.Beginning.{Begins, begins}
 use Rattle.rx_world.proofs.Steps.{collection_new, exchange_goes}
+use Rattle.rx_world.proofs.Trees.{other_than_root}
 
 -- ---- what stays held
 
@@ -109,7 +110,7 @@ stay_step (rows name lwt written) w is = stay_written w.collections name lwt wri
 stay_step (replication name fork master handler field) w is = stay_same w.collections
 stay_step (exchange name lwt written known up down) w is =
     stay_fork w.collections lwt written (named w.replications name)
-stay_step (epoch number) w is = stay_same w.collections
+stay_step other w is = stay_same w.collections
 
 -- ---- a replication stays linked
 
@@ -150,44 +151,11 @@ same_schema fork master spelled spelled' same =
     ∙ ap schema_in ((bytes_eq-Decides (canonical_text master.schema) (canonical_text fork.schema)).0 same)
     ∙ spelled)
 
--- what is legal of it
-pub record Begins (name fork : List ℕ) (master : MasterName) (w : World) : Type 0 where
-  pub free : named w.replications name ≡ None
-  pub fork_held : Held
-  pub held : named w.collections fork ≡ Some fork_held
-  pub fits : is_fitting w.collections master fork_held ≡ true
-  pub follows : may_follow w.replications fork master ≡ true
-
-pub begins : (name fork : List ℕ) (master : MasterName) (w : World) → may_begin name fork master w ≡ true
-    → Begins name fork master w
-begins name fork master w is =
-    let fits : Held → Bool = is_fitting w.collections master in
-    let a = is_name name in
-    let b = is_none (named w.replications name) in
-    let d = option_map_or fits (named w.collections fork) false in
-    let e = may_follow w.replications fork master in
-    let g = nat_lt (length w.replications) max_replications in
-    let four = (and_parts (a && b && d && e) g is).0 in
-    let three = and_parts (a && b && d) e four in
-    let two = and_parts (a && b) d three.0 in
-    let free = none_is (named w.replications name) (and_parts a b two.0).1 in
-    elim (named w.collections fork) as (λ o. named w.collections fork ≡ o
-    → option_map_or fits o false ≡ true → Begins name fork master w) [
-      | None ↦ (λ at no. absurd (true≢false (sym no)))
-      | Some c ↦ (λ at yes. record { free = free; fork_held = c; held = at; fits = yes; follows = three.1 })
-    ] refl two.1
-
 -- what its master is
-master_linked : (w : World) (fork : List ℕ) (c : Held) (m : MasterName) → AllSpelled w
+master_linked : (w : World) (fork : List ℕ) (c : Held) (m : MasterName) → AllSpelled w → IsForest w.replications
     → named w.collections fork ≡ Some c → is_fitting w.collections m c ≡ true
     → may_follow w.replications fork m ≡ true → HasMaster w.collections fork c.schema m
-master_linked w fork c (Local name) spelled held fits follows =
-    let a = is_fork fork w.replications in
-    let b = is_master fork w.replications in
-    let d = bytes_eq fork name in
-    let e = is_fork name w.replications in
-    let three = and_parts (not a && not b && not d) (not e) follows in
-    let apart : d ≡ false = not-true d (and_parts (not a && not b) (not d) three.0).1 in
+master_linked w fork c (Local name) spelled forest held fits follows =
     let at : (k : List ℕ) (x : Held) → named w.collections k ≡ Some x → IsSpelled x =
     λ k x here. at_name (λ k x. IsSpelled x) w.collections k x spelled here in
     elim (named w.collections name) as (λ o. named w.collections name ≡ o
@@ -196,22 +164,22 @@ master_linked w fork c (Local name) spelled held fits follows =
       | Some master ↦ (λ here yes. record {
         master = master;
         held = here;
-        other = λ same. true≢false (sym ((bytes_eq-Decides fork name).1 (sym same)) ∙ apart);
+        other = other_than_root w.replications fork name forest follows;
         same = same_schema c master (at fork c held) (at name master here) yes;
       })
     ] refl fits
-master_linked w fork c (Port port) spelled held fits follows =
+master_linked w fork c (Port port) spelled forest held fits follows =
     let some = ltb-true 0 port fits in omega arith
 
 -- a new one is linked
 new_linked : (name fork : List ℕ) (m : MasterName) (handler : List ℕ) (field : Option (List ℕ)) (w : World)
-    → AllSpelled w → Begins name fork m w
+    → AllSpelled w → IsForest w.replications → Begins name fork m w
     → IsLinked w.collections name (new_replication name fork m handler field)
-new_linked name fork m handler field w spelled b = record {
+new_linked name fork m handler field w spelled forest b = record {
   called = refl;
   fork = b.fork_held;
   held = b.held;
-  master = master_linked w fork b.fork_held m spelled b.held b.fits b.follows;
+  master = master_linked w fork b.fork_held m spelled forest b.held b.fits b.follows;
   by_key = record { rising = rising_none State; keyed = tt };
   valid = tt;
   up_has_time = tt;
@@ -222,14 +190,9 @@ new_linked name fork m handler field w spelled b = record {
 no_fork : (rs : Replications) (fork : List ℕ) (m : MasterName) → may_follow rs fork m ≡ true
     → is_fork fork rs ≡ false
 no_fork rs fork (Local name) is =
-    let a = is_fork fork rs in
-    let b = is_master fork rs in
-    let d = bytes_eq fork name in
-    let e = is_fork name rs in
-    not-true a (and_parts (not a) (not b)
-    (and_parts (not a && not b) (not d) (and_parts (not a && not b && not d) (not e) is).0).0).0
-no_fork rs fork (Port port) is =
-    not-true (is_fork fork rs) (and_parts (not (is_fork fork rs)) (not (is_master fork rs)) is).0
+    not-true (is_fork fork rs)
+    (and_parts (not (is_fork fork rs)) (not (bytes_eq (tree_root rs name) fork)) is).0
+no_fork rs fork (Port port) is = not-true (is_fork fork rs) is
 
 others_apart : (rs : Replications) (fork : List ℕ) → is_fork fork rs ≡ false
     → AllByRecursion (λ f. bytes_eq f fork ≡ false) (forks_of rs)
@@ -344,27 +307,27 @@ exchange_links name lwt written known up down w is ordered links r at after stay
 
 -- a legal record leaves replications linked
 pub linked_step : (entry : Content) (w : World) → legal entry w ≡ true → IsOrdered entry → AllSpelled w
-    → AreLinked w → AreLinked (step entry w)
-linked_step (collection name schema) w is ordered spelled links = record {
+    → IsForest w.replications → AreLinked w → AreLinked (step entry w)
+linked_step (collection name schema) w is ordered spelled forest links = record {
   each = links_stay w.collections (step (collection name schema) w).collections
       (stay_step (collection name schema) w is) w.replications links.each;
   apart = links.apart;
 }
-linked_step (rows name lwt written) w is ordered spelled links = record {
+linked_step (rows name lwt written) w is ordered spelled forest links = record {
   each = links_stay w.collections (step (rows name lwt written) w).collections
       (stay_step (rows name lwt written) w is) w.replications links.each;
   apart = links.apart;
 }
-linked_step (replication name fork master handler field) w is ordered spelled links =
+linked_step (replication name fork master handler field) w is ordered spelled forest links =
     let b = begins name fork master w is in
     let r = new_replication name fork master handler field in
     record {
       each = all_put_named (λ k x. IsLinked w.collections k x) w.replications name r
-          (new_linked name fork master handler field w spelled b) links.each;
+          (new_linked name fork master handler field w spelled forest b) links.each;
       apart = forks_put w.replications name r b.free
           (others_apart w.replications fork (no_fork w.replications fork master b.follows)) links.apart;
     }
-linked_step (exchange name lwt written known up down) w is ordered spelled links =
+linked_step (exchange name lwt written known up down) w is ordered spelled forest links =
     let entry = exchange name lwt written known up down in
     let after : Collections = (step entry w).collections in
     let stay : StayHeld w.collections after = stay_step entry w is in
@@ -375,7 +338,7 @@ linked_step (exchange name lwt written known up down) w is ordered spelled links
       apart = subst (IsDistinct bytes_eq)
           (sym (forks_changed (with_exchange known up down) (λ r. refl) w.replications name)) links.apart;
     }
-linked_step (epoch number) w is ordered spelled links = record { each = links.each; apart = links.apart }
+linked_step other w is ordered spelled forest links = record { each = links.each; apart = links.apart }
 
 pub linked_empty : AreLinked empty
 unfolding IsDistinct
@@ -430,7 +393,7 @@ spelled_step (rows name lwt written) w is all = spelled_rows w.collections name 
 spelled_step (replication name fork master handler field) w is all = all
 spelled_step (exchange name lwt written known up down) w is all =
     spelled_fork w.collections lwt written (named w.replications name) all
-spelled_step (epoch number) w is all = all
+spelled_step other w is all = all
 
 -- ---- what a call lends
 

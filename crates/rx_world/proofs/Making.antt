@@ -1,12 +1,12 @@
 -- Records make worlds of which all holds that holds of made ones.
-use Rattle.std.proofs.Common.{◌≡◌, ℕ, true, List, [], ◌∷◌, Option, Some, None, refl, sym, ◌∙◌, subst}
+use Rattle.std.proofs.Common.{◌≡◌, ℕ, true, List, [], ◌∷◌, Option, Some, None, refl, ◌∙◌, subst}
 use Rattle.std.specs.List.{AllByRecursion}
 use Rattle.std.specs.Option.{option_map_or}
 use Rattle.rx_value.specs.Named.{named}
 use Rattle.rx_value.specs.declared.state.State.{State}
 use Rattle.rx_document.specs.declared.place.Place.{Place}
 use Rattle.rx_collection.specs.Held.{held_with}
-use Rattle.rx_record.specs.Content.{Content, collection, rows, replication, exchange, epoch}
+use Rattle.rx_record.specs.Content.{Content, collection, rows, replication, exchange}
 use Rattle.rx_record.specs.Writable.{IsOrdered, KeysRise}
 use Rattle.rx_record.specs.declared.record.RowOut.{RowOut}
 use Rattle.rx_world.specs.Lawful.{IsLawfulAt, IsLawfulWorld}
@@ -14,9 +14,10 @@ use Rattle.rx_world.specs.Made.{IsMadeWorld}
 use Rattle.rx_world.specs.Schema.{schema_in}
 use Rattle.rx_world.specs.Step.{legal, step, takes, collections_after, stored_rows, written_to}
 use Rattle.rx_world.specs.Touch.{no_collection, new_where, fork_rows}
-use Rattle.rx_world.specs.World.{World, Collections, empty}
+use Rattle.rx_world.specs.World.{World, empty}
 use Rattle.rx_world.specs.declared.replication.Replication.{Replication}
 use Rattle.rx_collection.specs.Held.{Held}
+use Rattle.rx_world.proofs.Trees.{forest_step}
 use Rattle.rx_world.proofs.Links.{linked_empty, linked_step, spelled_step}
 use Rattle.rx_world.proofs.Looked.{all_put_named, all_change_named}
 use Rattle.rx_world.proofs.Steps.{rows_go, exchange_goes, fork_rows_taken}
@@ -63,7 +64,7 @@ lawful_step (rows name lwt written) w is ordered lawful =
 lawful_step (replication name fork master handler field) w is ordered lawful = lawful
 lawful_step (exchange name lwt written known up down) w is ordered lawful =
     lawful_fork name lwt written known up down w is ordered.rows_rise lawful (named w.replications name) refl
-lawful_step (epoch number) w is ordered lawful = lawful
+lawful_step other w is ordered lawful = lawful
 
 -- ---- worlds that records made
 
@@ -74,6 +75,7 @@ made_empty = record {
   spelled = tt;
   distinct = distinct_empty;
   linked = linked_empty;
+  forest = refl;
 }
 
 -- a legal record in order makes one of one
@@ -84,5 +86,6 @@ made_step entry w is ordered made = record {
   valid = valid_step entry w is made.valid;
   spelled = spelled_step entry w is made.spelled;
   distinct = distinct_step entry w made.distinct;
-  linked = linked_step entry w is ordered made.spelled made.linked;
+  linked = linked_step entry w is ordered made.spelled made.forest made.linked;
+  forest = forest_step entry w is made.forest;
 }

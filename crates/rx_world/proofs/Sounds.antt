@@ -1,5 +1,5 @@
 -- Worlds stay sound.
-use Rattle.std.proofs.Common.{◌≡◌, ◌≢◌, ℕ, ◌<◌, ◌==◌, ◌&&◌, Bool, true, false, true≢false, cond, List, [], ◌∷◌, map, length, Option, Some, None, option_map, refl, sym, ap, ◌∙◌, ◌⊎◌, inl, inr, subst, arith, Less}
+use Rattle.std.proofs.Common.{◌≡◌, ◌≢◌, ℕ, ◌==◌, true, true≢false, List, [], ◌∷◌, map, Option, Some, None, option_map, refl, sym, ap, ◌∙◌, subst, arith, Less}
 use Rattle.std.proofs.lemmas.Bool.{and_parts, eqb-true}
 use Rattle.std.specs.List.{AllByRecursion, list_all}
 use Rattle.std.specs.List.Sorted.{IsStrictlySortedBy}
@@ -12,13 +12,12 @@ use Rattle.rx_value.specs.declared.state.State.{State}
 use Rattle.rx_value.proofs.Outcomes.{some_same, not_none}
 use Rattle.rx_document.specs.Documents.{Documents}
 use Rattle.rx_document.specs.declared.place.Place.{Place}
-use Rattle.rx_document.specs.declared.stored.Stored.{Stored}
 use Rattle.rx_schema.specs.declared.shape.Shape.{Shape}
 use Rattle.rx_collection.specs.Commit.{by_key, next_height, row_of, rows_of, with_rows}
 use Rattle.rx_collection.specs.Held.{Held, held_with}
 use Rattle.rx_collection.proofs.Named.{at_name}
 use Rattle.rx_meta.specs.Side.{Side}
-use Rattle.rx_record.specs.Content.{Content, collection, rows, replication, exchange, epoch}
+use Rattle.rx_record.specs.Content.{Content, collection, rows, replication, exchange}
 use Rattle.rx_record.specs.Rows.{key_of}
 use Rattle.rx_record.specs.Writable.{IsOrdered, KeysRise}
 use Rattle.rx_record.specs.declared.record.MasterName.{MasterName}
@@ -29,7 +28,7 @@ use Rattle.rx_replication.specs.Sound.{IsSoundSide, IsForkSound, IsMasterSound}
 use Rattle.rx_replication.specs.Worlds.{Linked, HasSoundMaster, HasSoundSides as IsSoundLink}
 use Rattle.rx_replication.proofs.Commits.{Wrote, commit_wrote}
 use Rattle.rx_replication.proofs.Worlds.{IsWrittenAt, commit_keeps}
-use Rattle.rx_world.specs.Linked.{HasMaster, IsLinked, AreLinked}
+use Rattle.rx_world.specs.Linked.{HasMaster, IsLinked}
 use Rattle.rx_world.specs.Made.{IsMadeWorld}
 use Rattle.rx_world.specs.Replicating.{new_replication, with_exchange}
 use Rattle.rx_world.specs.Schema.{schema_in}
@@ -229,7 +228,7 @@ IsNoExchange (collection name schema) = Unit {0}
 IsNoExchange (rows name lwt written) = Unit {0}
 IsNoExchange (replication name fork master handler field) = Unit {0}
 IsNoExchange (exchange name lwt written known up down) = ⊥
-IsNoExchange (epoch number) = Unit {0}
+IsNoExchange other = Unit {0}
 
 pub sound_empty : IsSoundWorld empty
 sound_empty = tt
@@ -258,7 +257,7 @@ sound_step (replication name fork master handler field) w is ordered none made s
     (λ c held. new_sound w.collections master c (new_replication name fork master handler field).side refl refl refl)
     sound
 sound_step (exchange name lwt written known up down) w is ordered none made sound = absurd none
-sound_step (epoch number) w is ordered none made sound = sound
+sound_step other w is ordered none made sound = sound
 
 -- ---- an exchange
 

@@ -13,7 +13,7 @@ use Rattle.rx_document.specs.declared.place.Place.{Place}
 use Rattle.rx_collection.specs.Commit.{next_height, with_row, with_rows}
 use Rattle.rx_collection.specs.Held.{Held, held_with}
 use Rattle.rx_collection.proofs.Named.{at_name, all_put}
-use Rattle.rx_record.specs.Content.{Content, collection, rows, replication, exchange, epoch}
+use Rattle.rx_record.specs.Content.{Content, collection, rows, replication, exchange}
 use Rattle.rx_record.specs.declared.record.RowOut.{RowOut}
 use Rattle.rx_world.specs.Schema.{schema_in}
 use Rattle.rx_world.specs.Step.{is_valid_state, is_next_row, takes, legal, step, collections_after, stored_of, stored_rows, written_to}
@@ -102,7 +102,7 @@ valid_step (rows name lwt written) w is valid =
 valid_step (replication name fork master handler field) w is valid = valid
 valid_step (exchange name lwt written known up down) w is valid =
     fork_valid name lwt written known up down w is valid (named w.replications name) refl
-valid_step (epoch number) w is valid = valid
+valid_step other w is valid = valid
 
 -- ---- names
 
@@ -131,4 +131,4 @@ distinct_step (rows name lwt written) w distinct =
 distinct_step (replication name fork master handler field) w distinct = distinct
 distinct_step (exchange name lwt written known up down) w distinct =
     fork_distinct lwt written w distinct (named w.replications name)
-distinct_step (epoch number) w distinct = distinct
+distinct_step other w distinct = distinct

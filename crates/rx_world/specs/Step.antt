@@ -126,7 +126,7 @@ may_begin name fork master w =
 -- A collection is legal where its name is a name and isn't held, its schema's text is canonical,
 -- and there is room for it. Rows are legal where the collection is held and takes them, a
 -- replication where it may begin, and an exchange where the replication is held and takes it. An
--- epoch is legal where it is the one after the last.
+-- epoch is legal where it is the one after the last. No record of another kind is legal yet.
 abbrev pub legal : Content → World → Bool
 legal (collection name schema) w =
     is_name name && is_none (named w.collections name)
@@ -137,6 +137,7 @@ legal (exchange name lwt written known up down) w =
     option_map_or (takes_exchange w.collections lwt written known up down)
     (named w.replications name) false
 legal (epoch number) w = number == w.epoch + 1
+legal other w = false
 
 -- the world after a record, where it is legal
 abbrev pub step_where_legal : Content → World → Option World

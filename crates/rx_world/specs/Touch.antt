@@ -3,7 +3,7 @@ use Rattle.std.specs.Prelude.{ℕ, List, [], ◌∷◌, Option, Some, None}
 use Rattle.std.specs.Option.{option_map_or}
 use Rattle.rx_value.specs.Named.{named}
 use Rattle.rx_schema.specs.declared.shape.Shape.{Shape}
-use Rattle.rx_record.specs.Content.{Content, collection, rows, replication, exchange, epoch}
+use Rattle.rx_record.specs.Content.{Content, collection, rows, replication, exchange}
 use Rattle.rx_record.specs.declared.record.RowOut.{RowOut}
 use Rattle.rx_world.specs.Schema.{schema_in}
 use Rattle.rx_world.specs.World.{World, Replications}
@@ -37,4 +37,4 @@ touch (collection name schema) w = new_where name (schema_in schema)
 touch (rows name lwt written) w = new_rows name lwt written
 touch (replication name fork master handler field) w = no_collection
 touch (exchange name lwt written known up down) w = exchange_touch lwt written name w.replications
-touch (epoch number) w = no_collection
+touch other w = no_collection

@@ -78,6 +78,7 @@ pub(crate) fn change<H: Holder + Drop, F: Fn(Collection) -> Result<H, AllocError
             parts.epoch = number;
             Ok(())
         }
+        _ => Ok(()),
     }
 }
 

@@ -1,9 +1,10 @@
 ghost use Rattle.std.specs.Prelude.{◌≡◌, ◌+◌, ◌==◌, IfOk};
 ghost use Rattle.std.specs.List.{list_all};
-ghost use Rattle.rx_value.specs.Named.{named};
+ghost use Rattle.rx_value.specs.Named.{by_bytes, named};
 ghost use Rattle.rx_record.specs.Content.{collection};
 ghost use Rattle.rx_record.specs.Shown.{content, content_in};
 ghost use Rattle.rx_record.specs.Views.{row_in, rows_left};
+ghost use Rattle.rx_world.specs.Chain.{IsForest};
 ghost use Rattle.rx_world.specs.Holders.{AreWhole, holders_of, world_in};
 ghost use Rattle.rx_world.specs.Step.{is_valid_state, is_next_row, takes, legal};
 
@@ -24,7 +25,8 @@ pub(crate) fn is_legal<H: Holder>(
     alloc: Global,
     entry: &Record,
 ) -> Result<bool, AllocError>
-    requires { AreWhole H.held H.is_broken parts.now.holders.entries }
+    requires whole { AreWhole H.held H.is_broken parts.now.holders.entries }
+    requires forest { IsForest (by_bytes parts.now.replications.entries) }
     ensures { IfOk result
         (λ b. b ≡ legal (content entry.now) (world_in H.held (holders_of parts.now))) }
 {
@@ -62,6 +64,7 @@ pub(crate) fn is_legal<H: Holder>(
             None => Ok(false),
         },
         Record::Epoch { number } => Ok(is_next(*number, parts.epoch)),
+        _ => Ok(false),
     }
 }
 
@@ -72,7 +75,8 @@ pub(crate) fn is_legal_view<H: Holder>(
     alloc: Global,
     view: &RecordView<'_>,
 ) -> Result<bool, AllocError>
-    requires { AreWhole H.held H.is_broken parts.now.holders.entries }
+    requires whole { AreWhole H.held H.is_broken parts.now.holders.entries }
+    requires forest { IsForest (by_bytes parts.now.replications.entries) }
     ensures { IfOk result
         (λ b. b ≡ legal (content_in view.now) (world_in H.held (holders_of parts.now))) }
 {
@@ -115,6 +119,7 @@ pub(crate) fn is_legal_view<H: Holder>(
             None => Ok(false),
         },
         RecordView::Epoch { number } => Ok(is_next(*number, parts.epoch)),
+        _ => Ok(false),
     }
 }
 

@@ -1,7 +1,8 @@
 // Where a replication may begin, and what it takes.
 ghost use Rattle.std.specs.Prelude.{◌≡◌, option_map};
 ghost use Rattle.std.specs.List.{list_all};
-ghost use Rattle.rx_value.specs.Named.{by_name};
+ghost use Rattle.rx_value.specs.Named.{by_bytes, by_name};
+ghost use Rattle.rx_world.specs.Chain.{IsForest};
 ghost use Rattle.rx_world.specs.Holders.{AreWhole, holders_of, world_in};
 ghost use Rattle.rx_world.specs.Replicating.{has_schema_of, is_fitting, stays_or_rises};
 ghost use Rattle.rx_world.specs.Step.{fork_takes, has_key, is_held_with, may_begin, takes_exchange, takes_rows};
@@ -24,7 +25,8 @@ pub(crate) fn may_begin<H: Holder>(
     fork: &str,
     master: &MasterName,
 ) -> bool
-    requires { AreWhole H.held H.is_broken parts.now.holders.entries }
+    requires whole { AreWhole H.held H.is_broken parts.now.holders.entries }
+    requires forest { IsForest (by_bytes parts.now.replications.entries) }
     ensures { result ≡ may_begin name.now fork.now master.now
         (world_in H.held (holders_of parts.now)) }
 {

@@ -2,7 +2,8 @@
 // owned.
 ghost use Rattle.std.specs.Prelude.{◌≡◌, IfOk, option_map};
 ghost use Rattle.std.specs.List.{list_all};
-ghost use Rattle.rx_record.specs.Views.{place_in, rows_left, states_left};
+ghost use Rattle.rx_record.specs.Places.{place_in};
+ghost use Rattle.rx_record.specs.Views.{rows_left, states_left};
 ghost use Rattle.rx_value.specs.Named.{by_name};
 ghost use Rattle.rx_world.specs.Holders.{AreWhole};
 ghost use Rattle.rx_world.specs.Replicating.{stays_or_rises};

@@ -279,8 +279,8 @@ impl<H: Holder + Drop> World<H> {
         chain::is_fork(&self.parts.replications, name)
     }
 
-    /// Whether the collection may follow that master: no chain of replications has three
-    /// collections.
+    /// Whether the collection may follow that master: it follows none yet, and going from a fork to
+    /// its master doesn't lead from that master to it.
     pub fn may_follow(&self, fork: &str, master: &MasterName) -> bool
         ensures { result
             ≡ may_follow (world_in H.held self.now).replications fork.now master.now }

@@ -1,5 +1,4 @@
-use Rattle.std.proofs.Common.{◌≡◌, [], ◌∷◌, ◌++◌, List, String, Global, Ok, string_bytes, subst, sym, rules}
-use Rattle.std.specs.List.{AllByRecursion}
+use Rattle.std.proofs.Common.{◌≡◌, ◌++◌, List, String, Global, Ok, string_bytes, subst, sym, rules}
 use Rattle.rx_collection.specs.Held.{Held}
 use Rattle.rx_collection.specs.declared.holder.Plain.{Plain}
 use Rattle.rx_value.specs.Named.{by_bytes, by_name}
