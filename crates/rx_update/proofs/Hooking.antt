@@ -29,14 +29,14 @@ put_other ps field name v apart =
     ∙ ap (λ b. cond b (Some v) (named ps name)) (differs name field apart)
 
 -- what a hook that vetoes nothing leaves
-let_through : (o : Option Value) (s t : State) → unless_true o s ≡ Some t → s ≡ t
+pub let_through : (o : Option Value) (s t : State) → unless_true o s ≡ Some t → s ≡ t
 let_through (Some (Flag true)) s t is = absurd (cc)
 let_through (Some (Flag false)) s t is = some_same is
 let_through _ s t is = some_same is
 
 -- ---- the others
 
-counted_other : (ps : Pairs) (field name : List ℕ) (o : Option ℤ) → name ≢ field
+pub counted_other : (ps : Pairs) (field name : List ℕ) (o : Option ℤ) → name ≢ field
     → named (counted_at field ps o) name ≡ named ps name
 counted_other ps field name None apart = refl
 counted_other ps field name (Some n) apart =
@@ -45,7 +45,7 @@ counted_other ps field name (Some n) apart =
     ≡ named ps name)
     [ true ↦ put_other ps field name (Int (n +ℤ pos 1)) apart | false ↦ refl ]
 
-zeroed_other : (ps : Pairs) (field name : List ℕ) (o : Option Value) → name ≢ field
+pub zeroed_other : (ps : Pairs) (field name : List ℕ) (o : Option Value) → name ≢ field
     → named (zeroed_at field ps o) name ≡ named ps name
 zeroed_other ps field name None apart = put_other ps field name (Int (pos 0)) apart
 zeroed_other ps field name (Some v) apart = refl

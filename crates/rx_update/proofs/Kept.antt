@@ -28,7 +28,7 @@ use Rattle.rx_update.proofs.Values.{made_held, IsHeld}
 -- ---- one field
 
 -- what isn't equal one way round isn't the other way round
-apart : (a b : List ℕ) → bytes_eq a b ≡ false → bytes_eq b a ≡ false
+pub apart : (a b : List ℕ) → bytes_eq a b ≡ false → bytes_eq b a ≡ false
 apart a b other =
     one_answer (bytes_eq b a) (bytes_eq a b) (bytes_eq-Decides b a)
     (decides_as (bytes_eq a b) (bytes_eq-Decides a b) sym sym)
@@ -141,7 +141,7 @@ made_there old before name o after not_there rising =
 
 -- ---- where there is no fault
 
-no_fault : {A B E : Type 0} (fault : A → E) (found : Option A) (rest : Result B E) (y : B)
+pub no_fault : {A B E : Type 0} (fault : A → E) (found : Option A) (rest : Result B E) (y : B)
     → unless fault found rest ≡ Ok y → rest ≡ Ok y
 no_fault fault None rest y is = is
 no_fault fault (Some x) rest y is = absurd (cc)

@@ -14,8 +14,8 @@ use Rattle.rx_update.specs.declared.fault.UpdateFault.{UpdateFault}
 use Rattle.rx_update.specs.declared.fault.UpdateFault.TheVariants.{Operator, Operand, Twice, Key}
 use Rattle.rx_update.specs.declared.operation.Operation.{Operation}
 use Rattle.rx_update.specs.declared.operation.Operation.TheVariants.{Add, Raise, Lower, Set, Unset}
-use Rattle.rx_update.specs.declared.reading.Operator.{Operator as Word}
-use Rattle.rx_update.specs.declared.reading.Operator.TheVariants as word
+use Rattle.rx_update.specs.declared.operands.Operator.{Operator as Word}
+use Rattle.rx_update.specs.declared.operands.Operator.TheVariants as word
 
 -- what an update does, field by field: first what is added, then what is raised, lowered, set and
 -- taken away, each by rising name
@@ -32,6 +32,29 @@ name_of word.Unset = codes "$unset"
 abbrev pub operator_names : List (List ℕ)
 operator_names =
     codes "$inc" ∷ codes "$max" ∷ codes "$min" ∷ codes "$set" ∷ codes "$unset" ∷ []
+
+-- what stands under each operator
+pub record Under : Type 0 where
+  pub inc : Option Data
+  pub max : Option Data
+  pub min : Option Data
+  pub set : Option Data
+  pub unset : Option Data
+
+abbrev pub under_each : Option Data → Option Data → Option Data → Option Data → Option Data → Under
+under_each i a m s u = record { inc = i; max = a; min = m; set = s; unset = u }
+
+abbrev pub operands_of : Data → Under
+operands_of d =
+    under_each (get (name_of word.Inc) d) (get (name_of word.Max) d) (get (name_of word.Min) d)
+    (get (name_of word.Set) d) (get (name_of word.Unset) d)
+
+abbrev pub under : Under → Word → Option Data
+under u word.Inc = u.inc
+under u word.Max = u.max
+under u word.Min = u.min
+under u word.Set = u.set
+under u word.Unset = u.unset
 
 -- ---- one field
 
@@ -66,31 +89,31 @@ abbrev pub misfit_of : Word → Option Members → Option (List ℕ)
 misfit_of op None = Some (name_of op)
 misfit_of op (Some ms) = misfit_among op ms
 
-abbrev pub misfit_under : Data → Word → Option (List ℕ)
-misfit_under d op = get (name_of op) d >>= λ fields. misfit_of op (as_object fields)
+abbrev pub misfit_under : Under → Word → Option (List ℕ)
+misfit_under u op = under u op >>= λ fields. misfit_of op (as_object fields)
 
 -- a field stands under an operator
-abbrev pub is_under : Data → List ℕ → Word → Bool
-is_under d name op = is_some (get (name_of op) d >>= get name)
+abbrev pub is_under : Under → List ℕ → Word → Bool
+is_under u name op = is_some (under u op >>= get name)
 
 abbrev pub one_if : Bool → ℕ
 one_if b = if b then 1 else 0
 
 -- under how many it stands
-abbrev pub times_named : Data → List ℕ → ℕ
-times_named d name =
-    one_if (is_under d name word.Inc) + one_if (is_under d name word.Max)
-    + one_if (is_under d name word.Min) + one_if (is_under d name word.Set)
-    + one_if (is_under d name word.Unset)
+abbrev pub times_named : Under → List ℕ → ℕ
+times_named u name =
+    one_if (is_under u name word.Inc) + one_if (is_under u name word.Max)
+    + one_if (is_under u name word.Min) + one_if (is_under u name word.Set)
+    + one_if (is_under u name word.Unset)
 
 -- the first that stands under another operator too
-abbrev pub repeated_among : Data → Members → Option (List ℕ)
-repeated_among d no_members = None
-repeated_among d (member name field ms) =
-    if nat_lt 1 (times_named d name) then Some name else repeated_among d ms
+abbrev pub repeated_among : Under → Members → Option (List ℕ)
+repeated_among u no_members = None
+repeated_among u (member name field ms) =
+    if nat_lt 1 (times_named u name) then Some name else repeated_among u ms
 
-abbrev pub repeated_under : Data → Word → Option (List ℕ)
-repeated_under d op = get (name_of op) d >>= as_object >>= repeated_among d
+abbrev pub repeated_under : Under → Word → Option (List ℕ)
+repeated_under u op = under u op >>= as_object >>= repeated_among u
 
 -- what is done to each
 abbrev pub with_operation : List ℕ → Option Operation → Operations → Operations
@@ -106,8 +129,8 @@ abbrev pub operations_of : Word → Option Members → Operations
 operations_of op None = []
 operations_of op (Some ms) = operations_among op ms
 
-abbrev pub operations_under : Data → Word → Operations
-operations_under d op = operations_of op (get (name_of op) d >>= as_object)
+abbrev pub operations_under : Under → Word → Operations
+operations_under u op = operations_of op (under u op >>= as_object)
 
 -- ---- the whole
 
@@ -124,18 +147,21 @@ first_under f =
     (first_of (f word.Max) (first_of (f word.Min) (first_of (f word.Set) (f word.Unset))))
 
 -- a field stands under an operator at all
-abbrev pub is_named : Data → List ℕ → Bool
-is_named d name = nat_lt 0 (times_named d name)
+abbrev pub is_named : Under → List ℕ → Bool
+is_named u name = nat_lt 0 (times_named u name)
 
-abbrev pub all_operations : Data → Operations
-all_operations d =
-    operations_under d word.Inc ++ operations_under d word.Max ++ operations_under d word.Min
-    ++ operations_under d word.Set ++ operations_under d word.Unset
+abbrev pub all_operations : Under → Operations
+all_operations u =
+    operations_under u word.Inc ++ operations_under u word.Max ++ operations_under u word.Min
+    ++ operations_under u word.Set ++ operations_under u word.Unset
+
+abbrev pub operations_in : List ℕ → Under → Result Operations UpdateFault
+operations_in primary u =
+    unless Operand (first_under (misfit_under u))
+    (unless Twice (first_under (repeated_under u))
+    (demand (not (is_named u primary)) (Key primary) >> λ _. Ok (all_operations u)))
 
 -- what an update does, or the first of its faults; what is no object has no members
 abbrev pub update_of : List ℕ → Data → Result Operations UpdateFault
 update_of primary d =
-    unless Operator (unexpected operator_names [] d)
-    (unless Operand (first_under (misfit_under d))
-    (unless Twice (first_under (repeated_under d))
-    (demand (not (is_named d primary)) (Key primary) >> λ _. Ok (all_operations d))))
+    unless Operator (unexpected operator_names [] d) (operations_in primary (operands_of d))

@@ -3,6 +3,7 @@ use Rattle.std.specs.Prelude.{◌≡◌, ℕ, ℤ, pos, ◌+ℤ◌, List, [], �
 use Rattle.std.specs.Prelude.{is_none, if◌then◌else◌, Option, Some, None, Result, Ok}
 use Rattle.std.specs.List.{AllByRecursion}
 use Rattle.std.specs.Ordering.{is_lt}
+use Rattle.serde_json.specs.Data.{Data}
 use Rattle.rx_value.specs.Due.{◌>>=◌, only_if, unless}
 use Rattle.rx_value.specs.Fields.{Pairs, AreFields}
 use Rattle.rx_value.specs.Form.{is_among}
@@ -11,7 +12,7 @@ use Rattle.rx_value.specs.Order.{order_of}
 use Rattle.rx_value.specs.Value.{is_number, is_value}
 use Rattle.rx_value.specs.declared.value.Value.{Value}
 use Rattle.rx_value.specs.declared.value.Value.TheVariants.{Int}
-use Rattle.rx_update.specs.Reading.{Operations}
+use Rattle.rx_update.specs.Reading.{Operations, update_of}
 use Rattle.rx_update.specs.declared.fault.UpdateFault.{UpdateFault}
 use Rattle.rx_update.specs.declared.fault.UpdateFault.TheVariants.{Kind, Range}
 use Rattle.rx_update.specs.declared.operation.Operation.{Operation}
@@ -104,6 +105,11 @@ abbrev pub MakesEachField : Type 0
 MakesEachField = (before : Operations) (name : List ℕ) (o : Operation) (after : Operations)
     (ps qs : Pairs) → is_among (names_of after) name ≡ false → AreFields ps
     → updated (before ++ (name, o) ∷ after) ps ≡ Ok qs → named qs name ≡ made o (named ps name)
+
+-- an update that was read beside a primary key leaves the document its key
+abbrev pub LeavesThePrimaryKey : Type 0
+LeavesThePrimaryKey = (primary : List ℕ) (d : Data) (os : Operations) (ps qs : Pairs)
+    → update_of primary d ≡ Ok os → updated os ps ≡ Ok qs → named qs primary ≡ named ps primary
 
 -- and fields stay fields
 abbrev pub UpdatesToFields : Type 0

@@ -54,3 +54,24 @@ impl From<AllocError> for HookFault {
         HookFault::Memory
     }
 }
+
+/// Why a state isn't written.
+#[derive(Debug, Drop, Error)]
+pub enum VetoFault {
+    /// The hook of that name vetoes it.
+    #[error("a hook vetoes it")]
+    Vetoed(RxText),
+    #[error("out of memory")]
+    Memory,
+}
+
+impl From<AllocError> for VetoFault {
+    ghost use Rattle.std.specs.Prelude.{◌≡◌};
+    ghost use Rattle.rx_update.specs.declared.fault.VetoFault.TheVariants.{Memory};
+
+    ghost from_gives = { λ _ e. e ≡ Memory };
+
+    fn from(_refused: AllocError) -> VetoFault {
+        VetoFault::Memory
+    }
+}

@@ -1,4 +1,4 @@
-ghost use Rattle.std.specs.Prelude.{◌≡◌, ◌++◌, ◌∷◌, [], OnOk, OnErr, option_map};
+ghost use Rattle.std.specs.Prelude.{◌≡◌, ◌++◌, ◌∷◌, [], IfOk, OnOk, OnErr, option_map};
 ghost use Rattle.rx_value.specs.Due.{Due};
 ghost use Rattle.rx_value.specs.Named.{named};
 ghost use Rattle.rx_update.specs.Hooks.{room_for};
@@ -7,6 +7,8 @@ ghost use Rattle.rx_update.specs.declared.fault.HookFault.TheVariants.{Memory};
 
 use crate::fault::HookFault;
 use crate::hook::Hook;
+use crate::kind::HookKind;
+use rx_value::RxText;
 use std::alloc::{AllocError, Global};
 
 /// Hooks by name, in the order of adding. There are few, so one is looked for in turn.
@@ -38,6 +40,17 @@ impl Hooks {
             Ok(()) => Ok(()),
             Err(refused) => Err(AllocError::from(refused).into()),
         }
+    }
+
+    /// The names and kinds of all, in the order of adding.
+    pub fn known(&self, alloc: Global) -> Result<Vec<(RxText, HookKind)>, AllocError>
+        ensures { IfOk result (λ known. known.items ≡ kinds_of self.now) }
+    {
+        let mut known = Vec::with_capacity(alloc, self.held.len())?;
+        for hook in &self.held {
+            known.push((hook.name().copy(alloc)?, hook.kind()))?;
+        }
+        Ok(known)
     }
 
     /// The hook of that name.

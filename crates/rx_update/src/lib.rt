@@ -2,15 +2,18 @@
 //! stand before a local write.
 #![tactic(auto)]
 
+mod attached;
 mod fault;
 mod hook;
 mod hooks;
 mod kind;
+mod operands;
 mod operation;
 mod reading;
 mod update;
 
-pub use fault::{HookFault, UpdateFault};
+pub use attached::{Attached, Attachments, MAX_HOOKS, When, attached_laws, run_hooks};
+pub use fault::{HookFault, UpdateFault, VetoFault};
 pub use hook::Hook;
 pub use hooks::Hooks;
 pub use kind::{HookKind, hook_laws, hooked};

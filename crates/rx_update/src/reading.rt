@@ -3,43 +3,21 @@ ghost use Rattle.std.specs.Prelude.{◌≡◌, ◌<◌, ◌++◌, nat_lt, true, 
 ghost use Rattle.serde_json.specs.View.{view, members_view};
 ghost use Rattle.rx_value.specs.Due.{DueBy};
 ghost use Rattle.rx_update.specs.Reading.{all_operations, first_of, first_under, is_named, is_under};
-ghost use Rattle.rx_update.specs.Reading.{misfit_among, misfit_under, name_of, number_at, one_if};
-ghost use Rattle.rx_update.specs.Reading.{operation_of, operations_among, operations_under};
-ghost use Rattle.rx_update.specs.Reading.{repeated_among, repeated_under, times_named, update_of};
-ghost use Rattle.rx_update.specs.Reading.{value_at};
+ghost use Rattle.rx_update.specs.Reading.{misfit_among, misfit_under, number_at, one_if};
+ghost use Rattle.rx_update.specs.Reading.{operands_of, operation_of, operations_among};
+ghost use Rattle.rx_update.specs.Reading.{operations_in, operations_under, repeated_among};
+ghost use Rattle.rx_update.specs.Reading.{repeated_under, times_named, update_of, value_at};
+ghost use Rattle.rx_update.specs.Operands.{seen};
 ghost use Rattle.rx_value.specs.Value.{is_value};
 ghost use Rattle.rx_update.specs.Updated.{has_value, AreOperations};
 ghost use Rattle.rx_update.specs.declared.fault.UpdateFault.TheVariants.{Memory};
 
 use crate::fault::UpdateFault;
+use crate::operands::{Operands, Operator};
 use crate::operation::Operation;
 use rx_value::{RxText, Value, first_unexpected, is_number};
 use serde_json::{Map, Value as Json};
 use std::alloc::{AllocError, Global};
-
-/// An operator of an update.
-#[derive(Clone, Copy)]
-pub(crate) enum Operator {
-    Inc,
-    Max,
-    Min,
-    Set,
-    Unset,
-}
-
-impl Operator {
-    fn name(self) -> &'static str
-        ensures { result.now ≡ name_of self }
-    {
-        match self {
-            Operator::Inc => "$inc",
-            Operator::Max => "$max",
-            Operator::Min => "$min",
-            Operator::Set => "$set",
-            Operator::Unset => "$unset",
-        }
-    }
-}
 
 /// The operations of an update's object.
 pub(crate) fn read_operations(
@@ -51,36 +29,48 @@ pub(crate) fn read_operations(
     ensures lawful { IfOk result (λ v. AreOperations v.items) }
 {
     let operators = ["$inc", "$max", "$min", "$set", "$unset"];
-    if let Some(name) = first_unexpected(json, &operators, &[]) {
-        return Err(UpdateFault::Operator(RxText::new(alloc, name)?));
+    match first_unexpected(json, &operators, &[]) {
+        Some(name) => Err(UpdateFault::Operator(RxText::new(alloc, name)?)),
+        None => read_operands(alloc, &Operands::of(json), primary),
     }
-    if let Some(name) = first_misfit(json) {
+}
+
+fn read_operands(
+    alloc: Global,
+    operands: &Operands,
+    primary: &str,
+) -> Result<Vec<(RxText, Operation)>, UpdateFault>
+    ensures exact { DueBy Memory (λ v. v.items) result
+        (operations_in primary.now (seen operands.now)) }
+    ensures lawful { IfOk result (λ v. AreOperations v.items) }
+{
+    if let Some(name) = first_misfit(operands) {
         return Err(UpdateFault::Operand(RxText::new(alloc, name)?));
     }
-    if let Some(name) = first_repeated(json) {
+    if let Some(name) = first_repeated(operands) {
         return Err(UpdateFault::Twice(RxText::new(alloc, name)?));
     }
-    if is_named(json, primary) {
+    if is_named(operands, primary) {
         return Err(UpdateFault::Key(RxText::new(alloc, primary)?));
     }
-    Ok(read_all(alloc, json)?)
+    Ok(read_all(alloc, operands)?)
 }
 
 // The first by bytes of the operators and fields that don't fit.
-fn first_misfit<'a>(json: &'a Json) -> Option<&'a str>
-    ensures { option_map (λ s. s.now) result ≡ first_under (misfit_under (view json.now)) }
+fn first_misfit<'a>(operands: &Operands<'a>) -> Option<&'a str>
+    ensures { option_map (λ s. s.now) result ≡ first_under (misfit_under (seen operands.now)) }
 {
-    let set = misfit_under(json, Operator::Set);
-    let from_set = first_of(set, misfit_under(json, Operator::Unset));
-    let from_min = first_of(misfit_under(json, Operator::Min), from_set);
-    let from_max = first_of(misfit_under(json, Operator::Max), from_min);
-    first_of(misfit_under(json, Operator::Inc), from_max)
+    let set = misfit_under(operands, Operator::Set);
+    let from_set = first_of(set, misfit_under(operands, Operator::Unset));
+    let from_min = first_of(misfit_under(operands, Operator::Min), from_set);
+    let from_max = first_of(misfit_under(operands, Operator::Max), from_min);
+    first_of(misfit_under(operands, Operator::Inc), from_max)
 }
 
-fn misfit_under<'a>(json: &'a Json, operator: Operator) -> Option<&'a str>
-    ensures { option_map (λ s. s.now) result ≡ misfit_under (view json.now) operator }
+fn misfit_under<'a>(operands: &Operands<'a>, operator: Operator) -> Option<&'a str>
+    ensures { option_map (λ s. s.now) result ≡ misfit_under (seen operands.now) operator }
 {
-    let fields = json.get(operator.name())?;
+    let fields = operands.under(operator)?;
     match fields.as_object() {
         Some(fields) => misfit_among(operator, fields),
         None => Some(operator.name()),
@@ -130,29 +120,29 @@ fn is_value(json: &Json) -> bool
 }
 
 // The first by bytes of the fields that stand under two operators.
-fn first_repeated<'a>(json: &'a Json) -> Option<&'a str>
-    ensures { option_map (λ s. s.now) result ≡ first_under (repeated_under (view json.now)) }
+fn first_repeated<'a>(operands: &Operands<'a>) -> Option<&'a str>
+    ensures { option_map (λ s. s.now) result ≡ first_under (repeated_under (seen operands.now)) }
 {
-    let set = repeated_under(json, Operator::Set);
-    let from_set = first_of(set, repeated_under(json, Operator::Unset));
-    let from_min = first_of(repeated_under(json, Operator::Min), from_set);
-    let from_max = first_of(repeated_under(json, Operator::Max), from_min);
-    first_of(repeated_under(json, Operator::Inc), from_max)
+    let set = repeated_under(operands, Operator::Set);
+    let from_set = first_of(set, repeated_under(operands, Operator::Unset));
+    let from_min = first_of(repeated_under(operands, Operator::Min), from_set);
+    let from_max = first_of(repeated_under(operands, Operator::Max), from_min);
+    first_of(repeated_under(operands, Operator::Inc), from_max)
 }
 
-fn repeated_under<'a>(json: &'a Json, operator: Operator) -> Option<&'a str>
-    ensures { option_map (λ s. s.now) result ≡ repeated_under (view json.now) operator }
+fn repeated_under<'a>(operands: &Operands<'a>, operator: Operator) -> Option<&'a str>
+    ensures { option_map (λ s. s.now) result ≡ repeated_under (seen operands.now) operator }
 {
-    let fields = json.get(operator.name())?.as_object()?;
-    repeated_among(json, fields)
+    let fields = operands.under(operator)?.as_object()?;
+    repeated_among(operands, fields)
 }
 
-fn repeated_among<'a>(json: &Json, fields: &'a Map<String, Json>) -> Option<&'a str>
+fn repeated_among<'a>(operands: &Operands, fields: &'a Map<String, Json>) -> Option<&'a str>
     ensures { option_map (λ s. s.now) result
-        ≡ repeated_among (view json.now) (members_view fields.now.entries) }
+        ≡ repeated_among (seen operands.now) (members_view fields.now.entries) }
 {
     for (name, _operand) in fields.iter() {
-        if is_repeated(json, name.as_str()) {
+        if is_repeated(operands, name.as_str()) {
             return Some(name.as_str());
         }
     }
@@ -160,28 +150,28 @@ fn repeated_among<'a>(json: &Json, fields: &'a Map<String, Json>) -> Option<&'a 
 }
 
 // Whether a field stands under two operators.
-fn is_repeated(json: &Json, name: &str) -> bool
-    ensures { result ≡ nat_lt 1 (times_named (view json.now) name.now) }
+fn is_repeated(operands: &Operands, name: &str) -> bool
+    ensures { result ≡ nat_lt 1 (times_named (seen operands.now) name.now) }
 {
-    times_named(json, name) > 1
+    times_named(operands, name) > 1
 }
 
 // Whether a field stands under an operator.
-fn is_named(json: &Json, name: &str) -> bool
-    ensures { result ≡ is_named (view json.now) name.now }
+fn is_named(operands: &Operands, name: &str) -> bool
+    ensures { result ≡ is_named (seen operands.now) name.now }
 {
-    times_named(json, name) > 0
+    times_named(operands, name) > 0
 }
 
 // Under how many operators a field stands.
-fn times_named(json: &Json, name: &str) -> u8
-    ensures { result ≡ times_named (view json.now) name.now }
+fn times_named(operands: &Operands, name: &str) -> u8
+    ensures { result ≡ times_named (seen operands.now) name.now }
 {
-    one_if(is_under(json, name, Operator::Inc))
-        + one_if(is_under(json, name, Operator::Max))
-        + one_if(is_under(json, name, Operator::Min))
-        + one_if(is_under(json, name, Operator::Set))
-        + one_if(is_under(json, name, Operator::Unset))
+    one_if(is_under(operands, name, Operator::Inc))
+        + one_if(is_under(operands, name, Operator::Max))
+        + one_if(is_under(operands, name, Operator::Min))
+        + one_if(is_under(operands, name, Operator::Set))
+        + one_if(is_under(operands, name, Operator::Unset))
 }
 
 fn one_if(is_so: bool) -> u8
@@ -191,10 +181,10 @@ fn one_if(is_so: bool) -> u8
     if is_so { 1 } else { 0 }
 }
 
-fn is_under(json: &Json, name: &str, operator: Operator) -> bool
-    ensures { result ≡ is_under (view json.now) name.now operator }
+fn is_under(operands: &Operands, name: &str, operator: Operator) -> bool
+    ensures { result ≡ is_under (seen operands.now) name.now operator }
 {
-    match json.get(operator.name()) {
+    match operands.under(operator) {
         Some(fields) => fields.get(name).is_some(),
         None => false,
     }
@@ -212,32 +202,32 @@ fn first_of<'a>(a: Option<&'a str>, b: Option<&'a str>) -> Option<&'a str>
     }
 }
 
-fn read_all(alloc: Global, json: &Json) -> Result<Vec<(RxText, Operation)>, AllocError>
-    ensures exact { IfOk result (λ v. v.items ≡ all_operations (view json.now)) }
+fn read_all(alloc: Global, operands: &Operands) -> Result<Vec<(RxText, Operation)>, AllocError>
+    ensures exact { IfOk result (λ v. v.items ≡ all_operations (seen operands.now)) }
     ensures lawful { IfOk result (λ v. AreOperations v.items) }
 {
     let mut operations = Vec::new(alloc);
-    read_under(alloc, json, Operator::Inc, &mut operations)?;
-    read_under(alloc, json, Operator::Max, &mut operations)?;
-    read_under(alloc, json, Operator::Min, &mut operations)?;
-    read_under(alloc, json, Operator::Set, &mut operations)?;
-    read_under(alloc, json, Operator::Unset, &mut operations)?;
+    read_under(alloc, operands, Operator::Inc, &mut operations)?;
+    read_under(alloc, operands, Operator::Max, &mut operations)?;
+    read_under(alloc, operands, Operator::Min, &mut operations)?;
+    read_under(alloc, operands, Operator::Set, &mut operations)?;
+    read_under(alloc, operands, Operator::Unset, &mut operations)?;
     Ok(operations)
 }
 
 // Adds what an operator does to those so far.
 fn read_under(
     alloc: Global,
-    json: &Json,
+    operands: &Operands,
     operator: Operator,
     operations: &mut Vec<(RxText, Operation)>,
 ) -> Result<(), AllocError>
     requires { AreOperations operations.old.items }
     ensures added { OnOk result (operations.new.items
-        ≡ operations.old.items ++ operations_under (view json.now) operator) }
+        ≡ operations.old.items ++ operations_under (seen operands.now) operator) }
     ensures lawful { OnOk result (AreOperations operations.new.items) }
 {
-    let Some(fields) = json.get(operator.name()) else {
+    let Some(fields) = operands.under(operator) else {
         return Ok(());
     };
     match fields.as_object() {

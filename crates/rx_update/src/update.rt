@@ -3,7 +3,8 @@ ghost use Rattle.rx_value.specs.Due.{Due};
 ghost use Rattle.rx_value.specs.Value.{is_value};
 ghost use Rattle.rx_update.specs.Updated.{first_where, has_value, is_misadded, made, made_of};
 ghost use Rattle.rx_update.specs.Updated.{number_in, sum_of, sums_past, AreOperations};
-ghost use Rattle.rx_update.specs.Updated.{KeepsOtherFields, MakesEachField, UpdatesToFields};
+ghost use Rattle.rx_update.specs.Updated.{KeepsOtherFields, LeavesThePrimaryKey, MakesEachField};
+ghost use Rattle.rx_update.specs.Updated.{UpdatesToFields};
 ghost use Rattle.rx_update.specs.declared.fault.UpdateFault.TheVariants.{Memory};
 
 use crate::fault::UpdateFault;
@@ -209,5 +210,6 @@ fn copy(alloc: Global, held: Option<&Value>) -> Result<Option<Value>, AllocError
 pub fn update_laws()
     ensures others { KeepsOtherFields }
     ensures each { MakesEachField }
+    ensures key { LeavesThePrimaryKey }
     ensures fields { UpdatesToFields }
 {}

@@ -1,4 +1,5 @@
 use Rattle.rx_update.proofs.Kept as kept
+use Rattle.rx_update.proofs.Keyless.{leaves_key}
 use Rattle.rx_update.proofs.update.update_laws.Goals as goal
 
 pub returns-clause-others : goal.returns-clause-others
@@ -9,3 +10,6 @@ returns-clause-each c = kept.each
 
 pub returns-clause-fields : goal.returns-clause-fields
 returns-clause-fields c = kept.to_fields
+
+pub returns-clause-key : goal.returns-clause-key
+returns-clause-key c = leaves_key
