@@ -10,6 +10,7 @@ use Rattle.rx_schema.specs.declared.fault.SchemaFault.TheVariants as schema
 use Rattle.rx_selector.specs.declared.fault.SelectorFault.TheVariants as selector
 use Rattle.rx_query.specs.declared.fault.QueryFault.TheVariants as query
 use Rattle.rx_script.specs.declared.fault.LineFault.TheVariants as line
+use Rattle.rx_update.specs.declared.fault.UpdateFault.TheVariants as update
 use Rattle.rx_table.specs.declared.action.Action.TheVariants.{InsertFirst, InsertAtSortPositionRemoveLast, RunFullQueryAgain}
 use Rattle.rx_table.specs.Counts.{no_counts, counted}
 use Rattle.rx_reply.specs.Answer.{collection, insert, bulk, get, find, count, unobserve, explain, replicate, turn, changes, tick, restart, digest, refused}
@@ -18,7 +19,7 @@ use Rattle.rx_reply.specs.Explain.{named_actions}
 use Rattle.rx_reply.specs.Reply.{answer_lines}
 use Rattle.rx_reply.specs.declared.refusal.Cause.TheVariants as cause
 use Rattle.rx_reply.specs.declared.refusal.DocumentFault.TheVariants.{Fields, Invalid, Key, Conflict}
-use Rattle.rx_reply.specs.declared.refusal.Refusal.TheVariants.{Line, NoCollection, Schema, Document, NoDocument, Query, NoReplication, NoHandler, Chain, Twice}
+use Rattle.rx_reply.specs.declared.refusal.Refusal.TheVariants.{Line, NoCollection, Schema, Document, NoDocument, Query, NoReplication, NoHandler, Chain, Twice, Update}
 use Rattle.rx_reply.specs.declared.turn.Exchanged.TheVariants.{Pushed, Pulled, PushLost, PullLost}
 use Rattle.rx_reply.specs.declared.turn.Lost.TheVariants.{LoseReply, Stale}
 use Rattle.rx_reply.specs.declared.turn.TurnEnd.TheVariants.{Quiet, Lost}
@@ -236,6 +237,12 @@ fork_of_a_fork : answer_lines 15 (refused Chain)
     ≡ ended (codes "{\"code\":21,\"line\":15,\"refused\":\"chain\"}")
 unfolding serde_json_on_literals digits
 fork_of_a_fork = refl
+
+no_operand : answer_lines 16 (refused (Update (update.Operand (codes "n"))))
+    ≡ ended (codes
+    "{\"cause\":\"operand\",\"code\":32,\"line\":16,\"name\":\"n\",\"refused\":\"update\"}")
+unfolding serde_json_on_literals digits
+no_operand = refl
 
 emitted : emission_line (codes "q") (document.state.fields ∷ [])
     ≡ ended (codes "{\"emit\":\"q\",\"rows\":[{\"id\":\"a\",\"n\":7}]}")

@@ -8,11 +8,11 @@ use Rattle.rx_document.specs.declared.stored.Stored.{Stored}
 use Rattle.rx_table.specs.declared.counts.Counts.{Counts}
 use Rattle.rx_reply.specs.declared.refusal.Refusal.{Refusal}
 use Rattle.rx_reply.specs.declared.reply.Reply.{Reply}
-use Rattle.rx_reply.specs.declared.reply.Reply.TheVariants.{Collection, Insert, Upsert, Patch, Remove, Bulk, Get, Find, Count, Observe, Unobserve, Explain, Replicate, Turn, Changes, Tick, Restart, Digest, Refused}
+use Rattle.rx_reply.specs.declared.reply.Reply.TheVariants.{Collection, Insert, Upsert, Patch, Update, Remove, Hook, Bulk, Get, Find, Count, Observe, Unobserve, Explain, Replicate, Turn, Changes, Tick, Restart, Digest, Refused}
 use Rattle.rx_reply.specs.declared.turn.Exchanged.{Exchanged}
 use Rattle.rx_reply.specs.declared.turn.TurnEnd.{TurnEnd}
 
--- a collection is there, new or not; a document is written; documents are written, read, found,
+-- a collection is there, new or not; a document is written; a hook is attached; documents are written, read, found,
 -- counted; a query is observed, no more observed, explained; a replication begins; a turn made
 -- these exchanges and ended so; states are listed up to a place; the clock is set; an epoch begins;
 -- states are counted and have that digest; or the line is refused
@@ -21,7 +21,9 @@ pub data Answer : Type 0 where
   insert : List ℕ → Answer
   upsert : List ℕ → Answer
   patch : List ℕ → Answer
+  update : List ℕ → Answer
   remove : List ℕ → Answer
+  hook : Answer
   bulk : List (List ℕ) → Answer
   get : Stored → Answer
   find : List Pairs → Answer
@@ -51,7 +53,9 @@ answer_of (Collection new) = collection new
 answer_of (Insert rev) = insert rev
 answer_of (Upsert rev) = upsert rev
 answer_of (Patch rev) = patch rev
+answer_of (Update rev) = update rev
 answer_of (Remove rev) = remove rev
+answer_of Hook = hook
 answer_of (Bulk revs) = bulk revs.items
 answer_of (Get doc) = get doc.now
 answer_of (Find rows) = find (rows_of rows.items)

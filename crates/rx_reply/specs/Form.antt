@@ -12,6 +12,8 @@ use Rattle.rx_query.specs.declared.fault.QueryFault.{QueryFault}
 use Rattle.rx_query.specs.declared.fault.QueryFault.TheVariants as query
 use Rattle.rx_script.specs.declared.fault.LineFault.{LineFault}
 use Rattle.rx_script.specs.declared.fault.LineFault.TheVariants as line
+use Rattle.rx_update.specs.declared.fault.UpdateFault.{UpdateFault}
+use Rattle.rx_update.specs.declared.fault.UpdateFault.TheVariants as update
 use Rattle.rx_reply.specs.Writing.{number_data, optional_member}
 use Rattle.rx_reply.specs.declared.form.Form.{Form as LentForm}
 use Rattle.rx_reply.specs.declared.refusal.Cause.{Cause}
@@ -19,7 +21,7 @@ use Rattle.rx_reply.specs.declared.refusal.Cause.TheVariants as cause
 use Rattle.rx_reply.specs.declared.refusal.DocumentFault.{DocumentFault}
 use Rattle.rx_reply.specs.declared.refusal.DocumentFault.TheVariants.{Fields, Invalid, Key, Conflict}
 use Rattle.rx_reply.specs.declared.refusal.Refusal.{Refusal}
-use Rattle.rx_reply.specs.declared.refusal.Refusal.TheVariants.{Line, Exists, NoCollection, Schema, SchemaDiffers, Document, NoDocument, Query, NoQuery, NoReplication, NoHandler, Chain, Clock, TooMany, Twice}
+use Rattle.rx_reply.specs.declared.refusal.Refusal.TheVariants.{Line, Exists, NoCollection, Schema, SchemaDiffers, Document, NoDocument, Query, NoQuery, NoReplication, NoHandler, Chain, Clock, TooMany, Twice, Update, Vetoed, NoHook}
 
 -- its code and its word, and what else there is to say
 pub record Form : Type 0 where
@@ -123,6 +125,15 @@ fields_reason (value.Kind name) = (codes "kind", Some name)
 fields_reason (value.Range name) = (codes "range", Some name)
 fields_reason value.Memory = (codes "memory", None)
 
+abbrev pub update_reason : UpdateFault → Reason
+update_reason (update.Operator name) = (codes "operator", Some name)
+update_reason (update.Operand name) = (codes "operand", Some name)
+update_reason (update.Twice name) = (codes "twice", Some name)
+update_reason (update.Key name) = (codes "key", Some name)
+update_reason (update.Kind name) = (codes "kind", Some name)
+update_reason (update.Range name) = (codes "range", Some name)
+update_reason update.Memory = (codes "memory", None)
+
 -- of a field that isn't valid
 abbrev pub cause_word : Cause → List ℕ
 cause_word cause.Missing = codes "missing"
@@ -155,6 +166,9 @@ form_of Chain = plain_form 21 (codes "chain")
 form_of Clock = plain_form 22 (codes "clock")
 form_of TooMany = plain_form 23 (codes "too_many")
 form_of (Twice row) = record (plain_form 25 (codes "twice")) { row = Some row }
+form_of (Update fault) = caused_form 32 (codes "update") (update_reason fault)
+form_of (Vetoed hook row) = record (named_form 33 (codes "vetoed") hook) { row = row }
+form_of NoHook = plain_form 34 (codes "no_hook")
 
 -- ---- the object of a form
 

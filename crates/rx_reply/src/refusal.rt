@@ -1,11 +1,12 @@
 ghost use Rattle.std.specs.Prelude.{◌≡◌};
-ghost use Rattle.rx_reply.specs.Form.{form_seen, reason_seen, form_of, document_form, line_form, schema_reason, selector_reason, query_reason, fields_reason, cause_word};
+ghost use Rattle.rx_reply.specs.Form.{form_seen, reason_seen, form_of, document_form, line_form, schema_reason, selector_reason, query_reason, fields_reason, update_reason, cause_word};
 
 use crate::form::{Form, Reason};
 use rx_query::QueryFault;
 use rx_schema::SchemaFault;
 use rx_script::LineFault;
 use rx_selector::SelectorFault;
+use rx_update::UpdateFault;
 use rx_value::{RxText, ValueFault};
 
 /// Why a line is refused.
@@ -41,6 +42,15 @@ pub enum Refusal {
     Twice {
         row: u64,
     },
+    /// It is no update, or can't be made of the document.
+    Update(UpdateFault),
+    /// A hook vetoes it. Of several documents it is the one of that row.
+    Vetoed {
+        hook: RxText,
+        row: Option<u64>,
+    },
+    /// There is no hook of that name, or its field isn't what it takes.
+    NoHook,
 }
 
 /// Why a document can't be written.
@@ -92,6 +102,12 @@ impl Refusal {
                 row: Some(*row),
                 ..Form::plain(25, "twice")
             },
+            Refusal::Update(fault) => Form::caused(32, "update", update_reason(fault)),
+            Refusal::Vetoed { hook, row } => Form {
+                row: *row,
+                ..Form::named(33, "vetoed", hook)
+            },
+            Refusal::NoHook => Form::plain(34, "no_hook"),
         }
     }
 }
@@ -199,5 +215,19 @@ fn fields_reason(fault: &ValueFault) -> Reason<'_>
         ValueFault::Kind(name) => ("kind", Some(name.as_str())),
         ValueFault::Range(name) => ("range", Some(name.as_str())),
         ValueFault::Memory => ("memory", None),
+    }
+}
+
+fn update_reason(fault: &UpdateFault) -> Reason<'_>
+    ensures { reason_seen result ≡ update_reason fault.now }
+{
+    match fault {
+        UpdateFault::Operator(name) => ("operator", Some(name.as_str())),
+        UpdateFault::Operand(name) => ("operand", Some(name.as_str())),
+        UpdateFault::Twice(name) => ("twice", Some(name.as_str())),
+        UpdateFault::Key(name) => ("key", Some(name.as_str())),
+        UpdateFault::Kind(name) => ("kind", Some(name.as_str())),
+        UpdateFault::Range(name) => ("range", Some(name.as_str())),
+        UpdateFault::Memory => ("memory", None),
     }
 }

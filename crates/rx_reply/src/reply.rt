@@ -37,9 +37,14 @@ pub enum Reply<'a> {
     Patch {
         rev: RxText,
     },
+    Update {
+        rev: RxText,
+    },
     Remove {
         rev: RxText,
     },
+    /// A hook stands before writes from now on.
+    Hook,
     /// The revisions in the order of the documents.
     Bulk {
         revs: Vec<RxText>,
@@ -122,7 +127,9 @@ impl Reply<'_> {
             Reply::Insert { rev } => put_written(writer, number, "insert", rev),
             Reply::Upsert { rev } => put_written(writer, number, "upsert", rev),
             Reply::Patch { rev } => put_written(writer, number, "patch", rev),
+            Reply::Update { rev } => put_written(writer, number, "update", rev),
             Reply::Remove { rev } => put_written(writer, number, "remove", rev),
+            Reply::Hook => put_plain(writer, number, "hook"),
             Reply::Bulk { revs } => put_bulk(writer, number, revs.as_slice()),
             Reply::Get { doc } => put_get(alloc, writer, number, doc),
             Reply::Find { rows } => put_find(writer, number, rows.as_slice()),

@@ -5,6 +5,7 @@ use Rattle.serde_json.specs.Data.{Data}
 use Rattle.serde_json.specs.View.{view}
 use Rattle.rx_value.specs.Name.{is_name}
 use Rattle.rx_value.specs.Value.{largest}
+use Rattle.rx_update.specs.declared.attached.When.{When}
 use Rattle.rx_script.specs.Link.{IsHappening}
 use Rattle.rx_script.specs.Member.{is_object}
 use Rattle.rx_script.specs.Target.{IsTarget}
@@ -20,7 +21,9 @@ pub data Asked : Type 0 where
   Bulk : (coll : List ℕ) (docs : List Data) → Asked
   Upsert : (coll : List ℕ) (doc : Data) → Asked
   Patch : (coll key : List ℕ) (set : Data) (rev : Option (List ℕ)) → Asked
+  Update : (coll key : List ℕ) (update : Data) (rev : Option (List ℕ)) → Asked
   Remove : (coll key : List ℕ) (rev : Option (List ℕ)) → Asked
+  Hook : (coll : List ℕ) (when : When) (hook field : List ℕ) → Asked
   Get : (coll key : List ℕ) → Asked
   Find : (coll : List ℕ) (query : Data) → Asked
   Count : (coll : List ℕ) (query : Data) → Asked
@@ -41,7 +44,9 @@ asked (line.Insert coll doc) = Insert coll (view doc)
 asked (line.Bulk coll docs) = Bulk coll (map view docs.items)
 asked (line.Upsert coll doc) = Upsert coll (view doc)
 asked (line.Patch coll key set rev) = Patch coll key (view set) rev
+asked (line.Update coll key update rev) = Update coll key (view update) rev
 asked (line.Remove coll key rev) = Remove coll key rev
+asked (line.Hook coll when hook field) = Hook coll when hook field
 asked (line.Get coll key) = Get coll key
 asked (line.Find coll query) = Find coll (view query)
 asked (line.Count coll query) = Count coll (view query)
@@ -67,7 +72,7 @@ max_budget = 100000
 abbrev pub usual_budget : ℕ
 usual_budget = 1000
 
--- names are names, documents are objects, a moment and a write time are numbers of a script, and
+-- names are names, documents and updates are objects, a moment and a write time are numbers of a script, and
 -- ports, batches, budgets and late requests are within their limits
 abbrev pub IsLawful : Asked → Type 0
 IsLawful (Collection name schema) = is_name name ≡ true
@@ -75,7 +80,9 @@ IsLawful (Insert coll doc) = (is_name coll ≡ true) × (is_object doc ≡ true)
 IsLawful (Bulk coll docs) = (is_name coll ≡ true) × (list_all is_object docs ≡ true)
 IsLawful (Upsert coll doc) = (is_name coll ≡ true) × (is_object doc ≡ true)
 IsLawful (Patch coll key set rev) = (is_name coll ≡ true) × (is_object set ≡ true)
+IsLawful (Update coll key update rev) = (is_name coll ≡ true) × (is_object update ≡ true)
 IsLawful (Remove coll key rev) = is_name coll ≡ true
+IsLawful (Hook coll when hook field) = is_name coll ≡ true
 IsLawful (Get coll key) = is_name coll ≡ true
 IsLawful (Find coll query) = is_name coll ≡ true
 IsLawful (Count coll query) = is_name coll ≡ true

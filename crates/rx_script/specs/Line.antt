@@ -5,15 +5,16 @@ use Rattle.serde_json.specs.Data.{Data}
 use Rattle.serde_json.specs.Read.{read}
 use Rattle.rx_value.specs.Due.{◌>>◌, demand, or_fault}
 use Rattle.rx_value.specs.Named.{named}
-use Rattle.rx_script.specs.Asked.{Asked, max_batch, max_budget, usual_budget, Collection, Insert, Bulk, Upsert, Patch, Remove, Get, Find, Count, Observe, Unobserve, Explain, Replicate, Turn, Changes, Tick, Restart, Digest}
+use Rattle.rx_script.specs.Asked.{Asked, max_batch, max_budget, usual_budget, Collection, Insert, Bulk, Upsert, Patch, Update, Remove, Hook, Get, Find, Count, Observe, Unobserve, Explain, Replicate, Turn, Changes, Tick, Restart, Digest}
 use Rattle.rx_script.specs.Link.{maybe_link}
-use Rattle.rx_script.specs.Member.{has_needed, has_form, is_object, json_at, items_of, a_text, maybe_text, an_object, objects, a_moment, maybe_whole, a_name, a_count}
+use Rattle.rx_script.specs.Member.{has_needed, has_form, is_object, json_at, items_of, a_text, maybe_text, an_object, objects, a_moment, maybe_whole, a_name, a_count, a_when}
 use Rattle.rx_script.specs.Since.{maybe_since}
 use Rattle.rx_script.specs.Target.{target_member, a_target, a_target_name}
 use Rattle.rx_script.specs.declared.fault.LineFault.{LineFault}
 use Rattle.rx_script.specs.declared.fault.LineFault.TheVariants as fault
 use Rattle.rx_script.specs.declared.form.Form.{Form}
 use Rattle.rx_script.specs.declared.form.Form.TheVariants as form
+use Rattle.rx_script.specs.declared.forms.Changed.{Changed}
 
 -- the most bytes that a line may have
 abbrev pub max_line_bytes : ℕ
@@ -43,13 +44,23 @@ bulk_of d =
     a_name (codes "in") coll >> λ _.
     Ok (Bulk coll (items_of (json_at (codes "docs") d)))
 
+-- the document that is changed, as an object of that member says
+abbrev pub changed_of : List ℕ → Data → Result Changed LineFault
+changed_of member d =
+    has_form (codes "do" ∷ codes "in" ∷ codes "key" ∷ member ∷ []) (codes "rev" ∷ []) d >> λ _.
+    a_text (codes "in") d >> λ coll. a_text (codes "key") d >> λ key.
+    an_object member d >> λ _. maybe_text (codes "rev") d >> λ rev.
+    a_name (codes "in") coll >> λ _.
+    Ok (record { coll = coll; key = key; rev = rev })
+
 abbrev pub patch_of : Data → Result Asked LineFault
 patch_of d =
-    has_form (codes "do" ∷ codes "in" ∷ codes "key" ∷ codes "set" ∷ []) (codes "rev" ∷ []) d >> λ _.
-    a_text (codes "in") d >> λ coll. a_text (codes "key") d >> λ key.
-    an_object (codes "set") d >> λ _. maybe_text (codes "rev") d >> λ rev.
-    a_name (codes "in") coll >> λ _.
-    Ok (Patch coll key (json_at (codes "set") d) rev)
+    changed_of (codes "set") d >> λ at. Ok (Patch at.coll at.key (json_at (codes "set") d) at.rev)
+
+abbrev pub update_of : Data → Result Asked LineFault
+update_of d =
+    changed_of (codes "update") d >> λ at.
+    Ok (Update at.coll at.key (json_at (codes "update") d) at.rev)
 
 abbrev pub remove_of : Data → Result Asked LineFault
 remove_of d =
@@ -58,6 +69,15 @@ remove_of d =
     maybe_text (codes "rev") d >> λ rev.
     a_name (codes "in") coll >> λ _.
     Ok (Remove coll key rev)
+
+abbrev pub hook_of : Data → Result Asked LineFault
+hook_of d =
+    has_form
+    (codes "do" ∷ codes "in" ∷ codes "when" ∷ codes "hook" ∷ codes "field" ∷ []) [] d >> λ _.
+    a_text (codes "in") d >> λ coll. a_when (codes "when") d >> λ when.
+    a_text (codes "hook") d >> λ hook. a_text (codes "field") d >> λ field.
+    a_name (codes "in") coll >> λ _.
+    Ok (Hook coll when hook field)
 
 abbrev pub get_of : Data → Result Asked LineFault
 get_of d =
@@ -141,8 +161,9 @@ abbrev pub forms : List (List ℕ × Form)
 forms =
     (codes "collection", form.Collection) ∷ (codes "insert", form.Insert)
     ∷ (codes "bulk", form.Bulk) ∷ (codes "upsert", form.Upsert) ∷ (codes "patch", form.Patch)
-    ∷ (codes "remove", form.Remove) ∷ (codes "get", form.Get) ∷ (codes "find", form.Find)
-    ∷ (codes "count", form.Count) ∷ (codes "observe", form.Observe)
+    ∷ (codes "update", form.Update) ∷ (codes "remove", form.Remove) ∷ (codes "hook", form.Hook)
+    ∷ (codes "get", form.Get) ∷ (codes "find", form.Find) ∷ (codes "count", form.Count)
+    ∷ (codes "observe", form.Observe)
     ∷ (codes "unobserve", form.Unobserve) ∷ (codes "explain", form.Explain)
     ∷ (codes "replicate", form.Replicate) ∷ (codes "turn", form.Turn)
     ∷ (codes "changes", form.Changes) ∷ (codes "tick", form.Tick)
@@ -155,7 +176,9 @@ asked_as form.Insert d = document_of d >> λ m. Ok (Insert m.0 m.1)
 asked_as form.Bulk d = bulk_of d
 asked_as form.Upsert d = document_of d >> λ m. Ok (Upsert m.0 m.1)
 asked_as form.Patch d = patch_of d
+asked_as form.Update d = update_of d
 asked_as form.Remove d = remove_of d
+asked_as form.Hook d = hook_of d
 asked_as form.Get d = get_of d
 asked_as form.Find d = query_of d >> λ m. Ok (Find m.0 m.1)
 asked_as form.Count d = query_of d >> λ m. Ok (Count m.0 m.1)

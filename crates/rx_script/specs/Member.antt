@@ -1,12 +1,15 @@
 -- The members of a line, their kinds, names and limits.
-use Rattle.std.specs.Prelude.{⊤, ℕ, List, [], ◌∷◌, ◌&&◌, ◌||◌, Bool, is_some, is_none, if◌then◌else◌, Option, Some, None, option_map, unwrap_or, Result, Ok}
+use Rattle.std.specs.Prelude.{⊤, ℕ, List, [], ◌∷◌, codes, ◌&&◌, ◌||◌, Bool, is_some, is_none, if◌then◌else◌, Option, Some, None, option_map, unwrap_or, Result, Ok}
 use Rattle.std.specs.List.{list_all}
 use Rattle.serde_json.specs.Data.{Data, null, Items, no_items, item}
 use Rattle.serde_json.specs.Find.{get, as_array, as_object}
-use Rattle.rx_value.specs.Due.{◌>>◌, demand, or_fault, unless}
+use Rattle.rx_value.specs.Due.{◌>>◌, ◌>>=◌, demand, or_fault, unless}
 use Rattle.rx_value.specs.Form.{missing, unexpected, text_at, whole_at, whole_within}
 use Rattle.rx_value.specs.Name.{is_name}
+use Rattle.rx_value.specs.Named.{named}
 use Rattle.rx_value.specs.Value.{largest}
+use Rattle.rx_update.specs.declared.attached.When.{When}
+use Rattle.rx_update.specs.declared.attached.When.TheVariants as when
 use Rattle.rx_script.specs.declared.fault.LineFault.{LineFault}
 use Rattle.rx_script.specs.declared.fault.LineFault.TheVariants as fault
 
@@ -68,6 +71,17 @@ a_moment name d = or_fault (fault.WrongType name) (whole_within name 0 largest d
 abbrev pub maybe_whole : List ℕ → Data → Result ⊤ LineFault
 maybe_whole name d =
     demand (is_none (get name d) || is_some (whole_at name d)) (fault.WrongType name)
+
+-- the writes before which a hook stands, by their words
+abbrev pub whens : List (List ℕ × When)
+whens =
+    (codes "insert", when.Insert) ∷ (codes "save", when.Save) ∷ (codes "remove", when.Remove) ∷ []
+
+abbrev pub when_of : Option (List ℕ) → Option When
+when_of word = word >>= named whens
+
+abbrev pub a_when : List ℕ → Data → Result When LineFault
+a_when name d = or_fault (fault.WrongType name) (when_of (text_at name d))
 
 -- ---- the text of a member is a name
 

@@ -4,8 +4,8 @@ ghost use Rattle.serde_json.specs.View.{view};
 ghost use Rattle.rx_value.specs.Due.{Due, DueBy};
 ghost use Rattle.rx_value.specs.Name.{is_name};
 ghost use Rattle.rx_script.specs.Asked.{asked, IsLawful};
-ghost use Rattle.rx_script.specs.Line.{collection_of, document_of, bulk_of, patch_of, remove_of, get_of, query_of, observe_of, name_of, replicate_of, turn_of, changes_of, tick_of, restart_of, digest_of, asked_as, form_of};
-ghost use Rattle.rx_script.specs.Member.{is_object};
+ghost use Rattle.rx_script.specs.Line.{collection_of, document_of, bulk_of, changed_of, patch_of, update_of, remove_of, hook_of, get_of, query_of, observe_of, name_of, replicate_of, turn_of, changes_of, tick_of, restart_of, digest_of, asked_as, form_of};
+ghost use Rattle.rx_script.specs.Member.{is_object, json_at};
 ghost use Rattle.rx_script.specs.declared.fault.LineFault.TheVariants.{Memory};
 
 use crate::fault::LineFault;
@@ -14,13 +14,21 @@ use crate::line::{Line, MAX_BATCH, MAX_BUDGET, USUAL_BUDGET};
 use crate::link::read_maybe_link;
 use crate::member::{
     check_form, check_maybe_whole, check_name, check_needed, check_object, check_objects,
-    read_count, read_maybe_text, read_moment, read_text, take_items, take_json,
+    read_count, read_maybe_text, read_moment, read_text, read_when, take_items, take_json,
 };
 use crate::since::read_maybe_since;
 use crate::target::{check_target, read_target, target_member};
 use rx_value::{RxText, text_at};
 use serde_json::Value as Json;
 use std::alloc::Global;
+
+// The document that a line changes, and the revision that it is to have, where one is given.
+#[derive(Drop)]
+struct Changed {
+    coll: RxText,
+    key: RxText,
+    rev: Option<RxText>,
+}
 
 // What an object asks: `do` tells its form.
 pub(crate) fn read_form(alloc: Global, json: Json) -> Result<Line, LineFault>
@@ -54,7 +62,9 @@ fn read_as(alloc: Global, form: Form, json: Json) -> Result<Line, LineFault>
             Ok(Line::Upsert { coll, doc })
         }
         Form::Patch => read_patch(alloc, json),
+        Form::Update => read_update(alloc, json),
         Form::Remove => read_remove(alloc, json),
+        Form::Hook => read_hook(alloc, json),
         Form::Get => read_get(alloc, json),
         Form::Find => {
             let (coll, query) = read_query(alloc, json)?;
@@ -116,21 +126,45 @@ fn read_bulk(alloc: Global, mut json: Json) -> Result<Line, LineFault>
     Ok(Line::Bulk { coll, docs })
 }
 
+// The document that a line changes, as an object of that member says.
+fn read_changed(alloc: Global, json: &Json, member: &str) -> Result<Changed, LineFault>
+    ensures exact { Due Memory result (changed_of member.now (view json.now)) }
+    ensures name { IfOk result (λ changed. is_name changed.coll ≡ true) }
+    ensures object { IfOk result (λ _. is_object (json_at member.now (view json.now)) ≡ true) }
+{
+    check_form(alloc, json, &["do", "in", "key", member], &["rev"])?;
+    let coll = read_text(alloc, json, "in")?;
+    let key = read_text(alloc, json, "key")?;
+    check_object(alloc, json, member)?;
+    let rev = read_maybe_text(alloc, json, "rev")?;
+    check_name(alloc, "in", &coll)?;
+    Ok(Changed { coll, key, rev })
+}
+
 fn read_patch(alloc: Global, mut json: Json) -> Result<Line, LineFault>
     ensures exact { DueBy Memory asked result (patch_of (view json)) }
     ensures lawful { IfOk result (λ line. IsLawful (asked line)) }
 {
-    check_form(alloc, &json, &["do", "in", "key", "set"], &["rev"])?;
-    let coll = read_text(alloc, &json, "in")?;
-    let key = read_text(alloc, &json, "key")?;
-    check_object(alloc, &json, "set")?;
-    let rev = read_maybe_text(alloc, &json, "rev")?;
-    check_name(alloc, "in", &coll)?;
+    let Changed { coll, key, rev } = read_changed(alloc, &json, "set")?;
     let set = take_json(&mut json, "set");
     Ok(Line::Patch {
         coll,
         key,
         set,
+        rev,
+    })
+}
+
+fn read_update(alloc: Global, mut json: Json) -> Result<Line, LineFault>
+    ensures exact { DueBy Memory asked result (update_of (view json)) }
+    ensures lawful { IfOk result (λ line. IsLawful (asked line)) }
+{
+    let Changed { coll, key, rev } = read_changed(alloc, &json, "update")?;
+    let update = take_json(&mut json, "update");
+    Ok(Line::Update {
+        coll,
+        key,
+        update,
         rev,
     })
 }
@@ -145,6 +179,24 @@ fn read_remove(alloc: Global, json: Json) -> Result<Line, LineFault>
     let rev = read_maybe_text(alloc, &json, "rev")?;
     check_name(alloc, "in", &coll)?;
     Ok(Line::Remove { coll, key, rev })
+}
+
+fn read_hook(alloc: Global, json: Json) -> Result<Line, LineFault>
+    ensures exact { DueBy Memory asked result (hook_of (view json)) }
+    ensures lawful { IfOk result (λ line. IsLawful (asked line)) }
+{
+    check_form(alloc, &json, &["do", "in", "when", "hook", "field"], &[])?;
+    let coll = read_text(alloc, &json, "in")?;
+    let when = read_when(alloc, &json, "when")?;
+    let hook = read_text(alloc, &json, "hook")?;
+    let field = read_text(alloc, &json, "field")?;
+    check_name(alloc, "in", &coll)?;
+    Ok(Line::Hook {
+        coll,
+        when,
+        hook,
+        field,
+    })
 }
 
 fn read_get(alloc: Global, json: Json) -> Result<Line, LineFault>

@@ -10,6 +10,7 @@ use crate::forms::read_form;
 use crate::happening::Happening;
 use crate::since::Since;
 use crate::target::Target;
+use rx_update::When;
 use rx_value::RxText;
 use serde_json::Value as Json;
 use std::alloc::Global;
@@ -26,8 +27,8 @@ pub const MAX_BUDGET: u32 = 100_000;
 /// As many as a turn may make where no number is given.
 pub const USUAL_BUDGET: u32 = 1_000;
 
-/// What a line asks. Names are read; schemas, documents and queries are left as the JSON that
-/// they are, since only the session can judge them. `coll` is the member `in`.
+/// What a line asks. Names are read; schemas, documents, updates and queries are left as the
+/// JSON that they are, since only the session can judge them. `coll` is the member `in`.
 #[derive(Drop)]
 pub enum Line {
     Collection {
@@ -52,10 +53,22 @@ pub enum Line {
         set: Json,
         rev: Option<RxText>,
     },
+    Update {
+        coll: RxText,
+        key: RxText,
+        update: Json,
+        rev: Option<RxText>,
+    },
     Remove {
         coll: RxText,
         key: RxText,
         rev: Option<RxText>,
+    },
+    Hook {
+        coll: RxText,
+        when: When,
+        hook: RxText,
+        field: RxText,
     },
     Get {
         coll: RxText,

@@ -1,15 +1,16 @@
 // The members of a line, and their kinds.
-ghost use Rattle.std.specs.Prelude.{◌≡◌, ◌≤◌, true, map, IfOk, OnOk};
+ghost use Rattle.std.specs.Prelude.{◌≡◌, ◌≤◌, true, map, option_map, IfOk, OnOk};
 ghost use Rattle.std.specs.List.{list_all};
 ghost use Rattle.serde_json.specs.View.{view};
 ghost use Rattle.rx_value.specs.Due.{Due};
 ghost use Rattle.rx_value.specs.Form.{texts};
 ghost use Rattle.rx_value.specs.Name.{is_name};
 ghost use Rattle.rx_value.specs.Value.{largest};
-ghost use Rattle.rx_script.specs.Member.{has_needed, has_form, is_object, a_text, maybe_text, an_object, objects, a_moment, maybe_whole, a_count, a_name, json_at, items_of, are_objects};
+ghost use Rattle.rx_script.specs.Member.{has_needed, has_form, is_object, a_text, maybe_text, an_object, objects, a_moment, maybe_whole, a_count, a_name, a_when, when_of, json_at, items_of, are_objects};
 ghost use Rattle.rx_script.specs.declared.fault.LineFault.TheVariants.{Memory};
 
 use crate::fault::LineFault;
+use rx_update::When;
 use rx_value::{
     LARGEST, RxText, first_missing, first_unexpected, is_name, text_at, whole_at, whole_within,
 };
@@ -136,6 +137,27 @@ pub(crate) fn read_count(
     match whole_within(json, name, 1, most as u64) {
         Some(number) => Ok(number as u32),
         None => Err(LineFault::Batch(RxText::new(alloc, name)?)),
+    }
+}
+
+// The writes before which a hook stands.
+pub(crate) fn read_when(alloc: Global, json: &Json, name: &str) -> Result<When, LineFault>
+    ensures { Due Memory result (a_when name.now (view json.now)) }
+{
+    match when_by_word(text_at(json, name)) {
+        Some(when) => Ok(when),
+        None => Err(LineFault::WrongType(RxText::new(alloc, name)?)),
+    }
+}
+
+fn when_by_word(word: Option<&str>) -> Option<When>
+    ensures { result ≡ when_of (option_map (λ t. t.now) word.entry) }
+{
+    match word? {
+        "insert" => Some(When::Insert),
+        "save" => Some(When::Save),
+        "remove" => Some(When::Remove),
+        _ => None,
     }
 }
 

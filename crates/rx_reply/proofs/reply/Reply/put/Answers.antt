@@ -3,5 +3,8 @@ use Rattle.rx_reply.proofs.reply.Reply.put.Goals as goal
 pub returns-in-Unobserve-clause-tokens : goal.returns-in-Unobserve-clause-tokens
 returns-in-Unobserve-clause-tokens c = rw c.in-Unobserve.is c.put_plain-in-Unobserve.ensures.tokens
 
+pub returns-in-Observe-clause-tokens : goal.returns-in-Observe-clause-tokens
+returns-in-Observe-clause-tokens c = rw c.in-Observe.is c.put_plain-in-Observe.ensures.tokens
+
 pub returns-in-Replicate-clause-tokens : goal.returns-in-Replicate-clause-tokens
 returns-in-Replicate-clause-tokens c = rw c.in-Replicate.is c.put_plain-in-Replicate.ensures.tokens
