@@ -11,6 +11,7 @@ use Rattle.rx_record.specs.Content.{Content}
 use Rattle.rx_collection.specs.Held.{Held}
 use Rattle.rx_observe.specs.Observing.{Observing, Queries}
 use Rattle.rx_observe.specs.Rows.{emissions_due}
+use Rattle.rx_update.specs.Attached.{Hooking}
 use Rattle.rx_world.specs.Holders.{Holders, holders_in}
 use Rattle.rx_world.specs.Step.{step, legal}
 use Rattle.rx_world.specs.Touch.{Touch, no_collection, new_collection, new_rows, touch}
@@ -112,7 +113,7 @@ pub record IsPlayed (content : Content) (old new : Holders Observing) (ps : List
   pub stepped : world_of new ≡ step content (world_of old)
   pub applied : IsAfter (touch content (world_of old)) (holders_in old) (holders_in new)
 
-module _ (content : Content) (old new : Holders Observing) (moment : ℕ) (ps : List QueryPlace)
+module _ (content : Content) (old new : Holders Observing) (moment : ℕ) (hooks : Hooking) (ps : List QueryPlace)
     (written : List (List ℕ)) (so : IsPlayed content old new ps written) where
   -- all are in their places
   pub played_placed : ArePlaced (holders_in new) ps
@@ -142,10 +143,10 @@ module _ (content : Content) (old new : Holders Observing) (moment : ℕ) (ps : 
       quiet_to_note ps t written (holders_in new) played_placed
       (quiet_noted t written (holders_in old) (holders_in new) so.applied so.quiet)
 
-  pub played_session : session_of new moment ps
-      ≡ session_after (write content) (session_of old moment ps)
+  pub played_session : session_of new moment hooks ps
+      ≡ session_after (write content) (session_of old moment hooks ps)
   played_session =
-      λ i. record { world = so.stepped i; moment = moment; queries = followed i }
+      λ i. record { world = so.stepped i; moment = moment; hooks = hooks; queries = followed i }
 
 -- ---- once all is emitted
 
@@ -158,7 +159,7 @@ pub record IsTaken (old new : Holders Observing) (ps : List QueryPlace)
   pub replications : new.replications ≡ old.replications
   pub epochs : new.epoch ≡ old.epoch
 
-module _ (old new : Holders Observing) (moment : ℕ) (ps : List QueryPlace) (written : List (List ℕ))
+module _ (old new : Holders Observing) (moment : ℕ) (hooks : Hooking) (ps : List QueryPlace) (written : List (List ℕ))
     (so : IsTaken old new ps written) where
   taken_world : world_of new ≡ world_of old
   taken_world =
@@ -178,7 +179,7 @@ module _ (old new : Holders Observing) (moment : ℕ) (ps : List QueryPlace) (wr
       subst (AllByRecursion IsQuiet) (sym so.emitted)
       (quiet_each written (holders_in old) (distinct_in old so.distinct) so.quiet)
 
-  pub taken_due : due_in_all written ps (holders_in old) ≡ emissions (session_of old moment ps)
+  pub taken_due : due_in_all written ps (holders_in old) ≡ emissions (session_of old moment hooks ps)
   taken_due =
       taken_is_due written (world_of old) (holders_in old) (world_colls old) ps so.placed
       (distinct_in old so.distinct) so.quiet
@@ -189,9 +190,9 @@ module _ (old new : Holders Observing) (moment : ℕ) (ps : List QueryPlace) (wr
       ap (λ ls. queries_of ls ps) so.emitted
       ∙ queries_each written (world_of old) (holders_in old) (world_colls old) ps so.quiet
 
-  pub taken_session : session_of new moment ps ≡ settled_session (session_of old moment ps)
+  pub taken_session : session_of new moment hooks ps ≡ settled_session (session_of old moment hooks ps)
   taken_session =
-      λ i. record { world = taken_world i; moment = moment; queries = taken_queries i }
+      λ i. record { world = taken_world i; moment = moment; hooks = hooks; queries = taken_queries i }
 
 -- where all is quiet, it is where none was written
 pub none_written : (ls : Lives) → AllByRecursion IsQuiet ls → AreQuietUnless [] ls

@@ -7,6 +7,8 @@ use Rattle.rx_value.specs.Named.{named}
 use Rattle.rx_query.specs.QuerySpec.{QuerySpec}
 use Rattle.rx_record.specs.Content.{Content}
 use Rattle.rx_observe.specs.Observing.{Observing, each, put_all, watch_after}
+use Rattle.rx_update.specs.Attached.{Hooking}
+use Rattle.rx_update.specs.declared.attached.Attached.{Attached}
 use Rattle.rx_world.specs.Holders.{Holders, holders_in}
 use Rattle.rx_world.specs.Step.{step, legal}
 use Rattle.rx_world.specs.Touch.{Touch, touch}
@@ -15,7 +17,7 @@ use Rattle.rx_world.proofs.Holding.{after_all}
 use Rattle.rx_world.proofs.Looked.{keys-change_named}
 use Rattle.rx_world.proofs.Valid.{distinct_step}
 use Rattle.rx_session.specs.Applied.{IsAfter, IsMadeFor, coll_written, settled_in, due_in, without_observed, watched_in}
-use Rattle.rx_session.specs.Doing.{session_after, query_after, new_query, has_key, set_clock, write, watch, unwatch}
+use Rattle.rx_session.specs.Doing.{session_after, query_after, new_query, has_key, with_attached, set_clock, write, watch, unwatch, attach}
 use Rattle.rx_session.specs.Emissions.{emissions, emission_due, settled_session, settled_query, IsSettled}
 use Rattle.rx_session.specs.Lives.{with_query}
 use Rattle.rx_session.specs.Placed.{ArePlaced, AreQuietBut, AreUnwatched, IsUnwatched, IsQuiet, Lives, place_named, queries_of, world_of}
@@ -54,9 +56,9 @@ unwatched_in lives t ls (Err e) session_after none = tt
 -- ---- sessions
 
 -- a session by its parts
-abbrev pub session_of : Holders Observing → ℕ → List QueryPlace → Session
-session_of h moment ps =
-    record { world = world_of h; moment = moment; queries = queries_of (holders_in h) ps }
+abbrev pub session_of : Holders Observing → ℕ → Hooking → List QueryPlace → Session
+session_of h moment hooks ps =
+    record { world = world_of h; moment = moment; hooks = hooks; queries = queries_of (holders_in h) ps }
 
 -- worlds of the same collections and replications, and of the same epoch
 pub same_world : (h g : Holders Observing) → colls (holders_in h) ≡ colls (holders_in g)
@@ -78,26 +80,39 @@ module _ (h : Holders Observing) (ps : List QueryPlace)
     none_due = quiet_due (world_of h) (holders_in h) (world_colls h) ps quiet
 
     -- so the session is settled
-    pub is_settled : (moment : ℕ) → IsSettled (session_of h moment ps)
-    is_settled moment = record {
-      same = ap (λ qs. record { world = world_of h; moment = moment; queries = qs }) all_settled;
+    pub is_settled : (moment : ℕ) (hooks : Hooking) → IsSettled (session_of h moment hooks ps)
+    is_settled moment hooks = record {
+      same = ap (λ qs. record { world = world_of h; moment = moment; hooks = hooks; queries = qs }) all_settled;
       quiet = none_due;
     }
 
     -- so it is at another moment
-    pub at_session : (moment at : ℕ)
-        → session_of h at ps
-        ≡ settled_session (session_after (set_clock at) (session_of h moment ps))
-    at_session moment at =
-        ap (λ qs. record { world = world_of h; moment = at; queries = qs }) (sym all_settled)
+    pub at_session : (moment : ℕ) (hooks : Hooking) (at : ℕ)
+        → session_of h at hooks ps
+        ≡ settled_session (session_after (set_clock at) (session_of h moment hooks ps))
+    at_session moment hooks at =
+        ap (λ qs. record { world = world_of h; moment = at; hooks = hooks; queries = qs }) (sym all_settled)
+
+    -- so it is with one hook more
+    pub attached_session : (moment : ℕ) (hooks : Hooking) (one : Attached)
+        → session_of h moment (with_attached one hooks) ps
+        ≡ settled_session (session_after (attach one) (session_of h moment hooks ps))
+    attached_session moment hooks one =
+        ap (λ qs. record {
+          world = world_of h;
+          moment = moment;
+          hooks = with_attached one hooks;
+          queries = qs;
+        })
+        (sym all_settled)
 
 -- ---- once a query is observed
 
 -- no place has a name that no query has
-pub free_place : (name : List ℕ) (h : Holders Observing) (moment : ℕ) (ps : List QueryPlace)
-    → ArePlaced (holders_in h) ps → is_observed name (session_of h moment ps) ≡ false
+pub free_place : (name : List ℕ) (h : Holders Observing) (moment : ℕ) (hooks : Hooking) (ps : List QueryPlace)
+    → ArePlaced (holders_in h) ps → is_observed name (session_of h moment hooks ps) ≡ false
     → list_any (λ p. bytes_eq name p.name) ps ≡ false
-free_place name h moment ps placed free = sym (any-queries_of name (holders_in h) ps placed) ∙ free
+free_place name h moment hooks ps placed free = sym (any-queries_of name (holders_in h) ps placed) ∙ free
 
 -- a query was observed in settled collections, and the emissions that are due were written
 pub record IsWatched (name coll : List ℕ) (q : QuerySpec) (old last : Holders Observing)
@@ -112,7 +127,7 @@ pub record IsWatched (name coll : List ℕ) (q : QuerySpec) (old last : Holders 
   pub replications : last.replications ≡ old.replications
   pub epochs : last.epoch ≡ old.epoch
 
-module _ (name coll : List ℕ) (q : QuerySpec) (old last : Holders Observing) (moment : ℕ)
+module _ (name coll : List ℕ) (q : QuerySpec) (old last : Holders Observing) (moment : ℕ) (hooks : Hooking)
     (ps : List QueryPlace)
     (so : IsWatched name coll q old last ps) where
   -- the collections with the query
@@ -150,7 +165,7 @@ module _ (name coll : List ℕ) (q : QuerySpec) (old last : Holders Observing) (
       (distinct_in old so.distinct)
 
   pub watched_due : due_in (Some coll) more
-      ≡ emissions (session_after (watch name coll q) (session_of old moment ps))
+      ≡ emissions (session_after (watch name coll q) (session_of old moment hooks ps))
   watched_due =
       sym (due_of_one (world_of old) more same_then coll quiet_rest (ps ++ place_in coll name ∷ [])
       added_then)
@@ -173,10 +188,10 @@ module _ (name coll : List ℕ) (q : QuerySpec) (old last : Holders Observing) (
       (ps ++ place_in coll name ∷ [])
       ∙ ap (map (settled_query (world_of old))) query_then
 
-  pub watched_session : session_of last moment (ps ++ place_in coll name ∷ [])
-      ≡ settled_session (session_after (watch name coll q) (session_of old moment ps))
+  pub watched_session : session_of last moment hooks (ps ++ place_in coll name ∷ [])
+      ≡ settled_session (session_after (watch name coll q) (session_of old moment hooks ps))
   watched_session =
-      λ i. record { world = watched_world i; moment = moment; queries = watched_queries i }
+      λ i. record { world = watched_world i; moment = moment; hooks = hooks; queries = watched_queries i }
 
   pub watched_placed : ArePlaced (holders_in last) (ps ++ place_in coll name ∷ [])
   watched_placed =
@@ -203,7 +218,7 @@ pub record IsLeft (name : List ℕ) (old new : Holders Observing)
   pub replications : new.replications ≡ old.replications
   pub epochs : new.epoch ≡ old.epoch
 
-module _ (name : List ℕ) (old new : Holders Observing) (moment : ℕ) (ps : List QueryPlace)
+module _ (name : List ℕ) (old new : Holders Observing) (moment : ℕ) (hooks : Hooking) (ps : List QueryPlace)
     (so : IsLeft name old new ps) where
   -- by its place
   left_colls : (o : Option QueryPlace) → colls (without_observed name o (holders_in old))
@@ -253,7 +268,7 @@ module _ (name : List ℕ) (old new : Holders Observing) (moment : ℕ) (ps : Li
   pub without_quiet : AllByRecursion IsQuiet (holders_in new)
   without_quiet = subst (AllByRecursion IsQuiet) (sym so.dropped) (left_quiet (place_named name ps))
 
-  pub without_due : emissions (session_after (unwatch name) (session_of old moment ps)) ≡ []
+  pub without_due : emissions (session_after (unwatch name) (session_of old moment hooks ps)) ≡ []
   without_due =
       sym (ap (λ qs. flat_map (emission_due (world_of old)) qs) without_queries)
       ∙ sym (ap (λ w. flat_map (emission_due w) (queries_of (holders_in new) (rest_of name ps)))
@@ -270,7 +285,7 @@ module _ (name : List ℕ) (old new : Holders Observing) (moment : ℕ) (ps : Li
       ∙ ap (λ w. map (settled_query w)
       (filter (λ x. not (bytes_eq name x.name)) (queries_of (holders_in old) ps))) without_world
 
-  pub without_session : session_of new moment (rest_of name ps)
-      ≡ settled_session (session_after (unwatch name) (session_of old moment ps))
+  pub without_session : session_of new moment hooks (rest_of name ps)
+      ≡ settled_session (session_after (unwatch name) (session_of old moment hooks ps))
   without_session =
-      λ i. record { world = without_world i; moment = moment; queries = without_settled i }
+      λ i. record { world = without_world i; moment = moment; hooks = hooks; queries = without_settled i }

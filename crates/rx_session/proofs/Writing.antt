@@ -12,7 +12,7 @@ use Rattle.rx_value.proofs.Outcomes.{none_is, none_mapped}
 use Rattle.rx_value.proofs.Lists.{all_weaker}
 use Rattle.rx_value.proofs.Bytes.{bytes_itself, bytes_apart}
 use Rattle.rx_collection.specs.Held.{Held}
-use Rattle.rx_record.specs.Content.{Content, collection, rows, replication, exchange, epoch}
+use Rattle.rx_record.specs.Content.{Content, collection, rows, replication, exchange}
 use Rattle.rx_record.specs.declared.record.RowOut.{RowOut}
 use Rattle.rx_observe.specs.Observing.{Observing, watch_after}
 use Rattle.rx_observe.specs.Rows.{emissions_due}
@@ -58,7 +58,7 @@ legal_unheld (rows name lwt written) w allowed = tt
 legal_unheld (replication name fork master handler field) w allowed = tt
 legal_unheld (exchange name lwt written known up down) w allowed =
     fork_unheld w lwt written (named w.replications name)
-legal_unheld (epoch number) w allowed = tt
+legal_unheld other w allowed = tt
 
 -- so no collection with queries has it
 free_name : (name : List ℕ) (w : World) (ls : Lives) → w.collections ≡ colls ls

@@ -5,6 +5,11 @@ use Rattle.rx_collection.specs.Held.{Held}
 use Rattle.rx_collection.specs.contracts.collection.Collection as collection
 use Rattle.rx_observe.specs.Codes.{watched_code}
 use Rattle.rx_observe.specs.Watched.{Watched}
+use Rattle.rx_update.specs.Attached.{Hooking}
+use Rattle.rx_update.specs.Hooks.{HookKinds}
+use Rattle.rx_update.specs.contracts.attached.Attached as attached
+use Rattle.rx_update.specs.contracts.kind.HookKind as kind
+use Rattle.rx_update.specs.declared.attached.Attached.{Attached}
 use Rattle.rx_world.specs.World.{World}
 use Rattle.rx_world.specs.contracts.replication.Replication as replication
 use Rattle.rx_world.specs.declared.replication.Replication.{Replication}
@@ -33,11 +38,20 @@ observed_code =
     (λ p. record { name = p.0; coll = p.1.0; watched = p.1.1 })
     (λ _. refl)
 
+-- hooks, as the pair of their parts
+abbrev pub hooking_code : Coded Hooking
+hooking_code =
+    code_by (HookKinds × List Attached)
+    (coded× (coded_list (coded× text_code kind.the_row.coded)) (coded_list attached.the_row.coded))
+    (λ h. (h.known, h.attached))
+    (λ p. record { known = p.0; attached = p.1 })
+    (λ _. refl)
+
 -- a session
 abbrev pub session_code : Coded Session
 session_code =
-    code_by (World × (ℕ × List Observed))
-    (coded× world_code (coded× coded_ℕ (coded_list observed_code)))
-    (λ s. (s.world, (s.moment, s.queries)))
-    (λ p. record { world = p.0; moment = p.1.0; queries = p.1.1 })
+    code_by (World × (ℕ × (Hooking × List Observed)))
+    (coded× world_code (coded× coded_ℕ (coded× hooking_code (coded_list observed_code))))
+    (λ s. (s.world, (s.moment, (s.hooks, s.queries))))
+    (λ p. record { world = p.0; moment = p.1.0; hooks = p.1.1.0; queries = p.1.1.1 })
     (λ _. refl)

@@ -9,6 +9,8 @@ use Rattle.rx_record.specs.Writable.{IsOrdered}
 use Rattle.rx_record.specs.declared.record.RowOut.{RowOut}
 use Rattle.rx_observe.specs.Observing.{watch_after, new_watch, cooled}
 use Rattle.rx_observe.specs.Watched.{Watched}
+use Rattle.rx_update.specs.Attached.{Hooking}
+use Rattle.rx_update.specs.declared.attached.Attached.{Attached}
 use Rattle.rx_world.specs.Step.{step, legal, stored_rows}
 use Rattle.rx_world.specs.Touch.{Touch, no_collection, new_collection, new_rows, touch}
 use Rattle.rx_world.specs.World.{World}
@@ -16,13 +18,14 @@ use Rattle.rx_session.specs.Emissions.{documents_at}
 use Rattle.rx_session.specs.Session.{Observed, Session, is_observed, with_watched}
 
 -- nothing is changed, the clock is set, a record is written, a query is observed under a name in a
--- collection, a query is observed no more, or the journal is opened again in that epoch
+-- collection, a query is observed no more, a hook is attached, or the journal is opened again in that epoch
 pub data Doing : Type 0 where
   nothing : Doing
   set_clock : ℕ → Doing
   write : Content → Doing
   watch : List ℕ → List ℕ → QuerySpec → Doing
   unwatch : List ℕ → Doing
+  attach : Attached → Doing
   restart : ℕ → Doing
 
 -- the state of a query after rows that its collection takes one by one, where there is one
@@ -46,6 +49,10 @@ new_query w name coll q = record {
   watched = new_watch q (documents_at (named w.collections coll));
 }
 
+-- with one hook more
+abbrev pub with_attached : Attached → Hooking → Hooking
+with_attached one hooks = record hooks { attached = hooks.attached ++ one ∷ [] }
+
 -- the session after what a line does
 abbrev pub session_after : Doing → Session → Session
 session_after nothing s = s
@@ -59,6 +66,7 @@ session_after (watch name coll q) s =
     record s { queries = s.queries ++ new_query s.world name coll q ∷ [] }
 session_after (unwatch name) s =
     record s { queries = filter (λ o. not (bytes_eq name o.name)) s.queries }
+session_after (attach one) s = record s { hooks = with_attached one s.hooks }
 session_after (restart number) s = record s {
   world = step (epoch number) s.world;
   queries = map (λ o. with_watched (cooled o.watched) o) s.queries;

@@ -1,5 +1,6 @@
 -- How the fields of a session are seen.
 use Rattle.std.specs.List.{AllByRecursion}
+use Rattle.rx_update.specs.Shown.{hooking_of}
 use Rattle.rx_world.specs.Holders.{holders_in}
 use Rattle.rx_world.specs.Valid.{AreDistinct}
 use Rattle.rx_session.specs.Placed.{queries_of, world_of, ArePlaced, IsQuiet}
@@ -11,6 +12,7 @@ abbrev pub session_in : Inside → Session
 session_in s = record {
   world = world_of s.world;
   moment = s.moment;
+  hooks = hooking_of s.hooks;
   queries = queries_of (holders_in s.world) s.places.items;
 }
 

@@ -4,6 +4,7 @@ use Rattle.std.specs.List.{AllByRecursion, cons_option, find, list_any}
 use Rattle.std.specs.Str.{bytes_eq}
 use Rattle.rx_value.specs.Named.{named, change_named}
 use Rattle.rx_observe.specs.declared.emission.Emission.{Emission}
+use Rattle.rx_update.specs.Shown.{hooking_of}
 use Rattle.rx_world.specs.Holders.{holders_in}
 use Rattle.rx_world.specs.Touch.{Touch}
 use Rattle.rx_world.specs.Valid.{AreDistinct}
@@ -37,6 +38,7 @@ abbrev pub session_in_play : Inside → Session
 session_in_play s = record {
   world = world_of s.world;
   moment = s.moment;
+  hooks = hooking_of s.hooks;
   queries = queries_of (holders_in s.world) s.places.items;
 }
 

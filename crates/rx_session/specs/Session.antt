@@ -5,6 +5,7 @@ use Rattle.std.specs.Str.{bytes_eq}
 use Rattle.rx_value.specs.Named.{named}
 use Rattle.rx_table.specs.declared.counts.Counts.{Counts}
 use Rattle.rx_observe.specs.Watched.{Watched}
+use Rattle.rx_update.specs.Attached.{Hooking}
 use Rattle.rx_world.specs.World.{World}
 
 -- an observed query, its name, and the collection that it is observed in
@@ -17,10 +18,11 @@ pub record Observed : Type 0 where
 abbrev pub with_watched : Watched → Observed → Observed
 with_watched w o = record { name = o.name; coll = o.coll; watched = w }
 
--- the world, the present moment, and the observed queries in the order of observing
+-- the world, the present moment, the hooks, and the observed queries in the order of observing
 pub record Session : Type 0 where
   pub world : World
   pub moment : ℕ
+  pub hooks : Hooking
   pub queries : List Observed
 
 -- a query of that name is observed

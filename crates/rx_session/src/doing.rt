@@ -1,5 +1,6 @@
 use rx_query::Query;
 use rx_record::Record;
+use rx_update::Attached;
 use rx_value::RxText;
 
 /// What a line does to a session.
@@ -10,6 +11,7 @@ pub enum Doing {
     Write(Record),
     Watch(Watch),
     Unwatch(RxText),
+    Attach(Attached),
 }
 
 /// A query that is to be observed, its name, and the name of its collection.

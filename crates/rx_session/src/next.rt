@@ -4,10 +4,11 @@ ghost use Rattle.std.specs.Str.{bytes_eq};
 ghost use Rattle.rx_value.specs.Named.{named};
 ghost use Rattle.rx_query.specs.QuerySpec.{asked};
 ghost use Rattle.rx_record.specs.Shown.{content};
+ghost use Rattle.rx_update.specs.Shown.{hooking_of};
 ghost use Rattle.rx_world.specs.Holders.{holders_in};
 ghost use Rattle.rx_session.specs.Applied.{due_in, settled_in, without_observed, watched_in};
 ghost use Rattle.rx_session.specs.Doing as doing;
-ghost use Rattle.rx_session.specs.Doing.{session_after, has_key, MayDo};
+ghost use Rattle.rx_session.specs.Doing.{session_after, has_key, with_attached, MayDo};
 ghost use Rattle.rx_session.specs.Emissions.{emissions, settled_session, IsSettled};
 ghost use Rattle.rx_session.specs.Lives.{IsFree};
 ghost use Rattle.rx_session.specs.Placed.{world_of};
@@ -20,6 +21,7 @@ use crate::session::{Session, find_place};
 use rx_observe::{Emission, Live};
 use rx_query::Query;
 use rx_record::Record;
+use rx_update::{Attached, Attachments};
 use rx_value::RxText;
 use rx_world::World;
 use std::alloc::{AllocError, Global};
@@ -40,6 +42,7 @@ impl Session {
             Doing::Write(entry) => self.write(alloc, entry),
             Doing::Watch(watch) => self.watch(alloc, watch),
             Doing::Unwatch(name) => Ok((self.unwatch(&name), Vec::new(alloc))),
+            Doing::Attach(one) => Ok((self.attach(one)?, Vec::new(alloc))),
         }
     }
 }
@@ -63,9 +66,34 @@ impl Session {
         Session {
             world: self.world,
             moment,
+            hooks: self.hooks,
             places: self.places,
             diagram: self.diagram,
         }
+    }
+
+    // The session with one hook more.
+    fn attach(self, one: Attached) -> Result<Session, AllocError>
+        ensures session { IfOk result
+            (λ s. s ≡ settled_session (session_after (doing.attach one) self)) }
+        ensures emissions { emissions (session_after (doing.attach one) self) ≡ [] }
+        ensures before { IsSettled self }
+    {
+        let Session {
+            world,
+            moment,
+            mut hooks,
+            places,
+            diagram,
+        } = self;
+        add_hook(&mut hooks, one)?;
+        Ok(Session {
+            world,
+            moment,
+            hooks,
+            places,
+            diagram,
+        })
     }
 
     // The session after a record. Queries of other collections keep their results.
@@ -96,6 +124,7 @@ impl Session {
         let Session {
             mut world,
             moment,
+            hooks,
             mut places,
             diagram,
         } = self;
@@ -105,6 +134,7 @@ impl Session {
         let session = Session {
             world,
             moment,
+            hooks,
             places,
             diagram,
         };
@@ -124,6 +154,7 @@ impl Session {
         Session {
             world,
             moment: self.moment,
+            hooks: self.hooks,
             places,
             diagram: self.diagram,
         }
@@ -158,6 +189,13 @@ fn add_place(places: &mut Vec<QueryPlace>, name: RxText, coll: RxText) -> Result
         (places.new.items ≡ places.old.items ++ record { name = name; coll = coll } ∷ []) }
 {
     places.push(QueryPlace { name, coll })?;
+    Ok(())
+}
+
+fn add_hook(hooks: &mut Attachments, one: Attached) -> Result<(), AllocError>
+    ensures { OnOk result (hooking_of hooks.new ≡ with_attached one (hooking_of hooks.old)) }
+{
+    hooks.attached.push(one)?;
     Ok(())
 }
 

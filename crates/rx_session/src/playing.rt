@@ -20,6 +20,7 @@ use crate::session::Session;
 use rx_diagram::Diagram;
 use rx_observe::{Emission, Live};
 use rx_record::Record;
+use rx_update::Attachments;
 use rx_value::RxText;
 use rx_world::World;
 use std::alloc::{AllocError, Global};
@@ -32,6 +33,7 @@ use std::rc::Rc;
 pub struct Playing {
     world: World<Live>,
     moment: u64,
+    hooks: Attachments,
     places: Vec<QueryPlace>,
     diagram: Rc<Diagram>,
     // The names of the collections whose documents were written, where any query is observed.
@@ -62,6 +64,7 @@ impl Session {
         Playing {
             world: self.world,
             moment: self.moment,
+            hooks: self.hooks,
             places: self.places,
             diagram: self.diagram,
             written: Vec::new(alloc),
@@ -86,6 +89,7 @@ impl Playing {
         let Playing {
             world,
             moment,
+            hooks,
             places,
             diagram,
             mut written,
@@ -96,6 +100,7 @@ impl Playing {
         Ok(Playing {
             world,
             moment,
+            hooks,
             places,
             diagram,
             written,
@@ -110,6 +115,7 @@ impl Playing {
         let Playing {
             mut world,
             moment,
+            hooks,
             places,
             diagram,
             written,
@@ -118,6 +124,7 @@ impl Playing {
         let session = Session {
             world,
             moment,
+            hooks,
             places,
             diagram,
         };

@@ -34,6 +34,7 @@ impl Session {
         Ok(Session {
             world,
             moment: self.moment,
+            hooks: self.hooks,
             places: self.places,
             diagram: self.diagram,
         })

@@ -6,6 +6,7 @@ ghost use Rattle.rx_value.specs.Named.{named};
 ghost use Rattle.rx_collection.specs.Lawful.{IsLawful};
 ghost use Rattle.rx_record.specs.Shown.{content};
 ghost use Rattle.rx_record.specs.Writable.{IsOrdered};
+ghost use Rattle.rx_update.specs.Shown.{hooking_of};
 ghost use Rattle.rx_world.specs.Commit.{commit_to};
 ghost use Rattle.rx_world.specs.Holders.{holders_in};
 ghost use Rattle.rx_world.specs.Lawful.{IsLawfulWorld};
@@ -20,18 +21,20 @@ use rx_diagram::Diagram;
 use rx_observe::Live;
 use rx_record::Record;
 use rx_table::Counts;
+use rx_update::{Attachments, HookKind};
 use rx_value::{RxText, State};
 use rx_world::{StepFault, World, commit};
 use std::alloc::Global;
 use std::marker::Model;
 use std::rc::Rc;
 
-/// Collections with their observed queries, and the present moment. Between two lines nothing is
+/// Collections with their observed queries and hooks, and the present moment. Between two lines nothing is
 /// to be emitted.
 #[derive(Drop)]
 pub struct Session {
     pub(crate) world: World<Live>,
     pub(crate) moment: u64,
+    pub(crate) hooks: Attachments,
     /// The observed queries in the order of observing.
     pub(crate) places: Vec<QueryPlace>,
     /// A share for each collection that is made later.
@@ -54,15 +57,29 @@ impl Model for Session {
 }
 
 impl Session {
-    /// The session at the start of a run, at the moment 0.
-    pub fn new(alloc: Global, world: World<Live>, diagram: Rc<Diagram>) -> Session
+    /// The session at the start of a run that knows these hooks, at the moment 0.
+    pub fn new(
+        alloc: Global,
+        world: World<Live>,
+        diagram: Rc<Diagram>,
+        known: Vec<(RxText, HookKind)>,
+    ) -> Session
         requires unwatched { AreUnwatched (holders_in world) }
         requires distinct { AreDistinct (world_of world) }
-        ensures { result ≡ record { world = world_of world; moment = 0; queries = [] } }
+        ensures { result ≡ record {
+          world = world_of world;
+          moment = 0;
+          hooks = record { known = known.items; attached = [] };
+          queries = [];
+        } }
     {
         Session {
             world,
             moment: 0,
+            hooks: Attachments {
+                known,
+                attached: Vec::new(alloc),
+            },
             places: Vec::new(alloc),
             diagram,
         }
@@ -92,6 +109,13 @@ impl Session {
         ensures { result ≡ self.now.moment }
     {
         self.moment
+    }
+
+    /// The hooks that the run knows, and those of all collections.
+    pub fn hooks(&self) -> &Attachments
+        ensures { hooking_of result.now ≡ self.now.hooks }
+    {
+        &self.hooks
     }
 
     /// How many collections there are.

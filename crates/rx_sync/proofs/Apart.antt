@@ -23,7 +23,7 @@ use Rattle.rx_fork.specs.Accept.{accepted}
 use Rattle.rx_fork.specs.declared.accept.ExchangePlan.{ExchangePlan}
 use Rattle.rx_fork.specs.declared.ask.Asked.{Asked}
 use Rattle.rx_fork.specs.declared.fault.AcceptFault.{AcceptFault}
-use Rattle.rx_record.specs.Content.{Content, collection, rows, replication, exchange, epoch}
+use Rattle.rx_record.specs.Content.{Content, collection, rows, replication, exchange}
 use Rattle.rx_reply.specs.declared.turn.Lost.{Lost}
 use Rattle.rx_reply.specs.declared.turn.Lost.TheVariants as lost
 use Rattle.rx_reply.specs.declared.turn.TurnEnd.{TurnEnd}
@@ -50,7 +50,7 @@ IsApart name (collection k schema) = Unit {0}
 IsApart name (rows k lwt written) = Unit {0}
 IsApart name (replication k fork master handler field) = Unit {0}
 IsApart name (exchange k lwt written known up down) = k ≢ name
-IsApart name (epoch number) = Unit {0}
+IsApart name other = Unit {0}
 
 -- none of them is
 abbrev pub AreApart : List ℕ → List Content → Type 0
@@ -62,7 +62,7 @@ plain_apart name (collection k schema) plain = tt
 plain_apart name (rows k lwt written) plain = tt
 plain_apart name (replication k fork master handler field) plain = tt
 plain_apart name (exchange k lwt written known up down) plain = absurd plain
-plain_apart name (epoch number) plain = tt
+plain_apart name other plain = tt
 
 apart_both : (name : List ℕ) (cs ds : List Content) → AreApart name cs → AreApart name ds
     → AreApart name (cs ++ ds)

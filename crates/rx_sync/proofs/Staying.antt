@@ -7,14 +7,15 @@ use Rattle.rx_value.proofs.Outcomes.{some_same}
 use Rattle.rx_schema.specs.declared.shape.Shape.{Shape}
 use Rattle.rx_collection.specs.Held.{Held}
 use Rattle.rx_handler.specs.Handlers.{Kinds}
-use Rattle.rx_record.specs.Content.{Content, collection, rows, replication, exchange, epoch}
+use Rattle.rx_record.specs.Content.{Content, collection, rows, replication, exchange}
 use Rattle.rx_world.specs.Made.{IsMadeWorld}
 use Rattle.rx_world.specs.Replicating.{new_replication, with_exchange}
 use Rattle.rx_world.specs.Sound.{IsSoundWorld}
 use Rattle.rx_world.specs.Step.{legal, step}
 use Rattle.rx_world.specs.World.{World}
 use Rattle.rx_world.specs.declared.replication.Replication.{Replication}
-use Rattle.rx_world.proofs.Links.{StayHeld, begins, held_other, stay_step}
+use Rattle.rx_world.proofs.Beginning.{begins}
+use Rattle.rx_world.proofs.Links.{StayHeld, held_other, stay_step}
 use Rattle.rx_world.proofs.Looked.{named-put_other, named-change_same, named-change_other}
 use Rattle.rx_world.proofs.Making.{made_step}
 use Rattle.rx_world.proofs.Sounds.{IsNoExchange, sound_step}
@@ -69,7 +70,6 @@ still_step : (c : Content) (w : World) (name : List ℕ) (r : Replication) → l
 still_step (collection k schema) w name r is at = still_same (step (collection k schema) w) name r
     at
 still_step (rows k lwt written) w name r is at = still_same (step (rows k lwt written) w) name r at
-still_step (epoch n) w name r is at = still_same (step (epoch n) w) name r at
 still_step (replication k fork m handler field) w name r is at =
     let free = (begins k fork m w is).free in
     let new = new_replication k fork m handler field in
@@ -91,6 +91,7 @@ still_step (exchange k lwt written known up down) w name r is at =
       | inr other ↦ still_same (step (exchange k lwt written known up down) w) name r
           (named-change_other (with_exchange known up down) w.replications k name other ∙ at)
     ]
+still_step other w name r is at = still_same (step other w) name r at
 
 -- after several
 pub still_after : (cs : List Content) (w : World) (name : List ℕ) (r : Replication)

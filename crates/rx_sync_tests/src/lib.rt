@@ -11,6 +11,8 @@ mod handlers;
 #[cfg(test)]
 mod messages;
 #[cfg(test)]
+mod records;
+#[cfg(test)]
 mod reports;
 #[cfg(test)]
 mod served;

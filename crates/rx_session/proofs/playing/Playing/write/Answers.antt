@@ -1,5 +1,6 @@
 use Rattle.std.proofs.Common.{◌≡◌, true, sym, ap, ◌∙◌, subst}
 use Rattle.rx_record.specs.Shown.{content}
+use Rattle.rx_update.specs.Shown.{hooking_of}
 use Rattle.rx_world.specs.Holders.{holders_in}
 use Rattle.rx_world.specs.Step.{legal}
 use Rattle.rx_world.specs.Touch.{touch}
@@ -35,21 +36,21 @@ invariant_of-result c =
     let ps = i.places.items in
     let written = i.written.items in
     record {
-      placed = played_placed entry i.world new i.moment ps written (done c);
-      distinct = played_distinct entry i.world new i.moment ps written (done c);
+      placed = played_placed entry i.world new i.moment (hooking_of i.hooks) ps written (done c);
+      distinct = played_distinct entry i.world new i.moment (hooking_of i.hooks) ps written (done c);
       quiet = subst (λ names. AreQuietUnless names (holders_in new))
           (sym (c.in_ok-note.ensures ∙ ap (λ o. add_written o written)
           (c.in_ok-coll.ensures
           ∙ ap (λ qs. coll_to_note qs (touch entry (world_of i.world))) c.as_slice.ensures.value)))
-          (played_quiet entry i.world new i.moment ps written (done c));
+          (played_quiet entry i.world new i.moment (hooking_of i.hooks) ps written (done c));
     }
 
 pub returns : goal.returns
 returns c =
     let i = c.self.inside in
     let entry = content c.args.entry in
-    subst (λ (s : Session). session_of c.in_ok-world.world i.moment i.places.items
+    subst (λ (s : Session). session_of c.in_ok-world.world i.moment (hooking_of i.hooks) i.places.items
     ≡ session_after (write entry) s)
     c.self.view_is
-    (played_session entry i.world c.in_ok-world.world i.moment i.places.items i.written.items
+    (played_session entry i.world c.in_ok-world.world i.moment (hooking_of i.hooks) i.places.items i.written.items
     (done c))

@@ -1,4 +1,5 @@
 use Rattle.std.proofs.Common.{sym, subst}
+use Rattle.rx_update.specs.Shown.{hooking_of}
 use Rattle.rx_world.specs.Holders.{holders_in}
 use Rattle.rx_session.specs.Emissions.{IsSettled}
 use Rattle.rx_session.specs.Playing.{AreQuietUnless}
@@ -20,4 +21,4 @@ pub returns-clause-before : goal.returns-clause-before
 returns-clause-before c =
     let i = c.self.inside in
     subst IsSettled c.self.view_is
-    (is_settled i.world i.places.items c.self.invariant.quiet i.moment)
+    (is_settled i.world i.places.items c.self.invariant.quiet i.moment (hooking_of i.hooks))

@@ -8,7 +8,7 @@ pub invariant_of-result : goal.invariant_of-result
 invariant_of-result c =
     let ls = holders_in c.args.world in
     record {
-      placed = subst (ArePlaced ls) (sym c.new.ensures.items) (bare_placed ls c.requires.unwatched);
+      placed = subst (ArePlaced ls) (sym c.new-2.ensures.items) (bare_placed ls c.requires.unwatched);
       distinct = c.requires.distinct;
       quiet = bare_quiet ls c.requires.unwatched;
     }

@@ -1,4 +1,5 @@
 use Rattle.std.proofs.Common.{◌≡◌, [], ap, sym, ◌∙◌, subst}
+use Rattle.rx_update.specs.Shown.{hooking_of}
 use Rattle.rx_session.specs.Doing.{session_after, restart}
 use Rattle.rx_session.specs.Emissions.{emissions, settled_session, IsSettled}
 use Rattle.rx_session.specs.Inside.{session_in}
@@ -12,7 +13,7 @@ returns-in_err-carry_all-clause-emissions c =
     let i = c.self.inside in
     let number = c.args.world.epoch in
     subst (λ (s : Session). emissions (session_after (restart number) s) ≡ []) c.self.view_is
-    (carried_emissions i.world i.moment number i.places.items c.self.invariant.quiet)
+    (carried_emissions i.world i.moment (hooking_of i.hooks) number i.places.items c.self.invariant.quiet)
 
 pub invariant_of-result : goal.invariant_of-result
 invariant_of-result c =
@@ -33,11 +34,12 @@ returns-clause-session c =
     subst (λ (s : Session). session_in (record {
       world = new;
       moment = i.moment;
+      hooks = i.hooks;
       places = i.places;
       diagram = i.diagram;
     })
     ≡ settled_session (session_after (restart number) s)) c.self.view_is
-    (carried_session i.world i.moment number i.places.items c.self.invariant.quiet new
+    (carried_session i.world i.moment (hooking_of i.hooks) number i.places.items c.self.invariant.quiet new
     c.in_ok-carry_all.ensures.lives
     (c.in_ok-carry_all.ensures.replications ∙ c.requires.replications
     ∙ ap (λ (s : Session). s.world.replications) (sym c.self.view_is))
@@ -48,16 +50,16 @@ returns-clause-emissions c =
     let i = c.self.inside in
     let number = c.args.world.epoch in
     subst (λ (s : Session). emissions (session_after (restart number) s) ≡ []) c.self.view_is
-    (carried_emissions i.world i.moment number i.places.items c.self.invariant.quiet)
+    (carried_emissions i.world i.moment (hooking_of i.hooks) number i.places.items c.self.invariant.quiet)
 
 pub returns-clause-before : goal.returns-clause-before
 returns-clause-before c =
     let i = c.self.inside in
     subst IsSettled c.self.view_is
-    (is_settled i.world i.places.items c.self.invariant.quiet i.moment)
+    (is_settled i.world i.places.items c.self.invariant.quiet i.moment (hooking_of i.hooks))
 
 pub returns-in_err-carry_all-clause-before : goal.returns-in_err-carry_all-clause-before
 returns-in_err-carry_all-clause-before c =
     let i = c.self.inside in
     subst IsSettled c.self.view_is
-    (is_settled i.world i.places.items c.self.invariant.quiet i.moment)
+    (is_settled i.world i.places.items c.self.invariant.quiet i.moment (hooking_of i.hooks))

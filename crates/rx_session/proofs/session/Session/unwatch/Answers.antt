@@ -1,4 +1,5 @@
 use Rattle.std.proofs.Common.{◌≡◌, [], sym, ap, ◌∙◌, subst}
+use Rattle.rx_update.specs.Shown.{hooking_of}
 use Rattle.rx_world.specs.Holders.{holders_in}
 use Rattle.rx_session.specs.Applied.{without_observed}
 use Rattle.rx_session.specs.Doing.{session_after, unwatch}
@@ -39,9 +40,9 @@ invariant_of-result c =
     let ps = i.places.items in
     record {
       placed = subst (ArePlaced (holders_in new)) (sym (left c))
-          (without_placed name i.world new i.moment ps (done c));
-      distinct = without_distinct name i.world new i.moment ps (done c);
-      quiet = without_quiet name i.world new i.moment ps (done c);
+          (without_placed name i.world new i.moment (hooking_of i.hooks) ps (done c));
+      distinct = without_distinct name i.world new i.moment (hooking_of i.hooks) ps (done c);
+      quiet = without_quiet name i.world new i.moment (hooking_of i.hooks) ps (done c);
     }
 
 pub returns-clause-session : goal.returns-clause-session
@@ -49,20 +50,20 @@ returns-clause-session c =
     let i = c.self.inside in
     let name = c.args.name.now in
     let new = c.unobserve_at.new.world in
-    subst (λ (s : Session). session_of new i.moment c.drop_place.new.places.items
+    subst (λ (s : Session). session_of new i.moment (hooking_of i.hooks) c.drop_place.new.places.items
     ≡ settled_session (session_after (unwatch name) s)) c.self.view_is
-    (ap (session_of new i.moment) (left c)
-    ∙ without_session name i.world new i.moment i.places.items (done c))
+    (ap (session_of new i.moment (hooking_of i.hooks)) (left c)
+    ∙ without_session name i.world new i.moment (hooking_of i.hooks) i.places.items (done c))
 
 pub returns-clause-emissions : goal.returns-clause-emissions
 returns-clause-emissions c =
     let i = c.self.inside in
     let name = c.args.name.now in
     subst (λ (s : Session). emissions (session_after (unwatch name) s) ≡ []) c.self.view_is
-    (without_due name i.world c.unobserve_at.new.world i.moment i.places.items (done c))
+    (without_due name i.world c.unobserve_at.new.world i.moment (hooking_of i.hooks) i.places.items (done c))
 
 pub returns-clause-before : goal.returns-clause-before
 returns-clause-before c =
     let i = c.self.inside in
     subst IsSettled c.self.view_is
-    (is_settled i.world i.places.items c.self.invariant.quiet i.moment)
+    (is_settled i.world i.places.items c.self.invariant.quiet i.moment (hooking_of i.hooks))

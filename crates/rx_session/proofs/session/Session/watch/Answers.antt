@@ -1,6 +1,7 @@
 use Rattle.std.proofs.Common.{◌≡◌, true, false, ◌∷◌, [], ◌++◌, sym, ap, ◌∙◌, subst}
 use Rattle.rx_value.specs.Named.{named}
 use Rattle.rx_query.specs.QuerySpec.{asked}
+use Rattle.rx_update.specs.Shown.{hooking_of}
 use Rattle.rx_world.specs.Holders.{holders_in}
 use Rattle.rx_session.specs.Doing.{session_after, has_key, watch}
 use Rattle.rx_session.specs.Emissions.{emissions, settled_session, IsSettled}
@@ -15,7 +16,7 @@ observe_in-requires-clause-free c =
     let i = c.self.inside in
     let w = c.args.watch in
     name_free (holders_in i.world) i.places.items w.name w.coll c.self.invariant.placed
-    (free_place w.name i.world i.moment i.places.items c.self.invariant.placed
+    (free_place w.name i.world i.moment (hooking_of i.hooks) i.places.items c.self.invariant.placed
     (subst (λ (s : Session). is_observed w.name s ≡ false) (sym c.self.view_is) c.requires.0))
 
 pub observe_in-requires-clause-keyed : goal.observe_in-requires-clause-keyed
@@ -36,7 +37,7 @@ done c =
       placed = c.self.invariant.placed;
       distinct = c.self.invariant.distinct;
       quiet = c.self.invariant.quiet;
-      free = free_place w.name i.world i.moment i.places.items c.self.invariant.placed
+      free = free_place w.name i.world i.moment (hooking_of i.hooks) i.places.items c.self.invariant.placed
           (subst (λ (s : Session). is_observed w.name s ≡ false) (sym c.self.view_is) c.requires.0);
       keyed = subst (λ (s : Session).
           has_key (asked w.query).primary (named s.world.collections w.coll) ≡ true)
@@ -60,9 +61,9 @@ invariant_of-session c =
     let ps = i.places.items in
     record {
       placed = subst (ArePlaced (holders_in last)) (sym (added c))
-          (watched_placed w.name w.coll (asked w.query) i.world last i.moment ps (done c));
-      distinct = watched_distinct w.name w.coll (asked w.query) i.world last i.moment ps (done c);
-      quiet = watched_quiet w.name w.coll (asked w.query) i.world last i.moment ps (done c);
+          (watched_placed w.name w.coll (asked w.query) i.world last i.moment (hooking_of i.hooks) ps (done c));
+      distinct = watched_distinct w.name w.coll (asked w.query) i.world last i.moment (hooking_of i.hooks) ps (done c);
+      quiet = watched_quiet w.name w.coll (asked w.query) i.world last i.moment (hooking_of i.hooks) ps (done c);
     }
 
 pub returns-clause-session : goal.returns-clause-session
@@ -70,10 +71,10 @@ returns-clause-session c =
     let i = c.self.inside in
     let w = c.args.watch in
     let last = c.observe_in.new.world in
-    subst (λ (s : Session). session_of last i.moment c.add_place.new.places.items
+    subst (λ (s : Session). session_of last i.moment (hooking_of i.hooks) c.add_place.new.places.items
     ≡ settled_session (session_after (watch w.name w.coll (asked w.query)) s)) c.self.view_is
-    (ap (session_of last i.moment) (added c)
-    ∙ watched_session w.name w.coll (asked w.query) i.world last i.moment i.places.items (done c))
+    (ap (session_of last i.moment (hooking_of i.hooks)) (added c)
+    ∙ watched_session w.name w.coll (asked w.query) i.world last i.moment (hooking_of i.hooks) i.places.items (done c))
 
 pub returns-clause-emissions : goal.returns-clause-emissions
 returns-clause-emissions c =
@@ -81,7 +82,7 @@ returns-clause-emissions c =
     let w = c.args.watch in
     c.in_ok-due.ensures.due
     ∙ watched_due w.name w.coll
-    (asked w.query) i.world c.observe_in.new.world i.moment i.places.items
+    (asked w.query) i.world c.observe_in.new.world i.moment (hooking_of i.hooks) i.places.items
     (done c)
     ∙ ap (λ (s : Session). emissions (session_after (watch w.name w.coll (asked w.query)) s))
     c.self.view_is
@@ -90,16 +91,16 @@ pub returns-clause-before : goal.returns-clause-before
 returns-clause-before c =
     let i = c.self.inside in
     subst IsSettled c.self.view_is
-    (is_settled i.world i.places.items c.self.invariant.quiet i.moment)
+    (is_settled i.world i.places.items c.self.invariant.quiet i.moment (hooking_of i.hooks))
 
 pub returns-in_err-due-clause-before : goal.returns-in_err-due-clause-before
 returns-in_err-due-clause-before c =
     let i = c.self.inside in
     subst IsSettled c.self.view_is
-    (is_settled i.world i.places.items c.self.invariant.quiet i.moment)
+    (is_settled i.world i.places.items c.self.invariant.quiet i.moment (hooking_of i.hooks))
 
 pub returns-in_err-add_place-clause-before : goal.returns-in_err-add_place-clause-before
 returns-in_err-add_place-clause-before c =
     let i = c.self.inside in
     subst IsSettled c.self.view_is
-    (is_settled i.world i.places.items c.self.invariant.quiet i.moment)
+    (is_settled i.world i.places.items c.self.invariant.quiet i.moment (hooking_of i.hooks))
