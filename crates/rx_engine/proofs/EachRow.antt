@@ -8,36 +8,31 @@ use Rattle.std.proofs.lemmas.List.{drop_all}
 use Rattle.serde_json.specs.Data.{Data}
 use Rattle.serde_json.specs.View.{view}
 use Rattle.serde_json.specs.declared.value.Value.{Value as Json}
-use Rattle.rx_value.specs.Due.{◌>>◌, demand, lifted, or_fault, unless}
+use Rattle.rx_value.specs.Due.{◌>>◌, demand, lifted, or_fault}
 use Rattle.rx_value.specs.Named.{named, put_in_order}
 use Rattle.rx_value.specs.Reading.{fields_of}
 use Rattle.rx_value.specs.declared.state.State.{State}
 use Rattle.rx_value.specs.declared.value.Value.{Value}
 use Rattle.rx_value.specs.declared.value.Value.TheVariants.{Flag, Int, Text}
 use Rattle.rx_value.proofs.Named.{named-put_in_order}
-use Rattle.rx_schema.specs.Validity.{Fault as Invalidity, first_fault}
 use Rattle.rx_collection.specs.Held.{Held}
 use Rattle.rx_reply.specs.declared.refusal.Refusal.TheVariants.{Twice}
 use Rattle.rx_reply.specs.declared.refusal.DocumentFault.TheVariants.{Key}
 use Rattle.rx_world.specs.Step.{IsValidState}
-use Rattle.rx_world.proofs.States.{valid_state}
+use Rattle.rx_update.specs.declared.attached.Attached.{Attached}
+use Rattle.rx_update.specs.declared.attached.When.TheVariants.{Insert}
 use Rattle.rx_value.specs.Value.{text_of}
 use Rattle.rx_value.proofs.Outcomes.{ok_then}
-use Rattle.rx_engine.specs.Documents.{key_in, state_of, valid_by, is_free}
-use Rattle.rx_engine.specs.Faults.{of_document, of_invalidity, of_value}
-use Rattle.rx_engine.specs.Writes.{Keys, in_row, at_row, row_state, rows_states}
+use Rattle.rx_engine.specs.Documents.{key_in, live_state, state_of, is_free}
+use Rattle.rx_engine.specs.Faults.{of_document, of_value}
+use Rattle.rx_engine.specs.Writes.{Keys, in_row, at_row, row_state, rows_states, written_state}
 use Rattle.rx_engine.specs.declared.fault.Fault.{Fault}
 use Rattle.rx_engine.specs.declared.fault.Fault.TheVariants.{Refused}
+use Rattle.rx_engine.proofs.Hooked.{hooked_valid, lifted_ok}
 
 -- the states so far, before those that are left
 abbrev pub after : List State → Result (List State) Fault → Result (List State) Fault
 after done rest = rest >> λ more. Ok (done ++ more)
-
--- ---- what is read of two readings is read of each
-
-lifted_ok : {A E F : Type 0} (f : E → F) (r : Result A E) (x : A) → lifted f r ≡ Ok x → r ≡ Ok x
-lifted_ok f (Ok y) x h = cc
-lifted_ok f (Err e) x h = cc
 
 -- ---- what holds of the state of a row
 
@@ -59,44 +54,39 @@ state_carries primary d s h =
     subst (λ (s : State). named s.fields primary ≡ Some (Text s.key)) is
     (carried (named fields.0 primary) key.0 key.1)
 
-no_fault : (fault : Invalidity → Fault) (o : Option Invalidity) (u : ⊤) → unless fault o (Ok tt) ≡ Ok u
-    → o ≡ None
-no_fault fault None u h = refl
-no_fault fault (Some x) u h = cc
-
 none_seen : (o : Option ⊤) (r : Fault) (u : ⊤) → demand (not (is_some o)) r ≡ Ok u → o ≡ None
 none_seen None r u h = refl
 none_seen (Some x) r u h = cc
 
-module _ (c : Held) where
+module _ (c : Held) (hooks : List Attached) where
   -- what is left to do with the state of a row
   abbrev checked : ℕ → Keys → State → Result State Fault
   checked row seen state =
       demand (not (is_some (named seen state.key))) (Refused (Twice row)) >> λ _.
-      in_row row (valid_by c.schema state.fields) >> λ _.
-      in_row row (is_free c state.key) >> λ _.
-      Ok state
+      in_row row (written_state c Insert hooks state) >> λ hooked.
+      in_row row (is_free c hooked.key) >> λ _.
+      Ok hooked
 
   -- it is valid, and its key was not seen
-  pub row_given : (row : ℕ) (seen : Keys) (d : Data) (s : State) → row_state c row seen d ≡ Ok s
+  pub row_given : (row : ℕ) (seen : Keys) (d : Data) (s : State) → row_state c hooks row seen d ≡ Ok s
       → IsValidState c.schema s × (named seen s.key ≡ None)
   row_given row seen d s h =
       let read = ok_then (in_row row (state_of c.schema.primary d)) (checked row seen) s h in
       let fresh = ok_then (demand (not (is_some (named seen read.0.key))) (Refused (Twice row)))
-      (λ _. in_row row (valid_by c.schema read.0.fields) >> λ _.
-      in_row row (is_free c read.0.key) >> λ _. Ok read.0) s read.2 in
-      let valid = ok_then (in_row row (valid_by c.schema read.0.fields))
-      (λ _. in_row row (is_free c read.0.key) >> λ _. Ok read.0) s fresh.2 in
-      let free = ok_then (in_row row (is_free c read.0.key)) (λ _. Ok read.0) s valid.2 in
-      let is : read.0 ≡ s = cc (free.2) in
+      (λ _. in_row row (written_state c Insert hooks read.0) >> λ hooked.
+      in_row row (is_free c hooked.key) >> λ _. Ok hooked) s read.2 in
+      let written = ok_then (in_row row (written_state c Insert hooks read.0))
+      (λ hooked. in_row row (is_free c hooked.key) >> λ _. Ok hooked) s fresh.2 in
+      let free = ok_then (in_row row (is_free c written.0.key)) (λ _. Ok written.0) s written.2 in
+      let is : written.0 ≡ s = cc (free.2) in
+      let so = hooked_valid c Insert hooks read.0 written.0
+      (state_carries c.schema.primary d read.0
+      (lifted_ok (at_row row) (state_of c.schema.primary d) read.0 read.1))
+      (lifted_ok (at_row row) (written_state c Insert hooks read.0) written.0 written.1) in
       subst (λ (s : State). IsValidState c.schema s × (named seen s.key ≡ None)) is (
-        valid_state c.schema read.0
-            (no_fault (λ fault. of_document (of_invalidity fault))
-            (first_fault c.schema read.0.fields) fresh.0
-            (lifted_ok (at_row row) (valid_by c.schema read.0.fields) valid.0 valid.1))
-            (state_carries c.schema.primary d read.0
-            (lifted_ok (at_row row) (state_of c.schema.primary d) read.0 read.1)),
-        none_seen (named seen read.0.key) (Refused (Twice row)) fresh.0 fresh.1,
+        so.valid,
+        ap (named seen) so.key
+            ∙ none_seen (named seen read.0.key) (Refused (Twice row)) fresh.0 fresh.1,
       )
 
   -- a state among those behind a row
@@ -126,16 +116,16 @@ module _ (c : Held) where
 
   -- the states of rows are valid, and their keys are distinct and were not seen
   rows_fit : (row : ℕ) (seen : Keys) (ds : List Data) (ss : List State)
-      → rows_states c row seen ds ≡ Ok ss
+      → rows_states c hooks row seen ds ≡ Ok ss
       → AllByRecursion (Fits seen) ss × IsDistinct bytes_eq (map (λ s. s.key) ss)
   unfolding IsDistinct
   rows_fit row seen [] ss h =
       let is : [] ≡ ss = cc in
       subst (λ (ss : List State). AllByRecursion (Fits seen) ss × IsDistinct bytes_eq (map (λ s. s.key) ss)) is (tt, tt)
   rows_fit row seen (d ∷ ds) ss h =
-      let first = ok_then (row_state c row seen d) (λ state.
-      rows_states c (row + 1) (put_in_order seen state.key tt) ds >> λ states. Ok (state ∷ states)) ss h in
-      let rest = ok_then (rows_states c (row + 1) (put_in_order seen first.0.key tt) ds)
+      let first = ok_then (row_state c hooks row seen d) (λ state.
+      rows_states c hooks (row + 1) (put_in_order seen state.key tt) ds >> λ states. Ok (state ∷ states)) ss h in
+      let rest = ok_then (rows_states c hooks (row + 1) (put_in_order seen first.0.key tt) ds)
       (λ states. Ok (first.0 ∷ states)) ss first.2 in
       let is : first.0 ∷ rest.0 ≡ ss = cc (rest.2) in
       let fit = rows_fit (row + 1) (put_in_order seen first.0.key tt) ds rest.0 rest.1 in
@@ -149,7 +139,7 @@ module _ (c : Held) where
   all_valid seen (s ∷ ss) all = (all.0.0, all_valid seen ss all.1)
 
   pub rows_given : (row : ℕ) (seen : Keys) (ds : List Data) (ss : List State)
-      → rows_states c row seen ds ≡ Ok ss
+      → rows_states c hooks row seen ds ≡ Ok ss
       → AllByRecursion (IsValidState c.schema) ss × IsDistinct bytes_eq (map (λ s. s.key) ss)
   rows_given row seen ds ss h =
       let fit = rows_fit row seen ds ss h in (all_valid seen ss fit.0, fit.1)
@@ -162,27 +152,27 @@ module _ (c : Held) where
 
   pub row_read : (docs : List Json) (row : ℕ) (seen new : Keys) (states : List State) (d : Json)
       (s : State)
-      → rows_states c 0 [] (map view docs)
-      ≡ after states (rows_states c row seen (map view (drop row docs)))
-      → drop row docs ≡ d ∷ drop (row + 1) docs → row_state c row seen (view d) ≡ Ok s
+      → rows_states c hooks 0 [] (map view docs)
+      ≡ after states (rows_states c hooks row seen (map view (drop row docs)))
+      → drop row docs ≡ d ∷ drop (row + 1) docs → row_state c hooks row seen (view d) ≡ Ok s
       → new ≡ put_in_order seen s.key tt
-      → rows_states c 0 [] (map view docs)
-      ≡ after (states ++ s ∷ []) (rows_states c (row + 1) new (map view (drop (row + 1) docs)))
+      → rows_states c hooks 0 [] (map view docs)
+      ≡ after (states ++ s ∷ []) (rows_states c hooks (row + 1) new (map view (drop (row + 1) docs)))
   row_read docs row seen new states d s so_far here read is =
       let left = map view (drop (row + 1) docs) in
       so_far
-      ∙ ap (λ ds. after states (rows_states c row seen (map view ds))) here
+      ∙ ap (λ ds. after states (rows_states c hooks row seen (map view ds))) here
       ∙ ap (λ r. after states (r >> λ state.
-      rows_states c (row + 1) (put_in_order seen state.key tt) left >> λ more.
+      rows_states c hooks (row + 1) (put_in_order seen state.key tt) left >> λ more.
       Ok (state ∷ more))) read
-      ∙ after_one states s (rows_states c (row + 1) (put_in_order seen s.key tt) left)
-      ∙ ap (λ keys. after (states ++ s ∷ []) (rows_states c (row + 1) keys left)) (sym is)
+      ∙ after_one states s (rows_states c hooks (row + 1) (put_in_order seen s.key tt) left)
+      ∙ ap (λ keys. after (states ++ s ∷ []) (rows_states c hooks (row + 1) keys left)) (sym is)
 
   -- no row is left
   pub all_read : (docs : List Json) (row : ℕ) (seen : Keys) (states : List State)
       → length docs ≤ row
-      → rows_states c 0 [] (map view docs) ≡ after states (rows_states c row seen (map view (drop row docs)))
-      → rows_states c 0 [] (map view docs) ≡ Ok states
+      → rows_states c hooks 0 [] (map view docs) ≡ after states (rows_states c hooks row seen (map view (drop row docs)))
+      → rows_states c hooks 0 [] (map view docs) ≡ Ok states
   all_read docs row seen states ended so_far =
-      so_far ∙ ap (λ ds. after states (rows_states c row seen (map view ds))) (drop_all row docs ended)
+      so_far ∙ ap (λ ds. after states (rows_states c hooks row seen (map view ds))) (drop_all row docs ended)
       ∙ ap Ok (append-nil states)

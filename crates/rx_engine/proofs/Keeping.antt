@@ -8,7 +8,7 @@ use Rattle.rx_world.specs.Step.{legal}
 use Rattle.rx_world.proofs.Making.{made_step}
 use Rattle.rx_world.proofs.Sounds.{sound_step}
 use Rattle.rx_world.proofs.Steps.{epoch_legal}
-use Rattle.rx_session.specs.Doing.{Doing, nothing, set_clock, write, watch, unwatch, restart, session_after, MayDo}
+use Rattle.rx_session.specs.Doing.{Doing, nothing, set_clock, write, watch, unwatch, attach, restart, session_after, MayDo}
 use Rattle.rx_session.specs.Session.{Session}
 use Rattle.rx_session.specs.Shown.{done_by}
 use Rattle.rx_session.specs.declared.doing.Doing.{Doing as Done}
@@ -24,6 +24,7 @@ no_record (done.SetClock at) other = refl
 no_record (done.Write entry) other = absurd (other entry refl)
 no_record (done.Watch w) other = refl
 no_record (done.Unwatch name) other = refl
+no_record (done.Attach one) other = refl
 
 -- and leaves the world
 pub world_kept : (d : Doing) (s : Session) → records_of d ≡ []
@@ -33,6 +34,7 @@ world_kept (set_clock at) s none = refl
 world_kept (write c) s none = absurd (cc)
 world_kept (watch name coll q) s none = refl
 world_kept (unwatch name) s none = refl
+world_kept (attach one) s none = refl
 world_kept (restart number) s none = absurd (cc)
 
 -- a world that records made stays one
@@ -43,6 +45,7 @@ made_then (set_clock at) s may made = made
 made_then (write c) s may made = made_step c s.world may.0 may.1 made
 made_then (watch name coll q) s may made = made
 made_then (unwatch name) s may made = made
+made_then (attach one) s may made = made
 made_then (restart number) s may made =
     made_step (epoch number) s.world (ap (λ n. legal (epoch n) s.world) may
     ∙ epoch_legal s.world) tt made
@@ -55,4 +58,5 @@ sound_then (set_clock at) s may apart made sound = sound
 sound_then (write c) s may apart made sound = sound_step c s.world may.0 may.1 apart made sound
 sound_then (watch name coll q) s may apart made sound = sound
 sound_then (unwatch name) s may apart made sound = sound
+sound_then (attach one) s may apart made sound = sound
 sound_then (restart number) s may apart made sound = sound

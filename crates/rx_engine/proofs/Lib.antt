@@ -10,6 +10,7 @@ pub mod Outcomes
 pub mod Setting
 pub mod LastPlace
 pub mod Live
+pub mod Hooked
 pub mod EachRow
 pub mod OneRow
 pub mod Reading

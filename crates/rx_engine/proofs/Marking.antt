@@ -14,7 +14,7 @@ use Rattle.rx_collection.proofs.Last.{within_last}
 use Rattle.rx_record.specs.Content.{Content, collection, rows, replication, exchange, epoch}
 use Rattle.rx_record.specs.declared.record.RowOut.{RowOut}
 use Rattle.rx_session.specs.Doing as doing
-use Rattle.rx_session.specs.Doing.{Doing, nothing, set_clock, write, watch, unwatch, restart, MayDo}
+use Rattle.rx_session.specs.Doing.{Doing, nothing, set_clock, write, watch, unwatch, attach, restart, MayDo}
 use Rattle.rx_session.specs.Session.{Session}
 use Rattle.rx_sync.specs.Asking.{pending_in}
 use Rattle.rx_sync.specs.Exchange.{world_after}
@@ -27,7 +27,8 @@ use Rattle.rx_world.specs.Step.{collections_after, legal, step, stored_of, store
 use Rattle.rx_world.specs.Touch.{fork_rows, new_where, no_collection}
 use Rattle.rx_world.specs.World.{Collections, World}
 use Rattle.rx_world.specs.declared.replication.Replication.{Replication}
-use Rattle.rx_world.proofs.Links.{begins, held_other}
+use Rattle.rx_world.proofs.Beginning.{begins}
+use Rattle.rx_world.proofs.Links.{held_other}
 use Rattle.rx_world.proofs.Looked.{named-change_other, named-change_same, named-put_other}
 use Rattle.rx_world.proofs.Steps.{collection_new, epoch_legal, exchange_goes, fork_rows_taken, rows_go}
 use Rattle.rx_world.proofs.Turns.{takes_parts}
@@ -129,7 +130,7 @@ then_step (exchange name lwt written known up down) w k old is at =
     (exchange_goes name lwt (row ∷ more) known up down w
     (subst (λ (l : List RowOut). legal (exchange name lwt l known up down) w ≡ true) some is) r
     there old (ap (named w.collections) (sym same) ∙ at))))
-then_step (epoch number) w k old is at = then_same w.collections k old at
+then_step other w k old is at = then_same w.collections k old at
 
 -- ---- a replication
 
@@ -146,7 +147,7 @@ same_step (replication k fork m handler field) w name r is apart at =
     ∙ at
 same_step (exchange k lwt written known up down) w name r is apart at =
     named-change_other (with_exchange known up down) w.replications k name (λ e. apart (sym e)) ∙ at
-same_step (epoch n) w name r is apart at = at
+same_step other w name r is apart at = at
 
 -- ---- a mark
 
@@ -240,6 +241,7 @@ marked_doing (write c) s marks may plain all = λ name lwt at.
     (plain_apart name c plain, tt) (all name lwt at)
 marked_doing (watch name coll q) s marks may plain all = all
 marked_doing (unwatch name) s marks may plain all = all
+marked_doing (attach one) s marks may plain all = all
 marked_doing (restart number) s marks may plain all = λ name lwt at.
     marked_after (epoch number ∷ []) s.world name lwt (
       record {

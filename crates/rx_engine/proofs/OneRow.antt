@@ -10,7 +10,7 @@ use Rattle.rx_collection.specs.Time.{stamp}
 use Rattle.rx_record.specs.Content.{Content, rows}
 use Rattle.rx_record.specs.Shown.{content}
 use Rattle.rx_record.specs.declared.record.Record.{Record}
-use Rattle.rx_record.specs.declared.record.Record.TheVariants.{Collection, Rows, Replication, Exchange, Epoch}
+use Rattle.rx_record.specs.declared.record.Record.TheVariants.{Rows}
 use Rattle.rx_record.specs.declared.record.RowOut.{RowOut}
 use Rattle.rx_reply.specs.Answer.{Answer}
 use Rattle.rx_world.specs.Commit.{commit_to}
@@ -50,11 +50,8 @@ first_height items row first one at =
 -- no other record has one
 pub no_other : (r : Record) (row : RowOut) → rows_in (content r) ≡ row ∷ []
     → ((name : _) (lwt : _) (written : _) → r ≡ Rows name lwt written → ⊥) → ⊥
-no_other (Collection name schema) row is other = cc
 no_other (Rows name lwt written) row is other = other name lwt written refl
-no_other (Replication name fork master handler field) row is other = cc
-no_other (Exchange name lwt written known up down) row is other = cc
-no_other (Epoch number) row is other = cc
+no_other _ row is other = cc
 
 -- ---- a line that writes one state
 

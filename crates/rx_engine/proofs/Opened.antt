@@ -1,19 +1,21 @@
 -- A journal that is opened for a run, in its next epoch.
-use Rattle.std.proofs.Common.{◌≡◌, ℕ, ◌+◌, true, List, [], ◌∷◌, ◌++◌, Result, Ok, Err, refl, sym, ◌∙◌, ap, subst}
+use Rattle.std.proofs.Common.{◌≡◌, ℕ, ◌+◌, ◌≤◌, inl, inr, arith, true, List, [], ◌∷◌, ◌++◌, Result, Ok, Err, refl, sym, ◌∙◌, ap, subst}
 use Rattle.rx_disk.specs.declared.disk.Disk.{Ghosts}
 use Rattle.rx_disk.proofs.Moments.{started}
 use Rattle.rx_collection.specs.Held.{Held}
 use Rattle.rx_journal.specs.Reading.{IsUntouched}
 use Rattle.rx_journal.specs.declared.journal.Journal.{Journal}
 use Rattle.rx_observe.specs.Observing.{Observing}
+use Rattle.rx_outside.specs.Failed.{Rises}
 use Rattle.rx_outside.specs.declared.stop.Stop.{Stop}
 use Rattle.rx_outside.specs.declared.stop.Stop.TheVariants.{Memory}
 use Rattle.rx_record.specs.Content.{epoch, content_bytes}
 use Rattle.rx_session.specs.Placed.{AreUnwatched, IsUnwatched}
 use Rattle.rx_store.specs.Holds.{Holds, IsLegalFile, StandsLegally}
-use Rattle.rx_store.specs.Safe.{IsCrashSafe}
+use Rattle.rx_store.specs.Safe.{HasDiskCause, IsCrashSafe}
 use Rattle.rx_store.proofs.Crashes.{ran_out, then}
 use Rattle.rx_store.proofs.Growing.{held_alike, none_yet}
+use Rattle.rx_store.proofs.Stops.{same_cause}
 use Rattle.rx_world.specs.Holders.{AreMadeFor}
 use Rattle.rx_world.specs.Step.{step, legal}
 use Rattle.rx_world.specs.World.{World}
@@ -72,3 +74,17 @@ module _ {D : Type 0} (d : Ghosts D) (disk : D)
       ran_out d disk disk bodies more limit P r is
       (λ alike. started d disk (StandsLegally bodies more)
       (λ c left. none_yet bodies more w c lawful.plays lawful.sound (alike c (only_now c left)) lawful.short))
+
+-- a stop behind what went well shows in the disk's count from the beginning on
+rises_before : (x y z : ℕ) → x ≤ y → Rises y z → Rises x z
+rises_before x y z low (inl rises) = inl (omega (low, rises, arith))
+rises_before x y z low (inr most) = inr most
+
+pub cause_behind : {A B : Type 0} (first mid last : ℕ) (stop : Stop) (r : Result B Stop)
+    → r ≡ Err stop → first ≤ mid → HasDiskCause {A = A} mid last (Err stop)
+    → HasDiskCause {A = B} first last r
+cause_behind {A} {B} first mid last stop r is begun cause =
+    same_cause {A = A} first last stop r is (record {
+      later = omega (begun, cause.later, arith);
+      failed = λ h. rises_before first mid last begun (cause.failed h);
+    })

@@ -17,15 +17,15 @@ use Rattle.rx_record.specs.declared.record.MasterName.TheVariants.{Local, Port}
 use Rattle.rx_record.specs.declared.record.RowOut.{RowOut}
 use Rattle.rx_handler.specs.Handlers.{Kinds}
 use Rattle.rx_query.specs.QuerySpec.{QuerySpec as Query}
-use Rattle.rx_reply.specs.Answer.{Answer, refused, insert, upsert, patch, remove, get, find, count, observe, unobserve, explain, replicate, tick, digest}
+use Rattle.rx_reply.specs.Answer.{Answer, refused, insert, upsert, patch, update, remove, hook as hooked, get, find, count, observe, unobserve, explain, replicate, tick, digest}
 use Rattle.rx_reply.specs.declared.refusal.Refusal.{Refusal}
-use Rattle.rx_reply.specs.declared.refusal.Refusal.TheVariants.{Chain, Clock, Exists, NoHandler, NoQuery, SchemaDiffers, TooMany}
+use Rattle.rx_reply.specs.declared.refusal.Refusal.TheVariants.{Chain, Clock, Exists, NoHandler, NoHook, NoQuery, SchemaDiffers, TooMany}
 use Rattle.rx_reply.specs.Reply.{is_refusal}
-use Rattle.rx_script.specs.Asked.{Asked, Collection, Insert, Bulk, Upsert, Patch, Remove, Get, Find, Count, Observe, Unobserve, Explain, Replicate, Turn, Changes, Tick, Restart, Digest}
+use Rattle.rx_script.specs.Asked.{Asked, Collection, Insert, Bulk, Upsert, Patch, Update, Remove, Hook, Get, Find, Count, Observe, Unobserve, Explain, Replicate, Turn, Changes, Tick, Restart, Digest}
 use Rattle.rx_script.specs.Line.{line_of}
 use Rattle.rx_script.specs.declared.fault.LineFault.{LineFault}
 use Rattle.rx_script.specs.declared.happening.Happening.{Happening}
-use Rattle.rx_session.specs.Doing.{Doing, nothing, restart, set_clock, unwatch, watch, write}
+use Rattle.rx_session.specs.Doing.{Doing, nothing, restart, attach, set_clock, unwatch, watch, write}
 use Rattle.rx_session.specs.Session.{Session, counts_of, is_observed}
 use Rattle.rx_world.specs.Chain.{may_follow}
 use Rattle.rx_world.specs.World.{World, max_replications}
@@ -37,11 +37,14 @@ use Rattle.rx_world.specs.declared.replication.Replication.{Replication}
 use Rattle.rx_engine.specs.Faults.{of_line, of_schema}
 use Rattle.rx_engine.specs.Lines.{IsRestart, Task, answered, asked_outcome, asked_task, task, task_or_refusal, turn_to}
 use Rattle.rx_engine.specs.Listing.{changes_answer, place_named}
+use Rattle.rx_update.specs.declared.attached.When.{When}
+use Rattle.rx_update.specs.declared.kind.HookKind.{HookKind}
+use Rattle.rx_engine.specs.Hooking.{hook_line, hooks_in, max_hooks, takes}
 use Rattle.rx_engine.specs.Outcome.{Outcome, answer_alone, collection_at, write_outcome}
 use Rattle.rx_engine.specs.Replicate.{has_handler, has_schema, master_at, master_of, replicate_line}
 use Rattle.rx_engine.specs.Turning.{turned_at}
 use Rattle.rx_engine.specs.Queries.{max_queries, observe_line, query_on, rows_found}
-use Rattle.rx_engine.specs.Writes.{collection_with, commit_all, commit_one, insert_state, patch_state, remove_state, rows_states, upsert_state}
+use Rattle.rx_engine.specs.Writes.{collection_with, commit_all, commit_one, insert_state, patch_state, remove_state, rows_states, update_state, upsert_state}
 use Rattle.rx_engine.specs.declared.fault.Fault.{Fault}
 use Rattle.rx_engine.specs.declared.fault.Fault.TheVariants.{Refused, Memory}
 
@@ -166,6 +169,34 @@ module _ (name coll : List ℕ) (query : Data) (s : Session) where
       (λ q. after (demand (nat_lt (length s.queries) max_queries) (Refused TooMany))
       (λ _. Ok (observes q)) (λ _. just (observes q) refl refl tt))))
 
+-- a hook is attached, once all that it needs was seen
+module _ (coll : List ℕ) (when : When) (hook field : List ℕ) (s : Session) where
+  abbrev attaches : HookKind → Outcome
+  attaches kind = record {
+    doing = attach (record { coll = coll; when = when; hook = hook; kind = kind; field = field });
+    answer = hooked;
+  }
+
+  abbrev with_few : HookKind → Result Outcome Fault
+  with_few kind =
+      demand (nat_lt (length (hooks_in coll s.hooks.attached)) max_hooks) (Refused TooMany)
+      >> λ _. Ok (attaches kind)
+
+  abbrev with_field : Held → HookKind → Result Outcome Fault
+  with_field c kind = demand (takes kind c.schema field) (Refused NoHook) >> λ _. with_few kind
+
+  abbrev with_hook : Held → Result Outcome Fault
+  with_hook c = or_fault (Refused NoHook) (named s.hooks.known hook) >> λ kind. with_field c kind
+
+  hooked_plain : ArePlain (hook_line coll when hook field s)
+  hooked_plain =
+      after (collection_at coll s) (λ c. with_hook c)
+      (λ c. after (or_fault (Refused NoHook) (named s.hooks.known hook)) (λ kind. with_field c kind)
+      (λ kind. after (demand (takes kind c.schema field) (Refused NoHook)) (λ _. with_few kind)
+      (λ _. after
+      (demand (nat_lt (length (hooks_in coll s.hooks.attached)) max_hooks) (Refused TooMany))
+      (λ _. Ok (attaches kind)) (λ _. just (attaches kind) refl refl tt))))
+
 -- a replication begins, once all that it needs was seen
 module _ (kinds : Kinds) (name fork : List ℕ) (master : MasterName) (handler : List ℕ)
     (field : Option (List ℕ)) (s : Session) where
@@ -217,18 +248,21 @@ plain_but kinds (Collection name schema) s =
     (λ shape. collection_with name shape (named s.world.collections name) s.world)
     (λ shape. made_plain name shape (named s.world.collections name) s.world))
 plain_but kinds (Insert coll doc) s =
-    inr (one_state coll insert (λ c. insert_state c doc) s (λ rev. refl))
+    inr (one_state coll insert (λ c. insert_state c s.hooks.attached doc) s (λ rev. refl))
 plain_but kinds (Bulk coll docs) s =
     inr (after (collection_at coll s)
-    (λ c. rows_states c 0 [] docs >> λ states. commit_all coll c states s)
-    (λ c. after (rows_states c 0 [] docs) (λ states. commit_all coll c states s)
+    (λ c. rows_states c s.hooks.attached 0 [] docs >> λ states. commit_all coll c states s)
+    (λ c. after (rows_states c s.hooks.attached 0 [] docs) (λ states. commit_all coll c states s)
     (λ states. all_plain coll c states s)))
 plain_but kinds (Upsert coll doc) s =
-    inr (one_state coll upsert (λ c. upsert_state c doc) s (λ rev. refl))
+    inr (one_state coll upsert (λ c. upsert_state c s.hooks.attached doc) s (λ rev. refl))
 plain_but kinds (Patch coll key set rev) s =
-    inr (one_state coll patch (λ c. patch_state c key set rev) s (λ rev. refl))
+    inr (one_state coll patch (λ c. patch_state c s.hooks.attached key set rev) s (λ rev. refl))
+plain_but kinds (Update coll key d rev) s =
+    inr (one_state coll update (λ c. update_state c s.hooks.attached key d rev) s (λ rev. refl))
 plain_but kinds (Remove coll key rev) s =
-    inr (one_state coll remove (λ c. remove_state c key rev) s (λ rev. refl))
+    inr (one_state coll remove (λ c. remove_state c s.hooks.attached key rev) s (λ rev. refl))
+plain_but kinds (Hook coll when hook field) s = inr (hooked_plain coll when hook field s)
 plain_but kinds (Get coll key) s =
     inr (told coll (λ c. document_at c key) (λ c d. get d) s (λ c d. refl))
 plain_but kinds (Find coll query) s =
@@ -322,7 +356,9 @@ answered_is kinds (Insert coll doc) s o is = does_is _ o is
 answered_is kinds (Bulk coll docs) s o is = does_is _ o is
 answered_is kinds (Upsert coll doc) s o is = does_is _ o is
 answered_is kinds (Patch coll key set rev) s o is = does_is _ o is
+answered_is kinds (Update coll key d rev) s o is = does_is _ o is
 answered_is kinds (Remove coll key rev) s o is = does_is _ o is
+answered_is kinds (Hook coll when hook field) s o is = does_is _ o is
 answered_is kinds (Get coll key) s o is = does_is _ o is
 answered_is kinds (Find coll query) s o is = does_is _ o is
 answered_is kinds (Count coll query) s o is = does_is _ o is

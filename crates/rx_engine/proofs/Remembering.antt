@@ -12,7 +12,7 @@ use Rattle.rx_sync.specs.Asks.{Asks, AsksAreLawful, no_asks}
 use Rattle.rx_sync.specs.Exchange.{world_after}
 use Rattle.rx_sync.specs.Laws.{MayComeInTurn, RemembersLawful}
 use Rattle.rx_session.specs.Doing as doing
-use Rattle.rx_session.specs.Doing.{Doing, nothing, set_clock, write, watch, unwatch, restart, MayDo}
+use Rattle.rx_session.specs.Doing.{Doing, nothing, set_clock, write, watch, unwatch, attach, restart, MayDo}
 use Rattle.rx_session.specs.Session.{Session}
 use Rattle.rx_world.proofs.Looked.{all_put_named}
 use Rattle.rx_world.proofs.Steps.{epoch_legal}
@@ -92,6 +92,7 @@ remembered_doing (write c) s asks may all =
     remembered_after (c ∷ []) s.world asks (record { lawful = may.0; ordered = may.1 }, tt) all
 remembered_doing (watch name coll q) s asks may all = all
 remembered_doing (unwatch name) s asks may all = all
+remembered_doing (attach one) s asks may all = all
 remembered_doing (restart number) s asks may all =
     remembered_after (epoch number ∷ []) s.world asks (
       record {

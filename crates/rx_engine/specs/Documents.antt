@@ -27,12 +27,16 @@ use Rattle.rx_engine.specs.declared.fault.Fault.TheVariants.{Refused}
 abbrev pub key_in : List ℕ → Pairs → Result (List ℕ) Fault
 key_in primary ps = or_fault (of_document Key) (text_of (named ps primary))
 
+-- the state of a document that isn't deleted
+abbrev pub live_state : List ℕ → Pairs → State
+live_state key fields = record { key = key; fields = fields; deleted = false }
+
 -- the state that a document says: its fields, and its key among them
 abbrev pub state_of : List ℕ → Data → Result State Fault
 state_of primary d =
     lifted of_value (fields_of d) >> λ fields.
     key_in primary fields >> λ key.
-    Ok (record { key = key; fields = fields; deleted = false })
+    Ok (live_state key fields)
 
 -- the fields are valid
 abbrev pub valid_by : Shape → Pairs → Result ⊤ Fault

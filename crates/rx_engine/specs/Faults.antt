@@ -13,6 +13,10 @@ use Rattle.rx_reply.specs.declared.refusal.Cause.TheVariants as cause
 use Rattle.rx_reply.specs.declared.refusal.DocumentFault.{DocumentFault}
 use Rattle.rx_reply.specs.declared.refusal.DocumentFault.TheVariants as document
 use Rattle.rx_reply.specs.declared.refusal.Refusal.TheVariants as refusal
+use Rattle.rx_update.specs.declared.fault.UpdateFault.{UpdateFault}
+use Rattle.rx_update.specs.declared.fault.UpdateFault.TheVariants as update
+use Rattle.rx_update.specs.declared.fault.VetoFault.{VetoFault}
+use Rattle.rx_update.specs.declared.fault.VetoFault.TheVariants as veto
 use Rattle.rx_world.specs.declared.fault.StepFault.{StepFault}
 use Rattle.rx_world.specs.declared.fault.StepFault.TheVariants as step
 use Rattle.rx_engine.specs.declared.fault.Fault.{Fault}
@@ -37,6 +41,15 @@ of_document fault = Refused (refusal.Document fault None)
 abbrev pub of_value : ValueFault → Fault
 of_value value.Memory = Memory
 of_value fault = of_document (document.Fields fault)
+
+abbrev pub of_update : UpdateFault → Fault
+of_update update.Memory = Memory
+of_update fault = Refused (refusal.Update fault)
+
+-- a hook vetoes the only document
+abbrev pub of_veto : VetoFault → Fault
+of_veto (veto.Vetoed hook) = Refused (refusal.Vetoed hook None)
+of_veto veto.Memory = Memory
 
 -- no write time is left
 abbrev pub of_step : StepFault → Fault

@@ -5,6 +5,7 @@ pub mod Remembered
 pub mod Marks
 pub mod Outcome
 pub mod Writes
+pub mod Hooking
 pub mod Queries
 pub mod Listing
 pub mod Replicate

@@ -10,6 +10,7 @@ ghost use Rattle.rx_engine.specs.Shown.{doing_of, outcome_of, task_of, MayDoTask
 ghost use Rattle.rx_engine.specs.declared.fault.Fault.TheVariants.{Memory};
 
 use crate::fault::Fault;
+use crate::hooking::hook_line;
 use crate::listing::{changes_line, digest_line};
 use crate::outcome::{LineDoing, Outcome, Task};
 use crate::queries::{
@@ -18,12 +19,13 @@ use crate::queries::{
 use crate::replicate::{Wanted, master_of, replicate_line};
 use crate::turn_line::turn_line;
 use crate::writes::{
-    bulk_line, collection_line, insert_line, patch_line, remove_line, upsert_line,
+    bulk_line, collection_line, insert_line, patch_line, remove_line, update_line, upsert_line,
 };
 use rx_handler::Handlers;
 use rx_reply::{Refusal, Reply};
 use rx_script::Line;
 use rx_session::{Doing, Session};
+use rx_update::Hooks;
 use std::alloc::{AllocError, Global};
 
 /// What a line that isn't blank comes to.
@@ -31,13 +33,14 @@ pub(crate) fn plan<'a>(
     alloc: Global,
     session: &'a Session,
     handlers: &Handlers,
+    hooks: &Hooks,
     text: &[u8],
 ) -> Result<Task<'a>, AllocError>
     ensures exact { IfOk result
         (λ p. task_of p ≡ task (kinds_of handlers.now) text.now session.now) }
     ensures may { IfOk result (λ p. MayDoTask p session.now) }
 {
-    match plan_text(alloc, session, handlers, text) {
+    match plan_text(alloc, session, handlers, hooks, text) {
         Ok(plan) => Ok(plan),
         Err(Fault::Refused(refusal)) => {
             Ok(Task::Answered(answer_alone(Reply::Refused(refusal))))
@@ -51,6 +54,7 @@ fn plan_text<'a>(
     alloc: Global,
     session: &'a Session,
     handlers: &Handlers,
+    hooks: &Hooks,
     text: &[u8],
 ) -> Result<Task<'a>, Fault>
     ensures exact { DueBy Memory task_of result
@@ -58,7 +62,7 @@ fn plan_text<'a>(
     ensures may { IfOk result (λ p. MayDoTask p session.now) }
 {
     let line = Line::read(alloc, text)?;
-    plan_task(alloc, session, handlers, line)
+    plan_task(alloc, session, handlers, hooks, line)
 }
 
 // What a line that was read comes to, or why it is refused.
@@ -66,6 +70,7 @@ fn plan_task<'a>(
     alloc: Global,
     session: &'a Session,
     handlers: &Handlers,
+    hooks: &Hooks,
     line: Line,
 ) -> Result<Task<'a>, Fault>
     requires { IsLawful (asked line) }
@@ -80,7 +85,7 @@ fn plan_task<'a>(
             budget,
             link,
         } => turn_line(alloc, session, handlers, name, batch, budget, link),
-        line => Ok(Task::Answered(plan_line(alloc, session, handlers, line)?)),
+        line => Ok(Task::Answered(plan_line(alloc, session, handlers, hooks, line)?)),
     }
 }
 
@@ -89,6 +94,7 @@ fn plan_line<'a>(
     alloc: Global,
     session: &'a Session,
     handlers: &Handlers,
+    hooks: &Hooks,
     line: Line,
 ) -> Result<Outcome<'a>, Fault>
     requires { IsLawful (asked line) }
@@ -98,16 +104,28 @@ fn plan_line<'a>(
 {
     match line {
         Line::Collection { name, schema } => collection_line(alloc, session, name, &schema),
-        Line::Insert { coll, doc } => insert_line(alloc, session, &coll, &doc),
-        Line::Bulk { coll, docs } => bulk_line(alloc, session, &coll, docs.as_slice()),
-        Line::Upsert { coll, doc } => upsert_line(alloc, session, &coll, &doc),
+        Line::Insert { coll, doc } => insert_line(alloc, session, hooks, &coll, &doc),
+        Line::Bulk { coll, docs } => bulk_line(alloc, session, hooks, &coll, docs.as_slice()),
+        Line::Upsert { coll, doc } => upsert_line(alloc, session, hooks, &coll, &doc),
         Line::Patch {
             coll,
             key,
             set,
             rev,
-        } => patch_line(alloc, session, &coll, key, &set, &rev),
-        Line::Remove { coll, key, rev } => remove_line(alloc, session, &coll, key, &rev),
+        } => patch_line(alloc, session, hooks, &coll, key, &set, &rev),
+        Line::Update {
+            coll,
+            key,
+            update,
+            rev,
+        } => update_line(alloc, session, hooks, &coll, key, &update, &rev),
+        Line::Remove { coll, key, rev } => remove_line(alloc, session, hooks, &coll, key, &rev),
+        Line::Hook {
+            coll,
+            when,
+            hook,
+            field,
+        } => hook_line(alloc, session, coll, when, hook, field),
         Line::Get { coll, key } => get_line(alloc, session, &coll, &key),
         Line::Find { coll, query } => find_line(alloc, session, &coll, &query),
         Line::Count { coll, query } => count_line(alloc, session, &coll, &query),

@@ -11,11 +11,13 @@ ghost use Rattle.rx_engine.specs.Documents.{next_revision};
 ghost use Rattle.rx_engine.specs.Writes.{at_row, in_row, row_state, rows_states};
 ghost use Rattle.rx_engine.specs.declared.fault.Fault.TheVariants.{Memory};
 
-use crate::documents::{check_fields, free_height, read_state, revision_at};
+use crate::documents::{free_height, read_state, revision_at};
 use crate::fault::Fault;
+use crate::hooking::written_state;
 use rx_collection::Collection;
 use rx_reply::Refusal;
 use rx_runs::{Name, Run};
+use rx_update::{Attached, Hooks, When};
 use rx_value::{RxText, State};
 use serde_json::Value as Json;
 use std::alloc::{AllocError, Global};
@@ -31,11 +33,13 @@ pub(crate) struct Rows {
 /// The states of documents. The first row at fault decides.
 pub(crate) fn read_rows(
     alloc: Global,
+    hooks: &Hooks,
+    attached: &[Attached],
     collection: &Collection,
     docs: &[Json],
 ) -> Result<Rows, Fault>
     ensures exact { DueBy Memory (λ rows. rows.states.items) result
-        (rows_states collection.now 0 [] (map view docs.now)) }
+        (rows_states collection.now attached.now 0 [] (map view docs.now)) }
     ensures revs { IfOk result (λ rows. rows.revs.items
         ≡ map (λ s. next_revision collection.now s.key) rows.states.items) }
     ensures valid { IfOk result
@@ -47,7 +51,9 @@ pub(crate) fn read_rows(
     let mut states = Vec::with_capacity(alloc, docs.len())?;
     let mut revs = Vec::with_capacity(alloc, docs.len())?;
     for (row, doc) in docs.iter().enumerate() {
-        let (state, height) = read_row(alloc, collection, row as u64, &mut seen, doc)?;
+        let (state, height) = read_row(
+            alloc, hooks, attached, collection, row as u64, &mut seen, doc,
+        )?;
         states.push(state)?;
         revs.push(revision_at(alloc, collection, height)?)?;
     }
@@ -57,26 +63,31 @@ pub(crate) fn read_rows(
 // The state of a row whose key is none of those before it, and the height that its write gets.
 fn read_row(
     alloc: Global,
+    hooks: &Hooks,
+    attached: &[Attached],
     collection: &Collection,
     row: u64,
     seen: &mut Run<()>,
     doc: &Json,
 ) -> Result<(State, u64), Fault>
     ensures exact { DueBy Memory (λ r. r.0) result
-        (row_state collection.now row seen.old (view doc.now)) }
+        (row_state collection.now attached.now row seen.old (view doc.now)) }
     ensures height { IfOk result
         (λ r. r.1 ≡ next_height (named collection.now.documents r.0.key)) }
     ensures seen { IfOk result (λ r. seen.new
         ≡ put_in_order seen.old r.0.key tt) }
 {
-    let schema = collection.schema();
-    let state = in_row(row, read_state(alloc, schema.primary(), doc))?;
+    let state = in_row(row, read_state(alloc, collection.schema().primary(), doc))?;
     if add_key(alloc, seen, &state.key)? {
         return Err(Fault::Refused(Refusal::Twice { row }));
     }
-    in_row(row, check_fields(alloc, schema, &state.fields))?;
-    let height = in_row(row, free_height(alloc, collection, state.key.as_str()))?;
-    Ok((state, height))
+    let when = When::Insert;
+    let hooked = in_row(
+        row,
+        written_state(alloc, hooks, attached, collection, when, state),
+    )?;
+    let height = in_row(row, free_height(alloc, collection, hooked.key.as_str()))?;
+    Ok((hooked, height))
 }
 
 // Adds the key of a row, and tells whether it is that of an earlier row.
@@ -100,6 +111,12 @@ fn in_row<T: Drop>(row: u64, found: Result<T, Fault>) -> Result<T, Fault>
         Err(Fault::Refused(Refusal::Document { fault, .. })) => {
             Err(Fault::Refused(Refusal::Document {
                 fault,
+                row: Some(row),
+            }))
+        }
+        Err(Fault::Refused(Refusal::Vetoed { hook, .. })) => {
+            Err(Fault::Refused(Refusal::Vetoed {
+                hook,
                 row: Some(row),
             }))
         }

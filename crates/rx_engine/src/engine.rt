@@ -8,11 +8,12 @@ ghost use Rattle.rx_outside.specs.declared.stop.Stop.TheVariants as Stop;
 ghost use Rattle.rx_sync.specs.Remote.{Heard};
 ghost use Rattle.rx_store.specs.Holds.{IsIllegalFile, IsJournalOfSome, IsLegalFile};
 ghost use Rattle.rx_store.specs.Safe.{HasDiskCause, IsCrashSafe};
+ghost use Rattle.rx_update.specs.Shown.{kinds_of as known_by};
 ghost use Rattle.rx_value.specs.Named.{named};
 ghost use Rattle.rx_world.specs.World.{World};
 ghost use Rattle.rx_engine.specs.Calling.{Call};
 ghost use Rattle.rx_engine.specs.Lines.{IsIdle, IsRestart, calls, task};
-ghost use Rattle.rx_engine.specs.Opening.{epoch_body, opened};
+ghost use Rattle.rx_engine.specs.Opening.{epoch_body, host_with, opened};
 
 use crate::judging::{Judged, judge};
 use crate::marks::Marks;
@@ -28,6 +29,7 @@ use rx_handler::Handlers;
 use rx_journal::Journal;
 use rx_outside::{Dial, Stop};
 use rx_session::Session;
+use rx_update::Hooks;
 use rx_value::RxText;
 use std::alloc::{AllocError, Global};
 use std::rc::Rc;
@@ -45,8 +47,13 @@ impl Engine {
     ghost use Rattle.rx_engine.specs.Engine.{IsAt, IsBounded, IsUnharmedBy, LeavesAll, QuietIsLevel, session_of, standing_of, limit_of};
     ghost use Rattle.rx_engine.specs.Hearing.{PlaysLine};
 
-    /// Opens a journal, plays its records, and begins a new epoch.
-    pub fn open<D: Disk>(alloc: Global, disk: &mut D, limit: u64) -> Result<Engine, Stop>
+    /// Opens a journal for a run that knows these hooks, plays its records, and begins a new epoch.
+    pub fn open<D: Disk>(
+        alloc: Global,
+        disk: &mut D,
+        limit: u64,
+        hooks: &Hooks,
+    ) -> Result<Engine, Stop>
         requires low { 9 ≤ limit }
         requires high { limit < 2 ^ 32 }
 
@@ -57,10 +64,10 @@ impl Engine {
         ensures opened { D.tells → (bodies : List (List ℕ)) (w : World)
             → IsLegalFile (D.content disk.old) bodies w
             → IfOk result (λ engine. (kinds : Kinds) (heard : List Heard)
-            → standing_of kinds heard engine ≡ opened kinds heard w) }
+            → standing_of kinds heard engine ≡ opened (host_with kinds (known_by hooks.now)) heard w) }
         ensures begun { IfOk result (λ engine. (w : World)
             × ((kinds : Kinds) (heard : List Heard)
-            → standing_of kinds heard engine ≡ opened kinds heard w)) }
+            → standing_of kinds heard engine ≡ opened (host_with kinds (known_by hooks.now)) heard w)) }
         ensures limit { IfOk result (λ engine. limit_of engine ≡ limit) }
 
         // Over a legal file: what holds at each moment, at `Ok`, and at `Full`.
@@ -74,11 +81,12 @@ impl Engine {
             → IsUntouched D.Disk disk.old disk.new }
         ensures cause { HasDiskCause (D.faults disk.old) (D.faults disk.new) result }
     {
+        let known = hooks.known(alloc)?;
         let built = Diagram::build(alloc)?;
         let diagram = Rc::new(alloc, built)?;
         let share = diagram.clone()?;
         let Opened { journal, world } = open(alloc, disk, limit, &diagram)?;
-        let session = Session::new(alloc, world, share);
+        let session = Session::new(alloc, world, share, known);
         let asks = IndexMap::new(alloc);
         let marks = Marks::new(alloc);
         let sound = SoundSession::new(session, asks, marks);
@@ -90,13 +98,15 @@ impl Engine {
     }
 
     /// Plays a line that isn't blank. Its records are on the disk before its output exists. A turn
-    /// to a master elsewhere dials once, and hands the wire back. The engine is spent on a stop.
+    /// to a master elsewhere dials once, and hands the wire back. `hooks` are those that the engine
+    /// was opened with. The engine is spent on a stop.
     pub fn line<D: Disk, L: Dial>(
         self,
         alloc: Global,
         disk: &mut D,
         dial: &mut L,
         handlers: &Handlers,
+        hooks: &Hooks,
         text: &[u8],
         number: u64,
     ) -> Result<(Engine, Output), Stop>
@@ -150,7 +160,7 @@ impl Engine {
         ensures cause { HasDiskCause (D.faults disk.old) (D.faults disk.new) result }
         ensures dial_count { L.faults dial.old ≤ L.faults dial.new }
     {
-        match judge(alloc, self.session.session(), handlers, text, number)? {
+        match judge(alloc, self.session.session(), handlers, hooks, text, number)? {
             Judged::Printed(printed) => self.answer(alloc, disk, printed),
             Judged::Turns(turn) => self.answer_turn(alloc, disk, handlers, &turn, number),
             Judged::Calls(call) => self.answer_call(alloc, disk, dial, handlers, &call, number),

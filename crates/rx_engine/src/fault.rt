@@ -1,11 +1,13 @@
 ghost use Rattle.std.specs.Prelude.{◌≡◌};
-ghost use Rattle.rx_engine.specs.Faults.{of_line, of_schema, of_query, of_value, of_step, of_document};
+ghost use Rattle.rx_engine.specs.Faults.{of_line, of_schema, of_query, of_value, of_update, of_veto};
+ghost use Rattle.rx_engine.specs.Faults.{of_step, of_document};
 ghost use Rattle.rx_engine.specs.declared.fault.Fault.TheVariants.{Memory};
 
 use rx_query::QueryFault;
 use rx_reply::{DocumentFault, Refusal};
 use rx_schema::SchemaFault;
 use rx_script::LineFault;
+use rx_update::{UpdateFault, VetoFault};
 use rx_value::ValueFault;
 use rx_world::StepFault;
 use std::alloc::{AllocError, AllocFailed};
@@ -64,6 +66,28 @@ impl From<ValueFault> for Fault {
         match fault {
             ValueFault::Memory => Fault::Memory,
             fault => of_document(DocumentFault::Fields(fault)),
+        }
+    }
+}
+
+impl From<UpdateFault> for Fault {
+    ghost from_gives = { λ f e. e ≡ of_update f };
+
+    fn from(fault: UpdateFault) -> Fault {
+        match fault {
+            UpdateFault::Memory => Fault::Memory,
+            fault => Fault::Refused(Refusal::Update(fault)),
+        }
+    }
+}
+
+impl From<VetoFault> for Fault {
+    ghost from_gives = { λ f e. e ≡ of_veto f };
+
+    fn from(fault: VetoFault) -> Fault {
+        match fault {
+            VetoFault::Vetoed(hook) => Fault::Refused(Refusal::Vetoed { hook, row: None }),
+            VetoFault::Memory => Fault::Memory,
         }
     }
 }

@@ -11,6 +11,7 @@ use crate::remote::Call;
 use crate::turning::Turn;
 use rx_handler::Handlers;
 use rx_session::Session;
+use rx_update::Hooks;
 use std::alloc::{AllocError, Global};
 
 /// What a line does, and the line of its reply, which lends nothing of the session.
@@ -35,6 +36,7 @@ pub(crate) fn judge(
     alloc: Global,
     session: &Session,
     handlers: &Handlers,
+    hooks: &Hooks,
     text: &[u8],
     number: u64,
 ) -> Result<Judged, AllocError>
@@ -42,7 +44,7 @@ pub(crate) fn judge(
         (λ j. IsJudged number j (task (kinds_of handlers.now) text.now session.now)) }
     ensures may { IfOk result (λ j. MayDoJudged j session.now) }
 {
-    match plan(alloc, session, handlers, text)? {
+    match plan(alloc, session, handlers, hooks, text)? {
         Task::Answered(outcome) => Ok(Judged::Printed(print(alloc, outcome, number)?)),
         Task::Turns(turn) => Ok(Judged::Turns(turn)),
         Task::Calls(call) => Ok(Judged::Calls(call)),

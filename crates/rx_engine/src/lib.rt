@@ -13,6 +13,7 @@ mod documents;
 mod engine;
 mod exchanging;
 mod fault;
+mod hooking;
 mod judging;
 mod listing;
 mod lives;

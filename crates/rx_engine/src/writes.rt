@@ -1,5 +1,5 @@
 // The lines that make a collection and write documents.
-ghost use Rattle.std.specs.Prelude.{◌≡◌, ◌<◌, ℕ, List, true, [], map, length, Some, IfOk};
+ghost use Rattle.std.specs.Prelude.{◌≡◌, ◌<◌, ℕ, List, true, [], map, length, option_map, Some, IfOk};
 ghost use Rattle.std.specs.List.{AllByRecursion, IsDistinct};
 ghost use Rattle.std.specs.Str.{bytes_eq};
 ghost use Rattle.serde_json.specs.View.{view};
@@ -8,27 +8,33 @@ ghost use Rattle.rx_value.specs.Name.{is_name};
 ghost use Rattle.rx_value.specs.Named.{named};
 ghost use Rattle.rx_reply.specs.Answer.{Answer, answer_of};
 ghost use Rattle.rx_world.specs.Step.{IsValidState};
-ghost use Rattle.rx_world.specs.Valid.{AreValid};
 ghost use Rattle.rx_session.specs.Doing.{MayDo};
 ghost use Rattle.rx_engine.specs.Outcome.{commit};
 ghost use Rattle.rx_engine.specs.Shown.{doing_of, outcome_of};
-ghost use Rattle.rx_engine.specs.Writes.{collection_with, collection_line, commit_one, insert_state, upsert_state, patch_state, remove_state, insert_line, upsert_line, patch_line, remove_line, bulk_line};
+ghost use Rattle.rx_engine.specs.Writes.{collection_with, collection_line, commit_one};
+ghost use Rattle.rx_engine.specs.Documents.{live_state};
+ghost use Rattle.rx_engine.specs.Writes.{insert_state, upsert_state, patch_state, update_state};
+ghost use Rattle.rx_engine.specs.Writes.{remove_state, insert_line, upsert_line, patch_line};
+ghost use Rattle.rx_engine.specs.Writes.{update_line, remove_line, bulk_line, when_found};
 ghost use Rattle.rx_engine.specs.declared.fault.Fault.TheVariants.{Memory};
 
 use crate::bulk::{Rows, read_rows};
 use crate::documents::{
-    check_fields, check_revision, find_document, free_height, keeps_key, read_state, revision_at,
-    set_fields,
+    check_revision, find_document, find_live_document, free_height, keeps_key, read_state,
+    revision_at, set_fields,
 };
 use crate::fault::{Fault, of_document};
+use crate::hooking::{attached_in, written_state};
 use crate::lookup::find_collection;
 use crate::outcome::{LineDoing, Outcome};
 use rx_collection::{Collection, Holder};
+use rx_document::Stored;
 use rx_record::Record;
 use rx_reply::{DocumentFault, Refusal, Reply};
 use rx_schema::Schema;
 use rx_session::{Doing, Session};
-use rx_value::{RxText, State, read_fields};
+use rx_update::{Attached, Hooks, Update, When};
+use rx_value::{Fields, RxText, State, read_fields};
 use rx_world::MAX_COLLECTIONS;
 use serde_json::Value as Json;
 use std::alloc::Global;
@@ -82,23 +88,46 @@ fn plan_collection<'a>(
 }
 
 // The state that a document gives, whatever is held at its key.
-#[tactic(auto, using(rx_world::proofs::States::valid_state))]
-fn upsert_state(alloc: Global, collection: &Collection, doc: &Json) -> Result<State, Fault>
-    ensures exact { Due Memory result (upsert_state collection.now (view doc.now)) }
+fn upsert_state(
+    alloc: Global,
+    hooks: &Hooks,
+    attached: &[Attached],
+    collection: &Collection,
+    doc: &Json,
+) -> Result<State, Fault>
+    ensures exact { Due Memory result
+        (upsert_state collection.now attached.now (view doc.now)) }
     ensures valid { IfOk result (λ state. IsValidState collection.now.schema state) }
 {
-    let schema = collection.schema();
-    let state = read_state(alloc, schema.primary(), doc)?;
-    check_fields(alloc, schema, &state.fields)?;
-    Ok(state)
+    let state = read_state(alloc, collection.schema().primary(), doc)?;
+    let when = when_found(find_live_document(collection, state.key.as_str()));
+    written_state(alloc, hooks, attached, collection, when, state)
+}
+
+// An upsert inserts, or saves a document that is live.
+fn when_found(found: Option<&Stored>) -> When
+    ensures { result ≡ when_found (option_map (λ d. d.now) found.entry) }
+{
+    match found {
+        Some(_) => When::Save,
+        None => When::Insert,
+    }
 }
 
 // The state that a document of a new key gives.
-fn insert_state(alloc: Global, collection: &Collection, doc: &Json) -> Result<State, Fault>
-    ensures exact { Due Memory result (insert_state collection.now (view doc.now)) }
+fn insert_state(
+    alloc: Global,
+    hooks: &Hooks,
+    attached: &[Attached],
+    collection: &Collection,
+    doc: &Json,
+) -> Result<State, Fault>
+    ensures exact { Due Memory result
+        (insert_state collection.now attached.now (view doc.now)) }
     ensures valid { IfOk result (λ state. IsValidState collection.now.schema state) }
 {
-    let state = upsert_state(alloc, collection, doc)?;
+    let state = read_state(alloc, collection.schema().primary(), doc)?;
+    let state = written_state(alloc, hooks, attached, collection, When::Insert, state)?;
     free_height(alloc, collection, state.key.as_str())?;
     Ok(state)
 }
@@ -106,49 +135,81 @@ fn insert_state(alloc: Global, collection: &Collection, doc: &Json) -> Result<St
 // The state of a document with some fields set.
 fn patch_state(
     alloc: Global,
+    hooks: &Hooks,
+    attached: &[Attached],
     collection: &Collection,
     key: RxText,
     set: &Json,
     rev: &Option<RxText>,
 ) -> Result<State, Fault>
-    ensures exact { Due Memory result (patch_state collection.now key (view set.now) rev.now) }
+    ensures exact { Due Memory result
+        (patch_state collection.now attached.now key (view set.now) rev.now) }
     ensures valid { IfOk result (λ state. IsValidState collection.now.schema state) }
 {
     let doc = find_document(collection, key.as_str())?;
     check_revision(alloc, rev, doc)?;
     let more = read_fields(alloc, set)?;
-    let schema = collection.schema();
-    if !keeps_key(schema.primary(), key.as_str(), &more) {
+    if !keeps_key(collection.schema().primary(), key.as_str(), &more) {
         return Err(of_document(DocumentFault::Key));
     }
     let mut fields = doc.state.fields.copy(alloc)?;
     set_fields(alloc, &mut fields, &more)?;
-    check_fields(alloc, schema, &fields)?;
-    Ok(State {
-        key,
-        fields,
-        deleted: false,
-    })
+    let state = live_state(key, fields);
+    written_state(alloc, hooks, attached, collection, When::Save, state)
 }
 
-// The tombstone of a document, which keeps its fields.
-fn remove_state(
+// The state of a document after an update.
+fn update_state(
     alloc: Global,
+    hooks: &Hooks,
+    attached: &[Attached],
     collection: &Collection,
     key: RxText,
+    update: &Json,
     rev: &Option<RxText>,
 ) -> Result<State, Fault>
-    requires { AreValid collection.now }
-    ensures exact { Due Memory result (remove_state collection.now key rev.now) }
+    ensures exact { Due Memory result
+        (update_state collection.now attached.now key (view update.now) rev.now) }
     ensures valid { IfOk result (λ state. IsValidState collection.now.schema state) }
 {
     let doc = find_document(collection, key.as_str())?;
     check_revision(alloc, rev, doc)?;
+    let update = Update::read(alloc, update, collection.schema().primary())?;
+    let fields = update.apply(alloc, &doc.state.fields)?;
+    let state = live_state(key, fields);
+    written_state(alloc, hooks, attached, collection, When::Save, state)
+}
+
+// The tombstone of a document, which keeps the fields that its hooks leave.
+fn remove_state(
+    alloc: Global,
+    hooks: &Hooks,
+    attached: &[Attached],
+    collection: &Collection,
+    key: RxText,
+    rev: &Option<RxText>,
+) -> Result<State, Fault>
+    ensures exact { Due Memory result (remove_state collection.now attached.now key rev.now) }
+    ensures valid { IfOk result (λ state. IsValidState collection.now.schema state) }
+{
+    let doc = find_document(collection, key.as_str())?;
+    check_revision(alloc, rev, doc)?;
+    let state = live_state(key, doc.state.fields.copy(alloc)?);
+    let hooked = written_state(alloc, hooks, attached, collection, When::Remove, state)?;
     Ok(State {
-        key,
-        fields: doc.state.fields.copy(alloc)?,
         deleted: true,
+        ..hooked
     })
+}
+
+fn live_state(key: RxText, fields: Fields) -> State
+    ensures { result ≡ live_state key fields }
+{
+    State {
+        key,
+        fields,
+        deleted: false,
+    }
 }
 
 // Writes states to a collection of the world.
@@ -203,6 +264,7 @@ fn plan_one_write(
 pub(crate) fn insert_line<'a>(
     alloc: Global,
     session: &'a Session,
+    hooks: &Hooks,
     coll: &RxText,
     doc: &Json,
 ) -> Result<Outcome<'a>, Fault>
@@ -211,7 +273,8 @@ pub(crate) fn insert_line<'a>(
     ensures may { IfOk result (λ p. MayDo (doing_of p.doing) session.now) }
 {
     let collection = find_collection(alloc, session, coll)?;
-    let state = insert_state(alloc, collection, doc)?;
+    let attached = attached_in(session);
+    let state = insert_state(alloc, hooks, attached, collection, doc)?;
     let (doing, rev) = plan_one_write(alloc, session, collection, state)?;
     Ok(Outcome {
         doing,
@@ -222,6 +285,7 @@ pub(crate) fn insert_line<'a>(
 pub(crate) fn upsert_line<'a>(
     alloc: Global,
     session: &'a Session,
+    hooks: &Hooks,
     coll: &RxText,
     doc: &Json,
 ) -> Result<Outcome<'a>, Fault>
@@ -230,7 +294,8 @@ pub(crate) fn upsert_line<'a>(
     ensures may { IfOk result (λ p. MayDo (doing_of p.doing) session.now) }
 {
     let collection = find_collection(alloc, session, coll)?;
-    let state = upsert_state(alloc, collection, doc)?;
+    let attached = attached_in(session);
+    let state = upsert_state(alloc, hooks, attached, collection, doc)?;
     let (doing, rev) = plan_one_write(alloc, session, collection, state)?;
     Ok(Outcome {
         doing,
@@ -241,6 +306,7 @@ pub(crate) fn upsert_line<'a>(
 pub(crate) fn patch_line<'a>(
     alloc: Global,
     session: &'a Session,
+    hooks: &Hooks,
     coll: &RxText,
     key: RxText,
     set: &Json,
@@ -251,7 +317,8 @@ pub(crate) fn patch_line<'a>(
     ensures may { IfOk result (λ p. MayDo (doing_of p.doing) session.now) }
 {
     let collection = find_collection(alloc, session, coll)?;
-    let state = patch_state(alloc, collection, key, set, rev)?;
+    let attached = attached_in(session);
+    let state = patch_state(alloc, hooks, attached, collection, key, set, rev)?;
     let (doing, rev) = plan_one_write(alloc, session, collection, state)?;
     Ok(Outcome {
         doing,
@@ -259,9 +326,33 @@ pub(crate) fn patch_line<'a>(
     })
 }
 
+pub(crate) fn update_line<'a>(
+    alloc: Global,
+    session: &'a Session,
+    hooks: &Hooks,
+    coll: &RxText,
+    key: RxText,
+    update: &Json,
+    rev: &Option<RxText>,
+) -> Result<Outcome<'a>, Fault>
+    ensures exact { DueBy Memory outcome_of result
+        (update_line coll.now key (view update.now) rev.now session.now) }
+    ensures may { IfOk result (λ p. MayDo (doing_of p.doing) session.now) }
+{
+    let collection = find_collection(alloc, session, coll)?;
+    let attached = attached_in(session);
+    let state = update_state(alloc, hooks, attached, collection, key, update, rev)?;
+    let (doing, rev) = plan_one_write(alloc, session, collection, state)?;
+    Ok(Outcome {
+        doing,
+        reply: Reply::Update { rev },
+    })
+}
+
 pub(crate) fn remove_line<'a>(
     alloc: Global,
     session: &'a Session,
+    hooks: &Hooks,
     coll: &RxText,
     key: RxText,
     rev: &Option<RxText>,
@@ -271,7 +362,8 @@ pub(crate) fn remove_line<'a>(
     ensures may { IfOk result (λ p. MayDo (doing_of p.doing) session.now) }
 {
     let collection = find_collection(alloc, session, coll)?;
-    let state = remove_state(alloc, collection, key, rev)?;
+    let attached = attached_in(session);
+    let state = remove_state(alloc, hooks, attached, collection, key, rev)?;
     let (doing, rev) = plan_one_write(alloc, session, collection, state)?;
     Ok(Outcome {
         doing,
@@ -282,6 +374,7 @@ pub(crate) fn remove_line<'a>(
 pub(crate) fn bulk_line<'a>(
     alloc: Global,
     session: &'a Session,
+    hooks: &Hooks,
     coll: &RxText,
     docs: &[Json],
 ) -> Result<Outcome<'a>, Fault>
@@ -290,7 +383,8 @@ pub(crate) fn bulk_line<'a>(
     ensures may { IfOk result (λ p. MayDo (doing_of p.doing) session.now) }
 {
     let collection = find_collection(alloc, session, coll)?;
-    let Rows { states, revs } = read_rows(alloc, collection, docs)?;
+    let attached = attached_in(session);
+    let Rows { states, revs } = read_rows(alloc, hooks, attached, collection, docs)?;
     let reply = Reply::Bulk { revs };
     if !states.is_empty() {
         return plan_write(alloc, session, collection, states, reply);

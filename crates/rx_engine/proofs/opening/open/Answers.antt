@@ -5,7 +5,7 @@ use Rattle.rx_store.proofs.Crashes.{answered, ran_out, same_stop, sooner}
 use Rattle.rx_world.specs.Sound.{IsSoundWorld}
 use Rattle.rx_world.specs.World.{World}
 use Rattle.rx_engine.specs.Opening.{epoch_body, next_epoch}
-use Rattle.rx_engine.proofs.Opened.{begun_safely}
+use Rattle.rx_engine.proofs.Opened.{begun_safely, cause_behind}
 use Rattle.rx_engine.proofs.opening.open.Goals as goal
 
 pub returns-in_err-opened-clause-safe : goal.returns-in_err-opened-clause-safe
@@ -81,3 +81,10 @@ returns-clause-illegal g c told illegal =
 
 pub returns-clause-sound : goal.returns-clause-sound
 returns-clause-sound g c = subst IsSoundWorld (sym c.in_ok-world.ensures.world) c.in_ok-opened.ensures.sound
+
+pub returns-in_err-journal-clause-cause : goal.returns-in_err-journal-clause-cause
+returns-in_err-journal-clause-cause g c =
+    cause_behind (g.D.Disk.faults c.args.disk.now) (g.D.Disk.faults c.open.new.disk)
+    (g.D.Disk.faults c.keep.new.disk) c.in_err-journal.field-0.0
+    c.from_residual-in_err-journal.result (search rules) c.in_ok-opened.ensures.cause.later
+    c.in_err-journal.ensures.cause

@@ -2,6 +2,7 @@ use Rattle.std.proofs.Common.{◌++◌, ◌∷◌, [], ◌∙◌, ap, sym, subst
 use Rattle.rx_session.specs.Session.{Session}
 use Rattle.rx_store.specs.Holds.{Holds}
 use Rattle.rx_store.proofs.Crashes.{answered, same_stop}
+use Rattle.rx_store.proofs.Stops.{ok_cause}
 use Rattle.rx_world.specs.Made.{IsMadeWorld}
 use Rattle.rx_world.specs.Sound.{IsSoundWorld}
 use Rattle.rx_value.specs.Named.{by_bytes}
@@ -11,7 +12,7 @@ use Rattle.rx_engine.specs.Remembered.{AreRemembered}
 use Rattle.rx_engine.specs.SoundSession.{SessionWithAsks}
 use Rattle.rx_engine.proofs.Marking.{none_marked}
 use Rattle.rx_engine.proofs.Meanings.{standing_same}
-use Rattle.rx_engine.specs.Opening.{epoch_body, session_on, opened}
+use Rattle.rx_engine.specs.Opening.{epoch_body, next_epoch, session_on, opened}
 use Rattle.rx_engine.proofs.Opened.{not_begun, untouched}
 use Rattle.rx_engine.proofs.engine.Engine.open.Goals as goal
 
@@ -44,7 +45,9 @@ unfolding session_of asks_in standing_of opened
 returns-clause-opened g c told bodies w lawful kinds heard =
     standing_same kinds heard _ _ _ _
     (ap (λ (x : SessionWithAsks). x.session) c.new-sound.ensures ∙ c.new-session.ensures
-    ∙ ap session_on (c.in_ok-journal.ensures.opened told bodies w lawful))
+    ∙ ap (session_on c.in_ok-known.known.items)
+    (c.in_ok-journal.ensures.opened told bodies w lawful)
+    ∙ ap (λ known. session_on known (next_epoch w)) c.in_ok-known.ensures)
     (ap (λ (x : SessionWithAsks). x.asks) c.new-sound.ensures
     ∙ ap by_bytes c.new-asks.ensures.empty)
 
@@ -55,7 +58,8 @@ returns-clause-begun g c =
       begun.0,
       λ kinds heard. standing_same kinds heard _ _ _ _
           (ap (λ (x : SessionWithAsks). x.session) c.new-sound.ensures ∙ c.new-session.ensures
-          ∙ ap session_on begun.1) (ap (λ (x : SessionWithAsks). x.asks) c.new-sound.ensures
+          ∙ ap (session_on c.in_ok-known.known.items) begun.1
+          ∙ ap (λ known. session_on known (next_epoch begun.0)) c.in_ok-known.ensures) (ap (λ (x : SessionWithAsks). x.asks) c.new-sound.ensures
           ∙ ap by_bytes c.new-asks.ensures.empty),
     )
 
@@ -63,16 +67,26 @@ pub returns-clause-safe : goal.returns-clause-safe
 unfolding session_of opened
 returns-clause-safe g c told bodies w lawful =
     let session = ap (λ (x : SessionWithAsks). x.session) c.new-sound.ensures
-    ∙ c.new-session.ensures ∙ ap session_on (c.in_ok-journal.ensures.opened told bodies w lawful) in
+    ∙ c.new-session.ensures ∙ ap (session_on c.in_ok-known.known.items)
+    (c.in_ok-journal.ensures.opened told bodies w lawful) in
     answered g.D.Disk c.args.disk.now c.open.new.disk bodies (epoch_body w ∷ []) c.args.limit _
     (IsAt g.D.Disk c.open.new.disk) _ _ (c.in_ok-journal.ensures.safe told bodies w lawful)
     (λ holds. subst (λ (s : Session). Holds g.D.Disk c.open.new.disk c.in_ok-journal.field-0.journal
     (bodies ++ epoch_body w ∷ []) s.world) (sym session) holds)
 
+pub returns-in_err-known-clause-safe : goal.returns-in_err-known-clause-safe
+returns-in_err-known-clause-safe g c told bodies w lawful =
+    not_begun g.D.Disk c.args.disk.now (λ left e. g.met.D.Disk.only_now c.args.disk.now left told e)
+    bodies (epoch_body w ∷ []) w c.args.limit _ c.from_residual.result (search rules) lawful
+
+pub returns-in_err-known-clause-illegal : goal.returns-in_err-known-clause-illegal
+returns-in_err-known-clause-illegal g c told illegal =
+    untouched g.D.Disk c.args.disk.now (λ left e. g.met.D.Disk.only_now c.args.disk.now left told e)
+
 pub returns-in_err-built-clause-safe : goal.returns-in_err-built-clause-safe
 returns-in_err-built-clause-safe g c told bodies w lawful =
     not_begun g.D.Disk c.args.disk.now (λ left e. g.met.D.Disk.only_now c.args.disk.now left told e)
-    bodies (epoch_body w ∷ []) w c.args.limit _ c.from_residual.result (search rules) lawful
+    bodies (epoch_body w ∷ []) w c.args.limit _ c.from_residual-in_err-built.result (search rules) lawful
 
 pub returns-in_err-built-clause-illegal : goal.returns-in_err-built-clause-illegal
 returns-in_err-built-clause-illegal g c told illegal =
@@ -97,3 +111,8 @@ returns-in_err-share-clause-safe g c told bodies w lawful =
 pub returns-in_err-share-clause-illegal : goal.returns-in_err-share-clause-illegal
 returns-in_err-share-clause-illegal g c told illegal =
     untouched g.D.Disk c.args.disk.now (λ left e. g.met.D.Disk.only_now c.args.disk.now left told e)
+
+pub returns-clause-cause : goal.returns-clause-cause
+returns-clause-cause g c =
+    ok_cause (g.D.Disk.faults c.args.disk.now) (g.D.Disk.faults c.open.new.disk)
+    c.in_ok-journal.ensures.cause.later _
