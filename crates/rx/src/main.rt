@@ -1,9 +1,10 @@
-//! The program: the real streams, file, sockets and clock, and the handlers that a replication may
-//! name, around the command that its words are.
+//! The program: the real streams, file, sockets and clock, and the handlers and hooks that lines
+//! may name, around the command that its words are.
 #![tactic(auto)]
 
 ghost use Rattle.std.specs.Prelude.{◌≡◌, IfOk};
 ghost use Rattle.rx_handler.specs.Resolve.{resolve};
+ghost use Rattle.rx_update.specs.Hooked.{hooked as becomes};
 
 use rx_disk::{Disk, FileDisk};
 use rx_handler::{Handler, HandlerFault, HandlerKind, Handlers, resolved};
@@ -11,6 +12,7 @@ use rx_outside::{
     Clock, Dial, Listen, Sink, Source, StdSink, StdSource, SystemClock, TcpDial, TcpDoor, write_all,
 };
 use rx_top::rx;
+use rx_update::{Hook, HookFault, HookKind, Hooks, hooked};
 use rx_value::{RxText, State};
 use rx_words::{Words, command_of};
 use std::alloc::{AllocError, Global};
@@ -28,6 +30,12 @@ const HANDLERS: [(&str, HandlerKind); 4] = [
     ("fork_wins", HandlerKind::ForkWins),
     ("greater", HandlerKind::Greater),
     ("join", HandlerKind::Join),
+];
+
+const HOOKS: [(&str, HookKind); 3] = [
+    ("count", HookKind::Count),
+    ("zero", HookKind::Zero),
+    ("lock", HookKind::Lock),
 ];
 
 fn main(rt: HostRuntime) -> ExitCode {
@@ -66,7 +74,8 @@ fn main(rt: HostRuntime) -> ExitCode {
     }
 }
 
-// Runs the command with the handlers that a replication may name.
+// Runs the command with the handlers that a replication may name. They are made where they are used:
+// what makes a closure and gives it away would hide what it does.
 fn play<S: Source, K: Sink, D: Disk, L: Listen, N: Dial, C: Clock>(
     alloc: Global,
     words: &Words,
@@ -90,8 +99,42 @@ fn play<S: Source, K: Sink, D: Disk, L: Listen, N: Dial, C: Clock>(
             Err(refused) => return Err(AllocError::from(refused).into()),
         }
     }
-    Ok(rx(
+    match play_hooked(
         alloc, words, source, out, disk, door, dial, clock, &handlers,
+    ) {
+        Ok(status) => Ok(status),
+        // The names of the hooks differ, so want of memory alone is left.
+        Err(_) => Err(AllocError.into()),
+    }
+}
+
+// And with the hooks that a collection may have.
+fn play_hooked<S: Source, K: Sink, D: Disk, L: Listen, N: Dial, C: Clock>(
+    alloc: Global,
+    words: &Words,
+    source: &mut S,
+    out: &mut K,
+    disk: &mut D,
+    door: &mut L,
+    dial: &mut N,
+    clock: &mut C,
+    handlers: &Handlers,
+) -> Result<u8, HookFault> {
+    let mut hooks = Hooks::new(alloc);
+    for (name, kind) in HOOKS {
+        let call = Box::new(
+            alloc,
+            move |alloc: Global, field: &str, state: &State|
+                ensures { IfOk result (λ s. s ≡ becomes kind field.now state.now) }
+            { hooked(alloc, kind, field, state) },
+        );
+        match call {
+            Ok(call) => hooks.add(Hook::new(RxText::new(alloc, name)?, kind, call))?,
+            Err(refused) => return Err(AllocError::from(refused).into()),
+        }
+    }
+    Ok(rx(
+        alloc, words, source, out, disk, door, dial, clock, handlers, &hooks,
     ))
 }
 

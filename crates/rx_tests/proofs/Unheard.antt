@@ -4,7 +4,7 @@ use Rattle.rx_engine.specs.Calling.{Call}
 use Rattle.rx_engine.specs.Dialled.{DialStanding}
 use Rattle.rx_engine.specs.Hearing.{IsShownBy}
 use Rattle.rx_engine.specs.Lines.{Task, answered, turns, calls, task}
-use Rattle.rx_engine.specs.Opening.{opened}
+use Rattle.rx_engine.specs.Opening.{Host, opened}
 use Rattle.rx_engine.specs.Standing.{Standing}
 use Rattle.rx_handler.specs.Handlers.{Kinds}
 use Rattle.rx_sync.specs.Remote.{Heard}
@@ -40,14 +40,14 @@ unheard_lines wires n (l ∷ ls) s old new hears each =
     by_blank false is =
         none_by_task wires (task s.kinds l s.session) s old hears.1 hears.0 (each.0 is) (hears.3.1 is)
 
-pub unheard : {kinds : Kinds} {heard : List Heard} {wires : Type 0} {n0 n2 : DialStanding}
+pub unheard : {host : Host} {heard : List Heard} {wires : Type 0} {n0 n2 : DialStanding}
     {tells : Type 0} {f0 f2 : ℕ} {w0 w2 : List ℕ} (w : World) (input left : List ℕ) (status : ℕ)
     {Kept : _}
-    → HasRun kinds heard wires n0 n2 tells f0 f2 w0 w2 w input left status Kept → status < 2
-    → EachLine line_effect CallsNoOne 1 (lines input) (opened kinds heard w) → heard ≡ []
-unheard {kinds = kinds} {heard = heard} {wires = wires} {n0 = n0} {n2 = n2} w input left status has low
+    → HasRun host heard wires n0 n2 tells f0 f2 w0 w2 w input left status Kept → status < 2
+    → EachLine line_effect CallsNoOne 1 (lines input) (opened host heard w) → heard ≡ []
+unheard {host = host} {heard = heard} {wires = wires} {n0 = n0} {n2 = n2} w input left status has low
     each =
-    let s = opened kinds heard w in
+    let s = opened host heard w in
     let run = has.run in
     let ok = is_ok has.ended (subst (λ (n : ℕ). n < 2) has.is_status low) in
     let reads : Reads line_effect (Ok ok.0) input left run.done run.rest s =
@@ -57,7 +57,7 @@ unheard {kinds = kinds} {heard = heard} {wires = wires} {n0 = n0} {n2 = n2} w in
     subst (λ e. HearsAll wires s n0 n2 e run.done run.rest) ok.1 run.shown in
     let whole : lines input ≡ run.done =
     run.whole ∙ ap (λ (v : List (List ℕ)). run.done ++ v) reads.0 ∙ append-nil run.done in
-    sym (heard_at_first kinds heard w)
+    sym (heard_at_first host heard w)
     ∙ unheard_lines wires 1 run.done s n0 shown.between shown.lines
     (subst (λ (v : List (List ℕ)). EachLine line_effect CallsNoOne 1 v s) whole each)
     ∙ shown.last.0

@@ -2,9 +2,8 @@
 use Rattle.std.specs.Prelude.{◌≡◌, ℕ, List, [], false, if◌then◌else◌}
 use Rattle.rx_engine.specs.Calling.{Call}
 use Rattle.rx_engine.specs.Lines.{calls, task}
-use Rattle.rx_engine.specs.Opening.{opened}
+use Rattle.rx_engine.specs.Opening.{Host, opened}
 use Rattle.rx_engine.specs.Standing.{Standing}
-use Rattle.rx_handler.specs.Handlers.{Kinds}
 use Rattle.rx_store.specs.Holds.{IsLegalFile}
 use Rattle.rx_sync.specs.Remote.{Heard}
 use Rattle.rx_top.specs.Lines.{is_blank, lines}
@@ -21,15 +20,15 @@ CallsNoOne n line s next =
 -- It was played to its end, by what was heard of masters elsewhere. A script that calls none hears
 -- nothing.
 pub record IsPlayed
-    (kinds : Kinds)
+    (host : Host)
     (script : List ℕ)
     (heard : List Heard)
     (status : ℕ)
     (output journal : List ℕ) : Type 0 where
-  pub told : output ≡ transcript (lines script) (opened kinds heard empty)
+  pub told : output ≡ transcript (lines script) (opened host heard empty)
   pub kept : (after : World)
-      × IsLegalFile journal (run_bodies kinds heard empty (lines script)) after
+      × IsLegalFile journal (run_bodies host heard empty (lines script)) after
   pub refusal : status
-      ≡ (if has_refusal (lines script) (opened kinds heard empty) then 1 else 0)
-  pub unheard : EachLine line_effect CallsNoOne 1 (lines script) (opened kinds heard empty)
+      ≡ (if has_refusal (lines script) (opened host heard empty) then 1 else 0)
+  pub unheard : EachLine line_effect CallsNoOne 1 (lines script) (opened host heard empty)
       → heard ≡ []

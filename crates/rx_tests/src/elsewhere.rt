@@ -187,9 +187,13 @@ const REFUSED: &str = r#"
 < {"code":21,"line":L,"refused":"chain"}
 > C(m)
 < made
-> {"do":"replicate","name":"s","fork":"m","master":"f","handler":"join"}
-< {"code":21,"line":L,"refused":"chain"}
 > {"do":"replicate","name":"s","fork":"m","port":4001,"handler":"join"}
+< {"line":L,"ok":"replicate"}
+> {"do":"replicate","name":"t","fork":"m","master":"f","handler":"join"}
+< {"code":21,"line":L,"refused":"chain"}
+> C(k)
+< made
+> {"do":"replicate","name":"t","fork":"k","master":"f","handler":"join"}
 < {"line":L,"ok":"replicate"}
 > {"do":"restart"}
 < {"epoch":2,"line":L,"ok":"restart"}

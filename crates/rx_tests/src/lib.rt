@@ -22,6 +22,8 @@ mod explained;
 mod hashes;
 mod headline;
 #[cfg(test)]
+mod hooked;
+#[cfg(test)]
 mod hostile;
 #[cfg(test)]
 mod indexed;
@@ -77,6 +79,8 @@ mod stops;
 mod turn_stops;
 #[cfg(test)]
 mod turned;
+#[cfg(test)]
+mod updates;
 #[cfg(test)]
 mod values;
 #[cfg(test)]

@@ -2,6 +2,7 @@
 use crate::headline::{Played, play_in_memory};
 use crate::short::{add_script_line, journal_bytes};
 use rx_handler::{Handler, HandlerKind, Handlers};
+use rx_update::{Hook, HookKind, Hooks};
 use rx_value::{RxText, State};
 use std::alloc::{AllocError, Global};
 use std::test::Fail;
@@ -15,7 +16,12 @@ fn a_script_over_an_empty_journal(rt: HostRuntime) -> Result<(), Fail> {
     let alloc = rt.alloc();
     let mut journal = Vec::new(alloc);
     journal_bytes(alloc, "BASE 00", &mut journal)?;
-    let played = play(alloc, &["C(c)", "I(d,a,1)"], &Handlers::new(alloc))?;
+    let played = play(
+        alloc,
+        &["C(c)", "I(d,a,1)"],
+        &Handlers::new(alloc),
+        &Hooks::new(alloc),
+    )?;
     compare(&played, 1, DUE)?;
     if played.journal.as_slice() == journal.as_slice() {
         return Ok(());
@@ -30,12 +36,22 @@ fn compare(played: &Played, status: u8, output: &str) -> Result<(), Fail> {
     Err(Fail::new(format_args!("another output, or status {}", played.status)))
 }
 
-fn play(alloc: Global, lines: &[&str], handlers: &Handlers) -> Result<Played, AllocError> {
+fn play(
+    alloc: Global,
+    lines: &[&str],
+    handlers: &Handlers,
+    hooks: &Hooks,
+) -> Result<Played, AllocError> {
     let mut script = String::new(alloc);
     for line in lines {
         add_script_line(alloc, line, &mut script)?;
     }
-    play_in_memory(alloc, script.as_str().as_bytes().to_vec(alloc)?, handlers)
+    play_in_memory(
+        alloc,
+        script.as_str().as_bytes().to_vec(alloc)?,
+        handlers,
+        hooks,
+    )
 }
 
 // Its turn pushes a document that the master has with another number.
@@ -70,6 +86,35 @@ fn a_handler_that_wants_memory_ends_the_run(rt: HostRuntime) -> Result<(), Fail>
 }
 
 fn play_conflict(alloc: Global, handlers: &Handlers) -> Result<(), Fail> {
-    let played = play(alloc, &CONFLICT, handlers)?;
+    let played = play(alloc, &CONFLICT, handlers, &Hooks::new(alloc))?;
     compare(&played, 6, BEFORE_THE_TURN)
+}
+
+// Its insert runs a hook.
+const HOOKED: [&str; 3] = [
+    "C(c)",
+    r#"{"do":"hook","in":"c","when":"insert","hook":"none","field":"n"}"#,
+    "I(c,a,1)",
+];
+
+const BEFORE_THE_INSERT: &str = r#"{"line":1,"new":true,"ok":"collection"}
+{"line":2,"ok":"hook"}
+{"stop":"memory"}
+"#;
+
+#[test]
+fn a_hook_that_wants_memory_ends_the_run(rt: HostRuntime) -> Result<(), Fail> {
+    let alloc = rt.alloc();
+    let name = RxText::new(alloc, "none")?;
+    let call = Box::new(alloc, |_alloc: Global, _field: &str, _state: &State| {
+        Err(AllocError)
+    })?;
+    let mut hooks = Hooks::new(alloc);
+    hooks.add(Hook::new(name, HookKind::Zero, call))?;
+    play_insert(alloc, &hooks)
+}
+
+fn play_insert(alloc: Global, hooks: &Hooks) -> Result<(), Fail> {
+    let played = play(alloc, &HOOKED, &Handlers::new(alloc), hooks)?;
+    compare(&played, 6, BEFORE_THE_INSERT)
 }

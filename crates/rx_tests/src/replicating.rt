@@ -224,7 +224,7 @@ $ run journal
 > {"do":"replicate","name":"r","fork":"a","master":"b","handler":"greater","field":"m"}
 < {"code":12,"line":L,"refused":"schema_differs"}
 
-== no collection follows itself, two masters or a fork, and no fork is followed
+== no collection follows itself, two masters, or one that leads back to it; a fork may be followed
 > C(m)
 < made
 > C(f)
@@ -236,16 +236,24 @@ $ run journal
 > C(g)
 < made
 > {"do":"replicate","name":"s","fork":"g","master":"f","handler":"join"}
-< {"code":21,"line":L,"refused":"chain"}
-> {"do":"replicate","name":"s","fork":"f","master":"g","handler":"join"}
-< {"code":21,"line":L,"refused":"chain"}
-> {"do":"replicate","name":"s","fork":"m","master":"g","handler":"join"}
-< {"code":21,"line":L,"refused":"chain"}
-> {"do":"replicate","name":"s","fork":"g","master":"m","handler":"join"}
 < {"line":L,"ok":"replicate"}
+> {"do":"replicate","name":"t","fork":"g","master":"m","handler":"join"}
+< {"code":21,"line":L,"refused":"chain"}
+> {"do":"replicate","name":"t","fork":"m","master":"f","handler":"join"}
+< {"code":21,"line":L,"refused":"chain"}
+> {"do":"replicate","name":"t","fork":"m","master":"g","handler":"join"}
+< {"code":21,"line":L,"refused":"chain"}
 > C(h)
 < made
 > {"do":"replicate","name":"t","fork":"h","master":"g","handler":"join"}
+< {"line":L,"ok":"replicate"}
+> {"do":"replicate","name":"u","fork":"m","master":"h","handler":"join"}
+< {"code":21,"line":L,"refused":"chain"}
+> C(k)
+< made
+> {"do":"replicate","name":"u","fork":"m","master":"k","handler":"join"}
+< {"line":L,"ok":"replicate"}
+> {"do":"replicate","name":"v","fork":"k","master":"h","handler":"join"}
 < {"code":21,"line":L,"refused":"chain"}
 
 == a fork has the schema of its master, which is told after the chain
@@ -260,6 +268,8 @@ $ run journal
 > {"do":"replicate","name":"r","fork":"g","master":"m","handler":"join"}
 < {"line":L,"ok":"replicate"}
 > {"do":"replicate","name":"s","fork":"f","master":"g","handler":"join"}
+< {"code":12,"line":L,"refused":"schema_differs"}
+> {"do":"replicate","name":"s","fork":"g","master":"f","handler":"join"}
 < {"code":21,"line":L,"refused":"chain"}
 "#;
 

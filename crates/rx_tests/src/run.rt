@@ -1,6 +1,7 @@
 // A command over forms in memory.
 ghost use Rattle.std.specs.Prelude.{◌≡◌, IfOk};
 ghost use Rattle.rx_handler.specs.Resolve.{resolve};
+ghost use Rattle.rx_update.specs.Hooked.{hooked as becomes};
 ghost use Rattle.rx_outside.specs.MemoryWire.{Unused};
 
 use rx_disk::MemoryDisk;
@@ -9,6 +10,7 @@ use rx_outside::{
     MemoryClock, MemoryDial, MemoryDoor, MemorySink, MemorySource, MemoryWire, Source,
 };
 use rx_top::rx;
+use rx_update::{Hook, HookFault, HookKind, Hooks, hooked};
 use rx_value::{RxText, State};
 use rx_words::Words;
 use std::alloc::{AllocError, Global};
@@ -236,6 +238,12 @@ const HANDLERS: [(&str, HandlerKind); 4] = [
     ("join", HandlerKind::Join),
 ];
 
+const HOOKS: [(&str, HookKind); 3] = [
+    ("count", HookKind::Count),
+    ("zero", HookKind::Zero),
+    ("lock", HookKind::Lock),
+];
+
 // The run with the handlers that the program has. They are made where they are used: what makes a
 // closure and gives it away would hide what it does.
 fn play_handled<S: Source>(
@@ -262,7 +270,41 @@ fn play_handled<S: Source>(
             Err(refused) => return Err(AllocError::from(refused).into()),
         }
     }
-    Ok(status_of(alloc, words, source, sink, disk, door, dial, &handlers))
+    match play_hooked(alloc, words, source, sink, disk, door, dial, &handlers) {
+        Ok(status) => Ok(status),
+        Err(_) => Err(AllocError.into()),
+    }
+}
+
+// And with its hooks.
+fn play_hooked<S: Source>(
+    alloc: Global,
+    words: &Words,
+    source: &mut S,
+    sink: &mut MemorySink,
+    disk: &mut MemoryDisk,
+    door: &mut MemoryDoor,
+    dial: &mut MemoryDial,
+    handlers: &Handlers,
+) -> Result<u8, HookFault> {
+    let mut hooks = Hooks::new(alloc);
+    for (name, kind) in HOOKS.iter() {
+        let name = RxText::new(alloc, name)?;
+        let kind = *kind;
+        let call = Box::new(
+            alloc,
+            move |alloc: Global, field: &str, state: &State|
+                ensures { IfOk result (λ s. s ≡ becomes kind field.now state.now) }
+            { hooked(alloc, kind, field, state) },
+        );
+        match call {
+            Ok(call) => hooks.add(Hook::new(name, kind, call))?,
+            Err(refused) => return Err(AllocError::from(refused).into()),
+        }
+    }
+    Ok(status_of(
+        alloc, words, source, sink, disk, door, dial, handlers, &hooks,
+    ))
 }
 
 // A call of its own, since what `rx` ensures would burden the proof of its caller.
@@ -275,10 +317,11 @@ fn status_of<S: Source>(
     door: &mut MemoryDoor,
     dial: &mut MemoryDial,
     handlers: &Handlers,
+    hooks: &Hooks,
 ) -> u8 {
     let mut clock = MemoryClock::new(Vec::new(alloc));
     rx(
-        alloc, words, source, sink, disk, door, dial, &mut clock, handlers,
+        alloc, words, source, sink, disk, door, dial, &mut clock, handlers, hooks,
     )
 }
 

@@ -6,12 +6,11 @@ use Rattle.rx_engine.specs.Dialled.{DialStanding}
 use Rattle.rx_engine.specs.Engine.{IsAt, limit_of}
 use Rattle.rx_store.specs.Holds.{GrowsLegally, Leaves, IsIllegalFile, IsJournalOfSome, StandsLegally}
 use Rattle.rx_engine.specs.declared.engine.Engine.{Engine}
-use Rattle.rx_engine.specs.Opening.{epoch_body, opened}
+use Rattle.rx_engine.specs.Opening.{Host, epoch_body, opened}
 use Rattle.rx_store.proofs.Growing.{none_yet as none_grown}
 use Rattle.rx_frame.specs.File.{end_of}
 use Rattle.rx_journal.specs.Reading.{IsUntouched}
 use Rattle.rx_engine.specs.Standing.{Standing}
-use Rattle.rx_handler.specs.Handlers.{Kinds}
 use Rattle.rx_sync.specs.Remote.{Heard}
 use Rattle.rx_store.specs.Safe.{IsFull}
 use Rattle.rx_outside.specs.declared.stop.Stop.{Stop}
@@ -87,7 +86,7 @@ module _ {D : Type 0} (d : Ghosts D) (bodies : List (List ℕ)) (w : World) wher
       stays_legal d disk disk bodies [] (nothing_yet disk only start) counts
 
 module _
-    (kinds : Kinds) (heard : List Heard) {D : Type 0} (d : Ghosts D) (bodies : List (List ℕ))
+    (host : Host) (heard : List Heard) {D : Type 0} (d : Ghosts D) (bodies : List (List ℕ))
     (w : World) (limit : ℕ)
   where
     -- the opening stopped
@@ -96,7 +95,7 @@ module _
         → ((would most : ℕ) → IsErrOf {T = Engine} (Err why) (Full would most)
         → (most ≡ limit) × IsFull d d1 bodies (epoch_body w ∷ []) would most)
         → OnlyNow d d0 → IsStart d d0 bodies w
-        → KeepsRun kinds heard d d0 d1 bodies w limit (Err (Work why)) [] rest
+        → KeepsRun host heard d d0 d1 bodies w limit (Err (Work why)) [] rest
     open_keeps d0 d1 why rest grows counts full only start = inl (
       λ none. none,
       refl,
@@ -126,7 +125,7 @@ module _
     -- memory ran out before the journal was opened
     pub no_reader_keeps : (disk : D) (rest : List (List ℕ)) → IsStart d disk bodies w
         → OnlyNow d disk → CountsNow d disk
-        → KeepsRun kinds heard d disk disk bodies w limit (Err (Read fault.Memory)) [] rest
+        → KeepsRun host heard d disk disk bodies w limit (Err (Read fault.Memory)) [] rest
     no_reader_keeps disk rest start only counts =
         let here = nothing_yet d bodies w disk only start in
         inl (
@@ -149,10 +148,10 @@ module _
     pub played_keeps : (d0 d1 d2 : D) (first : Engine) (ended : Result Bool EarlyEnd)
         (done rest : List (List ℕ)) → GrowsLegally d d0 d1 bodies (epoch_body w ∷ [])
         → end_of (bodies ++ epoch_body w ∷ []) ≤ limit → limit_of first ≡ limit
-        → (s : Standing) → s ≡ opened kinds heard w → IsAt d d1 first (bodies ++ epoch_body w ∷ [])
+        → (s : Standing) → s ≡ opened host heard w → IsAt d d1 first (bodies ++ epoch_body w ∷ [])
         → d.tells
         → KeepsFrom s d d1 d2 first ended done rest
-        → KeepsRun kinds heard d d0 d2 bodies w limit ended done rest
+        → KeepsRun host heard d d0 d2 bodies w limit ended done rest
     played_keeps d0 d1 d2 first ended done rest grows fits same_limit s same at t kept =
         let all = bodies ++ epoch_body w ∷ [] in
         let here = kept t all at (subst (λ (n : ℕ). end_of all ≤ n) (sym same_limit) fits) in
@@ -160,7 +159,7 @@ module _
         (next_chunk line_effect (length done + 1) rest (state_after line_effect 1 done x)) n
         (stop_of ended) in
         inr (keeps_behind d d0 d1 d2 bodies (epoch_body w ∷ [])
-        (chunks line_effect 1 done (opened kinds heard w)) _
+        (chunks line_effect 1 done (opened host heard w)) _
         limit (stop_of ended) grows
         (subst (λ (x : Standing). K x limit) same (subst (λ (n : ℕ). K s n) same_limit here))
         fits)

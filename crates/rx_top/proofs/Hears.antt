@@ -5,7 +5,7 @@ use Rattle.rx_engine.specs.Dialled.{DialStanding}
 use Rattle.rx_engine.specs.Engine.{session_of, standing_of}
 use Rattle.rx_engine.specs.Hearing.{IsShownBy}
 use Rattle.rx_engine.specs.Lines.{Task, answered, turns, calls, task}
-use Rattle.rx_engine.specs.Opening.{opened}
+use Rattle.rx_engine.specs.Opening.{Host, opened}
 use Rattle.rx_engine.specs.Standing.{Standing}
 use Rattle.rx_engine.specs.declared.engine.Engine.{Engine}
 use Rattle.rx_handler.specs.Handlers.{Kinds}
@@ -24,9 +24,9 @@ pub heard_in : (kinds : Kinds) (hs : List Heard) (e : Engine) → (standing_of k
 unfolding standing_of
 heard_in kinds hs e = refl
 
-pub heard_at_first : (kinds : Kinds) (hs : List Heard) (w : World) → (opened kinds hs w).heard ≡ hs
+pub heard_at_first : (host : Host) (hs : List Heard) (w : World) → (opened host hs w).heard ≡ hs
 unfolding opened
-heard_at_first kinds hs w = refl
+heard_at_first host hs w = refl
 
 -- ---- what is shown of a line
 

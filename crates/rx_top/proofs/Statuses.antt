@@ -6,8 +6,7 @@ use Rattle.rx_disk.specs.declared.disk.Disk.{Ghosts}
 use Rattle.rx_store.specs.Safe.{IsFull}
 use Rattle.rx_store.specs.Holds.{IsLegalFile, StandsLegally}
 use Rattle.rx_engine.specs.Dialled.{DialStanding}
-use Rattle.rx_engine.specs.Opening.{epoch_body, opened}
-use Rattle.rx_handler.specs.Handlers.{Kinds}
+use Rattle.rx_engine.specs.Opening.{Host, epoch_body, opened}
 use Rattle.rx_sync.specs.Remote.{Heard}
 use Rattle.rx_frame.specs.File.{end_of}
 use Rattle.rx_outside.specs.Failed.{Rises}
@@ -208,16 +207,16 @@ no_line f0 f2 a b (inr f) =
     f.0.3 ∙ ap (λ v. a ++ v) (none_before f.0.0 f.0.1 f.0.2) ∙ append-nil a
 
 module _
-    {kinds : Kinds} {heard : List Heard} {wires : Type 0} {n0 n2 : DialStanding} (tells : Type 0)
+    {host : Host} {heard : List Heard} {wires : Type 0} {n0 n2 : DialStanding} (tells : Type 0)
     (f0 f2 : ℕ) (w0 w2 : List ℕ) (w : World) (input left : List ℕ) (status : ℕ)
     (Kept : Result Bool EarlyEnd → List (List ℕ) → List (List ℕ) → Type 0)
-    (has : HasRun kinds heard wires n0 n2 tells f0 f2 w0 w2 w input left status Kept)
+    (has : HasRun host heard wires n0 n2 tells f0 f2 w0 w2 w input left status Kept)
   where
     -- the play and the last line, where the end is known
     abbrev Ended : Result Bool EarlyEnd → Type 0
     Ended e =
-        Plays line_effect HoldsOfTurn tells w0 has.before input left (opened kinds heard w) e
-        (HearsAll wires (opened kinds heard w) n0 n2 e) (Kept e)
+        Plays line_effect HoldsOfTurn tells w0 has.before input left (opened host heard w) e
+        (HearsAll wires (opened host heard w) n0 n2 e) (Kept e)
         × EndsWith tells f0 f2 has.before w2 (last_words e)
 
     ended_as : (e : Result Bool EarlyEnd) → has.ended ≡ e → Ended e
@@ -240,25 +239,25 @@ module _
         ∙ append-nil run.done)
 
     pub status_tells : status < 2
-        → status ≡ cond (any_refused line_effect 1 (lines input) (opened kinds heard w)) 1 0
+        → status ≡ cond (any_refused line_effect 1 (lines input) (opened host heard w)) 1 0
     status_tells low =
         let p = played low in
         p.1 ∙ ap (λ b. cond b 1 0) (p.2.0.reads.1
-        ∙ ap (λ (v : List (List ℕ)). any_refused line_effect 1 v (opened kinds heard w))
+        ∙ ap (λ (v : List (List ℕ)). any_refused line_effect 1 v (opened host heard w))
         (all_done p.0 p.2))
 
     pub wrote_transcript : status < 2 → tells
-        → w2 ≡ w0 ++ transcript (lines input) (opened kinds heard w)
+        → w2 ≡ w0 ++ transcript (lines input) (opened host heard w)
     wrote_transcript low t =
         let p = played low in
         no_line f0 f2 has.before w2 (p.2.1 t) ∙ p.2.0.writes t
-        ∙ ap (λ (v : List (List ℕ)). w0 ++ transcript v (opened kinds heard w)) (all_done p.0 p.2)
+        ∙ ap (λ (v : List (List ℕ)). w0 ++ transcript v (opened host heard w)) (all_done p.0 p.2)
 
     pub turns_kept : status < 2
-        → EachLine line_effect HoldsOfTurn 1 (lines input) (opened kinds heard w)
+        → EachLine line_effect HoldsOfTurn 1 (lines input) (opened host heard w)
     turns_kept low =
         let p = played low in
-        subst (λ (v : List (List ℕ)). EachLine line_effect HoldsOfTurn 1 v (opened kinds heard w))
+        subst (λ (v : List (List ℕ)). EachLine line_effect HoldsOfTurn 1 v (opened host heard w))
         (all_done p.0 p.2) p.2.0.each
 
     -- what was kept of all lines
@@ -280,23 +279,23 @@ module _
 
     pub read : status ≡ 4
         → (given : List ℕ) × (input ≡ given ++ left)
-        × Stops tells f0 f2 w0 w2 (transcript (cut given).whole (opened kinds heard w))
+        × Stops tells f0 f2 w0 w2 (transcript (cut given).whole (opened host heard w))
         (stop_line (codes "read"))
     read is =
         let end = ended_as (Err (Read fault.Failed)) (is_read has.ended (sym has.is_status ∙ is)) in
         let reads = end.0.reads in (
           reads.0,
           reads.1,
-          stops (transcript (cut reads.0).whole (opened kinds heard w)) (stop_line (codes "read"))
+          stops (transcript (cut reads.0).whole (opened host heard w)) (stop_line (codes "read"))
               (λ t. end.0.writes t
-              ∙ ap (λ (v : List (List ℕ)). w0 ++ transcript v (opened kinds heard w)) reads.2)
+              ∙ ap (λ (v : List (List ℕ)). w0 ++ transcript v (opened host heard w)) reads.2)
               end.1,
         )
 
     pub too_long : status ≡ 9
         → (given : List ℕ) × (input ≡ given ++ left) × (length given ≡ max_input_bytes + 1)
         × Stops tells f0 f2 w0 w2
-        (transcript (cut (take max_input_bytes given)).whole (opened kinds heard w))
+        (transcript (cut (take max_input_bytes given)).whole (opened host heard w))
         (stop_line (codes "too_long"))
     too_long is =
         let end =
@@ -305,39 +304,39 @@ module _
           reads.0,
           reads.1,
           reads.2,
-          stops (transcript (cut (take max_input_bytes reads.0)).whole (opened kinds heard w))
+          stops (transcript (cut (take max_input_bytes reads.0)).whole (opened host heard w))
               (stop_line (codes "too_long"))
               (λ t. end.0.writes t
-              ∙ ap (λ (v : List (List ℕ)). w0 ++ transcript v (opened kinds heard w)) reads.3)
+              ∙ ap (λ (v : List (List ℕ)). w0 ++ transcript v (opened host heard w)) reads.3)
               end.1,
         )
 
     pub sink : status ≡ 5 → tells
-        → WritesFront w0 w2 (transcript (lines input) (opened kinds heard w))
+        → WritesFront w0 w2 (transcript (lines input) (opened host heard w))
     sink is t =
         let end = ended_as (Err Sink) (is_sink has.ended (sym has.is_status ∙ is)) in
         let run = end.0 in
         let front = run.writes t in
         let more = replies line_effect (1 + length run.done) run.rest
-        (state_after line_effect 1 run.done (opened kinds heard w)) in (
+        (state_after line_effect 1 run.done (opened host heard w)) in (
           front.0,
           front.1 ++ more,
-          ap (λ (v : List (List ℕ)). transcript v (opened kinds heard w)) run.whole
-              ∙ replies-append line_effect 1 run.done run.rest (opened kinds heard w)
+          ap (λ (v : List (List ℕ)). transcript v (opened host heard w)) run.whole
+              ∙ replies-append line_effect 1 run.done run.rest (opened host heard w)
               ∙ ap (λ v. v ++ more) front.2
               ∙ append_assoc front.0 front.1 more,
           no_line f0 f2 has.before w2 (end.1 t) ∙ front.3,
         )
 
     abbrev Stopped : List ℕ → Type 0
-    Stopped line = StopsAfter tells f0 f2 w0 w2 (lines input) (opened kinds heard w) line
+    Stopped line = StopsAfter tells f0 f2 w0 w2 (lines input) (opened host heard w) line
 
     work_stopped : (why : Stop) → Ended (Err (Work why)) → Stopped (last_words (Err (Work why)))
     work_stopped why end = (
       end.0.done,
       end.0.rest,
       end.0.whole,
-      stops (transcript end.0.done (opened kinds heard w))
+      stops (transcript end.0.done (opened host heard w))
           (last_words (Err (Work why))) end.0.writes end.1,
     )
 
@@ -360,7 +359,7 @@ module _
           end.0.done,
           end.0.rest,
           end.0.whole,
-          stops (transcript end.0.done (opened kinds heard w))
+          stops (transcript end.0.done (opened host heard w))
               (stop_line (codes "memory")) end.0.writes end.1,
         )
 
@@ -368,7 +367,7 @@ module _
     pub full : status ≡ 8
         → (would : ℕ) × (most : ℕ) × (done : List (List ℕ)) × (rest : List (List ℕ))
         × (lines input ≡ done ++ rest) × Kept (Err (Work (Full would most))) done rest
-        × Stops tells f0 f2 w0 w2 (transcript done (opened kinds heard w)) (full_line would most)
+        × Stops tells f0 f2 w0 w2 (transcript done (opened host heard w)) (full_line would most)
     full is =
         let why = is_full has.ended (sym has.is_status ∙ is) in
         let end = ended_as (Err (Work (Full why.0 why.1))) why.2 in (
@@ -378,14 +377,14 @@ module _
           end.0.rest,
           end.0.whole,
           end.0.kept,
-          stops (transcript end.0.done (opened kinds heard w))
+          stops (transcript end.0.done (opened host heard w))
               (full_line why.0 why.1) end.0.writes end.1,
         )
 
 -- ---- what is kept
 
 module _
-    (kinds : Kinds) (heard : List Heard) {D : Type 0} (d : Ghosts D) (old new : D)
+    (host : Host) (heard : List Heard) {D : Type 0} (d : Ghosts D) (old new : D)
     (bodies : List (List ℕ)) (w : World)
     (limit : ℕ)
   where
@@ -393,11 +392,11 @@ module _
     abbrev Past : List (List ℕ) → List (List ℕ) → ℕ → Type 0
     Past done rest would =
         ((done ≡ []) × IsFull d new bodies (epoch_body w ∷ []) would limit)
-        ⊎ IsFull d new (bodies ++ run_bodies kinds heard w done)
-        (due_after kinds heard w done rest) would limit
+        ⊎ IsFull d new (bodies ++ run_bodies host heard w done)
+        (due_after host heard w done rest) would limit
 
     pub past : (would most : ℕ) (done rest : List (List ℕ))
-        → KeepsRun kinds heard d old new bodies w limit (Err (Work (Full would most))) done rest
+        → KeepsRun host heard d old new bodies w limit (Err (Work (Full would most))) done rest
         → (most ≡ limit) × Past done rest would
     past would most done rest (inl un) =
         let full = un.2.full would most refl in
@@ -412,47 +411,47 @@ module _
     past would most done rest (inr keeps) =
         let full = keeps.full would most refl in (
           full.0,
-          inr (subst (λ (n : ℕ). IsFull d new (bodies ++ run_bodies kinds heard w done)
-              (due_after kinds heard w done rest) would n) full.0 full.1),
+          inr (subst (λ (n : ℕ). IsFull d new (bodies ++ run_bodies host heard w done)
+              (due_after host heard w done rest) would n) full.0 full.1),
         )
 
 module _
-    {kinds : Kinds} {heard : List Heard} {wires : Type 0} {n0 n2 : DialStanding} {D : Type 0}
+    {host : Host} {heard : List Heard} {wires : Type 0} {n0 n2 : DialStanding} {D : Type 0}
     (d : Ghosts D) (old new : D) (tells : Type 0) (f0 f2 : ℕ) (w0 w2 : List ℕ)
     (bodies : List (List ℕ)) (w : World) (input left : List ℕ) (limit status : ℕ)
-    (has : HasRun kinds heard wires n0 n2 tells f0 f2 w0 w2 w input left status
-    (KeepsRun kinds heard d old new bodies w limit))
+    (has : HasRun host heard wires n0 n2 tells f0 f2 w0 w2 w input left status
+    (KeepsRun host heard d old new bodies w limit))
   where
     -- a run that was played has all of its chunks
     keeps_all : status < 2
         → (r : Bool) × (rest : List (List ℕ))
-        × Keeps d old new bodies (run_chunks kinds heard w (lines input))
-        (due_after kinds heard w (lines input) rest) limit
+        × Keeps d old new bodies (run_chunks host heard w (lines input))
+        (due_after host heard w (lines input) rest) limit
         (stop_of (Ok r))
     keeps_all low =
         let all = kept_of_all tells f0 f2 w0 w2 w input left status _ has low in
         (all.0, all.1, ⊎_elim (λ un. absurd (un.0 tt)) (λ keeps. keeps) all.2)
 
     pub kept : status < 2 → (c : List ℕ) → d.image new c
-        → (after : World) × IsLegalFile c (bodies ++ run_bodies kinds heard w (lines input)) after
+        → (after : World) × IsLegalFile c (bodies ++ run_bodies host heard w (lines input)) after
     kept low c here =
-        legal_now (bodies ++ run_bodies kinds heard w (lines input)) c
+        legal_now (bodies ++ run_bodies host heard w (lines input)) c
         ((keeps_all low).2.sure c here)
 
-    pub fits : status < 2 → end_of (bodies ++ run_bodies kinds heard w (lines input)) ≤ limit
+    pub fits : status < 2 → end_of (bodies ++ run_bodies host heard w (lines input)) ≤ limit
     fits low = ⊎_elim (λ none. cc) (λ le. le) (keeps_all low).2.fits
 
     pub is_due : status ≡ 8
         → (done : List (List ℕ)) × (rest : List (List ℕ)) × (would : ℕ)
-        × IsDue kinds heard d new bodies w (lines input) done rest would limit
-        × Stops tells f0 f2 w0 w2 (transcript done (opened kinds heard w)) (full_line would limit)
+        × IsDue host heard d new bodies w (lines input) done rest would limit
+        × Stops tells f0 f2 w0 w2 (transcript done (opened host heard w)) (full_line would limit)
     is_due is =
         let f = full tells f0 f2 w0 w2 w input left status _ has is in
-        let p = past kinds heard d old new bodies w limit f.0 f.1 f.2 f.3 f.5 in (
+        let p = past host heard d old new bodies w limit f.0 f.1 f.2 f.3 f.5 in (
           f.2,
           f.3,
           f.0,
           record { whole = f.4; past = p.1 },
-          subst (λ (n : ℕ). Stops tells f0 f2 w0 w2 (transcript f.2 (opened kinds heard w))
+          subst (λ (n : ℕ). Stops tells f0 f2 w0 w2 (transcript f.2 (opened host heard w))
               (full_line f.0 n)) p.0 f.6,
         )

@@ -6,11 +6,10 @@ use Rattle.std.specs.declared.alloc.Global.{Global}
 use Rattle.rx_disk.specs.declared.disk.Disk.{Ghosts}
 use Rattle.rx_engine.specs.Dialled.{DialStanding}
 use Rattle.rx_engine.specs.Engine.{IsAt, limit_of, standing_of}
-use Rattle.rx_engine.specs.Opening.{epoch_body, opened}
+use Rattle.rx_engine.specs.Opening.{Host, epoch_body, opened}
 use Rattle.rx_engine.specs.declared.engine.Engine.{Engine}
 use Rattle.rx_engine.specs.Standing.{Standing}
 use Rattle.rx_frame.specs.File.{end_of}
-use Rattle.rx_handler.specs.Handlers.{Kinds}
 use Rattle.rx_outside.specs.Sink.{WritesFront}
 use Rattle.rx_outside.specs.declared.stop.Stop.{Stop}
 use Rattle.rx_outside.specs.declared.stop.Stop.TheVariants.{Full, Memory}
@@ -129,17 +128,17 @@ stays d old new bodies cs next limit stop k = record {
 }
 
 module _
-    (kinds : Kinds) (heard : List Heard) (wires : Type 0) {D : Type 0} (d : Ghosts D) (old new : D)
+    (host : Host) (heard : List Heard) (wires : Type 0) {D : Type 0} (d : Ghosts D) (old new : D)
     (bodies : List (List ℕ)) (w : World) (limit : ℕ)
   where
     -- what a run of these lines keeps, by how a trial ended
     abbrev pub KeepsTrial : Option Stop → List (List ℕ) → List (List ℕ) → Type 0
-    KeepsTrial stop = KeepsRun kinds heard d old new bodies w limit (as_run stop)
+    KeepsTrial stop = KeepsRun host heard d old new bodies w limit (as_run stop)
 
     -- the same with what the dial shows
     abbrev pub Does : DialStanding → DialStanding → List (List ℕ) → Option Stop → Type 0
     Does n0 n1 lines stop =
-        DoesLines lines stop (HearsAll wires (opened kinds heard w) n0 n1 (as_run stop))
+        DoesLines lines stop (HearsAll wires (opened host heard w) n0 n1 (as_run stop))
         (KeepsTrial stop)
 
     -- the journal wasn't opened
@@ -149,9 +148,9 @@ module _
         (λ (e : Engine) (bs : List (List ℕ)). IsAt d new e bs) (Err why)
         → OnlyNow d old → CountsNow d new → Does dial dial lines (Some why)
     unopened dial why lines none start safe only counts =
-        none_done wires dial (opened kinds heard w) why lines (KeepsTrial (Some why))
-        (heard_at_first kinds heard w ∙ none)
-        (open_keeps kinds heard d bodies w limit old new why lines (safe.moments start.alike) counts
+        none_done wires dial (opened host heard w) why lines (KeepsTrial (Some why))
+        (heard_at_first host heard w ∙ none)
+        (open_keeps host heard d bodies w limit old new why lines (safe.moments start.alike) counts
         safe.full only start)
 
     -- it was, and the lines were played from there
@@ -160,27 +159,27 @@ module _
         (stop : Option Stop) → played ≡ lines → IsStart d old bodies w
         → IsCrashSafe d old mid bodies (epoch_body w ∷ []) limit
         (λ (e : Engine) (bs : List (List ℕ)). IsAt d mid e bs) (Ok first)
-        → limit_of first ≡ limit → standing_of kinds heard first ≡ opened kinds heard w → d.tells
-        → DoesLines played stop (HearsAll wires (standing_of kinds heard first) n0 n1 (as_run stop))
-        (KeepsFrom (standing_of kinds heard first) d mid new first (as_run stop))
+        → limit_of first ≡ limit → standing_of host.kinds heard first ≡ opened host heard w → d.tells
+        → DoesLines played stop (HearsAll wires (standing_of host.kinds heard first) n0 n1 (as_run stop))
+        (KeepsFrom (standing_of host.kinds heard first) d mid new first (as_run stop))
         → Does n0 n1 lines stop
     from_opened n0 n1 mid first lines played stop same start safe same_limit begun t does =
-        let s = standing_of kinds heard first in
+        let s = standing_of host.kinds heard first in
         subst (λ (v : List (List ℕ)). Does n0 n1 v stop) same
         (subst (λ (x : Standing).
         DoesLines played stop (HearsAll wires x n0 n1 (as_run stop)) (KeepsTrial stop))
         begun
         (does_as _ _
         (λ done rest kept.
-        played_keeps kinds heard d bodies w limit old mid new first (as_run stop) done
+        played_keeps host heard d bodies w limit old mid new first (as_run stop) done
         rest (safe.moments start.alike)
         (⊎_elim (λ none. cc) (λ le. le) safe.fits) same_limit s begun
         safe.at t kept)
         does))
 
     kept_whole : (done rest : List (List ℕ)) → KeepsTrial None done rest
-        → Keeps d old new bodies (run_chunks kinds heard w done)
-        (due_after kinds heard w done rest) limit None
+        → Keeps d old new bodies (run_chunks host heard w done)
+        (due_after host heard w done rest) limit None
     kept_whole done rest (inl un) = absurd (un.0 tt)
     kept_whole done rest (inr keeps) = keeps
 
@@ -188,25 +187,25 @@ module _
     pub late_memory : (n0 n1 : DialStanding) (lines : List (List ℕ)) → Does n0 n1 lines None
         → Does n0 n1 lines (Some Memory)
     late_memory n0 n1 lines does =
-        late wires n0 n1 (opened kinds heard w) does
+        late wires n0 n1 (opened host heard w) does
         (inr (unaware d old new bodies _ _ limit
-        (ap (λ (v : List (List ℕ)). due_after kinds heard w does.done v) (does.all refl))
+        (ap (λ (v : List (List ℕ)). due_after host heard w does.done v) (does.all refl))
         (kept_whole does.done does.rest does.kept)))
 
     -- all lines were done
     all_kept : {Shown : List (List ℕ) → List (List ℕ) → Type 0} (stop : Option Stop)
         (lines : List (List ℕ)) → stop ≡ None → DoesLines lines stop Shown (KeepsTrial stop)
         → (rest : List (List ℕ))
-        × Keeps d old new bodies (run_chunks kinds heard w lines)
-        (due_after kinds heard w lines rest) limit None
+        × Keeps d old new bodies (run_chunks host heard w lines)
+        (due_after host heard w lines rest) limit None
     all_kept None lines is does =
         let whole : lines ≡ does.done =
         does.whole ∙ ap (λ (v : List (List ℕ)). does.done ++ v) (does.all refl)
         ∙ append-nil does.done in (
           does.rest,
           subst (λ (v : List (List ℕ)).
-              Keeps d old new bodies (run_chunks kinds heard w v)
-              (due_after kinds heard w v does.rest) limit None)
+              Keeps d old new bodies (run_chunks host heard w v)
+              (due_after host heard w v does.rest) limit None)
               (sym whole) (kept_whole does.done does.rest does.kept),
         )
     all_kept (Some why) lines is does = cc
@@ -214,10 +213,10 @@ module _
     module _
         (n0 n1 : DialStanding) (tells : Type 0) (f0 f1 : ℕ) (w0 w1 : List ℕ) (lines : List (List ℕ))
         (status : ℕ) (has : HasTried wires n0 n1 tells f0 f1 w0 w1 lines
-        (opened kinds heard w) status KeepsTrial)
+        (opened host heard w) status KeepsTrial)
       where
         abbrev summary : List ℕ
-        summary = summary_of lines (opened kinds heard w)
+        summary = summary_of lines (opened host heard w)
 
         pub legal : StaysLegal d old new bodies
         legal = ⊎_elim (λ un. stays d old new bodies _ _ limit _ un.2)
@@ -231,24 +230,24 @@ module _
 
         whole : (status ≡ 0) ⊎ (status ≡ 5)
             → (rest : List (List ℕ))
-            × Keeps d old new bodies (run_chunks kinds heard w lines)
-            (due_after kinds heard w lines rest) limit None
+            × Keeps d old new bodies (run_chunks host heard w lines)
+            (due_after host heard w lines rest) limit None
         whole is = all_kept has.stop lines
             (by.unstopped tells f0 f1 w0 w1 status has.stop summary has.told is) has.does
 
         pub kept : (status ≡ 0) ⊎ (status ≡ 5) → (c : List ℕ) → d.image new c
-            → (after : World) × IsLegalFile c (bodies ++ run_bodies kinds heard w lines) after
+            → (after : World) × IsLegalFile c (bodies ++ run_bodies host heard w lines) after
         kept is c here =
-            legal_now (bodies ++ run_bodies kinds heard w lines) c ((whole is).1.sure c here)
+            legal_now (bodies ++ run_bodies host heard w lines) c ((whole is).1.sure c here)
 
         pub fits : (status ≡ 0) ⊎ (status ≡ 5)
-            → end_of (bodies ++ run_bodies kinds heard w lines) ≤ limit
+            → end_of (bodies ++ run_bodies host heard w lines) ≤ limit
         fits is = ⊎_elim (λ none. cc) (λ le. le) (whole is).1.fits
 
         -- a record was due that didn't fit
         pub full : status ≡ 8
             → (done : List (List ℕ)) × (rest : List (List ℕ)) × (would : ℕ)
-            × IsDue kinds heard d new bodies w lines done rest would limit
+            × IsDue host heard d new bodies w lines done rest would limit
             × EndsWith tells f0 f1 w0 w1 (full_line would limit)
         full is =
             let why = by.full tells f0 f1 w0 w1 status has.stop summary has.told is in
@@ -256,7 +255,7 @@ module _
             let rest = has.does.rest in
             let kept : KeepsTrial (Some (Full why.0 why.1)) done rest =
             subst (λ (x : Option Stop). KeepsTrial x done rest) why.2 has.does.kept in
-            let p = past kinds heard d old new bodies w limit why.0 why.1 done rest kept in (
+            let p = past host heard d old new bodies w limit why.0 why.1 done rest kept in (
               done,
               rest,
               why.0,

@@ -5,10 +5,9 @@ use Rattle.rx_disk.specs.declared.disk.Disk.{Ghosts}
 use Rattle.rx_engine.specs.Dialled.{DialStanding}
 use Rattle.rx_engine.specs.Engine.{IsAt, limit_of}
 use Rattle.rx_engine.specs.declared.engine.Engine.{Engine}
-use Rattle.rx_engine.specs.Opening.{epoch_body, opened}
+use Rattle.rx_engine.specs.Opening.{Host, epoch_body, opened}
 use Rattle.rx_frame.specs.File.{end_of}
 use Rattle.rx_engine.specs.Standing.{Standing}
-use Rattle.rx_handler.specs.Handlers.{Kinds}
 use Rattle.rx_sync.specs.Remote.{Heard}
 use Rattle.rx_store.specs.Safe.{IsFull}
 use Rattle.rx_outside.specs.Sink.{WritesFront}
@@ -127,30 +126,30 @@ KeepsFrom s d old new first ended done rest =
     → KeepsLines d old new bodies s (limit_of first) ended done rest
 
 -- the chunks of a run: the record of its epoch, and those of its lines
-abbrev pub run_chunks : Kinds → List Heard → World → List (List ℕ) → List (List (List ℕ))
-run_chunks kinds heard w done = (epoch_body w ∷ []) ∷ chunks line_effect 1 done
-    (opened kinds heard w)
+abbrev pub run_chunks : Host → List Heard → World → List (List ℕ) → List (List (List ℕ))
+run_chunks host heard w done = (epoch_body w ∷ []) ∷ chunks line_effect 1 done
+    (opened host heard w)
 
 -- their bodies
-abbrev pub run_bodies : Kinds → List Heard → World → List (List ℕ) → List (List ℕ)
-run_bodies kinds heard w done = all_of (run_chunks kinds heard w done)
+abbrev pub run_bodies : Host → List Heard → World → List (List ℕ) → List (List ℕ)
+run_bodies host heard w done = all_of (run_chunks host heard w done)
 
 -- the chunk that is due after lines
-abbrev pub due_after : Kinds → List Heard → World → List (List ℕ) → List (List ℕ) → List (List ℕ)
-due_after kinds heard w done rest =
+abbrev pub due_after : Host → List Heard → World → List (List ℕ) → List (List ℕ) → List (List ℕ)
+due_after host heard w done rest =
     next_chunk line_effect (length done + 1) rest
-    (state_after line_effect 1 done (opened kinds heard w))
+    (state_after line_effect 1 done (opened host heard w))
 
 -- The disk keeps the chunks of a run from the journal as it was found: where that wasn't opened
 -- none, and the record of the epoch was due; and where it was, that one with those of the lines
 -- done.
 abbrev pub KeepsRun
-    : {D : Type 0} → Kinds → List Heard → Ghosts D → D → D → List (List ℕ) → World → ℕ
+    : {D : Type 0} → Host → List Heard → Ghosts D → D → D → List (List ℕ) → World → ℕ
     → Result Bool EarlyEnd → List (List ℕ) → List (List ℕ) → Type 0
-KeepsRun kinds heard d old new bodies w limit ended done rest =
+KeepsRun host heard d old new bodies w limit ended done rest =
     ((WasPlayed ended → ⊥) × (done ≡ [])
     × Keeps d old new bodies [] (epoch_body w ∷ []) limit (stop_of ended))
-    ⊎ Keeps d old new bodies (run_chunks kinds heard w done) (due_after kinds heard w done rest)
+    ⊎ Keeps d old new bodies (run_chunks host heard w done) (due_after host heard w done rest)
     limit (stop_of ended)
 
 -- ---- both, and the end
@@ -159,7 +158,7 @@ KeepsRun kinds heard d old new bodies w limit ended done rest =
 -- behind the replies. What was heard in its lines its dial shows. What it kept is said of how it
 -- ended, the lines done and the rest.
 pub record HasRun
-    (kinds : Kinds)
+    (host : Host)
     (heard : List Heard)
     (wires : Type 0)
     (dial dial' : DialStanding)
@@ -174,19 +173,19 @@ pub record HasRun
   pub is_status : status ≡ status_of ended
   -- what the sink had before the last line
   pub before : List ℕ
-  pub run : Plays line_effect HoldsOfTurn tells written before input left (opened kinds heard w)
+  pub run : Plays line_effect HoldsOfTurn tells written before input left (opened host heard w)
       ended
-      (HearsAll wires (opened kinds heard w) dial dial' ended) (Kept ended)
+      (HearsAll wires (opened host heard w) dial dial' ended) (Kept ended)
   pub line : EndsWith tells faults faults' before written' (last_words ended)
 
 -- the same where nothing is known of the disk: some world has the session that the run began with
 abbrev pub HasRunSomewhere
-    : Kinds → List Heard → Type 0 → DialStanding → DialStanding → Type 0 → ℕ → ℕ → List ℕ → List ℕ
+    : Host → List Heard → Type 0 → DialStanding → DialStanding → Type 0 → ℕ → ℕ → List ℕ → List ℕ
     → List ℕ → List ℕ → ℕ → Type 0
-HasRunSomewhere kinds heard wires dial dial' tells faults faults' written written'
+HasRunSomewhere host heard wires dial dial' tells faults faults' written written'
     input left status =
     (w : World)
-    × HasRun kinds heard wires dial dial' tells faults faults' written written' w input left status
+    × HasRun host heard wires dial dial' tells faults faults' written written' w input left status
     (λ ended done rest. ⊤)
 
 -- the replies to some lines, from the first on, and then a line that tells of a stop
@@ -200,7 +199,7 @@ StopsAfter tells faults faults' written written' lines s line =
 -- the next line
 pub record IsDue
     {D : Type 0}
-    (kinds : Kinds)
+    (host : Host)
     (heard : List Heard)
     (d : Ghosts D)
     (disk : D)
@@ -210,5 +209,5 @@ pub record IsDue
     (would limit : ℕ) : Type 0 where
   pub whole : lines ≡ done ++ rest
   pub past : ((done ≡ []) × IsFull d disk bodies (epoch_body w ∷ []) would limit)
-      ⊎ IsFull d disk (bodies ++ run_bodies kinds heard w done) (due_after kinds heard w done rest)
+      ⊎ IsFull d disk (bodies ++ run_bodies host heard w done) (due_after host heard w done rest)
       would limit

@@ -2,10 +2,9 @@
 use Rattle.std.specs.Prelude.{◌≡◌, ◌≤◌, ◌⊎◌, ⊤, ℕ, List, [], ◌++◌, codes, Bool, false, Option, None, Some, Result, Ok, Err, MatchOption}
 use Rattle.rx_disk.specs.declared.disk.Disk.{Ghosts}
 use Rattle.rx_engine.specs.Dialled.{DialStanding}
-use Rattle.rx_engine.specs.Opening.{opened}
+use Rattle.rx_engine.specs.Opening.{Host, opened}
 use Rattle.rx_engine.specs.Standing.{Standing}
 use Rattle.rx_frame.specs.File.{end_of}
-use Rattle.rx_handler.specs.Handlers.{Kinds}
 use Rattle.rx_journal.specs.Reading.{IsUntouched}
 use Rattle.rx_outside.specs.Failed.{Rises}
 use Rattle.rx_outside.specs.Sink.{WritesFront}
@@ -68,7 +67,7 @@ pub record HasTried
 
 -- A trial of the script of a seed, with so many lines of its own, ended with a status, from one
 -- state of its sink, its disk and its dial to a later one. Its journal may have so many bytes, and
--- its conflicts are resolved by handlers of these kinds; and this was heard of masters elsewhere,
+-- its conflicts are resolved by handlers of these host; and this was heard of masters elsewhere,
 -- exchange after exchange, where the journal has a replication with such a master under the
 -- script's name.
 pub record TriesScript
@@ -77,7 +76,7 @@ pub record TriesScript
     (d : Ghosts D)
     (n : DialGhosts N W)
     (wires : Type 0)
-    (kinds : Kinds)
+    (host : Host)
     (heard : List Heard)
     (limit seed count status : ℕ)
     (out out' : K)
@@ -91,31 +90,31 @@ pub record TriesScript
   pub headline : FromStart d disk (λ bodies w.
       HasTried wires (stands n dial) (stands n dial') k.tells (k.faults out) (k.faults out')
       (k.written out) (k.written out')
-      (script seed count) (opened kinds heard w) status
-      (λ stop. KeepsRun kinds heard d disk disk' bodies w limit (as_run stop)))
+      (script seed count) (opened host heard w) status
+      (λ stop. KeepsRun host heard d disk disk' bodies w limit (as_run stop)))
   -- So each image is a legal file that goes on from the old records.
   pub legal : FromStart d disk (λ bodies w. StaysLegal d disk disk' bodies)
   -- Over any disk: the same of what was written, from some world on.
   pub over_any_disk : (w : World)
       × HasTried wires (stands n dial) (stands n dial') k.tells (k.faults out) (k.faults out')
       (k.written out) (k.written out')
-      (script seed count) (opened kinds heard w) status (λ stop done rest. ⊤)
+      (script seed count) (opened host heard w) status (λ stop done rest. ⊤)
   -- A file that isn't legal stays as it was, and nothing that a crash leaves is new.
   pub illegal : d.tells → IsIllegalFile (d.content disk) → IsUntouched d disk disk'
   -- The work was done: the summary was written.
   pub summary : status ≡ 0 → k.tells → FromStart d disk (λ bodies w.
-      k.written out' ≡ k.written out ++ summary_of (script seed count) (opened kinds heard w))
+      k.written out' ≡ k.written out ++ summary_of (script seed count) (opened host heard w))
   -- The sink failed, and took a front of it.
   pub sink_fault : status ≡ 5 → Rises (k.faults out) (k.faults out')
   pub sink : status ≡ 5 → k.tells → FromStart d disk (λ bodies w.
       WritesFront (k.written out) (k.written out')
-      (summary_of (script seed count) (opened kinds heard w)))
+      (summary_of (script seed count) (opened host heard w)))
   -- Then the journal has the records of the whole script, within the limit.
   pub kept : (status ≡ 0) ⊎ (status ≡ 5) → FromStart d disk (λ bodies w.
       (c : List ℕ) → d.image disk' c → (after : World)
-      × IsLegalFile c (bodies ++ run_bodies kinds heard w (script seed count)) after)
+      × IsLegalFile c (bodies ++ run_bodies host heard w (script seed count)) after)
   pub fits : (status ≡ 0) ⊎ (status ≡ 5) → FromStart d disk (λ bodies w.
-      end_of (bodies ++ run_bodies kinds heard w (script seed count)) ≤ limit)
+      end_of (bodies ++ run_bodies host heard w (script seed count)) ≤ limit)
   -- The disk failed, memory ran out, or the file is no journal, and the stop line tells which.
   pub disk_fault : status ≡ 3 → Rises (d.faults disk) (d.faults disk')
   pub disk_line : status ≡ 3 → EndsWith k.tells (k.faults out) (k.faults out') (k.written out)
@@ -134,7 +133,7 @@ pub record TriesScript
   -- record isn't there.
   pub full : status ≡ 8 → FromStart d disk (λ bodies w.
       (done : List (List ℕ)) × (rest : List (List ℕ)) × (would : ℕ)
-      × IsDue kinds heard d disk' bodies w (script seed count) done rest would limit
+      × IsDue host heard d disk' bodies w (script seed count) done rest would limit
       × EndsWith k.tells (k.faults out) (k.faults out') (k.written out) (k.written out')
       (full_line would limit))
   -- no other status comes, and counts don't fall

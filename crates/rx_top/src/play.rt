@@ -27,6 +27,7 @@ use rx_engine::Engine;
 use rx_handler::Handlers;
 use rx_outside::{Dial, Sink, Source, write_all};
 use rx_script::MAX_LINE_BYTES;
+use rx_update::Hooks;
 use std::alloc::Global;
 
 /// Plays the lines that the source gives to its end, and says whether one was refused. The reader
@@ -40,6 +41,7 @@ pub(crate) fn play<S: Source, K: Sink, D: Disk, N: Dial>(
     disk: &mut D,
     dial: &mut N,
     handlers: &Handlers,
+    hooks: &Hooks,
 ) -> Result<bool, EarlyEnd>
     requires at { D.tells → (bodies : List (List ℕ)) × IsAt D.Disk disk.old first bodies }
     requires fresh { reader.old ≡ record { line = []; unread = []; given = 0 } }
@@ -88,6 +90,7 @@ pub(crate) fn play<S: Source, K: Sink, D: Disk, N: Dial>(
             disk,
             dial,
             handlers,
+            hooks,
         ) {
             Ok(played) => played,
             Err(cause) => return Err(cause),
@@ -110,6 +113,7 @@ fn play_line<K: Sink, D: Disk, N: Dial>(
     disk: &mut D,
     dial: &mut N,
     handlers: &Handlers,
+    hooks: &Hooks,
 ) -> Result<(Engine, bool), EarlyEnd>
     requires { D.tells → (bodies : List (List ℕ)) × IsAt D.Disk disk.old engine bodies }
     // What was heard in it, and by that the next engine, the reply, and the records: what holds at
@@ -134,7 +138,7 @@ fn play_line<K: Sink, D: Disk, N: Dial>(
     if is_blank(line) {
         return Ok((engine, false));
     }
-    let (engine, output) = match engine.line(alloc, disk, dial, handlers, line, number) {
+    let (engine, output) = match engine.line(alloc, disk, dial, handlers, hooks, line, number) {
         Ok(pair) => pair,
         Err(stop) => return Err(EarlyEnd::Work(stop)),
     };

@@ -1,7 +1,6 @@
 // The command `run`: a script is played over a journal.
 ghost use Rattle.std.specs.Prelude.{◌≡◌, ⊤, List, ◌<◌, ◌≤◌, ◌^◌, [], OnOk, IsErrOf};
-ghost use Rattle.rx_engine.specs.Opening.{opened};
-ghost use Rattle.rx_handler.specs.Shown.{kinds_of};
+ghost use Rattle.rx_engine.specs.Opening.{host_of, opened};
 ghost use Rattle.rx_journal.specs.Reading.{IsUntouched};
 ghost use Rattle.rx_outside.specs.Failed.{Rises};
 ghost use Rattle.rx_outside.specs.declared.stop.Stop.TheVariants as stop;
@@ -25,6 +24,7 @@ use rx_disk::Disk;
 use rx_engine::Engine;
 use rx_handler::Handlers;
 use rx_outside::{Dial, Sink, Source};
+use rx_update::Hooks;
 use std::alloc::Global;
 
 /// Plays the script that the source gives over the journal that the disk is, and answers its
@@ -37,16 +37,17 @@ pub(crate) fn run<S: Source, K: Sink, D: Disk, N: Dial>(
     disk: &mut D,
     dial: &mut N,
     handlers: &Handlers,
+    hooks: &Hooks,
 ) -> u8
     requires low { 9 ≤ limit }
     requires high { limit < 2 ^ 32 }
     ensures plays { (heard : List Heard)
-        × PlaysScript S.Source K.Sink D.Disk N.Dial N.W.tells (kinds_of handlers.now) heard limit
+        × PlaysScript S.Source K.Sink D.Disk N.Dial N.W.tells (host_of handlers.now hooks.now) heard limit
         result
         source.old source.new out.old out.new disk.old disk.new
         dial.old dial.new }
 {
-    let ended = open_and_play(alloc, limit, source, out, disk, dial, handlers);
+    let ended = open_and_play(alloc, limit, source, out, disk, dial, handlers, hooks);
     // The first cause decides the status, so a failure here has none of its own.
     let _ = write_end(out, &ended);
     status_of(&ended)
@@ -61,6 +62,7 @@ fn open_and_play<S: Source, K: Sink, D: Disk, N: Dial>(
     disk: &mut D,
     dial: &mut N,
     handlers: &Handlers,
+    hooks: &Hooks,
 ) -> Result<bool, EarlyEnd>
     requires low { 9 ≤ limit }
     requires high { limit < 2 ^ 32 }
@@ -68,14 +70,14 @@ fn open_and_play<S: Source, K: Sink, D: Disk, N: Dial>(
     // tells its content and over any other.
     ensures run { (heard : List Heard) × (S.tells → FromStart D.Disk disk.old (λ bodies w.
         Plays line_effect HoldsOfTurn K.tells (K.written out.old) (K.written out.new)
-        (S.left source.old) (S.left source.new) (opened (kinds_of handlers.now) heard w) result
-        (HearsAll N.W.tells (opened (kinds_of handlers.now) heard w) (stands N.Dial dial.old)
+        (S.left source.old) (S.left source.new) (opened (host_of handlers.now hooks.now) heard w) result
+        (HearsAll N.W.tells (opened (host_of handlers.now hooks.now) heard w) (stands N.Dial dial.old)
         (stands N.Dial dial.new) result)
-        (KeepsRun (kinds_of handlers.now) heard D.Disk disk.old disk.new bodies w limit result)))
+        (KeepsRun (host_of handlers.now hooks.now) heard D.Disk disk.old disk.new bodies w limit result)))
         × (S.tells → (w : World) × Plays line_effect HoldsOfTurn K.tells (K.written out.old)
         (K.written out.new) (S.left source.old) (S.left source.new)
-        (opened (kinds_of handlers.now) heard w) result
-        (HearsAll N.W.tells (opened (kinds_of handlers.now) heard w) (stands N.Dial dial.old)
+        (opened (host_of handlers.now hooks.now) heard w) result
+        (HearsAll N.W.tells (opened (host_of handlers.now hooks.now) heard w) (stands N.Dial dial.old)
         (stands N.Dial dial.new) result)
         (λ done rest. ⊤)) }
     ensures legal { FromStart D.Disk disk.old (λ bodies w.
@@ -106,7 +108,7 @@ fn open_and_play<S: Source, K: Sink, D: Disk, N: Dial>(
         Ok(reader) => reader,
         Err(_) => return Err(EarlyEnd::Read(ReadFault::Memory)),
     };
-    match Engine::open(alloc, disk, limit) {
+    match Engine::open(alloc, disk, limit, hooks) {
         Ok(engine) => play(
             alloc,
             engine,
@@ -116,6 +118,7 @@ fn open_and_play<S: Source, K: Sink, D: Disk, N: Dial>(
             disk,
             dial,
             handlers,
+            hooks,
         ),
         Err(stop) => Err(EarlyEnd::Work(stop)),
     }

@@ -1,6 +1,6 @@
 // The program: a command, and its status.
 ghost use Rattle.std.specs.Prelude.{◌≡◌, ◌⊎◌, List, ℕ, None, Some, codes};
-ghost use Rattle.rx_handler.specs.Shown.{kinds_of};
+ghost use Rattle.rx_engine.specs.Opening.{host_of};
 ghost use Rattle.rx_sync.specs.Remote.{Heard};
 ghost use Rattle.rx_words.specs.Words.{command_of};
 ghost use Rattle.rx_words.specs.declared.command.Command.TheVariants.{Run, Serve, Check, Trial};
@@ -18,6 +18,7 @@ use crate::trial::trial;
 use rx_disk::Disk;
 use rx_handler::Handlers;
 use rx_outside::{Clock, Dial, Listen, Sink, Source, write_all};
+use rx_update::Hooks;
 use rx_words::{Command, Words, command_of};
 use std::alloc::Global;
 
@@ -61,13 +62,14 @@ pub fn rx<S: Source, K: Sink, D: Disk, L: Listen, N: Dial, C: Clock>(
     dial: &mut N,
     clock: &mut C,
     handlers: &Handlers,
+    hooks: &Hooks,
 ) -> u8
     // The command `run`, by what was heard of masters elsewhere, unless memory was wanting for its
     // words.
     ensures runs { (path : List ℕ) (limit : ℕ)
         → command_of words.now.words.items ≡ Some (Run path limit)
         → ((heard : List Heard)
-        × PlaysScript S.Source K.Sink D.Disk N.Dial N.W.tells (kinds_of handlers.now) heard limit
+        × PlaysScript S.Source K.Sink D.Disk N.Dial N.W.tells (host_of handlers.now hooks.now) heard limit
         result source.old source.new out.old out.new disk.old disk.new dial.old dial.new)
         ⊎ LacksMemory result K.tells (K.faults out.old) (K.faults out.new) (K.written out.old)
         (K.written out.new)
@@ -97,7 +99,7 @@ pub fn rx<S: Source, K: Sink, D: Disk, L: Listen, N: Dial, C: Clock>(
     ensures tries { (path : List ℕ) (seed count limit : ℕ)
         → command_of words.now.words.items ≡ Some (Trial path seed count limit)
         → ((heard : List Heard)
-        × TriesScript K.Sink D.Disk N.Dial N.W.tells (kinds_of handlers.now) heard limit seed count
+        × TriesScript K.Sink D.Disk N.Dial N.W.tells (host_of handlers.now hooks.now) heard limit seed count
         result out.old out.new disk.old disk.new dial.old dial.new)
         ⊎ LacksMemory result K.tells (K.faults out.old) (K.faults out.new) (K.written out.old)
         (K.written out.new)
@@ -130,7 +132,9 @@ pub fn rx<S: Source, K: Sink, D: Disk, L: Listen, N: Dial, C: Clock>(
 {
     match command_of(alloc, words) {
         Ok(Some(command)) => match command {
-            Command::Run { limit, .. } => run(alloc, limit, source, out, disk, dial, handlers),
+            Command::Run { limit, .. } => run(
+                alloc, limit, source, out, disk, dial, handlers, hooks,
+            ),
             Command::Serve {
                 collection,
                 port,
@@ -151,7 +155,7 @@ pub fn rx<S: Source, K: Sink, D: Disk, L: Listen, N: Dial, C: Clock>(
                 count,
                 limit,
                 ..
-            } => trial(alloc, limit, seed, count, out, disk, dial, handlers),
+            } => trial(alloc, limit, seed, count, out, disk, dial, handlers, hooks),
         },
         Ok(None) => write_usage(out),
         Err(_) => {

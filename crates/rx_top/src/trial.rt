@@ -2,7 +2,7 @@
 ghost use Rattle.std.specs.Prelude.{◌≡◌, ⊤, ◌<◌, ◌≤◌, ◌^◌, ℕ, List, All, length, false, IfOk, OnOk, IsErrOf, string_bytes};
 ghost use Rattle.std.specs.Result.{result_err};
 ghost use Rattle.rx_engine.specs.Engine.{IsAt, standing_of};
-ghost use Rattle.rx_engine.specs.Opening.{opened};
+ghost use Rattle.rx_engine.specs.Opening.{host_of, opened};
 ghost use Rattle.rx_handler.specs.Shown.{kinds_of};
 ghost use Rattle.rx_journal.specs.Reading.{IsUntouched};
 ghost use Rattle.rx_outside.specs.declared.stop.Stop.TheVariants as stop;
@@ -25,6 +25,7 @@ use rx_engine::Engine;
 use rx_handler::Handlers;
 use rx_outside::{Dial, Sink, Stop};
 use rx_trial::Generator;
+use rx_update::Hooks;
 use std::alloc::Global;
 
 /// Plays the script of a seed, with so many lines of its own, over the journal that the disk is,
@@ -38,14 +39,15 @@ pub(crate) fn trial<K: Sink, D: Disk, N: Dial>(
     disk: &mut D,
     dial: &mut N,
     handlers: &Handlers,
+    hooks: &Hooks,
 ) -> u8
     requires low { 9 ≤ limit }
     requires high { limit < 2 ^ 32 }
     ensures tries { (heard : List Heard)
-        × TriesScript K.Sink D.Disk N.Dial N.W.tells (kinds_of handlers.now) heard limit seed count
+        × TriesScript K.Sink D.Disk N.Dial N.W.tells (host_of handlers.now hooks.now) heard limit seed count
         result out.old out.new disk.old disk.new dial.old dial.new }
 {
-    let told = open_and_play(alloc, limit, seed, count, disk, dial, handlers);
+    let told = open_and_play(alloc, limit, seed, count, disk, dial, handlers, hooks);
     tell(out, &told)
 }
 
@@ -58,6 +60,7 @@ fn open_and_play<D: Disk, N: Dial>(
     disk: &mut D,
     dial: &mut N,
     handlers: &Handlers,
+    hooks: &Hooks,
 ) -> Result<String, Stop>
     requires low { 9 ≤ limit }
     requires high { limit < 2 ^ 32 }
@@ -65,18 +68,18 @@ fn open_and_play<D: Disk, N: Dial>(
     // tells its content and over any other.
     ensures plays { (heard : List Heard) × FromStart D.Disk disk.old (λ bodies w.
         DoesLines (script seed count) (result_err result)
-        (HearsAll N.W.tells (opened (kinds_of handlers.now) heard w) (stands N.Dial dial.old)
+        (HearsAll N.W.tells (opened (host_of handlers.now hooks.now) heard w) (stands N.Dial dial.old)
         (stands N.Dial dial.new) (as_run (result_err result)))
-        (KeepsRun (kinds_of handlers.now) heard D.Disk disk.old disk.new bodies w limit
+        (KeepsRun (host_of handlers.now hooks.now) heard D.Disk disk.old disk.new bodies w limit
         (as_run (result_err result)))
         × IfOk result (λ text. string_bytes text
-        ≡ summary_of (script seed count) (opened (kinds_of handlers.now) heard w)))
+        ≡ summary_of (script seed count) (opened (host_of handlers.now hooks.now) heard w)))
         × (w : World) × DoesLines (script seed count) (result_err result)
-        (HearsAll N.W.tells (opened (kinds_of handlers.now) heard w) (stands N.Dial dial.old)
+        (HearsAll N.W.tells (opened (host_of handlers.now hooks.now) heard w) (stands N.Dial dial.old)
         (stands N.Dial dial.new) (as_run (result_err result)))
         (λ done rest. ⊤)
         × IfOk result (λ text. string_bytes text
-        ≡ summary_of (script seed count) (opened (kinds_of handlers.now) heard w)) }
+        ≡ summary_of (script seed count) (opened (host_of handlers.now hooks.now) heard w)) }
     ensures illegal { D.tells → IsIllegalFile (D.content disk.old)
         → IsUntouched D.Disk disk.old disk.new }
     ensures stood { D.tells → OnOk result (IsJournalOfSome (D.content disk.old)) }
@@ -87,12 +90,12 @@ fn open_and_play<D: Disk, N: Dial>(
     ensures cause { HasDiskCause (D.faults disk.old) (D.faults disk.new) result }
     ensures dial_faults { N.faults dial.old ≤ N.faults dial.new }
 {
-    let engine = match Engine::open(alloc, disk, limit) {
+    let engine = match Engine::open(alloc, disk, limit, hooks) {
         Ok(engine) => engine,
         Err(stop) => return Err(stop),
     };
     let mut lines = Generator::new(seed, count);
-    let played = match play_lines(alloc, engine, &mut lines, disk, dial, handlers) {
+    let played = match play_lines(alloc, engine, &mut lines, disk, dial, handlers, hooks) {
         Ok(played) => played,
         Err(stop) => return Err(stop),
     };
@@ -111,6 +114,7 @@ fn play_lines<D: Disk, N: Dial>(
     disk: &mut D,
     dial: &mut N,
     handlers: &Handlers,
+    hooks: &Hooks,
 ) -> Result<(Engine, Tally), Stop>
     requires at { D.tells → (bodies : List (List ℕ)) × IsAt D.Disk disk.old first bodies }
     requires filled { All (λ line. is_blank line ≡ false) lines.old }
@@ -137,7 +141,7 @@ fn play_lines<D: Disk, N: Dial>(
         };
         let number = tally.lines + 1;
         let text = line.as_str().as_bytes();
-        let (after, output) = match engine.line(alloc, disk, dial, handlers, text, number) {
+        let (after, output) = match engine.line(alloc, disk, dial, handlers, hooks, text, number) {
             Ok(pair) => pair,
             Err(stop) => return Err(stop),
         };

@@ -1,8 +1,7 @@
 use Rattle.std.proofs.Common.{◌∙◌, ◌++◌, ap, [], arith, inl, inr}
 use Rattle.rx_disk.specs.History.{reads_as_of}
 use Rattle.rx_disk.specs.MemoryDisk.{content_of, history_of}
-use Rattle.rx_engine.specs.Opening.{opened}
-use Rattle.rx_handler.specs.Shown.{kinds_of}
+use Rattle.rx_engine.specs.Opening.{host_of, opened}
 use Rattle.rx_outside.specs.MemorySource.{source_left}
 use Rattle.rx_top.specs.Lines.{lines}
 use Rattle.rx_top.specs.Script.{transcript}
@@ -22,7 +21,7 @@ returns g c =
           record {
             told = plays.1.whole_transcript is tt tt tt [] empty start
                 ∙ ap (λ v. v ++ transcript (lines (source_left c.args.source.now))
-                (opened (kinds_of c.args.handlers.now) plays.0 empty)) c.requires.fresh;
+                (opened (host_of c.args.handlers.now c.args.hooks.now) plays.0 empty)) c.requires.fresh;
             kept = plays.1.kept is tt tt [] empty start (content_of c.rx.new.disk)
                 (reads_as_of (history_of c.rx.new.disk));
             refusal = plays.1.refusal is tt tt [] empty start;

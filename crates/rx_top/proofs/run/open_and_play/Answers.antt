@@ -1,6 +1,6 @@
 use Rattle.std.proofs.Common.{◌++◌, ◌∷◌, [], ⊎_elim, Err, ap, sym, append-nil, subst}
 use Rattle.rx_engine.specs.Engine.{standing_of}
-use Rattle.rx_engine.specs.Opening.{epoch_body, opened}
+use Rattle.rx_engine.specs.Opening.{host_of, epoch_body, opened}
 use Rattle.rx_outside.specs.declared.stop.Stop.TheVariants.{NotJournal}
 use Rattle.std.specs.Prelude.{⊤}
 use Rattle.rx_engine.specs.Standing.{Standing}
@@ -21,25 +21,25 @@ use Rattle.rx_top.proofs.run.open_and_play.Goals as goal
 
 pub returns-in-Err-clause-run : goal.returns-in-Err-clause-run
 returns-in-Err-clause-run g c =
-    let kinds = kinds_of c.args.handlers.now in
+    let host = host_of c.args.handlers.now c.args.hooks.now in
     let input = g.S.Source.left c.args.source.now in
     let dial = stands g.N.Dial c.args.dial.now in
     let none = λ (k : g.K.Sink.tells). sym (append-nil (g.K.Sink.written c.args.out.now)) in (
       [],
       λ told t bodies w start.
-          unplayed g.K.Sink.tells g.N.W.Wire.tells dial _ _ input _ (opened kinds [] w)
+          unplayed g.K.Sink.tells g.N.W.Wire.tells dial _ _ input _ (opened host [] w)
           (Err (Read ReadFault.Memory))
-          (KeepsRun kinds [] g.D.Disk c.args.disk.now c.args.disk.now bodies w c.args.limit
-          (Err (Read ReadFault.Memory))) (heard_at_first kinds [] w) tt none
-          (no_reader_keeps kinds [] g.D.Disk bodies w c.args.limit c.args.disk.now
+          (KeepsRun host [] g.D.Disk c.args.disk.now c.args.disk.now bodies w c.args.limit
+          (Err (Read ReadFault.Memory))) (heard_at_first host [] w) tt none
+          (no_reader_keeps host [] g.D.Disk bodies w c.args.limit c.args.disk.now
           (lines input) start
           (λ f. g.met.D.Disk.only_now c.args.disk.now f t)
           (λ s f le now. g.met.D.Disk.counts_now c.args.disk.now s f t le now)),
       λ told. (
         empty,
-        unplayed g.K.Sink.tells g.N.W.Wire.tells dial _ _ input _ (opened kinds [] empty)
+        unplayed g.K.Sink.tells g.N.W.Wire.tells dial _ _ input _ (opened host [] empty)
             (Err (Read ReadFault.Memory)) (λ done rest. ⊤)
-            (heard_at_first kinds [] empty) tt none tt,
+            (heard_at_first host [] empty) tt none tt,
       ),
     )
 
@@ -57,6 +57,7 @@ play-requires-clause-at g c = λ t.
 pub returns-in-Ok-open-clause-run : goal.returns-in-Ok-open-clause-run
 returns-in-Ok-open-clause-run g c =
     let kinds = kinds_of c.args.handlers.now in
+    let host = host_of c.args.handlers.now c.args.hooks.now in
     let exit = c.play.ensures.exit in
     let heard = exit.0 in
     let first = standing_of kinds heard c.in-Ok-open.engine in
@@ -70,10 +71,10 @@ returns-in-Ok-open-clause-run g c =
           (g.K.Sink.written c.args.out.now) (g.K.Sink.written c.play.new.out)
           (g.S.Source.left c.args.source.now) (g.S.Source.left c.play.new.source) s c.play.result
           (HearsAll g.N.W.Wire.tells s n0 n2 c.play.result)
-          (KeepsRun kinds heard g.D.Disk c.args.disk.now c.play.new.disk bodies w c.args.limit
+          (KeepsRun host heard g.D.Disk c.args.disk.now c.play.new.disk bodies w c.args.limit
           c.play.result)) found
           (said_as _ _
-          (λ done rest kept. played_keeps kinds heard g.D.Disk bodies w c.args.limit
+          (λ done rest kept. played_keeps host heard g.D.Disk bodies w c.args.limit
           c.args.disk.now c.open.new.disk c.play.new.disk c.in-Ok-open.engine c.play.result done
           rest (safe.moments start.alike) (⊎_elim (λ none. cc) (λ le. le) safe.fits)
           c.in-Ok-open.ensures.limit first found safe.at t kept)
@@ -98,17 +99,17 @@ returns-in-Ok-open-clause-legal g c = λ t bodies w start.
 
 pub returns-clause-run : goal.returns-clause-run
 returns-clause-run g c =
-    let kinds = kinds_of c.args.handlers.now in
+    let host = host_of c.args.handlers.now c.args.hooks.now in
     let input = g.S.Source.left c.args.source.now in
     let dial = stands g.N.Dial c.args.dial.now in
     let none = λ (k : g.K.Sink.tells). sym (append-nil (g.K.Sink.written c.args.out.now)) in (
       [],
       λ told t bodies w start.
-          unplayed g.K.Sink.tells g.N.W.Wire.tells dial _ _ input _ (opened kinds [] w)
+          unplayed g.K.Sink.tells g.N.W.Wire.tells dial _ _ input _ (opened host [] w)
           (Err (Work c.in-Err-open.stop))
-          (KeepsRun kinds [] g.D.Disk c.args.disk.now c.open.new.disk bodies w c.args.limit
-          (Err (Work c.in-Err-open.stop))) (heard_at_first kinds [] w) tt none
-          (open_keeps kinds [] g.D.Disk bodies w c.args.limit c.args.disk.now c.open.new.disk
+          (KeepsRun host [] g.D.Disk c.args.disk.now c.open.new.disk bodies w c.args.limit
+          (Err (Work c.in-Err-open.stop))) (heard_at_first host [] w) tt none
+          (open_keeps host [] g.D.Disk bodies w c.args.limit c.args.disk.now c.open.new.disk
           c.in-Err-open.stop (lines input)
           ((c.in-Err-open.ensures.safe t bodies w start.legal).moments start.alike)
           (λ s f le now. g.met.D.Disk.counts_now c.open.new.disk s f t le now)
@@ -116,9 +117,9 @@ returns-clause-run g c =
           (λ f. g.met.D.Disk.only_now c.args.disk.now f t) start),
       λ told. (
         empty,
-        unplayed g.K.Sink.tells g.N.W.Wire.tells dial _ _ input _ (opened kinds [] empty)
+        unplayed g.K.Sink.tells g.N.W.Wire.tells dial _ _ input _ (opened host [] empty)
             (Err (Work c.in-Err-open.stop)) (λ done rest. ⊤)
-            (heard_at_first kinds [] empty) tt none tt,
+            (heard_at_first host [] empty) tt none tt,
       ),
     )
 

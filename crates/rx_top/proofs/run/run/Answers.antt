@@ -1,6 +1,6 @@
 use Rattle.std.proofs.Common.{◌≡◌, refl, ◌∙◌, ℕ, Bool, Result, OnOk, [], sym, ap, subst, append-nil, arith}
 use Rattle.std.specs.Prelude.{codes}
-use Rattle.rx_handler.specs.Shown.{kinds_of}
+use Rattle.rx_engine.specs.Opening.{host_of}
 use Rattle.rx_top.specs.Hears.{stands}
 use Rattle.rx_top.specs.PlaysScript.{PlaysScript}
 use Rattle.rx_top.specs.Run.{HasRun, HasRunSomewhere, KeepsRun}
@@ -21,7 +21,7 @@ returns g c =
     let w2 = g.K.Sink.written c.write_end.new.out in
     let input = g.S.Source.left c.args.source.now in
     let left = g.S.Source.left c.open_and_play-ended.new.source in
-    let kinds = kinds_of c.args.handlers.now in
+    let host = host_of c.args.handlers.now c.args.hooks.now in
     let heard = c.open_and_play-ended.ensures.run.0 in
     let wires = g.N.W.Wire.tells in
     let n0 = stands g.N.Dial c.args.dial.now in
@@ -33,8 +33,8 @@ returns g c =
     (ended_with g.K.Sink.tells _ _ _ _ (last_words ended) c.write_end.result
     c.write_end.ensures.ok c.write_end.ensures.err c.write_end.ensures.failed) in
     let headline : g.S.Source.tells → FromStart g.D.Disk c.args.disk.now (λ bodies w.
-    HasRun kinds heard wires n0 n1 g.K.Sink.tells f0 f2 w0 w2 w input left (status_of ended)
-    (KeepsRun kinds heard g.D.Disk c.args.disk.now c.open_and_play-ended.new.disk bodies w
+    HasRun host heard wires n0 n1 g.K.Sink.tells f0 f2 w0 w2 w input left (status_of ended)
+    (KeepsRun host heard g.D.Disk c.args.disk.now c.open_and_play-ended.new.disk bodies w
     c.args.limit)) =
     λ told t bodies w start. record {
       ended = ended;
@@ -44,7 +44,7 @@ returns g c =
       line = line;
     } in
     let anywhere : g.S.Source.tells
-    → HasRunSomewhere kinds heard wires n0 n1 g.K.Sink.tells f0 f2 w0 w2 input left
+    → HasRunSomewhere host heard wires n0 n1 g.K.Sink.tells f0 f2 w0 w2 input left
     (status_of ended) =
     λ told. let somewhere = c.open_and_play-ended.ensures.run.2 told in (
       somewhere.0,
@@ -60,7 +60,7 @@ returns g c =
       plays = (
         heard,
         subst (λ (n : ℕ).
-            PlaysScript g.S.Source g.K.Sink g.D.Disk g.N.Dial wires kinds heard c.args.limit n
+            PlaysScript g.S.Source g.K.Sink g.D.Disk g.N.Dial wires host heard c.args.limit n
             c.args.source.now c.open_and_play-ended.new.source c.args.out.now c.write_end.new.out
             c.args.disk.now c.open_and_play-ended.new.disk c.args.dial.now
             c.open_and_play-ended.new.dial)

@@ -1,7 +1,7 @@
 use Rattle.std.proofs.Common.{◌≡◌, ◌∙◌, ◌+◌, ◌++◌, ◌∷◌, [], List, ℕ, All, None, Some, length, string_bytes, arith, ap, refl, sym, subst}
 use Rattle.std.specs.Prelude.{⊤}
 use Rattle.rx_engine.specs.Engine.{standing_of}
-use Rattle.rx_engine.specs.Opening.{epoch_body, opened}
+use Rattle.rx_engine.specs.Opening.{host_of, epoch_body, opened}
 use Rattle.rx_engine.specs.Standing.{Standing}
 use Rattle.rx_handler.specs.Shown.{kinds_of}
 use Rattle.rx_outside.specs.declared.stop.Stop.TheVariants.{NotJournal}
@@ -19,12 +19,12 @@ use Rattle.rx_top.proofs.trial.open_and_play.Goals as goal
 
 pub returns-in-Err-clause-plays : goal.returns-in-Err-clause-plays
 returns-in-Err-clause-plays g c =
-    let kinds = kinds_of c.args.handlers.now in
+    let host = host_of c.args.handlers.now c.args.hooks.now in
     let dial = stands g.N.Dial c.args.dial.now in
     let lines = script c.args.seed c.args.count in (
       [],
       λ t bodies w start. (
-        tried.unopened kinds [] g.N.W.Wire.tells g.D.Disk c.args.disk.now c.open.new.disk bodies w
+        tried.unopened host [] g.N.W.Wire.tells g.D.Disk c.args.disk.now c.open.new.disk bodies w
             c.args.limit dial c.in-Err.stop lines refl start
             (c.in-Err.ensures.safe t bodies w start.legal)
             (λ f. g.met.D.Disk.only_now c.args.disk.now f t)
@@ -32,8 +32,8 @@ returns-in-Err-clause-plays g c =
         tt,
       ),
       empty,
-      tried.none_done g.N.W.Wire.tells dial (opened kinds [] empty) c.in-Err.stop lines
-          (λ done rest. ⊤) (heard_at_first kinds [] empty) tt,
+      tried.none_done g.N.W.Wire.tells dial (opened host [] empty) c.in-Err.stop lines
+          (λ done rest. ⊤) (heard_at_first host [] empty) tt,
       tt,
     )
 
@@ -61,6 +61,7 @@ play_lines-requires-clause-few g c =
 pub returns-in-Ok-summary-clause-plays : goal.returns-in-Ok-summary-clause-plays
 returns-in-Ok-summary-clause-plays g c =
     let kinds = kinds_of c.args.handlers.now in
+    let host = host_of c.args.handlers.now c.args.hooks.now in
     let n0 = stands g.N.Dial c.args.dial.now in
     let n1 = stands g.N.Dial c.play_lines.new.dial in
     let plays = c.in-Ok-play_lines.ensures.plays in
@@ -74,16 +75,16 @@ returns-in-Ok-summary-clause-plays g c =
       heard,
       λ t bodies w start.
           let opened_so = c.in-Ok.ensures.opened t bodies w start.legal kinds heard in (
-            tried.from_opened kinds heard g.N.W.Wire.tells g.D.Disk c.args.disk.now
+            tried.from_opened host heard g.N.W.Wire.tells g.D.Disk c.args.disk.now
                 c.play_lines.new.disk bodies w c.args.limit n0 n1 c.open.new.disk c.in-Ok.engine
                 (script c.args.seed c.args.count) c.new-lines.result None c.new-lines.ensures start
                 (c.in-Ok.ensures.safe t bodies w start.legal) c.in-Ok.ensures.limit opened_so t
                 plays.1,
-            summed (opened kinds heard w) opened_so,
+            summed (opened host heard w) opened_so,
           ),
       begun.0,
       tried.from_begun g.N.W.Wire.tells n0 n1 c.new-lines.ensures (begun.1 kinds heard) plays.1,
-      summed (opened kinds heard begun.0) (begun.1 kinds heard),
+      summed (opened host heard begun.0) (begun.1 kinds heard),
     )
 
 pub returns-in-Ok-summary-clause-illegal : goal.returns-in-Ok-summary-clause-illegal
@@ -93,6 +94,7 @@ returns-in-Ok-summary-clause-illegal g c = λ t illegal.
 pub returns-in-Err-summary-clause-plays : goal.returns-in-Err-summary-clause-plays
 returns-in-Err-summary-clause-plays g c =
     let kinds = kinds_of c.args.handlers.now in
+    let host = host_of c.args.handlers.now c.args.hooks.now in
     let lines = script c.args.seed c.args.count in
     let n0 = stands g.N.Dial c.args.dial.now in
     let n1 = stands g.N.Dial c.play_lines.new.dial in
@@ -101,9 +103,9 @@ returns-in-Err-summary-clause-plays g c =
     let begun = c.in-Ok.ensures.begun in (
       heard,
       λ t bodies w start. (
-        tried.late_memory kinds heard g.N.W.Wire.tells g.D.Disk c.args.disk.now
+        tried.late_memory host heard g.N.W.Wire.tells g.D.Disk c.args.disk.now
             c.play_lines.new.disk bodies w c.args.limit n0 n1 lines
-            (tried.from_opened kinds heard g.N.W.Wire.tells g.D.Disk c.args.disk.now
+            (tried.from_opened host heard g.N.W.Wire.tells g.D.Disk c.args.disk.now
             c.play_lines.new.disk bodies w c.args.limit n0 n1 c.open.new.disk c.in-Ok.engine
             lines c.new-lines.result None c.new-lines.ensures start
             (c.in-Ok.ensures.safe t bodies w start.legal) c.in-Ok.ensures.limit
@@ -111,7 +113,7 @@ returns-in-Err-summary-clause-plays g c =
         tt,
       ),
       begun.0,
-      tried.late g.N.W.Wire.tells n0 n1 (opened kinds heard begun.0)
+      tried.late g.N.W.Wire.tells n0 n1 (opened host heard begun.0)
           (tried.from_begun g.N.W.Wire.tells n0 n1 c.new-lines.ensures
           (begun.1 kinds heard) plays.1) tt,
       tt,
@@ -124,6 +126,7 @@ returns-in-Err-summary-clause-illegal g c = λ t illegal.
 pub returns-in-Err-play_lines-clause-plays : goal.returns-in-Err-play_lines-clause-plays
 returns-in-Err-play_lines-clause-plays g c =
     let kinds = kinds_of c.args.handlers.now in
+    let host = host_of c.args.handlers.now c.args.hooks.now in
     let n0 = stands g.N.Dial c.args.dial.now in
     let n1 = stands g.N.Dial c.play_lines.new.dial in
     let plays = c.in-Err-play_lines.ensures.plays in
@@ -131,7 +134,7 @@ returns-in-Err-play_lines-clause-plays g c =
     let begun = c.in-Ok.ensures.begun in (
       heard,
       λ t bodies w start. (
-        tried.from_opened kinds heard g.N.W.Wire.tells g.D.Disk c.args.disk.now
+        tried.from_opened host heard g.N.W.Wire.tells g.D.Disk c.args.disk.now
             c.play_lines.new.disk bodies w c.args.limit n0 n1 c.open.new.disk c.in-Ok.engine
             (script c.args.seed c.args.count) c.new-lines.result (Some c.in-Err-play_lines.stop)
             c.new-lines.ensures start (c.in-Ok.ensures.safe t bodies w start.legal)

@@ -1,8 +1,7 @@
 use Rattle.std.proofs.Common.{⊎_elim, inl, inr}
 use Rattle.std.specs.Prelude.{⊤}
 use Rattle.std.specs.Result.{result_err}
-use Rattle.rx_engine.specs.Opening.{opened}
-use Rattle.rx_handler.specs.Shown.{kinds_of}
+use Rattle.rx_engine.specs.Opening.{host_of, opened}
 use Rattle.rx_outside.specs.declared.stop.Stop.TheVariants.{Disk, NotJournal, Full}
 use Rattle.rx_trial.specs.Lines.{script}
 use Rattle.rx_top.specs.Hears.{stands}
@@ -26,7 +25,7 @@ returns g c =
     let w0 = g.K.Sink.written c.args.out.now in
     let w1 = g.K.Sink.written c.tell.new.out in
     let status = c.tell.result in
-    let kinds = kinds_of c.args.handlers.now in
+    let host = host_of c.args.handlers.now c.args.hooks.now in
     let plays = played.ensures.plays in
     let heard = plays.0 in
     let wires = g.N.W.Wire.tells in
@@ -36,17 +35,17 @@ returns g c =
     let lines = script c.args.seed c.args.count in
     let stop = result_err told in
     let w = plays.2 in
-    let text = summary_of lines (opened kinds heard w) in
+    let text = summary_of lines (opened host heard w) in
     let was : by.Told tells f0 f1 w0 w1 status stop text =
     by.told_as tells f0 f1 w0 w1 status told text plays.4 c.tell.ensures.told in
     let done = by.unstopped tells f0 f1 w0 w1 status stop text was in
     let headline : FromStart d old (λ bodies w.
-    HasTried wires n0 n1 tells f0 f1 w0 w1 lines (opened kinds heard w) status
-    (tried.KeepsTrial kinds heard wires d old new bodies w limit)) =
+    HasTried wires n0 n1 tells f0 f1 w0 w1 lines (opened host heard w) status
+    (tried.KeepsTrial host heard wires d old new bodies w limit)) =
     λ t bodies w start.
     let does = plays.1 t bodies w start in
-    tried.has_tried wires n0 n1 tells f0 f1 w0 w1 status told lines (opened kinds heard w)
-    (tried.KeepsTrial kinds heard wires d old new bodies w limit) does.0 does.1 c.tell.ensures.told
+    tried.has_tried wires n0 n1 tells f0 f1 w0 w1 status told lines (opened host heard w)
+    (tried.KeepsTrial host heard wires d old new bodies w limit) does.0 does.1 c.tell.ensures.told
     in
     record {
       tries = (
@@ -54,30 +53,30 @@ returns g c =
         record {
           headline = headline;
           legal = λ t bodies w start.
-              tried.legal kinds heard wires d old new bodies w limit n0 n1 tells f0 f1 w0 w1 lines
+              tried.legal host heard wires d old new bodies w limit n0 n1 tells f0 f1 w0 w1 lines
               status
               (headline t bodies w start);
           over_any_disk = (
             w,
-            tried.has_tried wires n0 n1 tells f0 f1 w0 w1 status told lines (opened kinds heard w)
+            tried.has_tried wires n0 n1 tells f0 f1 w0 w1 status told lines (opened host heard w)
                 (λ stop done rest. ⊤) plays.3 plays.4 c.tell.ensures.told,
           );
           illegal = played.ensures.illegal;
           summary = λ is k t bodies w start.
-              tried.wrote kinds heard wires d old new bodies w limit n0 n1 tells f0 f1 w0 w1 lines
+              tried.wrote host heard wires d old new bodies w limit n0 n1 tells f0 f1 w0 w1 lines
               status
               (headline t bodies w start) is k;
           sink_fault = λ is. (by.failed tells f0 f1 w0 w1 status stop text was is).0;
           sink = λ is k t bodies w start.
-              tried.front kinds heard wires d old new bodies w limit n0 n1 tells f0 f1 w0 w1 lines
+              tried.front host heard wires d old new bodies w limit n0 n1 tells f0 f1 w0 w1 lines
               status
               (headline t bodies w start) is k;
           kept = λ is t bodies w start.
-              tried.kept kinds heard wires d old new bodies w limit n0 n1 tells f0 f1 w0 w1 lines
+              tried.kept host heard wires d old new bodies w limit n0 n1 tells f0 f1 w0 w1 lines
               status
               (headline t bodies w start) is;
           fits = λ is t bodies w start.
-              tried.fits kinds heard wires d old new bodies w limit n0 n1 tells f0 f1 w0 w1 lines
+              tried.fits host heard wires d old new bodies w limit n0 n1 tells f0 f1 w0 w1 lines
               status
               (headline t bodies w start) is;
           disk_fault = λ is. played.ensures.cause.failed
@@ -99,7 +98,7 @@ returns g c =
               played.ensures.full_stood t full.0 full.1
               (by.was_err told (Full full.0 full.1) full.2)) more) is;
           full = λ is t bodies w start.
-              tried.full kinds heard wires d old new bodies w limit n0 n1 tells f0 f1 w0 w1 lines
+              tried.full host heard wires d old new bodies w limit n0 n1 tells f0 f1 w0 w1 lines
               status
               (headline t bodies w start) is;
           statuses = by.statuses tells f0 f1 w0 w1 status stop text was;
