@@ -3,9 +3,9 @@
 
     bench/documents.py [PROGRAM] [FOLDER] [--json FILE]
 
-The files lie in FOLDER, or in memory-backed storage where it is left out. Upserts and gets start
-from 100,000 documents, and sqlite3 does the same on a database in the same folder, in WAL mode with
-synchronous=FULL. What it takes to make those documents is taken off both. The two take turns, three
+The files lie in FOLDER, or in memory-backed storage where it is left out. Upserts, patches, updates
+and gets start from 100,000 documents, and sqlite3 does the same on a database in the same folder, in
+WAL mode with synchronous=FULL. What it takes to make those documents is taken off both. The two take turns, three
 runs each, and the best time counts. Then the processor time of one upsert and of one get as the
 collection grows, and the opening of a journal of 200,000 records.
 """
@@ -52,6 +52,27 @@ def upserts(count):
 
 def upserts_in_sql(count):
     return [f"INSERT INTO c VALUES('{k}',{n}) ON CONFLICT DO UPDATE SET n={n} RETURNING '2-c';" for k, n in documents(count)]
+
+
+def patches(count):
+    return [compact({"do": "patch", "in": "c", "key": k, "set": {"n": n}}) for k, n in documents(count)]
+
+
+def patches_in_sql(count):
+    return [f"UPDATE c SET n={n} WHERE id='{k}' RETURNING '2-c';" for k, n in documents(count)]
+
+
+def hooked_patches(count):
+    hook = {"do": "hook", "in": "c", "when": "save", "hook": "zero", "field": "n"}
+    return [compact(hook), *patches(count)]
+
+
+def updates(count):
+    return [compact({"do": "update", "in": "c", "key": k, "update": {"$inc": {"n": 1}}}) for k, _ in documents(count)]
+
+
+def updates_in_sql(count):
+    return [f"UPDATE c SET n=n+1 WHERE id='{k}' RETURNING '2-c';" for k, _ in documents(count)]
 
 
 def gets(count):
@@ -153,6 +174,9 @@ def main():
     compare("inserts", COUNT, inserts(COUNT), inserts_in_sql(COUNT), empty, empty_in_sql)
     compare("observed inserts", 2_000, observed_inserts(2_000), list(observed_inserts_in_sql(2_000)), empty, empty_in_sql)
     compare("upserts", COUNT, upserts(COUNT), upserts_in_sql(COUNT), full, full_in_sql)
+    compare("patches", COUNT, patches(COUNT), patches_in_sql(COUNT), full, full_in_sql)
+    compare("patches behind a hook", COUNT, hooked_patches(COUNT), patches_in_sql(COUNT), full, full_in_sql)
+    compare("updates", COUNT, updates(COUNT), updates_in_sql(COUNT), full, full_in_sql)
     compare("bulks of 100", 1_000, list(bulks(COUNT)), list(bulks_in_sql(COUNT)), empty, empty_in_sql)
     compare("gets", COUNT, gets(COUNT), gets_in_sql(COUNT), full, full_in_sql)
     growth()

@@ -37,6 +37,72 @@ def resolved(how, real, new):
     return {**both, "_deleted": real["_deleted"] and new["_deleted"]}
 
 
+OPERATORS = ("$inc", "$max", "$min", "$set", "$unset")
+
+
+def is_value(value):
+    return isinstance(value, (bool, str)) or isinstance(value, int) and abs(value) <= MAX_TIME
+
+
+def is_number(value):
+    return is_value(value) and not isinstance(value, (bool, str))
+
+
+def made(operator, held, operand):
+    """What an operator makes of the value that is held, None where there is none."""
+    if operator == "$inc":
+        return (held or 0) + operand
+    if operator == "$max":
+        return max(held, operand, key=order)
+    if operator == "$min":
+        return operand if held is None else min(held, operand, key=order)
+    return operand if operator == "$set" else None
+
+
+def update_fault(update, fields):
+    """The cause of refusal 32 and the name in question, or None."""
+    objects = {it: of for it, of in update.items() if isinstance(of, dict)}
+    takes = {"$inc": is_number, "$unset": lambda _operand: True}
+    under = [name for of in objects.values() for name in of]
+    added = objects.get("$inc", {})
+    causes = {
+        "operator": [it for it in update if it not in OPERATORS],
+        "operand": [it for it in update if it not in objects] + [
+            name for it, of in objects.items() for name, operand in of.items()
+            if not takes.get(it, is_value)(operand)],
+        "twice": [name for name in under if under.count(name) > 1],
+        "key": [name for name in under if name == "id"],
+        "kind": [name for name in added if not is_number(fields.get(name, 0))],
+    }
+    for cause, names in causes.items():
+        if names:
+            return cause, min(names, key=str.encode)
+    past = [name for name, more in added.items() if not is_number(fields.get(name, 0) + more)]
+    return ("range", min(past, key=str.encode)) if past else None
+
+
+def after_hook(hook, field, state):
+    """What a hook makes of a state, None where it vetoes the write."""
+    held = state.get(field)
+    if hook == "lock":
+        return None if held is True else state
+    counted = {"count": (held or 0) + 1, "zero": held if field in state else 0}[hook]
+    return {**state, field: counted} if is_number(counted) else state
+
+
+def invalid_field(state):
+    """The first field by name that isn't of the kind that the schema says."""
+    kinds = {"b": bool, "n": int, "t": str}
+    return next((it for it in sorted(kinds) if it in state and type(state[it]) is not kinds[it]), None)
+
+
+def updated(update, fields):
+    """The fields after an update that has no fault."""
+    changed = {name: made(operator, fields.get(name), operand)
+               for operator, of in update.items() for name, operand in of.items()}
+    return {name: value for name, value in {**fields, **changed}.items() if value is not None}
+
+
 class Collection:
     """Documents by key: a height, a write time and a state."""
 
@@ -161,7 +227,7 @@ class Model:
 
     def open(self):
         """A run begins."""
-        self.moment, self.observed, self.number = 0, False, 0
+        self.moment, self.observed, self.number, self.hooks = 0, False, 0, []
         self.reopen()
 
     def reopen(self):
@@ -207,7 +273,21 @@ class Model:
         self.observed, self.emitted = True, None
         return {}
 
-    def write(self, side, state):
+    def hook(self, line, _out):
+        self.hooks.append((line["in"], line["when"], line["hook"], line["field"]))
+        return {}
+
+    def write(self, side, state, when="save", taken=None):
+        """A write after its hooks, refused where the key is taken by a revision."""
+        for _, _, hook, field in [it for it in self.hooks if it[:2] == (side, when)]:
+            state = after_hook(hook, field, state)
+            if state is None:
+                return {"code": 33, "name": hook, "refused": "vetoed"}
+        if bad := invalid_field(state):
+            return {"cause": "kind", "code": 13, "name": bad, "refused": "invalid"}
+        if taken:
+            return {"code": 14, "refused": "conflict", "rev": taken}
+        state = {**state, "_deleted": when == "remove"}
         try:
             self.sides[side].commit([state], self.moment)
         except Clock:
@@ -215,22 +295,32 @@ class Model:
         return {"rev": self.sides[side].rev(state["id"])}
 
     def upsert(self, line, _out):
-        return self.write(line["in"], {**line["doc"], "_deleted": False})
+        when = "save" if self.sides[line["in"]].live(line["doc"]["id"]) else "insert"
+        return self.write(line["in"], line["doc"], when)
 
     def insert(self, line, _out):
         side, key = self.sides[line["in"]], line["doc"]["id"]
-        if side.live(key):
-            return {"code": 14, "refused": "conflict", "rev": side.rev(key)}
-        return self.upsert(line, _out)
+        taken = side.rev(key) if side.live(key) else None
+        return self.write(line["in"], line["doc"], "insert", taken)
 
-    def patch(self, line, _out):
+    def change(self, line, changed, when="save"):
+        """A write of what is made of a document that is live."""
         side, key = self.sides[line["in"]], line["key"]
         if not side.live(key):
             return {"code": 15, "refused": "no_document"}
-        return self.write(line["in"], {**side.state(key), **line["set"]})
+        return self.write(line["in"], changed(side.state(key)), when)
+
+    def patch(self, line, _out):
+        return self.change(line, lambda state: {**state, **line["set"]})
+
+    def update(self, line, _out):
+        side, key, update = self.sides[line["in"]], line["key"], line["update"]
+        if side.live(key) and (fault := update_fault(update, side.state(key))):
+            return {"cause": fault[0], "code": 32, "name": fault[1], "refused": "update"}
+        return self.change(line, lambda state: updated(update, state))
 
     def remove(self, line, _out):
-        return self.patch({**line, "set": {"_deleted": True}}, _out)
+        return self.change(line, lambda state: state, "remove")
 
     def tick(self, line, _out):
         self.moment = line["at"]

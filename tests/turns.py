@@ -2,9 +2,9 @@
 """Random turns of a fork and its master over the built program, beside a model of docs/SCRIPT.md.
 
 For each of eight seeds a script of 4,000 lines over two collections and a replication between them:
-writes on both sides, the moment, restarts, and turns of any batch and budget over a link that loses,
-repeats and delays; in four runs, one after another on the same journal. The seeds take the handlers in
-turn. Three things are tried of what the program answers:
+writes on both sides with hooks before some, the moment, restarts, and turns of any batch and budget over a
+link that loses, repeats and delays; in four runs, one after another on the same journal. The seeds take
+the handlers in turn. Three things are tried of what the program answers:
 
 - it is the model's answer, byte for byte: replies, exchanges, emissions, and after each turn all
   states of both sides in the order of their places;
@@ -56,6 +56,29 @@ def turn(numbers):
     return line
 
 
+def update(numbers):
+    """Operators over few fields, now and then one that doesn't fit or a field under two."""
+    there = {
+        "$inc": {"n": numbers.choice([1, 1, -1, MAX_TIME, "1"])},
+        "$max": {numbers.choice("nb"): numbers.choice([2, True])},
+        "$min": {numbers.choice("nt"): numbers.choice([1, "a"])},
+        "$set": {numbers.choice("tb"): numbers.choice(["x", False, None])},
+        "$unset": {numbers.choice("bnt"): ""},
+        "$push": {"n": 1},
+    }
+    return {it: there[it] for it in numbers.sample(sorted(there), numbers.choice([0, 1, 1, 1, 2, 3]))}
+
+
+HOOKS = [("insert", "zero", "n"), ("save", "count", "n"), ("remove", "count", "n"), ("remove", "lock", "b"),
+         ("insert", "lock", "b")]
+
+
+def hooks_at_random(numbers):
+    """Now and then one, of which a turn runs none."""
+    return [{"do": "hook", "in": side, "when": when, "hook": hook, "field": field}
+            for side in "mf" for when, hook, field in HOOKS if numbers.random() < 0.25]
+
+
 def line_at_random(numbers):
     into, key, draw = numbers.choice("ffm"), numbers.choice(KEYS), numbers.randrange(64)
     if draw < 30:
@@ -64,8 +87,10 @@ def line_at_random(numbers):
         return {"do": "insert", "in": into, "doc": {"id": key, **fields(numbers)}}
     if draw < 41:
         return {"do": "remove", "in": into, "key": key}
-    if draw < 47:
+    if draw < 44:
         return {"do": "patch", "in": into, "key": key, "set": {"n": numbers.randrange(3)}}
+    if draw < 47:
+        return {"do": "update", "in": into, "key": key, "update": update(numbers)}
     if draw < 50:
         return {"do": "tick", "at": numbers.randrange(3_000)}
     if draw < 51:
@@ -99,6 +124,7 @@ def scripts(numbers, how):
     begin.append({"do": "replicate", "name": "r", "fork": "f", "master": "m", **how})
     for run in range(RUNS):
         lines = [*begin, {"do": "observe", "name": "q", "in": "f", "query": QUERY}]
+        lines += hooks_at_random(numbers)
         begin = []
         for _ in range(LINES // RUNS):
             lines.append(line_at_random(numbers))

@@ -241,6 +241,25 @@ export interface Following extends Observable<SyncStatus> {
   close(): void;
 }
 
+/** Before which writes a hook stands. */
+export type When = 'insert' | 'save' | 'remove';
+
+/** A hook of the program: `count` and `zero` go by a whole number, `lock` by a boolean. */
+export interface Hook {
+  when: When;
+  hook: 'count' | 'zero' | 'lock';
+  field: string;
+}
+
+/** What becomes of the fields of a document; none stands under two operators, nor the primary key under one. */
+export interface Update<T = Document> {
+  $inc?: { readonly [K in keyof T as T[K] extends number | undefined ? K : never]?: number };
+  $max?: Partial<Readonly<T>>;
+  $min?: Partial<Readonly<T>>;
+  $set?: Partial<Readonly<T>>;
+  $unset?: { readonly [K in keyof T]?: unknown };
+}
+
 export interface Collection<T = Document> {
   readonly name: string;
   /** Whether it was made just now; undefined where no schema was given. */
@@ -249,7 +268,9 @@ export interface Collection<T = Document> {
   bulk(docs: readonly Readonly<T>[]): Promise<string[]>;
   upsert(doc: Readonly<T>): Promise<string>;
   patch(key: string, set: Partial<Readonly<T>>, rev?: string): Promise<string>;
+  update(key: string, update: Update<T>, rev?: string): Promise<string>;
   remove(key: string, rev?: string): Promise<string>;
+  hook(when: When, hook: Hook['hook'], field: string): Promise<void>;
   get(key: string): Promise<Stored<T>>;
   find(query?: Query<T>): Promise<T[]>;
   count(query?: Query<T>): Promise<number>;
@@ -261,7 +282,7 @@ export interface Collection<T = Document> {
 export interface Database {
   /** Resolves once the program has ended, with why: its `stop` is `closed` after `close()`. */
   readonly stopped: Promise<Stopped>;
-  collection<T = Document>(name: string, schema?: Schema): Promise<Collection<T>>;
+  collection<T = Document>(name: string, schema?: Schema, options?: { hooks?: readonly Hook[] }): Promise<Collection<T>>;
   replicate(replication: Replication): Promise<void>;
   turn(name: string, options?: TurnOptions): Promise<Turn>;
   /** Keeps a fork in sync until it is closed. Of a replication that is followed it answers the same again. */

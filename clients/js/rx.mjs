@@ -54,7 +54,7 @@ export async function open(transport, { clock = Date.now, waiting } = {}) {
   }
 }
 
-const writes = new Set(['insert', 'bulk', 'upsert', 'patch', 'remove', 'turn']);
+const writes = new Set(['insert', 'bulk', 'upsert', 'patch', 'update', 'remove', 'turn']);
 const room = 1 << 18; // so many characters of lines may be unanswered before one waits for the program
 
 class Database {
@@ -68,6 +68,7 @@ class Database {
   #drained = []; // who waits for fewer of them
   #observed = new Map(); // observations by the name of their query
   #schemas = new Map(); // by the name of their collection, as far as they were given here
+  #hooked = new Set(); // the collections whose hooks were attached
   #due = null; // the query whose first emission comes next
   #replications = new Map(); // as far as they were told here, by name
   #followed = new Map(); // by the name of their replication
@@ -100,11 +101,19 @@ class Database {
     await this.call({ do: 'tick', at: this.#moment }); // its answer tells that the journal was opened
   }
 
-  /** The collection of this name, made where it isn't there. Without a schema nothing is asked. */
-  async collection(name, schema) {
+  /**
+   * The collection of this name, made where it isn't there. Without a schema nothing is asked. The hooks stand
+   * before its writes, in their order, as long as the journal is open here.
+   */
+  async collection(name, schema, { hooks = [] } = {}) {
     const reply = schema && (await this.call({ do: 'collection', name, schema }));
     if (schema) this.#schemas.set(name, schema);
-    return new Collection(this, name, reply?.new);
+    const collection = new Collection(this, name, reply?.new);
+    if (!this.#hooked.has(name)) {
+      if (hooks.length) this.#hooked.add(name);
+      await Promise.all(hooks.map(({ when, hook, field }) => collection.hook(when, hook, field)));
+    }
+    return collection;
   }
 
   /** Makes a collection the fork of a master: of another collection, or of one that is served at a port. */
@@ -388,8 +397,18 @@ class Collection {
     return held;
   }
 
+  /** Changes a document by operators, `{ $inc: { n: 1 } }`, and where a revision is given only of that one. */
+  async update(key, update, rev) {
+    return (await this.#db.call({ do: 'update', in: this.name, key, update, rev })).rev;
+  }
+
   async remove(key, rev) {
     return (await this.#db.call({ do: 'remove', in: this.name, key, rev })).rev;
+  }
+
+  /** Has a hook stand before such writes, `insert`, `save` or `remove`, behind those that do. */
+  async hook(when, hook, field) {
+    await this.#db.call({ do: 'hook', in: this.name, when, hook, field });
   }
 
   /** The document of a key, with its revision and write time. */
@@ -789,13 +808,14 @@ function brokenText(value, name) {
   return undefined;
 }
 
-const things = { collection: 'collections', observe: 'observed queries', replicate: 'replications' };
+const things = { collection: 'collections', hook: 'hooks', observe: 'observed queries', replicate: 'replications' };
 const limits = { // docs/SCRIPT.md, "Limits"
   line: 1_048_576,
   name: 64,
   batch: 100,
   budget: 100_000,
   collection: 64,
+  hook: 16,
   observe: 256,
   replicate: 64,
   skip: 1_000_000_000,
@@ -813,7 +833,8 @@ function show(value) {
 function detail({ refused, cause, name, rev, row }, request, schema) {
   const out = (said, value, limit) => ({ said, value, limit });
   const most = limits[request.do], own = request[name];
-  const doc = request.doc ?? request.docs?.[row] ?? { [schema?.primaryKey]: request.key, ...request.set };
+  const doc = request.doc ?? request.docs?.[row]
+    ?? { [schema?.primaryKey]: request.key, ...request.set, ...request.update?.$set };
   const key = request.key ?? doc[schema?.primaryKey];
   switch (refused) {
     case 'too_long': return out(`a line has at most ${limits.line} bytes`, undefined, limits.line);
@@ -832,7 +853,9 @@ function detail({ refused, cause, name, rev, row }, request, schema) {
     case 'schema': return ofSchema(cause, name, request.schema);
     case 'schema_differs':
       return out('it is held with another schema, or the fork has another than its master', request.name);
-    case 'invalid': return ofField(cause, name, doc[name], schema?.properties[name]);
+    case 'invalid':
+      if (request.update && !(name in doc)) return out(`${name} would be no value that its property takes`);
+      return ofField(cause, name, doc[name], schema?.properties[name]);
     case 'conflict': return out(`${show(key ?? 'the key')} has the revision ${rev}`, key);
     case 'no_document': return out(`no document has the key ${show(key)}`, key);
     case 'query': return ofQuery(cause, name, request.query);
@@ -844,9 +867,12 @@ function detail({ refused, cause, name, rev, row }, request, schema) {
     case 'chain': return out('the fork is the master, or one of them is a fork or a master already');
     case 'clock': return out('no write time is left', undefined, Number.MAX_SAFE_INTEGER);
     case 'too_many':
-      return out(most && `there are at most ${most} ${things[request.do]}`, request.name, most);
+      return out(most && `there are at most ${most} ${things[request.do]}`, request.name ?? request.in, most);
     case 'key': return out('the primary key is missing or no text, or would become another', key);
     case 'twice': return out(`the key ${show(key)} stands there twice`, key);
+    case 'update': return ofUpdate(cause, name, request.update);
+    case 'vetoed': return out(`the hook ${name} vetoes it`, key);
+    case 'no_hook': return out(`no hook ${request.hook} with the field ${request.field}`, request.hook);
     default: return out(name);
   }
 }
@@ -904,6 +930,19 @@ function ofQuery(cause, name, query) {
     case 'depth': return out(`a selector is at most ${most} deep`, undefined, most);
     case 'skip': case 'limit':
       return out(`${cause} is ${show(query?.[cause])}, and from 0 to ${most}`, query?.[cause], most);
+    default: return {};
+  }
+}
+
+function ofUpdate(cause, name, update) {
+  const out = (words, value) => ({ value, said: `${name} ${words}` });
+  switch (cause) {
+    case 'operator': return out('is no operator: those are $inc, $max, $min, $set and $unset');
+    case 'operand': return out("has no operand such as it takes, or an operator no object", update[name]);
+    case 'twice': return out('stands under two operators');
+    case 'key': return out('is the primary key, which stays');
+    case 'kind': return out('is no number that $inc could add to', update.$inc[name]);
+    case 'range': return out('would be out of range, beyond 2^53 - 1', update.$inc[name]);
     default: return {};
   }
 }

@@ -382,6 +382,40 @@ export const behaviours = {
     await db.close();
   },
 
+  async 'an update by operators, and what is refused of one'({ open, transport }) {
+    const db = await open(transport());
+    const c = await db.collection('c', schema);
+    await c.insert({ id: 'a', n: 1 });
+    same(await c.update('a', { $inc: { n: 2 } }), '2-c', 'the revision');
+    same(await c.update('a', { $max: { n: 2 } }, '2-c'), '3-c', 'of a revision');
+    same((await c.get('a')).doc, { id: 'a', n: 3 }, 'the document');
+    same((await fault(() => c.update('a', { $min: { n: 2 } }, '2-c'))).rev, '3-c', 'another revision');
+    same(await c.update('a', { $unset: { n: '' } }), '4-c', 'a field is taken away');
+    same((await c.get('a')).doc, { id: 'a' }, 'and is gone');
+    const refused = { $push: { n: 1 }, $inc: { n: 'x' }, $set: { id: 'b' } };
+    const causes = { $push: 'operator', $inc: 'operand', $set: 'key' };
+    for (const [operator, fields] of Object.entries(refused)) {
+      const { word, cause } = await fault(() => c.update('a', { [operator]: fields }));
+      same([word, cause], ['update', causes[operator]], operator);
+    }
+    same((await fault(() => c.update('b', {}))).word, 'no_document', 'no document');
+    await db.close();
+  },
+
+  async 'hooks are attached at each opening, and once in it'({ open, transport }) {
+    const at = transport(), options = { hooks: [{ when: 'save', hook: 'count', field: 'n' }] };
+    for (const n of [1, 2]) {
+      const db = await open(at);
+      const c = await db.collection('c', schema, options);
+      await db.collection('c', schema, options);
+      if (n === 1) await c.insert({ id: 'a', n: 0 });
+      await c.patch('a', { id: 'a' });
+      same((await c.get('a')).doc, { id: 'a', n }, `opening ${n}`);
+      same((await fault(() => c.hook('save', 'count', 'id'))).word, 'no_hook', 'a field that it does not take');
+      await db.close();
+    }
+  },
+
   async 'write times are the clock, and the caller may tick'({ open, transport }) {
     const before = Date.now();
     const db = await open(transport(), { clock: undefined });

@@ -20,6 +20,8 @@ async function play(db, text, observed) {
     case 'bulk': return collection.bulk(line.docs);
     case 'upsert': return collection.upsert(line.doc);
     case 'patch': return collection.patch(line.key, line.set, line.rev);
+    case 'update': return collection.update(line.key, line.update, line.rev);
+    case 'hook': return collection.hook(line.when, line.hook, line.field);
     case 'remove': return collection.remove(line.key, line.rev);
     case 'get': return collection.get(line.key);
     case 'find': return collection.find(line.query);

@@ -216,6 +216,11 @@ def a_refusal_says_the_value_and_the_limit_that_were_wrong(folder):
         told("", 1, "id is empty", c.insert, {"id": ""})
         told("a", None, '"a" is there already, at revision 1-c', c.insert, {"id": "a"})
         told("0-c", None, '"a" has the revision 1-c, and not 0-c', c.patch, "a", {"n": 2}, rev="0-c")
+        told(None, None, "n would be no value that its property takes", c.update, "a", {"$inc": {"n": 11}})
+        told(None, None, "$push is no operator", c.update, "a", {"$push": {"n": 1}})
+        told("x", None, "n has no operand such as it takes", c.update, "a", {"$inc": {"n": "x"}})
+        told(None, None, "n stands under two operators", c.update, "a", {"$set": {"n": 2}, "$unset": {"n": 0}})
+        told(None, None, "id is the primary key", c.update, "a", {"$set": {"id": "b"}})
         told("z", None, 'there is no document "z"', c.get, "z")
         told(101, 100, "batch 101 isn't from 1 to 100", c.changes, batch=101)
         told(-1, 10**9, "limit -1 is no whole number", c.find, {"limit": -1})
@@ -268,6 +273,34 @@ def an_idle_reader_keeps_the_newest_emission_alone(folder):
             )
             same(query.rows()[1], {"id": "k1", "n": -99})
     return f"{held:,} bytes"
+
+
+@case()
+def an_update_is_made_by_operators(folder):
+    with rx.open(new_journal(folder)) as db:
+        c = db.collection("c", SCHEMA)
+        c.insert({"id": "a", "n": 1})
+        same(c.update("a", {"$inc": {"n": 2}}), "2-c")
+        same(c.update("a", {"$max": {"n": 9}}, "2-c"), "3-c")
+        same(c.get("a").doc, {"id": "a", "n": 9})
+        same(fault(c.update, "a", {"$unset": {"n": 0}}, "2-c").rev, "3-c")
+        same(c.update("a", {"$unset": {"n": 0}}), "4-c")
+        same(c.get("a").doc, {"id": "a"})
+
+
+@case()
+def hooks_are_attached_at_each_opening_and_once_in_it(folder):
+    path = new_journal(folder)
+    hooks = [("insert", "zero", "n"), ("save", "count", "n")]
+    for n in (1, 2):
+        with rx.open(path) as db:
+            c = db.collection("c", SCHEMA, hooks)
+            db.collection("c", SCHEMA, hooks)
+            if n == 1:
+                c.insert({"id": "a"})
+            c.patch("a", {})
+            same(c.get("a").doc, {"id": "a", "n": n})
+            same(fault(c.hook, "save", "count", "id").word, "no_hook")
 
 
 @case()

@@ -63,6 +63,7 @@ for await (const rows of plain.observe(query)) {
 }
 await todos.insert({ id: 'a', title: 'A', done: false });
 await todos.patch('a', { rank: 3, title: undefined });
+await todos.update('a', { $inc: { rank: 1 }, $set: { title: 'B' }, $unset: { done: '' } }, '1-todos');
 await db.replicate({ name: 'sync', fork: 'todos', port: 4001, handler: 'greater', field: 'rank' });
 
 const following = db.follow('sync', { every: 500, budget: 10 });
@@ -82,6 +83,8 @@ await plain.find({ selector: { done: 'yes' } });
 plain.observe().subscribe((rows) => { rows[0].title = 'x'; });
 // @ts-expect-error
 plain.observe().subscribe((rows) => { rows.push(rows[0]); });
+// @ts-expect-error
+await todos.update('a', { $inc: { title: 1 } });
 // @ts-expect-error
 await db.collection('none', { version: 0 });
 

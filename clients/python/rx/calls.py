@@ -14,6 +14,7 @@ Json = dict[str, Any]
 # What is given may be any mapping; what is answered is the caller's own.
 Fields = Mapping[str, Value]
 Object = Mapping[str, Any]
+Hook = tuple[str, str, str]  # before which writes it stands, its name, and its field
 
 DEEPEST = 128
 
@@ -167,8 +168,16 @@ def patch(into: str, key: str, set: Fields, rev: str | None) -> Call[str]:
     return _call(_rev, "patch", into=into, key=key, set=set, rev=rev)
 
 
+def update(into: str, key: str, update: Object, rev: str | None) -> Call[str]:
+    return _call(_rev, "update", into=into, key=key, update=update, rev=rev)
+
+
 def remove(into: str, key: str, rev: str | None) -> Call[str]:
     return _call(_rev, "remove", into=into, key=key, rev=rev)
+
+
+def hook(into: str, when: str, hook: str, field: str) -> Call[None]:
+    return _call(lambda reply: None, "hook", into=into, when=when, hook=hook, field=field)
 
 
 def get(into: str, key: str) -> Call[Stored]:

@@ -8,7 +8,7 @@ from collections.abc import Iterable, Iterator, Sequence
 from typing import Any, TypeVar
 
 from . import calls, program as programs
-from .calls import Call, Changes, Digest, Document, Fields, Json, Object, Stored, Turn
+from .calls import Call, Changes, Digest, Document, Fields, Hook, Json, Object, Stored, Turn
 from .faults import Refused, Stopped
 from .following import Account, SyncStatus
 from .lines import Answer, Clock, Lines, Newest, closed, now
@@ -86,10 +86,17 @@ class Database:
     def __exit__(self, *_: object) -> None:
         self.close()
 
-    def collection(self, name: str, schema: Object | None = None) -> Collection:
-        """The collection of this name, made where it isn't there. Without a schema nothing is asked."""
+    def collection(self, name: str, schema: Object | None = None, hooks: Iterable[Hook] = ()) -> Collection:
+        """The collection of this name, made where it isn't there. Without a schema nothing is asked.
+
+        The hooks, each its `when`, its name and its field, stand before its writes, in their order, as long as
+        the journal is open here.
+        """
         new = None if schema is None else self.ask(calls.collection(name, schema))
-        return Collection(self, name, new)
+        collection = Collection(self, name, new)
+        for hook in self._lines.hooks_of(name, hooks):
+            collection.hook(*hook)
+        return collection
 
     def replicate(
         self,
@@ -230,8 +237,16 @@ class Collection:
         """Sets fields of a document, and where a revision is given only of that one."""
         return self._db.ask(calls.patch(self.name, key, set, rev))
 
+    def update(self, key: str, update: Object, rev: str | None = None) -> str:
+        """Changes a document by operators, {"$inc": {"n": 1}}, and where a revision is given only of that one."""
+        return self._db.ask(calls.update(self.name, key, update, rev))
+
     def remove(self, key: str, rev: str | None = None) -> str:
         return self._db.ask(calls.remove(self.name, key, rev))
+
+    def hook(self, when: str, hook: str, field: str) -> None:
+        """Has a hook stand before such writes, `insert`, `save` or `remove`, behind those that do."""
+        self._db.ask(calls.hook(self.name, when, hook, field))
 
     def get(self, key: str) -> Stored:
         """The document of a key, with its write time and revision."""

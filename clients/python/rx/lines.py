@@ -4,16 +4,17 @@ from __future__ import annotations
 import json
 import threading
 import time
+from collections.abc import Iterable
 from typing import Any, Callable, Protocol
 
-from .calls import Call, Document, Json, tick
+from .calls import Call, Document, Hook, Json, tick
 from .faults import Refused, Stopped
 from .following import Followed
 
 Answer = Callable[[Json, Exception | None], None]
 # What tells the present moment, in milliseconds.
 Clock = Callable[[], int]
-WRITES = {"insert", "bulk", "upsert", "patch", "remove", "turn"}
+WRITES = {"insert", "bulk", "upsert", "patch", "update", "remove", "turn"}
 
 
 def now() -> int:
@@ -79,6 +80,7 @@ class Lines:
         self._observed: dict[str, Observer] = {}
         self.followed = Followed()
         self._schemas: dict[str, Json] = {}
+        self._hooked: set[str] = set()
         self._rest = b""
         self._exchanges: list[Json] = []
         self._stop: Json | None = None
@@ -156,9 +158,16 @@ class Lines:
                 self.followed.hear(line, it, self._schemas)
             answer(it, None)
 
+    def hooks_of(self, name: str, hooks: Iterable[Hook]) -> list[Hook]:
+        """The hooks of a collection that are to be attached: all, where none were before."""
+        given = list(hooks) if name not in self._hooked else []
+        if given:
+            self._hooked.add(name)
+        return given
+
     def _schema_of(self, line: bytes, refused: Json) -> Json | None:
         """The schema of the line's collection, where a line of this client gave it."""
-        of_document = refused["refused"] in ("invalid", "conflict", "twice")
+        of_document = refused["refused"] in ("invalid", "conflict", "twice", "vetoed")
         return self._schemas.get(json.loads(line)["in"]) if of_document else None
 
     def finish(self, status: int | None, stop: str = "ended", said: str = "", in_use: bool = False) -> None:

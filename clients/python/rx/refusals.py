@@ -18,13 +18,15 @@ DEFAULT_TEXT = 8_192
 BATCH = {"batch": 100, "budget": 100_000}
 HELD = {
     "collection": ("collections", 64),
+    "hook": ("hooks of the collection", 16),
     "observe": ("observed queries", 256),
     "replicate": ("replications", 64),
 }
 ROWS = 1_000_000_000
 KINDS = {
-    "text": ("do", "name", "in", "fork", "master", "key", "rev", "handler", "field"),
-    "object": ("doc", "set"),
+    "text": ("do", "name", "in", "fork", "master", "key", "rev", "handler", "hook", "field"),
+    "word of insert, save and remove": ("when",),
+    "object": ("doc", "set", "update"),
     "list of objects": ("docs",),
     f"whole number from 0 to {NUMBER:,}": ("at",),
     "whole number from 1 to 65,535": ("port",),
@@ -58,10 +60,15 @@ class Told(NamedTuple):
 
     def document(self) -> dict[str, Any]:
         """The fields that were written, of a bulk those of the row."""
-        held = self.line.get("doc", self.line.get("set"))
+        held = self.line.get("doc", self.line.get("set", self.under("$set")))
         if "docs" in self.line and "row" in self.reply:
             held = self.line["docs"][self.reply["row"]]
         return held if isinstance(held, dict) else {}
+
+    def under(self, operator: str) -> Any:
+        """What stands under an operator of an update."""
+        update = self.line.get("update")
+        return update.get(operator) if isinstance(update, dict) else None
 
     def key(self) -> Any:
         primary = self.schema.get("primaryKey")
@@ -178,6 +185,8 @@ def invalid(it: Told) -> Refusal:
     what = f"{it.name} {shown(value)}"
     if it.cause == "missing":
         return Refusal(f"{it.name} is missing")
+    if "update" in it.line and it.name not in it.document():
+        return Refusal(f"{it.name} would be no value that its property takes")
     if it.cause == "unknown":
         return Refusal(f"{it.name} is no property of the schema", value)
     if it.cause == "kind":
@@ -241,6 +250,21 @@ def query(it: Told) -> Refusal:
     return Refusal(causes.get(it.cause, it.cause), it.name or None, 32 if it.cause == "depth" else None)
 
 
+def update(it: Told) -> Refusal:
+    added = it.under("$inc")
+    value = added.get(it.name) if isinstance(added, dict) else None
+    causes = {
+        "operator": "is no operator: those are $inc, $max, $min, $set and $unset",
+        "operand": "has no operand such as it takes, or an operator no object",
+        "twice": "stands under two operators",
+        "key": "is the primary key, which stays",
+        "kind": "is no number that $inc could add to",
+        "range": f"would be beyond {NUMBER:,}",
+    }
+    words = causes.get(it.cause, it.cause)
+    return Refusal(f"{it.name} {words}", value, NUMBER if it.cause == "range" else None)
+
+
 def no_handler(it: Told) -> Refusal:
     handler, field = it.line.get("handler"), it.line.get("field")
     if handler == "greater":
@@ -296,4 +320,11 @@ BY_WORD: dict[str, Callable[[Told], Refusal]] = {
     "too_many": too_many,
     "key": lambda it: Refusal("the primary key is missing or no text, or would be another"),
     "twice": lambda it: Refusal(f"the key {shown(it.key())} stands twice", it.key()),
+    "update": update,
+    "vetoed": lambda it: Refusal(f"the hook {it.name} vetoes it", it.key()),
+    "no_hook": lambda it: Refusal(
+        f"hook {shown(it.line.get('hook'))} is none of count, zero and lock, or doesn't go by "
+        f"{shown(it.line.get('field'))}",
+        it.line.get("hook"),
+    ),
 }

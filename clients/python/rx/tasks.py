@@ -7,7 +7,7 @@ from collections.abc import AsyncIterator, Generator, Iterable, Sequence
 from typing import Any, TypeVar
 
 from . import calls, program as programs
-from .calls import Call, Changes, Digest, Document, Fields, Json, Object, Stored, Turn
+from .calls import Call, Changes, Digest, Document, Fields, Hook, Json, Object, Stored, Turn
 from .faults import Refused, Stopped
 from .following import Account, SyncStatus
 from .lines import Answer, Clock, Lines, Newest, closed, now
@@ -52,10 +52,15 @@ class AsyncDatabase:
     async def __aexit__(self, *_: object) -> None:
         await self.close()
 
-    async def collection(self, name: str, schema: Object | None = None) -> AsyncCollection:
+    async def collection(
+        self, name: str, schema: Object | None = None, hooks: Iterable[Hook] = ()
+    ) -> AsyncCollection:
         self._insist_on_open()
         new = None if schema is None else await self.ask(calls.collection(name, schema))
-        return AsyncCollection(self, name, new)
+        collection = AsyncCollection(self, name, new)
+        for hook in self._lines.hooks_of(name, hooks):
+            await collection.hook(*hook)
+        return collection
 
     async def replicate(
         self,
@@ -209,8 +214,14 @@ class AsyncCollection:
     async def patch(self, key: str, set: Fields, rev: str | None = None) -> str:
         return await self._db.ask(calls.patch(self.name, key, set, rev))
 
+    async def update(self, key: str, update: Object, rev: str | None = None) -> str:
+        return await self._db.ask(calls.update(self.name, key, update, rev))
+
     async def remove(self, key: str, rev: str | None = None) -> str:
         return await self._db.ask(calls.remove(self.name, key, rev))
+
+    async def hook(self, when: str, hook: str, field: str) -> None:
+        await self._db.ask(calls.hook(self.name, when, hook, field))
 
     async def get(self, key: str) -> Stored:
         return await self._db.ask(calls.get(self.name, key))

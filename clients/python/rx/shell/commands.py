@@ -169,6 +169,14 @@ def patch(shell: Shell, text: str) -> None:
     shell.show.words(collection.patch(key, value(rest, "the fields")))
 
 
+@command("update", "COLLECTION KEY {OPERATORS}")
+def update(shell: Shell, text: str) -> None:
+    """changes a document by operators, {"$inc": {"n": 1}}"""
+    collection, rest = shell.collection(text)
+    key, rest = word(rest, "the key")
+    shell.show.words(collection.update(key, value(rest, "the operators")))
+
+
 @command("remove", "COLLECTION KEY")
 def remove(shell: Shell, text: str) -> None:
     """removes a document"""
