@@ -29,3 +29,4 @@ pub mod AfterCalls
 pub mod Hearing
 pub mod Staging
 pub mod Committing
+pub mod Ahead

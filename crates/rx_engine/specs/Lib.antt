@@ -22,4 +22,5 @@ pub mod Callings
 pub mod Opening
 pub mod Engine
 pub mod Hearing
+pub mod Ahead
 pub mod SoundSession

@@ -96,7 +96,7 @@ impl Engine {
     {
         match doing {
             Doing::Write(entry) => self.write_record(alloc, disk, entry),
-            doing => Ok(self.change_alone(alloc, doing)?),
+            doing => Ok(self.change(alloc, doing)?),
         }
     }
 
@@ -147,15 +147,15 @@ impl Engine {
         Ok((engine, emissions))
     }
 
-    // The engine after something that writes no record was done to its session, and the emissions
-    // that are due then.
-    fn change_alone(
+    /// The engine after something was done to its session, whose record, where it has one, is the
+    /// journal's already; and the emissions that are due then.
+    pub(crate) fn change(
         self,
         alloc: Global,
         doing: Doing,
     ) -> Result<(Engine, Vec<Emission>), AllocError>
         requires may { MayDo (done_by doing) (session_of self) }
-        requires none { records_of (done_by doing) ≡ [] }
+        requires apart { WritesNoExchange (done_by doing) }
         ensures session { IfOk result (λ p. session_of p.0
             ≡ settled_session (session_after (done_by doing) (session_of self))) }
         ensures emissions { IfOk result (λ p. p.1.items

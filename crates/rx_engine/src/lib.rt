@@ -13,6 +13,7 @@ mod documents;
 mod engine;
 mod exchanging;
 mod fault;
+mod grouping;
 mod hooking;
 mod judging;
 mod listing;
@@ -33,4 +34,5 @@ mod turning;
 mod writes;
 
 pub use engine::Engine;
+pub use grouping::Staged;
 pub use output::Output;

@@ -5,13 +5,14 @@ use Rattle.rx_session.specs.Session.{Session}
 use Rattle.rx_session.specs.Shown.{done_by}
 use Rattle.rx_world.specs.Made.{IsMadeWorld}
 use Rattle.rx_world.specs.Sound.{IsSoundWorld}
-use Rattle.rx_world.specs.World.{World}
 use Rattle.rx_engine.specs.Engine.{asks_in, session_of}
 use Rattle.rx_engine.specs.Marks.{AreMarked}
 use Rattle.rx_engine.specs.Remembered.{AreRemembered}
 use Rattle.rx_engine.specs.SoundSession.{SessionWithAsks}
-use Rattle.rx_engine.proofs.Keeping.{world_kept}
-use Rattle.rx_engine.proofs.engine.Engine.change_alone.Goals as goal
+use Rattle.rx_engine.proofs.Keeping.{made_then, sound_then}
+use Rattle.rx_engine.proofs.Marking.{marked_doing}
+use Rattle.rx_engine.proofs.Remembering.{remembered_doing}
+use Rattle.rx_engine.proofs.engine.Engine.change.Goals as goal
 
 pub next-requires : goal.next-requires
 unfolding session_of
@@ -19,45 +20,52 @@ next-requires c =
     subst (λ (s : Session). MayDo (done_by c.args.doing) s) (sym c.release-parts.ensures.same)
     c.requires.may
 
--- the session's world is the one before
+-- the session's world stays one that records made, and sound
 pub new-requires-clause-made : goal.new-requires-clause-made
 unfolding session_of
 new-requires-clause-made c =
     let doing = done_by c.args.doing in
-    let world = ap (λ (s : Session). s.world) (c.in_ok-session.ensures.session
-    ∙ ap (λ (s : Session). settled_session (session_after doing s)) c.release-parts.ensures.same)
-    ∙ world_kept doing c.args.self.session.session c.requires.none in
-    subst IsMadeWorld (sym world) c.release-parts.ensures.made
+    let s = c.args.self.session.session in
+    let then = c.in_ok-session.ensures.session
+    ∙ ap (λ (x : Session). settled_session (session_after doing x)) c.release-parts.ensures.same in
+    subst (λ (x : Session). IsMadeWorld x.world) (sym then)
+    (made_then doing s c.requires.may c.release-parts.ensures.made)
 
 pub new-requires-clause-sound : goal.new-requires-clause-sound
 unfolding session_of
 new-requires-clause-sound c =
     let doing = done_by c.args.doing in
-    let world = ap (λ (s : Session). s.world) (c.in_ok-session.ensures.session
-    ∙ ap (λ (s : Session). settled_session (session_after doing s)) c.release-parts.ensures.same)
-    ∙ world_kept doing c.args.self.session.session c.requires.none in
-    subst IsSoundWorld (sym world) c.release-parts.ensures.sound
+    let s = c.args.self.session.session in
+    let parts = c.release-parts.ensures in
+    let then = c.in_ok-session.ensures.session
+    ∙ ap (λ (x : Session). settled_session (session_after doing x)) parts.same in
+    subst (λ (x : Session). IsSoundWorld x.world) (sym then)
+    (sound_then doing s c.requires.may c.requires.apart parts.made parts.sound)
 
 pub new-requires-clause-remembered : goal.new-requires-clause-remembered
 unfolding session_of
 new-requires-clause-remembered c =
     let doing = done_by c.args.doing in
-    let world = ap (λ (s : Session). s.world) (c.in_ok-session.ensures.session
-    ∙ ap (λ (s : Session). settled_session (session_after doing s)) c.release-parts.ensures.same)
-    ∙ world_kept doing c.args.self.session.session c.requires.none in
-    subst (AreRemembered c.in_ok-session.session.world) (sym c.release-parts.ensures.asks)
-    (subst (λ (w : World). AreRemembered w c.args.self.session.asks) (sym world)
-    c.release-parts.ensures.remembered)
+    let s = c.args.self.session.session in
+    let asks = c.args.self.session.asks in
+    let parts = c.release-parts.ensures in
+    let then = c.in_ok-session.ensures.session
+    ∙ ap (λ (x : Session). settled_session (session_after doing x)) parts.same in
+    subst (AreRemembered c.in_ok-session.session.world) (sym parts.asks)
+    (subst (λ (x : Session). AreRemembered x.world asks) (sym then)
+    (remembered_doing doing s asks c.requires.may parts.remembered))
 
 pub new-requires-clause-marked : goal.new-requires-clause-marked
 unfolding session_of
 new-requires-clause-marked c =
     let doing = done_by c.args.doing in
-    let world = ap (λ (s : Session). s.world) (c.in_ok-session.ensures.session
-    ∙ ap (λ (s : Session). settled_session (session_after doing s)) c.release-parts.ensures.same)
-    ∙ world_kept doing c.args.self.session.session c.requires.none in
-    subst (λ (w : World). AreMarked w c.release-parts.result.2) (sym world)
-    c.release-parts.ensures.marked
+    let s = c.args.self.session.session in
+    let marks = c.release-parts.result.2 in
+    let parts = c.release-parts.ensures in
+    let then = c.in_ok-session.ensures.session
+    ∙ ap (λ (x : Session). settled_session (session_after doing x)) parts.same in
+    subst (λ (x : Session). AreMarked x.world marks) (sym then)
+    (marked_doing doing s marks c.requires.may c.requires.apart parts.marked)
 
 pub returns-clause-session : goal.returns-clause-session
 unfolding session_of
