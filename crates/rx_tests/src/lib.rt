@@ -19,6 +19,8 @@ mod endless;
 #[cfg(test)]
 mod explained;
 #[cfg(test)]
+mod groups;
+#[cfg(test)]
 mod hashes;
 mod headline;
 #[cfg(test)]

@@ -128,8 +128,8 @@ fn try_picks(alloc: Global, kind: &str, ran: &Ran, call: u64, due: [usize; 2]) -
     Ok(())
 }
 
-// Of how many lines the records stand in what a stop left, by the report once an empty script ended.
-fn lines_standing(alloc: Global, ran: &Ran, call: u64, pick: &[u8]) -> Result<usize, Fail> {
+/// Of how many lines the records stand in what a stop left, by the report once an empty script ended.
+pub fn lines_standing(alloc: Global, ran: &Ran, call: u64, pick: &[u8]) -> Result<usize, Fail> {
     let empty = run_again(alloc, ran, call, pick)?;
     if empty.came_to(0, "") {
         return lines_reported(alloc, empty.disk.bytes());

@@ -52,6 +52,12 @@ impl<'a> Setting<'a> {
         peers: "",
         masters: "",
     };
+
+    /// The same, where no two lines are read together.
+    pub const BYTEWISE: Setting<'static> = Setting {
+        piece: 1,
+        ..Setting::PLAIN
+    };
 }
 
 /// The status of a run, what it wrote, what its peers and then its masters were sent, and the disk

@@ -37,7 +37,7 @@ fn a_failing_source_ends_the_run_after_the_lines_that_were_whole(
 #[test]
 fn a_failing_sink_ends_the_run_with_a_front_of_what_is_due(rt: HostRuntime) -> Result<(), Fail> {
     for failing in 1..4 {
-        let ran = run_failing(rt.alloc(), failing, Setting::PLAIN)?;
+        let ran = run_failing(rt.alloc(), failing, Setting::BYTEWISE)?;
         compare_front(&ran)?;
     }
     Ok(())

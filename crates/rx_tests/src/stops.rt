@@ -51,8 +51,17 @@ fn play(alloc: Global, lines: &[(&str, &str)], setting: &Setting<'_>) -> Result<
     run(alloc, setting, RUN, script.as_str().as_bytes(), &[])
 }
 
-/// The run of these lines whose disk fails at this call.
+/// The run of these lines, each read by itself, whose disk fails at this call.
 pub fn play_failing(alloc: Global, lines: &[(&str, &str)], call: u64) -> Result<Ran, AllocError> {
+    let setting = Setting {
+        disk_fails: &[call],
+        ..Setting::BYTEWISE
+    };
+    play(alloc, lines, &setting)
+}
+
+/// The same, where all lines are read together.
+pub fn play_together(alloc: Global, lines: &[(&str, &str)], call: u64) -> Result<Ran, AllocError> {
     let setting = Setting {
         disk_fails: &[call],
         ..Setting::PLAIN
@@ -230,7 +239,7 @@ fn try_sink(alloc: Global, line: u64, due: usize) -> Result<(), Fail> {
 fn play_refused(alloc: Global, line: u64) -> Result<Ran, AllocError> {
     let setting = Setting {
         write_fails: &[line],
-        ..Setting::PLAIN
+        ..Setting::BYTEWISE
     };
     play(alloc, &LINES, &setting)
 }

@@ -8,7 +8,7 @@ use Rattle.rx_store.proofs.Growing.{grows_on}
 use Rattle.rx_frame.specs.File.{end_of}
 use Rattle.rx_outside.specs.declared.stop.Stop.{Stop}
 use Rattle.rx_outside.specs.declared.stop.Stop.TheVariants.{Full}
-use Rattle.rx_top.specs.Chunks.{Keeps, Steps, ahead, all_of}
+use Rattle.rx_top.specs.Chunks.{AreCommitted, AreGrouped, Grouping, Keeps, Steps, ahead, all_of, in_groups, singly}
 use Rattle.rx_top.specs.Start.{StaysLegal}
 
 -- this very moment is the only one since itself
@@ -31,16 +31,77 @@ pub all_of-push : (cs : List (List (List ℕ))) (c : List (List ℕ))
 all_of-push cs c = all_of-append cs (c ∷ [])
     ∙ ap (λ (bs : List (List ℕ)). all_of cs ++ bs) (append-nil c)
 
+-- ---- groups
+
+-- groups have the bodies of their chunks
+pub grouped_all : (cs gs : List (List (List ℕ))) → AreGrouped cs gs → all_of gs ≡ all_of cs
+grouped_all cs [] none = ap all_of (sym none)
+grouped_all cs (g ∷ gs) is =
+    ap (λ (bs : List (List ℕ)). bs ++ all_of gs) is.3
+    ∙ ap (λ (bs : List (List ℕ)). all_of is.0 ++ bs) (grouped_all is.1 gs is.4)
+    ∙ sym (all_of-append is.0 is.1) ∙ ap all_of (sym is.2)
+
+-- a group more
+pub grouped-push : (cs gs more : List (List (List ℕ))) → AreGrouped cs gs
+    → AreGrouped (cs ++ more) (gs ++ all_of more ∷ [])
+grouped-push cs [] more none = (
+  more,
+  [],
+  ap (λ (x : List (List (List ℕ))). x ++ more) none ∙ sym (append-nil more),
+  refl,
+  refl,
+)
+grouped-push cs (g ∷ gs) more is = (
+  is.0,
+  is.1 ++ more,
+  ap (λ (x : List (List (List ℕ))). x ++ more) is.2 ∙ append_assoc is.0 is.1 more,
+  is.3,
+  grouped-push is.1 gs more is.4,
+)
+
+-- a chunk by itself in front
+pub grouped_behind : (c : List (List ℕ)) (cs gs : List (List (List ℕ))) → AreGrouped cs gs
+    → AreGrouped (c ∷ cs) (c ∷ gs)
+grouped_behind c cs gs is = (c ∷ [], cs, refl, sym (append-nil c), is)
+
+-- ---- groups of one chunk, or of some
+
+pub committed_none : (by : Grouping) → AreCommitted by [] []
+committed_none singly = refl
+committed_none in_groups = refl
+
+-- they have the bodies of their chunks
+pub committed_all : (by : Grouping) (cs gs : List (List (List ℕ))) → AreCommitted by cs gs
+    → all_of gs ≡ all_of cs
+committed_all singly cs gs is = ap all_of is
+committed_all in_groups cs gs is = grouped_all cs gs is
+
+-- a chunk more, by itself
+pub committed-push : (by : Grouping) (cs gs : List (List (List ℕ))) (c : List (List ℕ))
+    → AreCommitted by cs gs → AreCommitted by (cs ++ c ∷ []) (gs ++ all_of (c ∷ []) ∷ [])
+committed-push singly cs gs c is =
+    ap (λ (x : List (List (List ℕ))). x ++ all_of (c ∷ []) ∷ []) is
+    ∙ ap (λ (bs : List (List ℕ)). cs ++ bs ∷ []) (append-nil c)
+committed-push in_groups cs gs c is = grouped-push cs gs (c ∷ []) is
+
+pub committed_behind : (by : Grouping) (c : List (List ℕ)) (cs gs : List (List (List ℕ)))
+    → AreCommitted by cs gs → AreCommitted by (c ∷ cs) (c ∷ gs)
+committed_behind singly c cs gs is = ap (λ (x : List (List (List ℕ))). c ∷ x) is
+committed_behind in_groups c cs gs is = grouped_behind c cs gs is
+
 -- chunks were kept from one disk to another, and each image has all of them
 pub record Kept
     {D : Type 0}
+    (by : Grouping)
     (d : Ghosts D)
     (d0 d1 : D)
     (bodies : List (List ℕ))
     (chunks : List (List (List ℕ)))
     (limit : ℕ) : Type 0 where
   pub moments : GrowsLegally d d0 d1 bodies (all_of chunks)
-  pub steps : Steps d d0 d1 bodies chunks
+  pub groups : List (List (List ℕ))
+  pub committed : AreCommitted by chunks groups
+  pub steps : Steps d d0 d1 bodies groups
   pub sure : Leaves d d1 (bodies ++ all_of chunks) []
   pub fits : end_of (bodies ++ all_of chunks) ≤ limit
 
@@ -64,14 +125,17 @@ module _ {D : Type 0} (d : Ghosts D) where
     now = leaves_then d0 d1 bodies more grows counts;
   }
 
+module _ {D : Type 0} (by : Grouping) (d : Ghosts D) where
   -- no chunk yet
   pub kept_none : (disk : D) (bodies : List (List ℕ)) (limit : ℕ) → OnlyNow d disk
-      → Leaves d disk bodies [] → end_of bodies ≤ limit → Kept d disk disk bodies [] limit
+      → Leaves d disk bodies [] → end_of bodies ≤ limit → Kept by d disk disk bodies [] limit
   kept_none disk bodies limit only_now leaves fits =
-      let here = still disk bodies only_now leaves in
+      let here = still d disk bodies only_now leaves in
       let same = sym (append-nil bodies) in
       record {
         moments = here;
+        groups = [];
+        committed = committed_none by;
         steps = here;
         sure = subst (λ (bs : List (List ℕ)). Leaves d disk bs []) same leaves;
         fits = subst (λ (bs : List (List ℕ)). end_of bs ≤ limit) same fits;
@@ -96,38 +160,65 @@ module _ {D : Type 0} (d : Ghosts D) where
             (λ bs e. after bs (e ∙ ap (λ (v : List (List ℕ)). v ++ c) (sym same))),
       )
 
-  -- a chunk more
-  pub kept_more : (d0 d1 d2 : D) (bodies : List (List ℕ)) (cs : List (List (List ℕ)))
-      (c : List (List ℕ)) (limit : ℕ) → Kept d d0 d1 bodies cs limit
-      → GrowsLegally d d1 d2 (bodies ++ all_of cs) c
-      → Leaves d d2 ((bodies ++ all_of cs) ++ c) []
-      → end_of ((bodies ++ all_of cs) ++ c) ≤ limit → OnlyNow d d2
-      → Kept d d0 d2 bodies (cs ++ c ∷ []) limit
-  kept_more d0 d1 d2 bodies cs c limit so_far grows leaves fits only_now =
-      let same : (bodies ++ all_of cs) ++ c ≡ bodies ++ all_of (cs ++ c ∷ []) =
-      append_assoc bodies (all_of cs) c
-      ∙ ap (λ (bs : List (List ℕ)). bodies ++ bs) (sym (all_of-push cs c)) in
+  -- chunks more that were committed together
+  kept_on : (d0 d1 d2 : D) (bodies : List (List ℕ)) (cs more : List (List (List ℕ)))
+      (limit : ℕ) → (so_far : Kept by d d0 d1 bodies cs limit)
+      → AreCommitted by (cs ++ more) (so_far.groups ++ all_of more ∷ [])
+      → GrowsLegally d d1 d2 (bodies ++ all_of cs) (all_of more)
+      → Leaves d d2 ((bodies ++ all_of cs) ++ all_of more) []
+      → end_of ((bodies ++ all_of cs) ++ all_of more) ≤ limit → OnlyNow d d2
+      → Kept by d d0 d2 bodies (cs ++ more) limit
+  kept_on d0 d1 d2 bodies cs more limit so_far together_now grows leaves fits only_now =
+      let together = all_of-append cs more in
+      let same : (bodies ++ all_of cs) ++ all_of more ≡ bodies ++ all_of (cs ++ more) =
+      append_assoc bodies (all_of cs) (all_of more)
+      ∙ ap (λ (bs : List (List ℕ)). bodies ++ bs) (sym together) in
+      let gs = so_far.groups in
+      let as_groups : bodies ++ all_of cs ≡ bodies ++ all_of gs =
+      ap (λ (bs : List (List ℕ)). bodies ++ bs) (sym (committed_all by cs gs so_far.committed)) in
       record {
         moments =
-            subst (λ (bs : List (List ℕ)). GrowsLegally d d0 d2 bodies bs) (sym (all_of-push cs c))
-            (grows_on d d0 d1 d2 bodies (all_of cs) c so_far.moments grows);
-        steps = steps-push d0 d1 d2 bodies cs c so_far.steps grows
-            (λ bs e. still d2 bs only_now
-            (subst (λ (v : List (List ℕ)). Leaves d d2 v []) (sym e) leaves));
+            subst (λ (bs : List (List ℕ)). GrowsLegally d d0 d2 bodies bs) (sym together)
+            (grows_on d d0 d1 d2 bodies (all_of cs) (all_of more) so_far.moments grows);
+        groups = gs ++ all_of more ∷ [];
+        committed = together_now;
+        steps = steps-push d0 d1 d2 bodies gs (all_of more) so_far.steps
+            (subst (λ (bs : List (List ℕ)). GrowsLegally d d1 d2 bs (all_of more)) as_groups grows)
+            (λ bs e. still d d2 bs only_now
+            (subst (λ (v : List (List ℕ)). Leaves d d2 v [])
+            (ap (λ (v : List (List ℕ)). v ++ all_of more) as_groups ∙ sym e) leaves));
         sure = subst (λ (bs : List (List ℕ)). Leaves d d2 bs []) same leaves;
         fits = subst (λ (bs : List (List ℕ)). end_of bs ≤ limit) same fits;
       }
 
+  -- a chunk more, by itself
+  pub kept_more : (d0 d1 d2 : D) (bodies : List (List ℕ)) (cs : List (List (List ℕ)))
+      (c : List (List ℕ)) (limit : ℕ) → Kept by d d0 d1 bodies cs limit
+      → GrowsLegally d d1 d2 (bodies ++ all_of cs) c
+      → Leaves d d2 ((bodies ++ all_of cs) ++ c) []
+      → end_of ((bodies ++ all_of cs) ++ c) ≤ limit → OnlyNow d d2
+      → Kept by d d0 d2 bodies (cs ++ c ∷ []) limit
+  kept_more d0 d1 d2 bodies cs c limit so_far grows leaves fits only_now =
+      let one : c ≡ all_of (c ∷ []) = sym (append-nil c) in
+      let before = bodies ++ all_of cs in
+      kept_on d0 d1 d2 bodies cs (c ∷ []) limit so_far
+      (committed-push by cs so_far.groups c so_far.committed)
+      (subst (λ (bs : List (List ℕ)). GrowsLegally d d1 d2 before bs) one grows)
+      (subst (λ (bs : List (List ℕ)). Leaves d d2 (before ++ bs) []) one leaves)
+      (subst (λ (bs : List (List ℕ)). end_of (before ++ bs) ≤ limit) one fits) only_now
+
   -- no work stopped, so nothing is ahead of the chunks
   pub keeps_all : (d0 d1 : D) (bodies : List (List ℕ)) (cs : List (List (List ℕ)))
-      (next : List (List ℕ)) (limit : ℕ) → Kept d d0 d1 bodies cs limit → OnlyNow d d1
-      → Keeps d d0 d1 bodies cs next limit None
+      (next : List (List ℕ)) (limit : ℕ) → Kept by d d0 d1 bodies cs limit → OnlyNow d d1
+      → Keeps by d d0 d1 bodies cs next limit None
   keeps_all d0 d1 bodies cs next limit so_far only_now = record {
     moments = subst (λ (bs : List (List ℕ)). GrowsLegally d d0 d1 bodies bs)
         (sym (append-nil (all_of cs))) so_far.moments;
+    groups = so_far.groups;
+    committed = so_far.committed;
     mid = d1;
     steps = so_far.steps;
-    last = still d1 (bodies ++ all_of cs) only_now so_far.sure;
+    last = still d d1 (bodies ++ all_of cs) only_now so_far.sure;
     sure = so_far.sure;
     fits = inr so_far.fits;
     full = λ would most is. cc;
@@ -135,17 +226,19 @@ module _ {D : Type 0} (d : Ghosts D) where
 
   -- work on the next chunk stopped
   pub keeps_stopped : (d0 d1 d2 : D) (bodies : List (List ℕ)) (cs : List (List (List ℕ)))
-      (next : List (List ℕ)) (limit : ℕ) (why : Stop) → Kept d d0 d1 bodies cs limit
+      (next : List (List ℕ)) (limit : ℕ) (why : Stop) → Kept by d d0 d1 bodies cs limit
       → GrowsLegally d d1 d2 (bodies ++ all_of cs) next → CountsNow d d2
       → ((would most : ℕ) → why ≡ Full would most
       → (most ≡ limit) × IsFull d d2 (bodies ++ all_of cs) next would most)
-      → Keeps d d0 d2 bodies cs next limit (Some why)
+      → Keeps by d d0 d2 bodies cs next limit (Some why)
   keeps_stopped d0 d1 d2 bodies cs next limit why so_far grows counts full = record {
     moments = grows_on d d0 d1 d2 bodies (all_of cs) next so_far.moments grows;
+    groups = so_far.groups;
+    committed = so_far.committed;
     mid = d1;
     steps = so_far.steps;
     last = grows;
-    sure = leaves_then d1 d2 (bodies ++ all_of cs) next grows counts;
+    sure = leaves_then d d1 d2 (bodies ++ all_of cs) next grows counts;
     fits = inr so_far.fits;
     full = λ would most is. full would most cc;
   }
@@ -153,8 +246,8 @@ module _ {D : Type 0} (d : Ghosts D) where
   -- a chunk stands before those that were kept
   pub keeps_behind : (d0 d1 d2 : D) (bodies c : List (List ℕ)) (cs : List (List (List ℕ)))
       (next : List (List ℕ)) (limit : ℕ) (stop : Option Stop) → GrowsLegally d d0 d1 bodies c
-      → Keeps d d1 d2 (bodies ++ c) cs next limit stop → end_of (bodies ++ c) ≤ limit
-      → Keeps d d0 d2 bodies (c ∷ cs) next limit stop
+      → Keeps by d d1 d2 (bodies ++ c) cs next limit stop → end_of (bodies ++ c) ≤ limit
+      → Keeps by d d0 d2 bodies (c ∷ cs) next limit stop
   keeps_behind d0 d1 d2 bodies c cs next limit stop grows k fits =
       let more = ahead stop next in
       let same : (bodies ++ c) ++ all_of cs ≡ bodies ++ (c ++ all_of cs) =
@@ -163,6 +256,8 @@ module _ {D : Type 0} (d : Ghosts D) where
         moments = subst (λ (bs : List (List ℕ)). GrowsLegally d d0 d2 bodies bs)
             (sym (append_assoc c (all_of cs) more))
             (grows_on d d0 d1 d2 bodies c (all_of cs ++ more) grows k.moments);
+        groups = c ∷ k.groups;
+        committed = committed_behind by c cs k.groups k.committed;
         mid = k.mid;
         steps = (d1, grows, k.steps);
         last = subst (λ (bs : List (List ℕ)). GrowsLegally d k.mid d2 bs more) same k.last;
@@ -180,3 +275,14 @@ module _ {D : Type 0} (d : Ghosts D) where
       alone : cs ≡ [] → bodies ++ c ≡ bodies ++ (c ++ all_of cs)
       alone none = ap (λ (bs : List (List ℕ)). bodies ++ bs) (sym (append-nil c))
           ∙ ap (λ (ds : List (List (List ℕ))). bodies ++ (c ++ all_of ds)) (sym none)
+
+-- a group of chunks more
+pub kept_group : {D : Type 0} (d : Ghosts D) (d0 d1 d2 : D) (bodies : List (List ℕ))
+    (cs more : List (List (List ℕ))) (limit : ℕ) → Kept in_groups d d0 d1 bodies cs limit
+    → GrowsLegally d d1 d2 (bodies ++ all_of cs) (all_of more)
+    → Leaves d d2 ((bodies ++ all_of cs) ++ all_of more) []
+    → end_of ((bodies ++ all_of cs) ++ all_of more) ≤ limit → OnlyNow d d2
+    → Kept in_groups d d0 d2 bodies (cs ++ more) limit
+kept_group d d0 d1 d2 bodies cs more limit so_far grows leaves fits only_now =
+    kept_on in_groups d d0 d1 d2 bodies cs more limit so_far
+    (grouped-push cs so_far.groups more so_far.committed) grows leaves fits only_now

@@ -15,11 +15,11 @@ use Rattle.rx_outside.specs.Sink.{WritesFront}
 use Rattle.rx_outside.specs.declared.stop.Stop.{Stop}
 use Rattle.rx_outside.specs.declared.stop.Stop.TheVariants.{Memory}
 use Rattle.rx_sync.specs.Remote.{Heard}
-use Rattle.rx_top.specs.Chunks.{Keeps, all_of}
+use Rattle.rx_top.specs.Chunks.{Keeps, all_of, in_groups}
 use Rattle.rx_top.specs.Hears.{HearsAll, HearsLines, IsShownAt}
 use Rattle.rx_top.specs.Lines.{is_blank, lines}
 use Rattle.rx_top.specs.Reader.{Takes, TakesKept, StopsWithin, Took, max_input_bytes}
-use Rattle.rx_top.specs.Run.{KeepsFrom, Plays, Reads, Writes, stop_of}
+use Rattle.rx_top.specs.Run.{KeepsFrom, Plays, Reads, Writes, due_then, stop_of}
 use Rattle.rx_top.specs.Script.{line_effect}
 use Rattle.rx_top.specs.Story.{EachLine, Effect, chunks, next_chunk, replies, state_after}
 use Rattle.rx_top.specs.Work.{HasAll, work_of}
@@ -31,6 +31,7 @@ use Rattle.rx_top.specs.declared.early_end.ReadFault.TheVariants as fault
 use Rattle.rx_top.specs.declared.reader.Next.{Next}
 use Rattle.rx_top.specs.declared.reader.Next.TheVariants.{Line, Last, End}
 use Rattle.rx_top.proofs.Chunks.{CountsNow, Kept, OnlyNow, all_of-push, keeps_all, keeps_stopped, kept_more, kept_none}
+use Rattle.rx_top.proofs.Due.{due_full, due_grows}
 use Rattle.rx_top.proofs.Hears.{hears_push, nothing_last, then_shown}
 use Rattle.rx_top.proofs.Kept.{kept_effect, kept_shown, kept_turn, kept_unharmed}
 use Rattle.rx_top.proofs.Story.{SoFar, none_yet, line_more, lines_more, rest_lines, lines_last, lines_next, begun, refused_more, replies-push, chunks-push, each-push, state_after-push}
@@ -98,7 +99,7 @@ pub images_at : {D : Type 0} (d : Ghosts D) (disk : D) (e : Engine) (bodies : Li
     → IsAt d disk e bodies → ImagesStandFor d disk bodies
 images_at d disk e bodies at = held_alike d disk e.journal bodies (session_of e).world at
 
-leaves_all : {D : Type 0} (d : Ghosts D) (disk : D) (x : Option Engine) (bodies : List (List ℕ))
+pub leaves_all : {D : Type 0} (d : Ghosts D) (disk : D) (x : Option Engine) (bodies : List (List ℕ))
     → HasAll d disk x bodies → Leaves d disk bodies []
 leaves_all d disk None bodies all = all
 leaves_all d disk (Some e) bodies all = leaves_at d disk e bodies [] all
@@ -134,7 +135,7 @@ pub record Along
       → IsAt d d1 engine (bodies ++ all_of (chunks line_effect 1 (cut bytes).whole s0))
   pub kept : d.tells → (bodies : List (List ℕ)) → IsAt d d0 first bodies
       → end_of bodies ≤ limit_of first
-      → Kept d d0 d1 bodies (chunks line_effect 1 (cut bytes).whole s0) (limit_of first)
+      → Kept in_groups d d0 d1 bodies (chunks line_effect 1 (cut bytes).whole s0) (limit_of first)
 
 pub begins : (s0 : Standing) {D : Type 0} (d : Ghosts D) (k_tells wires : Type 0) (disk : D)
     (dial : DialStanding) (first : Engine) (w input unread : List ℕ) → unread ≡ []
@@ -152,7 +153,7 @@ begins s0 d k_tells wires disk dial first w input unread none only_now = record 
   hears = refl;
   at = λ t bodies at. subst (λ (bs : List (List ℕ)). IsAt d disk first bs) (sym (append-nil bodies))
       at;
-  kept = λ t bodies at le. kept_none d disk bodies (limit_of first) (only_now t)
+  kept = λ t bodies at le. kept_none in_groups d disk bodies (limit_of first) (only_now t)
       (leaves_at d disk first bodies [] at) le;
 }
 
@@ -166,14 +167,14 @@ pub ends : (s : Standing) {D : Type 0} (d : Ghosts D) (d0 d1 : D) (tells wires :
     → Reads line_effect ended input left ls rest s
     → (tells → Writes ended w0 w1 (replies line_effect 1 ls s))
     → (d.tells → (bodies : List (List ℕ)) → IsAt d d0 first bodies → end_of bodies ≤ limit_of first
-    → Kept d d0 d1 bodies (chunks line_effect 1 ls s) (limit_of first))
+    → Kept in_groups d d0 d1 bodies (chunks line_effect 1 ls s) (limit_of first))
     → (d.tells → OnlyNow d d1)
     → Plays line_effect HoldsOfTurn tells w0 w1 input left s ended (HearsAll wires s n0 n1 ended)
-    (KeepsFrom s d d0 d1 first ended)
+    (KeepsFrom in_groups s d d0 d1 first ended)
 ends s d d0 d1 tells wires n0 n1 w0 w1 first ls rest input left ended none whole each hears reads
     writes kept only_now =
     let cs = chunks line_effect 1 ls s in
-    let next = next_chunk line_effect (length ls + 1) rest (state_after line_effect 1 ls s) in
+    let next = due_then in_groups (stop_of ended) (length ls + 1) rest (state_after line_effect 1 ls s) in
     record {
       done = ls;
       rest = rest;
@@ -183,8 +184,8 @@ ends s d d0 d1 tells wires n0 n1 w0 w1 first ls rest input left ended none whole
       writes = writes;
       shown = hears;
       kept = λ t bodies at le.
-          subst (λ stop. Keeps d d0 d1 bodies cs next (limit_of first) stop) (sym none)
-          (keeps_all d d0 d1 bodies cs next (limit_of first) (kept t bodies at le) (only_now t));
+          subst (λ stop. Keeps in_groups d d0 d1 bodies cs next (limit_of first) stop) (sym none)
+          (keeps_all in_groups d d0 d1 bodies cs next (limit_of first) (kept t bodies at le) (only_now t));
     }
 
 -- ---- the reader stopped
@@ -259,13 +260,13 @@ module _
     abbrev Ends : D → DialStanding → List ℕ → List ℕ → Result Bool EarlyEnd → Type 0
     Ends d2 n2 w2 left ended =
         Plays line_effect HoldsOfTurn k_tells w0 w2 input left s0 ended
-        (HearsAll wires s0 n0 n2 ended) (KeepsFrom s0 d d0 d2 first ended)
+        (HearsAll wires s0 n0 n2 ended) (KeepsFrom in_groups s0 d d0 d2 first ended)
 
     -- the lines so far, and more
     abbrev KeptAt : D → List (List ℕ) → Type 0
     KeptAt d2 done =
         d.tells → (bodies : List (List ℕ)) → IsAt d d0 first bodies → end_of bodies ≤ limit_of first
-        → Kept d d0 d2 bodies (chunks line_effect 1 done s0) (limit_of first)
+        → Kept in_groups d d0 d2 bodies (chunks line_effect 1 done s0) (limit_of first)
 
     to_come : lines input ≡ ls ++ lines rest
     to_come = rest_lines line_effect a.bytes input rest n r s0 s1 a.so
@@ -428,9 +429,9 @@ module _
             (safe t before here) in
             let within : end_of before ≤ limit_of engine =
             subst (λ (k : ℕ). end_of before ≤ k) (sym a.limit) so_far.fits in
-            subst (λ (ds : List (List (List ℕ))). Kept d d0 d2 bodies ds (limit_of first))
+            subst (λ (ds : List (List (List ℕ))). Kept in_groups d d0 d2 bodies ds (limit_of first))
             (sym chunks_line)
-            (kept_more d d0 d1 d2 bodies cs m.bodies (limit_of first) so_far
+            (kept_more in_groups d d0 d1 d2 bodies cs m.bodies (limit_of first) so_far
             (done.moments (images_at d d1 engine before here))
             (leaves_all d d2 x (before ++ m.bodies) done.at)
             (subst (λ (k : ℕ). end_of (before ++ m.bodies) ≤ k) a.limit
@@ -487,14 +488,17 @@ module _
               let before = bodies ++ all_of cs in
               let here = a.at t bodies at in
               let stopped = safe t before here in
-              keeps_stopped d d0 d1 d2 bodies cs _ (limit_of first) why (a.kept t bodies at le)
+              let then = state_after line_effect 1 ls s0 in
+              keeps_stopped in_groups d d0 d1 d2 bodies cs _ (limit_of first) why (a.kept t bodies at le)
+              (due_grows d d1 d2 before (length ls + 1) l stands.0 then why
               (subst (λ (bs : List (List ℕ)). GrowsLegally d d1 d2 before bs) due
-              (stopped.moments (images_at d d1 engine before here)))
+              (stopped.moments (images_at d d1 engine before here))))
               (counts_now t)
               (λ would most is.
               let found = stopped.full would most (ap (λ (v : Stop). Err v) is) in (
                 found.0 ∙ a.limit,
-                subst (λ (bs : List (List ℕ)). IsFull d d2 before bs would most) due found.1,
+                due_full d d1 d2 before (length ls + 1) l stands.0 then why would most is
+                    (subst (λ (bs : List (List ℕ)). IsFull d d2 before bs would most) due found.1),
               ));
         }
 

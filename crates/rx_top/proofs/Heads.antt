@@ -16,19 +16,19 @@ use Rattle.rx_store.specs.Safe.{IsFull}
 use Rattle.rx_outside.specs.declared.stop.Stop.{Stop}
 use Rattle.rx_outside.specs.declared.stop.Stop.TheVariants.{Disk, NotJournal, Full, Memory}
 use Rattle.rx_world.specs.World.{World}
-use Rattle.rx_top.specs.Chunks.{Keeps}
+use Rattle.rx_top.specs.Chunks.{Grouping, Keeps}
 use Rattle.rx_top.specs.Hears.{HearsAll}
 use Rattle.rx_top.specs.Lines.{lines}
-use Rattle.rx_top.specs.Run.{KeepsFrom, KeepsRun, NeedsJournal, Plays, Reads, Writes, stop_of}
+use Rattle.rx_top.specs.Run.{KeepsFrom, KeepsRun, NeedsJournal, Plays, Reads, Writes, due_then, stop_of}
 use Rattle.rx_top.specs.Script.{line_effect}
 use Rattle.rx_top.specs.Start.{IsStart, StaysLegal}
-use Rattle.rx_top.specs.Story.{chunks, next_chunk, state_after}
+use Rattle.rx_top.specs.Story.{chunks, state_after}
 use Rattle.rx_top.specs.declared.early_end.EarlyEnd.{EarlyEnd}
 use Rattle.rx_top.specs.Turns.{HoldsOfTurn}
 use Rattle.rx_top.specs.declared.early_end.EarlyEnd.TheVariants.{Read, Work}
 use Rattle.rx_top.specs.declared.early_end.ReadFault.TheVariants as fault
 use Rattle.rx_top.proofs.Hears.{unheard}
-use Rattle.rx_top.proofs.Chunks.{CountsNow, OnlyNow, keeps_behind, leaves_then, stays_legal}
+use Rattle.rx_top.proofs.Chunks.{CountsNow, OnlyNow, committed_none, keeps_behind, leaves_then, stays_legal}
 
 pub same_open : (why st : Stop) → IsErrOf {T = Bool} (Err (Work why)) (Work st)
     → IsErrOf {T = Engine} (Err why) st
@@ -86,8 +86,8 @@ module _ {D : Type 0} (d : Ghosts D) (bodies : List (List ℕ)) (w : World) wher
       stays_legal d disk disk bodies [] (nothing_yet disk only start) counts
 
 module _
-    (host : Host) (heard : List Heard) {D : Type 0} (d : Ghosts D) (bodies : List (List ℕ))
-    (w : World) (limit : ℕ)
+    (by : Grouping) (host : Host) (heard : List Heard) {D : Type 0} (d : Ghosts D)
+    (bodies : List (List ℕ)) (w : World) (limit : ℕ)
   where
     -- the opening stopped
     pub open_keeps : (d0 d1 : D) (why : Stop) (rest : List (List ℕ))
@@ -95,12 +95,14 @@ module _
         → ((would most : ℕ) → IsErrOf {T = Engine} (Err why) (Full would most)
         → (most ≡ limit) × IsFull d d1 bodies (epoch_body w ∷ []) would most)
         → OnlyNow d d0 → IsStart d d0 bodies w
-        → KeepsRun host heard d d0 d1 bodies w limit (Err (Work why)) [] rest
+        → KeepsRun by host heard d d0 d1 bodies w limit (Err (Work why)) [] rest
     open_keeps d0 d1 why rest grows counts full only start = inl (
       λ none. none,
       refl,
       record {
         moments = grows;
+        groups = [];
+        committed = committed_none by;
         mid = d0;
         steps = nothing_yet d bodies w d0 only start;
         last = subst (λ (bs : List (List ℕ)). GrowsLegally d d0 d1 bs (epoch_body w ∷ []))
@@ -125,7 +127,7 @@ module _
     -- memory ran out before the journal was opened
     pub no_reader_keeps : (disk : D) (rest : List (List ℕ)) → IsStart d disk bodies w
         → OnlyNow d disk → CountsNow d disk
-        → KeepsRun host heard d disk disk bodies w limit (Err (Read fault.Memory)) [] rest
+        → KeepsRun by host heard d disk disk bodies w limit (Err (Read fault.Memory)) [] rest
     no_reader_keeps disk rest start only counts =
         let here = nothing_yet d bodies w disk only start in
         inl (
@@ -133,6 +135,8 @@ module _
           refl,
           record {
             moments = here;
+            groups = [];
+            committed = committed_none by;
             mid = disk;
             steps = here;
             last = subst (λ (bs : List (List ℕ)). GrowsLegally d disk disk bs [])
@@ -150,15 +154,15 @@ module _
         → end_of (bodies ++ epoch_body w ∷ []) ≤ limit → limit_of first ≡ limit
         → (s : Standing) → s ≡ opened host heard w → IsAt d d1 first (bodies ++ epoch_body w ∷ [])
         → d.tells
-        → KeepsFrom s d d1 d2 first ended done rest
-        → KeepsRun host heard d d0 d2 bodies w limit ended done rest
+        → KeepsFrom by s d d1 d2 first ended done rest
+        → KeepsRun by host heard d d0 d2 bodies w limit ended done rest
     played_keeps d0 d1 d2 first ended done rest grows fits same_limit s same at t kept =
         let all = bodies ++ epoch_body w ∷ [] in
         let here = kept t all at (subst (λ (n : ℕ). end_of all ≤ n) (sym same_limit) fits) in
-        let K : Standing → ℕ → Type 0 = λ x n. Keeps d d1 d2 all (chunks line_effect 1 done x)
-        (next_chunk line_effect (length done + 1) rest (state_after line_effect 1 done x)) n
+        let K : Standing → ℕ → Type 0 = λ x n. Keeps by d d1 d2 all (chunks line_effect 1 done x)
+        (due_then by (stop_of ended) (length done + 1) rest (state_after line_effect 1 done x)) n
         (stop_of ended) in
-        inr (keeps_behind d d0 d1 d2 bodies (epoch_body w ∷ [])
+        inr (keeps_behind by d d0 d1 d2 bodies (epoch_body w ∷ [])
         (chunks line_effect 1 done (opened host heard w)) _
         limit (stop_of ended) grows
         (subst (λ (x : Standing). K x limit) same (subst (λ (n : ℕ). K s n) same_limit here))

@@ -1,10 +1,11 @@
 -- How a dial shows what was heard in lines, one after another.
-use Rattle.std.proofs.Common.{◌≡◌, ◌∙◌, refl, sym, subst, ℕ, ◌+◌, List, [], ◌∷◌, ◌++◌, length, Bool, false, true≢false, inl, Result, Ok, Err, arith}
-use Rattle.rx_engine.specs.Calling.{to_hear}
+use Rattle.std.proofs.Common.{◌≡◌, ◌∙◌, refl, sym, ap, subst, cond, true, ℕ, ◌+◌, List, [], ◌∷◌, ◌++◌, length, Bool, false, true≢false, inl, Result, Ok, Err, arith}
+use Rattle.rx_engine.specs.Calling.{Call, to_hear}
 use Rattle.rx_engine.specs.Dialled.{DialStanding}
 use Rattle.rx_engine.specs.Engine.{session_of, standing_of}
 use Rattle.rx_engine.specs.Hearing.{IsShownBy}
 use Rattle.rx_engine.specs.Lines.{Task, answered, turns, calls, task}
+use Rattle.rx_engine.specs.Meaning.{meaning, task_meaning}
 use Rattle.rx_engine.specs.Opening.{Host, opened}
 use Rattle.rx_engine.specs.Standing.{Standing}
 use Rattle.rx_engine.specs.declared.engine.Engine.{Engine}
@@ -13,8 +14,9 @@ use Rattle.rx_sync.specs.Remote.{Heard}
 use Rattle.rx_world.specs.World.{World}
 use Rattle.rx_top.specs.Hears.{HearsAll, HearsLast, HearsLines, HearsNothing, IsShownAt}
 use Rattle.rx_top.specs.Lines.{is_blank}
-use Rattle.rx_top.specs.Script.{line_effect}
-use Rattle.rx_top.specs.Story.{state_after}
+use Rattle.rx_top.specs.Group.{CallsNobody}
+use Rattle.rx_top.specs.Script.{effect_of, line_effect, no_effect}
+use Rattle.rx_top.specs.Story.{EachLine, state_after}
 use Rattle.rx_top.specs.declared.early_end.EarlyEnd.{EarlyEnd}
 use Rattle.rx_top.specs.declared.early_end.EarlyEnd.TheVariants.{Read, Sink, Work}
 
@@ -91,6 +93,71 @@ hears_push wires n (y ∷ ys) l s k old between new heard is before shown took =
   before.3,
   hears_push wires (n + 1) ys l (line_effect n y s).next k before.1 between new heard
       (omega (arith, is)) before.4 shown took,
+)
+
+-- lines more
+pub hears-append : (wires : Type 0) (n : ℕ) (ls ms : List (List ℕ)) (s : Standing) (k : ℕ)
+    (old between new : DialStanding) → k ≡ n + length ls → HearsLines wires n ls s old between
+    → HearsLines wires k ms (state_after line_effect n ls s) between new
+    → HearsLines wires n (ls ++ ms) s old new
+hears-append wires n [] ms s k old between new is before these =
+    let same : k ≡ n = omega (arith, is) in
+    subst (λ (x : DialStanding). HearsLines wires n ms s x new) before
+    (subst (λ (m : ℕ). HearsLines wires m ms s between new) same these)
+hears-append wires n (y ∷ ys) ms s k old between new is before these = (
+  before.0,
+  before.1,
+  before.2,
+  before.3,
+  hears-append wires (n + 1) ys ms (line_effect n y s).next k before.1 between new
+      (omega (arith, is)) before.4 these,
+)
+
+-- ---- lines that make no turn to a master elsewhere
+
+-- what is to be heard stays so
+same_task : (n : ℕ) (t : Task) (s : Standing) → ((c : Call) → t ≡ calls c → ⊥)
+    → (task_meaning n t s).next.heard ≡ s.heard
+same_task n (answered o) s none = refl
+same_task n (turns u) s none = refl
+same_task n (calls c) s none = absurd (none c refl)
+
+same_full : (n : ℕ) (l : List ℕ) (s : Standing) (b : Bool) → is_blank l ≡ b
+    → CallsNobody n l s s → (line_effect n l s).next.heard ≡ s.heard
+unfolding meaning
+same_full n l s true blank none =
+    ap (λ b. (cond b (no_effect s) (effect_of (meaning n l s))).next.heard) blank
+same_full n l s false full none =
+    ap (λ b. (cond b (no_effect s) (effect_of (meaning n l s))).next.heard) full
+    ∙ same_task n (task s.kinds l s.session) s (none full)
+
+-- and the dial shows nothing of one
+nobody_shown : (wires : Type 0) (t : Task) (s : Standing) (dial : DialStanding)
+    → ((c : Call) → t ≡ calls c → ⊥) → IsShownBy wires t s dial dial [] (Unit {0})
+nobody_shown wires (answered o) s dial none = (refl, refl)
+nobody_shown wires (turns u) s dial none = (refl, refl)
+nobody_shown wires (calls c) s dial none = absurd (none c refl)
+
+pub heard_kept : (n : ℕ) (ls : List (List ℕ)) (s : Standing)
+    → EachLine line_effect CallsNobody n ls s → (state_after line_effect n ls s).heard ≡ s.heard
+heard_kept n [] s each = refl
+heard_kept n (l ∷ ls) s each =
+    heard_kept (n + 1) ls (line_effect n l s).next each.1
+    ∙ same_full n l s (is_blank l) refl each.0
+
+pub hears_nobody : (wires : Type 0) (n : ℕ) (ls : List (List ℕ)) (s : Standing)
+    (dial : DialStanding) → EachLine line_effect CallsNobody n ls s
+    → HearsLines wires n ls s dial dial
+hears_nobody wires n [] s dial each = refl
+hears_nobody wires n (l ∷ ls) s dial each = (
+  [],
+  dial,
+  sym (same_full n l s (is_blank l) refl each.0),
+  (
+    λ blank. (refl, refl),
+    λ full. nobody_shown wires (task s.kinds l s.session) s dial (each.0 full),
+  ),
+  hears_nobody wires (n + 1) ls (line_effect n l s).next dial each.1,
 )
 
 -- ---- ends

@@ -11,6 +11,7 @@ use Rattle.rx_engine.specs.Meaning.{Meaning, meaning}
 use Rattle.rx_engine.specs.Standing.{Standing}
 use Rattle.rx_script.specs.Line.{max_line_bytes}
 use Rattle.rx_sync.specs.Remote.{Heard}
+use Rattle.rx_top.specs.Group.{CallsNobody}
 use Rattle.rx_top.specs.Hears.{IsShownAt}
 use Rattle.rx_top.specs.Lines.{is_blank}
 use Rattle.rx_top.specs.Reader.{kept_front}
@@ -65,6 +66,12 @@ pub kept_unharmed : (line : List ℕ) (s : Standing)
     → is_blank line ≡ false → IsUnharmedBy line s
 kept_unharmed line s unharmed full c is =
     unharmed (kept_blank line ∙ full) c (same_task_when_cut line s ∙ is)
+
+-- and of whom it calls
+pub kept_nobody : (n : ℕ) (line : List ℕ) (s next then : Standing)
+    → CallsNobody n (kept_front line) s next → CallsNobody n line s then
+kept_nobody n line s next then none full c is =
+    none (kept_blank line ∙ full) c (same_task_when_cut line s ∙ is)
 
 -- and of what its dial shows
 pub kept_shown : (wires : Type 0) (line : List ℕ) (s : Standing) (old new : DialStanding)

@@ -6,7 +6,11 @@ pub mod Kept
 pub mod Chunks
 pub mod Hears
 pub mod Growth
+pub mod Due
 pub mod Exits
+pub mod Groups
+pub mod Gathering
+pub mod Settling
 pub mod Work
 pub mod Heads
 pub mod Stopping

@@ -1,12 +1,13 @@
 -- What a status says of the end of a run.
 use Rattle.rx_serve.specs.Lines.{cut}
-use Rattle.std.proofs.Common.{◌≡◌, ◌<◌, ◌≤◌, ◌⊎◌, ⊎_elim, inl, inr, ℕ, ◌+◌, List, [], ◌∷◌, ◌++◌, Bool, true, false, Result, Ok, Err, refl, sym, ◌∙◌, ap, subst, arith, append_assoc, append-nil, length, take, cond}
+use Rattle.std.proofs.Common.{◌≡◌, ◌<◌, ◌≤◌, ◌⊎◌, ⊎_elim, inl, inr, ℕ, ◌+◌, List, [], ◌∷◌, ◌++◌, Bool, true, false, None, Some, Result, Ok, Err, refl, sym, ◌∙◌, ap, subst, arith, append_assoc, append-nil, length, take, cond}
 use Rattle.std.specs.Prelude.{codes}
 use Rattle.rx_disk.specs.declared.disk.Disk.{Ghosts}
 use Rattle.rx_store.specs.Safe.{IsFull}
 use Rattle.rx_store.specs.Holds.{IsLegalFile, StandsLegally}
 use Rattle.rx_engine.specs.Dialled.{DialStanding}
 use Rattle.rx_engine.specs.Opening.{Host, epoch_body, opened}
+use Rattle.rx_engine.specs.Standing.{Standing}
 use Rattle.rx_sync.specs.Remote.{Heard}
 use Rattle.rx_frame.specs.File.{end_of}
 use Rattle.rx_outside.specs.Failed.{Rises}
@@ -14,14 +15,14 @@ use Rattle.rx_outside.specs.Sink.{WritesFront}
 use Rattle.rx_outside.specs.declared.stop.Stop.{Stop}
 use Rattle.rx_outside.specs.declared.stop.Stop.TheVariants.{Disk, NotJournal, Full, Memory}
 use Rattle.rx_world.specs.World.{World}
-use Rattle.rx_top.specs.Chunks.{Keeps}
+use Rattle.rx_top.specs.Chunks.{Grouping, Keeps, in_groups, singly}
 use Rattle.rx_top.specs.Hears.{HearsAll}
 use Rattle.rx_top.specs.Lines.{lines}
 use Rattle.rx_top.specs.Reader.{max_input_bytes}
-use Rattle.rx_top.specs.Run.{HasRun, IsDue, KeepsRun, NeedsJournal, Plays, StopsAfter, due_after, run_bodies, run_chunks, stop_of}
+use Rattle.rx_top.specs.Run.{HasRun, IsDue, KeepsRun, NeedsJournal, Plays, StopsAfter, due_after, due_at, due_then, run_bodies, run_chunks, stop_of}
 use Rattle.rx_top.specs.Script.{line_effect, transcript}
 use Rattle.rx_top.specs.Stops.{EndsWith, Stops, full_line, last_words, stop_line, status_of}
-use Rattle.rx_top.specs.Story.{EachLine, any_refused, replies, state_after}
+use Rattle.rx_top.specs.Story.{EachLine, any_refused, next_chunk, replies, state_after}
 use Rattle.rx_top.specs.Turns.{HoldsOfTurn}
 use Rattle.rx_top.specs.declared.early_end.EarlyEnd.{EarlyEnd}
 use Rattle.rx_top.specs.declared.early_end.EarlyEnd.TheVariants.{Read, Sink, Work}
@@ -383,6 +384,12 @@ module _
 
 -- ---- what is kept
 
+-- where a record was full the chunk of the next line was due, however lines are committed
+due_full : (by : Grouping) (would most n : ℕ) (rest : List (List ℕ)) (s : Standing)
+    → due_then by (Some (Full would most)) n rest s ≡ next_chunk line_effect n rest s
+due_full singly would most n rest s = refl
+due_full in_groups would most n rest s = refl
+
 module _
     (host : Host) (heard : List Heard) {D : Type 0} (d : Ghosts D) (old new : D)
     (bodies : List (List ℕ)) (w : World)
@@ -395,10 +402,10 @@ module _
         ⊎ IsFull d new (bodies ++ run_bodies host heard w done)
         (due_after host heard w done rest) would limit
 
-    pub past : (would most : ℕ) (done rest : List (List ℕ))
-        → KeepsRun host heard d old new bodies w limit (Err (Work (Full would most))) done rest
+    pub past : (by : Grouping) (would most : ℕ) (done rest : List (List ℕ))
+        → KeepsRun by host heard d old new bodies w limit (Err (Work (Full would most))) done rest
         → (most ≡ limit) × Past done rest would
-    past would most done rest (inl un) =
+    past by would most done rest (inl un) =
         let full = un.2.full would most refl in
         let epoch = epoch_body w ∷ [] in (
           full.0,
@@ -408,11 +415,15 @@ module _
                 (subst (λ (n : ℕ). IsFull d new (bodies ++ []) epoch would n) full.0 full.1),
           ),
         )
-    past would most done rest (inr keeps) =
-        let full = keeps.full would most refl in (
+    past by would most done rest (inr keeps) =
+        let full = keeps.full would most refl in
+        let before = bodies ++ run_bodies host heard w done in
+        let is = due_full by would most (length done + 1) rest
+        (state_after line_effect 1 done (opened host heard w)) in (
           full.0,
-          inr (subst (λ (n : ℕ). IsFull d new (bodies ++ run_bodies host heard w done)
-              (due_after host heard w done rest) would n) full.0 full.1),
+          inr (subst (λ (bs : List (List ℕ)). IsFull d new before bs would limit) is
+              (subst (λ (n : ℕ). IsFull d new before
+              (due_at by host heard w (Some (Full would most)) done rest) would n) full.0 full.1)),
         )
 
 module _
@@ -420,13 +431,13 @@ module _
     (d : Ghosts D) (old new : D) (tells : Type 0) (f0 f2 : ℕ) (w0 w2 : List ℕ)
     (bodies : List (List ℕ)) (w : World) (input left : List ℕ) (limit status : ℕ)
     (has : HasRun host heard wires n0 n2 tells f0 f2 w0 w2 w input left status
-    (KeepsRun host heard d old new bodies w limit))
+    (KeepsRun in_groups host heard d old new bodies w limit))
   where
     -- a run that was played has all of its chunks
     keeps_all : status < 2
         → (r : Bool) × (rest : List (List ℕ))
-        × Keeps d old new bodies (run_chunks host heard w (lines input))
-        (due_after host heard w (lines input) rest) limit
+        × Keeps in_groups d old new bodies (run_chunks host heard w (lines input))
+        (due_at in_groups host heard w None (lines input) rest) limit
         (stop_of (Ok r))
     keeps_all low =
         let all = kept_of_all tells f0 f2 w0 w2 w input left status _ has low in
@@ -447,7 +458,7 @@ module _
         × Stops tells f0 f2 w0 w2 (transcript done (opened host heard w)) (full_line would limit)
     is_due is =
         let f = full tells f0 f2 w0 w2 w input left status _ has is in
-        let p = past host heard d old new bodies w limit f.0 f.1 f.2 f.3 f.5 in (
+        let p = past host heard d old new bodies w limit in_groups f.0 f.1 f.2 f.3 f.5 in (
           f.2,
           f.3,
           f.0,

@@ -54,7 +54,7 @@ cut-within [] h = refl
 cut-within (b ∷ bs) h = cut_within_step b bs (b == 10) h (cut-within bs)
 
 -- what follows whole lines is cut by itself
-abbrev joined : Cut → Cut → Cut
+abbrev pub joined : Cut → Cut → Cut
 joined c d = record { whole = c.whole ++ d.whole; rest = d.rest }
 
 before_step : (b : ℕ) (ls : List (List ℕ)) (rest : List ℕ) (d e : Cut)
@@ -128,7 +128,7 @@ module _ {S : Type 0} (step : Step S) where
   state_after-push n (y ∷ ys) l s k is =
       state_after-push (n + 1) ys l (step n y s).next k (omega (arith, is))
 
-  refused-push : (n : ℕ) (ls : List (List ℕ)) (l : List ℕ) (s : S) (k : ℕ)
+  pub refused-push : (n : ℕ) (ls : List (List ℕ)) (l : List ℕ) (s : S) (k : ℕ)
       → k ≡ n + length ls
       → any_refused step n (ls ++ l ∷ []) s
       ≡ (any_refused step n ls s || (step k l (state_after step n ls s)).refused)
@@ -151,6 +151,43 @@ module _ {S : Type 0} (step : Step S) where
   each-push P n (y ∷ ys) l s k is each this =
       (each.0, each-push P (n + 1) ys l (step n y s).next k (omega (arith, is)) each.1 this)
 
+  -- lines more
+
+  pub chunks-append : (n : ℕ) (ls ms : List (List ℕ)) (s : S) (k : ℕ) → k ≡ n + length ls
+      → chunks step n (ls ++ ms) s
+      ≡ chunks step n ls s ++ chunks step k ms (state_after step n ls s)
+  chunks-append n [] ms s k is =
+      let e : n ≡ k = omega (arith, is) in ap (λ m. chunks step m ms s) e
+  chunks-append n (y ∷ ys) ms s k is =
+      let now = step n y s in
+      ap (λ (v : List (List (List ℕ))). now.bodies ∷ v)
+      (chunks-append (n + 1) ys ms now.next k (omega (arith, is)))
+
+  pub state_after-append : (n : ℕ) (ls ms : List (List ℕ)) (s : S) (k : ℕ) → k ≡ n + length ls
+      → state_after step n (ls ++ ms) s ≡ state_after step k ms (state_after step n ls s)
+  state_after-append n [] ms s k is =
+      let e : n ≡ k = omega (arith, is) in ap (λ m. state_after step m ms s) e
+  state_after-append n (y ∷ ys) ms s k is =
+      state_after-append (n + 1) ys ms (step n y s).next k (omega (arith, is))
+
+  pub refused-append : (n : ℕ) (ls ms : List (List ℕ)) (s : S) (k : ℕ) → k ≡ n + length ls
+      → any_refused step n (ls ++ ms) s
+      ≡ (any_refused step n ls s || any_refused step k ms (state_after step n ls s))
+  refused-append n [] ms s k is =
+      let e : n ≡ k = omega (arith, is) in ap (λ m. any_refused step m ms s) e
+  refused-append n (y ∷ ys) ms s k is =
+      let now = step n y s in
+      ap (λ v. now.refused || v) (refused-append (n + 1) ys ms now.next k (omega (arith, is)))
+      ∙ sym (or_assoc now.refused (any_refused step (n + 1) ys now.next) _)
+
+  pub each-append : (P : ℕ → List ℕ → S → S → Type 0) (n : ℕ) (ls ms : List (List ℕ)) (s : S)
+      (k : ℕ) → k ≡ n + length ls → EachLine step P n ls s
+      → EachLine step P k ms (state_after step n ls s) → EachLine step P n (ls ++ ms) s
+  each-append P n [] ms s k is each these =
+      let e : k ≡ n = omega (arith, is) in subst (λ m. EachLine step P m ms s) e these
+  each-append P n (y ∷ ys) ms s k is each these =
+      (each.0, each-append P (n + 1) ys ms (step n y s).next k (omega (arith, is)) each.1 these)
+
   -- a line more, after n lines
   pub refused_more : (ls : List (List ℕ)) (l : List ℕ) (n : ℕ) (r : Bool) (s0 s : S)
       → n ≡ length ls → r ≡ any_refused step 1 ls s0 → s ≡ state_after step 1 ls s0
@@ -162,7 +199,7 @@ module _ {S : Type 0} (step : Step S) where
 
 -- ---- the story goes on
 
-line_cut : (done l : List ℕ) → (cut done).rest ≡ [] → is_within l ≡ true
+pub line_cut : (done l : List ℕ) → (cut done).rest ≡ [] → is_within l ≡ true
     → cut (done ++ (l ++ 10 ∷ [])) ≡ record { whole = (cut done).whole ++ l ∷ []; rest = [] }
 line_cut done l h within = cut-append done (l ++ 10 ∷ []) h
     ∙ ap (joined (cut done)) (cut-line l [] within)
@@ -212,6 +249,14 @@ rest_lines step done input rest n r s0 s so =
     ap lines so.split
     ∙ ap (λ (x : Cut). x.whole ++ last_line x.rest) (cut-append done rest so.whole)
     ∙ append_assoc (cut done).whole (cut rest).whole (last_line (cut rest).rest)
+
+-- behind whole lines
+pub lines_on : (bytes mid rest : List ℕ) → rest ≡ bytes ++ mid → (cut bytes).rest ≡ []
+    → lines rest ≡ (cut bytes).whole ++ lines mid
+lines_on bytes mid rest split whole =
+    ap lines split
+    ∙ ap (λ (x : Cut). x.whole ++ last_line x.rest) (cut-append bytes mid whole)
+    ∙ append_assoc (cut bytes).whole (cut mid).whole (last_line (cut mid).rest)
 
 pub lines_next : (l rest : List ℕ) → is_within l ≡ true → lines (l ++ 10 ∷ rest) ≡ l ∷ lines rest
 lines_next l rest within =

@@ -15,7 +15,7 @@ use Rattle.rx_outside.specs.declared.stop.Stop.TheVariants.{Memory}
 use Rattle.rx_sync.specs.Remote.{Heard}
 use Rattle.rx_store.specs.Holds.{GrowsLegally, StandsLegally}
 use Rattle.rx_store.specs.Safe.{IsCrashSafe, IsFull}
-use Rattle.rx_top.specs.Chunks.{all_of}
+use Rattle.rx_top.specs.Chunks.{all_of, singly}
 use Rattle.rx_top.specs.Hears.{HearsAll, HearsLines, IsShownAt}
 use Rattle.rx_top.specs.Run.{KeepsFrom}
 use Rattle.rx_top.specs.Script.{effect_of, line_effect}
@@ -51,7 +51,7 @@ pub record Through
       → IsAt d d1 engine (bodies ++ all_of (chunks line_effect 1 done s0))
   pub kept : d.tells → (bodies : List (List ℕ)) → IsAt d d0 first bodies
       → end_of bodies ≤ limit_of first
-      → Kept d d0 d1 bodies (chunks line_effect 1 done s0) (limit_of first)
+      → Kept singly d d0 d1 bodies (chunks line_effect 1 done s0) (limit_of first)
 
 pub begins : (s : Standing) {D : Type 0} (d : Ghosts D) (wires : Type 0) (disk : D)
     (dial : DialStanding)
@@ -67,7 +67,7 @@ begins s d wires disk dial first lines only_now = record {
   hears = refl;
   at = λ t bodies at. subst (λ (bs : List (List ℕ)). IsAt d disk first bs) (sym (append-nil bodies))
       at;
-  kept = λ t bodies at le. kept_none d disk bodies (limit_of first) (only_now t)
+  kept = λ t bodies at le. kept_none singly d disk bodies (limit_of first) (only_now t)
       (leaves_at d disk first bodies [] at) le;
 }
 
@@ -106,7 +106,7 @@ module _
     abbrev Ends : D → DialStanding → Option Stop → Type 0
     Ends d2 n2 stop =
         DoesLines lines stop (HearsAll wires s0 n0 n2 (as_run stop))
-        (KeepsFrom s0 d d0 d2 first (as_run stop))
+        (KeepsFrom singly s0 d d0 d2 first (as_run stop))
 
     pub all_done : s1.heard ≡ [] → left ≡ [] → (d.tells → OnlyNow d d1) → Ends d1 n1 None
     all_done unheard none only_now = record {
@@ -120,7 +120,7 @@ module _
         last = (ap (λ (x : Standing). x.heard) (sym a.state) ∙ unheard, refl);
       };
       kept = λ told bodies at le.
-          keeps_all d d0 d1 bodies cs _ (limit_of first) (a.kept told bodies at le) (only_now told);
+          keeps_all singly d d0 d1 bodies cs _ (limit_of first) (a.kept told bodies at le) (only_now told);
     }
 
     -- between two lines a disk is at rest
@@ -141,7 +141,7 @@ module _
       all = λ is. cc;
       shown = record { between = n1; lines = a.hears; last = λ other. absurd (other refl) };
       kept = λ told bodies at le.
-          keeps_stopped d d0 d1 d1 bodies cs _ (limit_of first) Memory (a.kept told bodies at le)
+          keeps_stopped singly d d0 d1 d1 bodies cs _ (limit_of first) Memory (a.kept told bodies at le)
           (rests told bodies _ at (only_now told)) (counts_now told) (λ would most is. cc);
     }
 
@@ -217,7 +217,7 @@ module _
             let before = bodies ++ all_of cs in
             let held = a.at told bodies at in
             let stopped = safe told before held in
-            keeps_stopped d d0 d1 d2 bodies cs _ (limit_of first) why (a.kept told bodies at le)
+            keeps_stopped singly d d0 d1 d2 bodies cs _ (limit_of first) why (a.kept told bodies at le)
             (subst (λ (bs : List (List ℕ)). GrowsLegally d d1 d2 before bs) due
             (stopped.moments (images_at d d1 engine before held)))
             (counts_now told)
@@ -265,9 +265,9 @@ module _
             let done = safe told before held in
             let fits : end_of before ≤ limit_of engine =
             subst (λ (k : ℕ). end_of before ≤ k) (sym a.limit) so_far.fits in
-            subst (λ (ds : List (List (List ℕ))). Kept d d0 d2 bodies ds (limit_of first))
+            subst (λ (ds : List (List (List ℕ))). Kept singly d d0 d2 bodies ds (limit_of first))
             (sym chunks_line)
-            (kept_more d d0 d1 d2 bodies cs (bodies_of m.records) (limit_of first) so_far
+            (kept_more singly d d0 d1 d2 bodies cs (bodies_of m.records) (limit_of first) so_far
             (done.moments (images_at d d1 engine before held))
             (leaves_at d d2 engine' (before ++ bodies_of m.records) [] done.at)
             (subst (λ (k : ℕ). end_of (before ++ bodies_of m.records) ≤ k) a.limit

@@ -18,7 +18,7 @@ use Rattle.rx_store.specs.Holds.{IsLegalFile}
 use Rattle.rx_store.specs.Safe.{IsCrashSafe}
 use Rattle.rx_store.proofs.Growing.{behind}
 use Rattle.rx_world.specs.World.{World}
-use Rattle.rx_top.specs.Chunks.{Keeps, ahead, all_of}
+use Rattle.rx_top.specs.Chunks.{Keeps, ahead, all_of, singly}
 use Rattle.rx_top.specs.Hears.{HearsAll}
 use Rattle.rx_top.specs.Run.{IsDue, KeepsFrom, KeepsRun, due_after, run_bodies, run_chunks}
 use Rattle.rx_top.specs.Start.{IsStart, StaysLegal}
@@ -104,11 +104,13 @@ other_err why st h = let same : why ≡ st = cc in ap Err same
 -- where nothing is due, a stop for want of memory keeps as much as none
 unaware : {D : Type 0} (d : Ghosts D) (old new : D) (bodies : List (List ℕ))
     (cs : List (List (List ℕ))) (next : List (List ℕ)) (limit : ℕ) → next ≡ []
-    → Keeps d old new bodies cs next limit None → Keeps d old new bodies cs next limit (Some Memory)
+    → Keeps singly d old new bodies cs next limit None → Keeps singly d old new bodies cs next limit (Some Memory)
 unaware d old new bodies cs next limit none k =
-    subst (λ (due : List (List ℕ)). Keeps d old new bodies cs due limit (Some Memory)) (sym none)
+    subst (λ (due : List (List ℕ)). Keeps singly d old new bodies cs due limit (Some Memory)) (sym none)
     (record {
       moments = k.moments;
+      groups = k.groups;
+      committed = k.committed;
       mid = k.mid;
       steps = k.steps;
       last = k.last;
@@ -120,7 +122,7 @@ unaware d old new bodies cs next limit none k =
 -- each image stays legal where chunks are kept
 stays : {D : Type 0} (d : Ghosts D) (old new : D) (bodies : List (List ℕ))
     (cs : List (List (List ℕ))) (next : List (List ℕ)) (limit : ℕ) (stop : Option Stop)
-    → Keeps d old new bodies cs next limit stop → StaysLegal d old new bodies
+    → Keeps singly d old new bodies cs next limit stop → StaysLegal d old new bodies
 stays d old new bodies cs next limit stop k = record {
   more = all_of cs ++ ahead stop next;
   moments = k.moments;
@@ -133,7 +135,7 @@ module _
   where
     -- what a run of these lines keeps, by how a trial ended
     abbrev pub KeepsTrial : Option Stop → List (List ℕ) → List (List ℕ) → Type 0
-    KeepsTrial stop = KeepsRun host heard d old new bodies w limit (as_run stop)
+    KeepsTrial stop = KeepsRun singly host heard d old new bodies w limit (as_run stop)
 
     -- the same with what the dial shows
     abbrev pub Does : DialStanding → DialStanding → List (List ℕ) → Option Stop → Type 0
@@ -150,7 +152,7 @@ module _
     unopened dial why lines none start safe only counts =
         none_done wires dial (opened host heard w) why lines (KeepsTrial (Some why))
         (heard_at_first host heard w ∙ none)
-        (open_keeps host heard d bodies w limit old new why lines (safe.moments start.alike) counts
+        (open_keeps singly host heard d bodies w limit old new why lines (safe.moments start.alike) counts
         safe.full only start)
 
     -- it was, and the lines were played from there
@@ -161,7 +163,7 @@ module _
         (λ (e : Engine) (bs : List (List ℕ)). IsAt d mid e bs) (Ok first)
         → limit_of first ≡ limit → standing_of host.kinds heard first ≡ opened host heard w → d.tells
         → DoesLines played stop (HearsAll wires (standing_of host.kinds heard first) n0 n1 (as_run stop))
-        (KeepsFrom (standing_of host.kinds heard first) d mid new first (as_run stop))
+        (KeepsFrom singly (standing_of host.kinds heard first) d mid new first (as_run stop))
         → Does n0 n1 lines stop
     from_opened n0 n1 mid first lines played stop same start safe same_limit begun t does =
         let s = standing_of host.kinds heard first in
@@ -171,14 +173,14 @@ module _
         begun
         (does_as _ _
         (λ done rest kept.
-        played_keeps host heard d bodies w limit old mid new first (as_run stop) done
+        played_keeps singly host heard d bodies w limit old mid new first (as_run stop) done
         rest (safe.moments start.alike)
         (⊎_elim (λ none. cc) (λ le. le) safe.fits) same_limit s begun
         safe.at t kept)
         does))
 
     kept_whole : (done rest : List (List ℕ)) → KeepsTrial None done rest
-        → Keeps d old new bodies (run_chunks host heard w done)
+        → Keeps singly d old new bodies (run_chunks host heard w done)
         (due_after host heard w done rest) limit None
     kept_whole done rest (inl un) = absurd (un.0 tt)
     kept_whole done rest (inr keeps) = keeps
@@ -196,7 +198,7 @@ module _
     all_kept : {Shown : List (List ℕ) → List (List ℕ) → Type 0} (stop : Option Stop)
         (lines : List (List ℕ)) → stop ≡ None → DoesLines lines stop Shown (KeepsTrial stop)
         → (rest : List (List ℕ))
-        × Keeps d old new bodies (run_chunks host heard w lines)
+        × Keeps singly d old new bodies (run_chunks host heard w lines)
         (due_after host heard w lines rest) limit None
     all_kept None lines is does =
         let whole : lines ≡ does.done =
@@ -204,7 +206,7 @@ module _
         ∙ append-nil does.done in (
           does.rest,
           subst (λ (v : List (List ℕ)).
-              Keeps d old new bodies (run_chunks host heard w v)
+              Keeps singly d old new bodies (run_chunks host heard w v)
               (due_after host heard w v does.rest) limit None)
               (sym whole) (kept_whole does.done does.rest does.kept),
         )
@@ -230,7 +232,7 @@ module _
 
         whole : (status ≡ 0) ⊎ (status ≡ 5)
             → (rest : List (List ℕ))
-            × Keeps d old new bodies (run_chunks host heard w lines)
+            × Keeps singly d old new bodies (run_chunks host heard w lines)
             (due_after host heard w lines rest) limit None
         whole is = all_kept has.stop lines
             (by.unstopped tells f0 f1 w0 w1 status has.stop summary has.told is) has.does
@@ -255,7 +257,7 @@ module _
             let rest = has.does.rest in
             let kept : KeepsTrial (Some (Full why.0 why.1)) done rest =
             subst (λ (x : Option Stop). KeepsTrial x done rest) why.2 has.does.kept in
-            let p = past host heard d old new bodies w limit why.0 why.1 done rest kept in (
+            let p = past host heard d old new bodies w limit singly why.0 why.1 done rest kept in (
               done,
               rest,
               why.0,

@@ -2,7 +2,7 @@
 use Rattle.std.proofs.Common.{◌≡◌, ◌∙◌, refl, sym, ap, subst, ℕ, ◌+◌, ◌≤◌, cond, List, [], ◌∷◌, length, false}
 use Rattle.std.specs.List.{AllByRecursion}
 use Rattle.rx_engine.specs.Lines.{Task, turns, task}
-use Rattle.rx_engine.specs.Meaning.{Meaning, meaning, task_meaning, turn_meaning}
+use Rattle.rx_engine.specs.Meaning.{meaning, task_meaning, turn_meaning}
 use Rattle.rx_engine.specs.Standing.{Standing, asks_of}
 use Rattle.rx_engine.specs.Turning.{Turn, turned}
 use Rattle.rx_engine.proofs.Plays.{written-world}
@@ -15,7 +15,6 @@ use Rattle.rx_sync.specs.Turn.{Turned}
 use Rattle.rx_world.specs.World.{World}
 use Rattle.rx_top.specs.Lines.{is_blank}
 use Rattle.rx_top.specs.Script.{effect_of, line_effect, no_effect}
-use Rattle.rx_top.specs.Story.{Effect}
 use Rattle.rx_top.specs.TurnLines.{AreTurnsOf, TurnLinesEndInTime, exchanges_by, turn_made, with_those_behind}
 
 -- a turn of a line, as one of turns that follow each other

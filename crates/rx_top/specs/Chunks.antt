@@ -13,25 +13,44 @@ abbrev pub all_of : List (List (List ℕ)) → List (List ℕ)
 all_of [] = []
 all_of (chunk ∷ chunks) = chunk ++ all_of chunks
 
--- Moment by moment: between the disk before a chunk and the disk after it each image is a legal
--- file of the bodies of all chunks before and a front of that chunk. So it never falls behind a
--- chunk that was kept, nor passes the one that is being written.
+-- Moment by moment: between the disk before a group and the disk after it each image is a legal
+-- file of the bodies of all groups before and a front of that group. So it never falls behind a
+-- group that was kept, nor passes the one that is being written.
 abbrev pub Steps
     : {D : Type 0} → Ghosts D → D → D → List (List ℕ) → List (List (List ℕ)) → Type 0
 Steps d old new bodies [] = GrowsLegally d old new bodies []
-Steps {D} d old new bodies (chunk ∷ chunks) =
-    (mid : D) × GrowsLegally d old mid bodies chunk × Steps d mid new (bodies ++ chunk) chunks
+Steps {D} d old new bodies (group ∷ groups) =
+    (mid : D) × GrowsLegally d old mid bodies group × Steps d mid new (bodies ++ group) groups
 
--- what may stand behind the chunks that were kept: a front of the next one where the work on it
--- stopped, and else nothing
+-- whether chunks are committed one by one, or some of them together
+pub data Grouping : Type 0 where
+  singly : Grouping
+  in_groups : Grouping
+
+-- chunks that were committed together, group by group: a group has the bodies of some chunks, one
+-- after another
+abbrev pub AreGrouped : List (List (List ℕ)) → List (List (List ℕ)) → Type 0
+AreGrouped chunks [] = chunks ≡ []
+AreGrouped chunks (group ∷ groups) =
+    (first : List (List (List ℕ))) × (rest : List (List (List ℕ))) × (chunks ≡ first ++ rest)
+    × (group ≡ all_of first) × AreGrouped rest groups
+
+-- so they were, or each was committed by itself
+abbrev pub AreCommitted : Grouping → List (List (List ℕ)) → List (List (List ℕ)) → Type 0
+AreCommitted singly chunks groups = groups ≡ chunks
+AreCommitted in_groups chunks groups = AreGrouped chunks groups
+
+-- what may stand behind the chunks that were kept: a front of what was due next where the work on
+-- it stopped, and else nothing
 abbrev pub ahead : Option Stop → List (List ℕ) → List (List ℕ)
 ahead None next = []
 ahead (Some stop) next = next
 
 -- Chunks were kept one after the other behind the bodies that were there, until some work stopped,
--- on the next chunk, or none did.
+-- on what was due next, or none did.
 pub record Keeps
     {D : Type 0}
+    (by : Grouping)
     (d : Ghosts D)
     (old new : D)
     (bodies : List (List ℕ))
@@ -41,9 +60,11 @@ pub record Keeps
     (stop : Option Stop) : Type 0 where
   -- at each moment an image is a legal file of the old bodies and a front of these
   pub moments : GrowsLegally d old new bodies (all_of chunks ++ ahead stop next)
-  -- moment by moment: the chunks up to some disk, and the next one from there
+  -- moment by moment: the chunks, group by group, up to some disk, and what was due next from there
+  pub groups : List (List (List ℕ))
+  pub committed : AreCommitted by chunks groups
   pub mid : D
-  pub steps : Steps d old mid bodies chunks
+  pub steps : Steps d old mid bodies groups
   pub last : GrowsLegally d mid new (bodies ++ all_of chunks) (ahead stop next)
   -- and now each image has all bodies of the chunks
   pub sure : Leaves d new (bodies ++ all_of chunks) (ahead stop next)

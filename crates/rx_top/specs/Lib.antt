@@ -10,6 +10,7 @@ pub mod Chunks
 pub mod Start
 pub mod Run
 pub mod Work
+pub mod Group
 pub mod Untouched
 pub mod PlaysScript
 pub mod Serve

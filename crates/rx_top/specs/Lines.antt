@@ -1,6 +1,6 @@
 -- The lines of an input.
 use Rattle.rx_serve.specs.Lines.{cut}
-use Rattle.std.specs.Prelude.{ℕ, List, [], ◌∷◌, ◌++◌, length, Bool, ◌&&◌, ◌||◌, ◌==◌, nat_le, if◌then◌else◌}
+use Rattle.std.specs.Prelude.{ℕ, List, [], ◌∷◌, ◌++◌, length, Bool, ◌&&◌, ◌||◌, ◌==◌, nat_le}
 use Rattle.std.specs.List.{list_all}
 use Rattle.rx_script.specs.Line.{max_line_bytes}
 

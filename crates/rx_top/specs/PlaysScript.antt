@@ -16,6 +16,7 @@ use Rattle.rx_world.specs.World.{World}
 use Rattle.rx_top.specs.Hears.{stands}
 use Rattle.rx_top.specs.Lines.{lines}
 use Rattle.rx_top.specs.Reader.{Took, max_input_bytes}
+use Rattle.rx_top.specs.Chunks.{in_groups}
 use Rattle.rx_top.specs.Run.{HasRun, HasRunSomewhere, IsDue, KeepsRun, StopsAfter, run_bodies}
 use Rattle.rx_top.specs.Script.{has_refusal, line_effect, transcript}
 use Rattle.rx_top.specs.Start.{FromStart, StaysLegal}
@@ -48,7 +49,8 @@ pub record PlaysScript
   pub headline : s.tells → FromStart d disk (λ bodies w.
       HasRun host heard wires (stands n dial) (stands n dial') k.tells (k.faults out)
       (k.faults out') (k.written out) (k.written out') w
-      (s.left source) (s.left source') status (KeepsRun host heard d disk disk' bodies w limit))
+      (s.left source) (s.left source') status
+      (KeepsRun in_groups host heard d disk disk' bodies w limit))
   -- Also where the source doesn't tell what it gives, each image is a legal file that goes on from
   -- the old records, at each moment of the call and at its end.
   pub legal : FromStart d disk (λ bodies w. StaysLegal d disk disk' bodies)

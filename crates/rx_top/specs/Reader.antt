@@ -1,7 +1,6 @@
 -- Taking one line after another of what is to come.
 use Rattle.rx_serve.specs.Lines.{is_within}
-use Rattle.std.specs.Prelude.{◌≡◌, ◌≢◌, ℕ, ◌+◌, ◌≤◌, List, [], ◌∷◌, ◌++◌, take, length, Bool, true, false, not, ◌==◌, if◌then◌else◌}
-use Rattle.std.specs.List.{list_all}
+use Rattle.std.specs.Prelude.{◌≡◌, ◌≢◌, ℕ, ◌+◌, ◌≤◌, List, [], ◌∷◌, ◌++◌, take, length, Bool, true, false, ◌==◌, if◌then◌else◌}
 use Rattle.rx_script.specs.Line.{max_line_bytes}
 use Rattle.rx_top.specs.declared.reader.Next.{Next}
 use Rattle.rx_top.specs.declared.reader.Next.TheVariants.{Line, Last, End}
@@ -61,3 +60,8 @@ Advances true old new =
 Advances false old new =
     (new.unread ≡ []) × (is_within old.unread ≡ true)
     × (new.line ≡ kept_front (old.line ++ old.unread))
+
+-- a line that ended in what was read was taken, and is kept
+abbrev pub TakesRead : Reading → Reading → Type 0
+TakesRead old new = (l : List ℕ) × (old.unread ≡ l ++ 10 ∷ new.unread) × (is_within l ≡ true)
+    × (new.line ≡ kept_front l)

@@ -14,7 +14,7 @@ use Rattle.rx_outside.specs.Sink.{WritesFront}
 use Rattle.rx_outside.specs.declared.stop.Stop.{Stop}
 use Rattle.rx_outside.specs.declared.stop.Stop.TheVariants.{Disk, NotJournal, Full, Memory}
 use Rattle.rx_world.specs.World.{World}
-use Rattle.rx_top.specs.Chunks.{Keeps, all_of}
+use Rattle.rx_top.specs.Chunks.{Grouping, Keeps, all_of, in_groups, singly}
 use Rattle.rx_top.specs.Hears.{HearsAll}
 use Rattle.rx_top.specs.Lines.{lines}
 use Rattle.rx_top.specs.Reader.{max_input_bytes}
@@ -108,22 +108,33 @@ WasPlayed (Err (Read fault.Memory)) = ⊥
 WasPlayed (Err (Work stop)) = ⊥
 WasPlayed (Err Sink) = Unit
 
+-- what was due where work stopped: the chunk of the next line where lines are committed one by one,
+-- and also where it was full; and else those of all lines that were left
+abbrev pub due_then
+    : Grouping → Option Stop → ℕ → List (List ℕ) → Standing → List (List ℕ)
+due_then singly stop n rest s = next_chunk line_effect n rest s
+due_then in_groups (Some (Full would most)) n rest s = next_chunk line_effect n rest s
+due_then in_groups (Some Disk) n rest s = all_of (chunks line_effect n rest s)
+due_then in_groups (Some NotJournal) n rest s = all_of (chunks line_effect n rest s)
+due_then in_groups (Some Memory) n rest s = all_of (chunks line_effect n rest s)
+due_then in_groups None n rest s = all_of (chunks line_effect n rest s)
+
 -- the disk keeps the lines that are done, each a chunk
 abbrev pub KeepsLines
-    : {D : Type 0} → Ghosts D → D → D → List (List ℕ) → Standing → ℕ → Result Bool EarlyEnd
-    → List (List ℕ) → List (List ℕ) → Type 0
-KeepsLines d old new bodies s limit ended done rest =
-    Keeps d old new bodies (chunks line_effect 1 done s)
-    (next_chunk line_effect (length done + 1) rest (state_after line_effect 1 done s)) limit
+    : {D : Type 0} → Grouping → Ghosts D → D → D → List (List ℕ) → Standing → ℕ
+    → Result Bool EarlyEnd → List (List ℕ) → List (List ℕ) → Type 0
+KeepsLines by d old new bodies s limit ended done rest =
+    Keeps by d old new bodies (chunks line_effect 1 done s)
+    (due_then by (stop_of ended) (length done + 1) rest (state_after line_effect 1 done s)) limit
     (stop_of ended)
 
 -- the same from an engine on, whatever bodies its disk has within the limit
 abbrev pub KeepsFrom
-    : {D : Type 0} → Standing → Ghosts D → D → D → Engine → Result Bool EarlyEnd → List (List ℕ)
-    → List (List ℕ) → Type 0
-KeepsFrom s d old new first ended done rest =
+    : {D : Type 0} → Grouping → Standing → Ghosts D → D → D → Engine → Result Bool EarlyEnd
+    → List (List ℕ) → List (List ℕ) → Type 0
+KeepsFrom by s d old new first ended done rest =
     d.tells → (bodies : List (List ℕ)) → IsAt d old first bodies → end_of bodies ≤ limit_of first
-    → KeepsLines d old new bodies s (limit_of first) ended done rest
+    → KeepsLines by d old new bodies s (limit_of first) ended done rest
 
 -- the chunks of a run: the record of its epoch, and those of its lines
 abbrev pub run_chunks : Host → List Heard → World → List (List ℕ) → List (List (List ℕ))
@@ -140,17 +151,24 @@ due_after host heard w done rest =
     next_chunk line_effect (length done + 1) rest
     (state_after line_effect 1 done (opened host heard w))
 
+-- what was due after lines where work stopped
+abbrev pub due_at
+    : Grouping → Host → List Heard → World → Option Stop → List (List ℕ) → List (List ℕ)
+    → List (List ℕ)
+due_at by host heard w stop done rest =
+    due_then by stop (length done + 1) rest (state_after line_effect 1 done (opened host heard w))
+
 -- The disk keeps the chunks of a run from the journal as it was found: where that wasn't opened
 -- none, and the record of the epoch was due; and where it was, that one with those of the lines
 -- done.
 abbrev pub KeepsRun
-    : {D : Type 0} → Host → List Heard → Ghosts D → D → D → List (List ℕ) → World → ℕ
+    : {D : Type 0} → Grouping → Host → List Heard → Ghosts D → D → D → List (List ℕ) → World → ℕ
     → Result Bool EarlyEnd → List (List ℕ) → List (List ℕ) → Type 0
-KeepsRun host heard d old new bodies w limit ended done rest =
+KeepsRun by host heard d old new bodies w limit ended done rest =
     ((WasPlayed ended → ⊥) × (done ≡ [])
-    × Keeps d old new bodies [] (epoch_body w ∷ []) limit (stop_of ended))
-    ⊎ Keeps d old new bodies (run_chunks host heard w done) (due_after host heard w done rest)
-    limit (stop_of ended)
+    × Keeps by d old new bodies [] (epoch_body w ∷ []) limit (stop_of ended))
+    ⊎ Keeps by d old new bodies (run_chunks host heard w done)
+    (due_at by host heard w (stop_of ended) done rest) limit (stop_of ended)
 
 -- ---- both, and the end
 

@@ -16,6 +16,7 @@ use Rattle.rx_sync.specs.Remote.{Heard}
 use Rattle.rx_trial.specs.Lines.{script}
 use Rattle.rx_world.specs.World.{World}
 use Rattle.rx_top.specs.Hears.{HearsAll, stands}
+use Rattle.rx_top.specs.Chunks.{singly}
 use Rattle.rx_top.specs.Run.{IsDue, KeepsRun, run_bodies}
 use Rattle.rx_top.specs.Start.{FromStart, StaysLegal}
 use Rattle.rx_top.specs.Stops.{EndsWith, full_line, stop_line}
@@ -85,13 +86,13 @@ pub record TriesScript
   -- Wherever it ends: some lines of the script are done, and the summary or the stop line is
   -- written, or a front of it where the sink failed. The dial shows what was heard in each line. At
   -- each moment of the call each image of the disk is a legal file of the old records and a front
-  -- of those that are due, as in a run of these lines, and at its end it has all those of the lines
-  -- done.
+  -- of those that are due, as in a run of these lines that commits each by itself, and at its end it
+  -- has all those of the lines done.
   pub headline : FromStart d disk (λ bodies w.
       HasTried wires (stands n dial) (stands n dial') k.tells (k.faults out) (k.faults out')
       (k.written out) (k.written out')
       (script seed count) (opened host heard w) status
-      (λ stop. KeepsRun host heard d disk disk' bodies w limit (as_run stop)))
+      (λ stop. KeepsRun singly host heard d disk disk' bodies w limit (as_run stop)))
   -- So each image is a legal file that goes on from the old records.
   pub legal : FromStart d disk (λ bodies w. StaysLegal d disk disk' bodies)
   -- Over any disk: the same of what was written, from some world on.

@@ -6,8 +6,10 @@
 //! `TriesScript` of `trial`. It knows nothing of what a line means.
 #![tactic(auto)]
 
+mod blank;
 mod check;
 mod early_end;
+mod group;
 mod laws;
 mod play;
 mod reader;

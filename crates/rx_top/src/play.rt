@@ -1,6 +1,5 @@
 // Plays a script from its source to its sink, over an open journal.
 ghost use Rattle.std.specs.Prelude.{◌≡◌, ◌≤◌, ◌++◌, ℕ, List, [], IfOk, OnOk, IsErrOf};
-ghost use Rattle.std.specs.List.{list_all};
 ghost use Rattle.rx_engine.specs.Engine.{IsAt, limit_of, standing_of};
 ghost use Rattle.rx_handler.specs.Shown.{kinds_of};
 ghost use Rattle.rx_outside.specs.Failed.{Rises};
@@ -11,8 +10,8 @@ ghost use Rattle.rx_store.specs.Safe.{IsCrashSafe};
 ghost use Rattle.rx_top.specs.declared.early_end.ReadFault.{ReadFault};
 ghost use Rattle.rx_top.specs.declared.early_end.ReadFault.TheVariants as fault;
 ghost use Rattle.rx_top.specs.Hears.{HearsAll, stands};
-ghost use Rattle.rx_top.specs.Lines.{is_blank, is_space};
 ghost use Rattle.rx_top.specs.Reader.{Took, max_input_bytes};
+ghost use Rattle.rx_top.specs.Chunks.{in_groups};
 ghost use Rattle.rx_top.specs.Run.{KeepsFrom, Plays};
 ghost use Rattle.rx_top.specs.Script.{line_effect};
 ghost use Rattle.rx_top.specs.Start.{StaysLegal};
@@ -20,13 +19,14 @@ ghost use Rattle.rx_top.specs.Turns.{HoldsOfTurn};
 ghost use Rattle.rx_sync.specs.Remote.{Heard};
 ghost use Rattle.rx_top.specs.Work.{WorksLine};
 
+use crate::blank::is_blank;
 use crate::early_end::EarlyEnd;
+use crate::group::play_group;
 use crate::reader::{Next, Reader};
 use rx_disk::Disk;
 use rx_engine::Engine;
 use rx_handler::Handlers;
 use rx_outside::{Dial, Sink, Source, write_all};
-use rx_script::MAX_LINE_BYTES;
 use rx_update::Hooks;
 use std::alloc::Global;
 
@@ -51,8 +51,8 @@ pub(crate) fn play<S: Source, K: Sink, D: Disk, N: Dial>(
         (S.left source.old) (S.left source.new) (standing_of (kinds_of handlers.now) heard first)
         result (HearsAll N.W.tells (standing_of (kinds_of handlers.now) heard first)
         (stands N.Dial dial.old) (stands N.Dial dial.new) result)
-        (KeepsFrom (standing_of (kinds_of handlers.now) heard first) D.Disk disk.old disk.new
-        first result)) }
+        (KeepsFrom in_groups (standing_of (kinds_of handlers.now) heard first) D.Disk disk.old
+        disk.new first result)) }
     ensures legal { D.tells → (bodies : List (List ℕ)) → IsAt D.Disk disk.old first bodies
         → StaysLegal D.Disk disk.old disk.new bodies }
     ensures whole { S.tells → OnOk result (S.left source.new ≡ []) }
@@ -80,17 +80,22 @@ pub(crate) fn play<S: Source, K: Sink, D: Disk, N: Dial>(
         if let Next::End = next {
             return Ok(refused);
         }
+        let group = match play_group(
+            alloc, engine, reader, next, number, out, disk, handlers, hooks,
+        ) {
+            Ok(group) => group,
+            Err(cause) => return Err(cause),
+        };
+        engine = group.engine;
+        number = group.number;
+        refused |= group.refused;
+        if group.whole {
+            continue;
+        }
         number += 1;
+        let line = reader.line();
         let played = match play_line(
-            alloc,
-            engine,
-            reader.line(),
-            number,
-            out,
-            disk,
-            dial,
-            handlers,
-            hooks,
+            alloc, engine, line, number, out, disk, dial, handlers, hooks,
         ) {
             Ok(played) => played,
             Err(cause) => return Err(cause),
@@ -146,22 +151,4 @@ fn play_line<K: Sink, D: Disk, N: Dial>(
         Ok(()) => Ok((engine, output.refused)),
         Err(_) => Err(EarlyEnd::Sink),
     }
-}
-
-fn is_blank(line: &[u8]) -> bool
-    ensures { result ≡ is_blank line.now }
-{
-    line.len() <= MAX_LINE_BYTES && are_spaces(line)
-}
-
-fn are_spaces(line: &[u8]) -> bool
-    ensures { result ≡ list_all is_space line.now }
-{
-    line.iter().all(|b| is_space(*b))
-}
-
-fn is_space(b: u8) -> bool
-    ensures { result ≡ is_space b }
-{
-    b == b' ' || b == b'\t' || b == b'\r'
 }

@@ -3,7 +3,7 @@ ghost use Rattle.rx_serve.specs.Lines.{is_within};
 ghost use Rattle.std.specs.Prelude.{◌≡◌, ◌<◌, ◌≤◌, ◌+◌, ◌-◌, ◌++◌, ◌∷◌, ◌⊎◌, ℕ, List, [], true, false, take, drop, length, IfOk, OnOk, OnErr, IfSome, IfNone, IsErrOf, min};
 ghost use Rattle.rx_outside.specs.Failed.{Rises};
 ghost use Rattle.rx_script.specs.Line.{max_line_bytes};
-ghost use Rattle.rx_top.specs.Reader.{kept_front, max_input_bytes, TakesKept, StopsWithin};
+ghost use Rattle.rx_top.specs.Reader.{kept_front, max_input_bytes, TakesKept, TakesRead, StopsWithin};
 
 use crate::early_end::ReadFault;
 use memchr::memchr;
@@ -109,6 +109,25 @@ impl Reader {
                 Ok(false) => return Ok(self.rest()),
                 Err(fault) => return Err(fault),
             }
+        }
+    }
+
+    /// Takes the next line where all of it was read already, and says whether it was: the source
+    /// isn't asked. After an `Err` the reader is spent.
+    pub(crate) fn take_read(&mut self) -> Result<bool, AllocError>
+        ensures given { self.new.given ≡ self.old.given }
+        ensures taken { IfOk result (λ found. found ≡ true → TakesRead self.old self.new) }
+        ensures none { IfOk result (λ found. found ≡ false → self.new ≡ self.old) }
+    {
+        let rest = self.piece.as_slice().split_at(self.at).1;
+        match line_end(rest) {
+            Some(end) => {
+                self.line.clear();
+                keep(&mut self.line, rest.split_at(end).0)?;
+                self.at += end + 1;
+                Ok(true)
+            }
+            None => Ok(false),
         }
     }
 

@@ -10,6 +10,7 @@ ghost use Rattle.rx_world.specs.World.{World};
 ghost use Rattle.rx_top.specs.Hears.{HearsAll, stands};
 ghost use Rattle.rx_top.specs.PlaysScript.{PlaysScript};
 ghost use Rattle.rx_top.specs.Reader.{Took, max_input_bytes};
+ghost use Rattle.rx_top.specs.Chunks.{in_groups};
 ghost use Rattle.rx_top.specs.Run.{KeepsRun, NeedsJournal, Plays};
 ghost use Rattle.rx_top.specs.Script.{line_effect};
 ghost use Rattle.rx_top.specs.Start.{FromStart, StaysLegal};
@@ -73,7 +74,8 @@ fn open_and_play<S: Source, K: Sink, D: Disk, N: Dial>(
         (S.left source.old) (S.left source.new) (opened (host_of handlers.now hooks.now) heard w) result
         (HearsAll N.W.tells (opened (host_of handlers.now hooks.now) heard w) (stands N.Dial dial.old)
         (stands N.Dial dial.new) result)
-        (KeepsRun (host_of handlers.now hooks.now) heard D.Disk disk.old disk.new bodies w limit result)))
+        (KeepsRun in_groups (host_of handlers.now hooks.now) heard D.Disk disk.old disk.new bodies w limit
+        result)))
         × (S.tells → (w : World) × Plays line_effect HoldsOfTurn K.tells (K.written out.old)
         (K.written out.new) (S.left source.old) (S.left source.new)
         (opened (host_of handlers.now hooks.now) heard w) result

@@ -13,6 +13,7 @@ ghost use Rattle.rx_trial.specs.Lines.{script};
 ghost use Rattle.rx_world.specs.World.{World};
 ghost use Rattle.rx_top.specs.Hears.{HearsAll, stands};
 ghost use Rattle.rx_top.specs.Lines.{is_blank};
+ghost use Rattle.rx_top.specs.Chunks.{singly};
 ghost use Rattle.rx_top.specs.Run.{KeepsFrom, KeepsRun};
 ghost use Rattle.rx_top.specs.Start.{FromStart};
 ghost use Rattle.rx_top.specs.Tally.{ComesTo, summary_of};
@@ -70,7 +71,7 @@ fn open_and_play<D: Disk, N: Dial>(
         DoesLines (script seed count) (result_err result)
         (HearsAll N.W.tells (opened (host_of handlers.now hooks.now) heard w) (stands N.Dial dial.old)
         (stands N.Dial dial.new) (as_run (result_err result)))
-        (KeepsRun (host_of handlers.now hooks.now) heard D.Disk disk.old disk.new bodies w limit
+        (KeepsRun singly (host_of handlers.now hooks.now) heard D.Disk disk.old disk.new bodies w limit
         (as_run (result_err result)))
         × IfOk result (λ text. string_bytes text
         ≡ summary_of (script seed count) (opened (host_of handlers.now hooks.now) heard w)))
@@ -123,7 +124,7 @@ fn play_lines<D: Disk, N: Dial>(
         (HearsAll N.W.tells (standing_of (kinds_of handlers.now) heard first)
         (stands N.Dial dial.old)
         (stands N.Dial dial.new) (as_run (result_err result)))
-        (KeepsFrom (standing_of (kinds_of handlers.now) heard first) D.Disk disk.old disk.new first
+        (KeepsFrom singly (standing_of (kinds_of handlers.now) heard first) D.Disk disk.old disk.new first
         (as_run (result_err result)))
         × IfOk result (λ p.
         ComesTo lines.old (standing_of (kinds_of handlers.now) heard first) p.0 p.1) }

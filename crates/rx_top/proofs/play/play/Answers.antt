@@ -1,11 +1,12 @@
-use Rattle.std.proofs.Common.{◌≡◌, ◌∙◌, ◌++◌, ◌+◌, ◌≤◌, ◌||◌, List, [], Ok, Some, IsErrOf, refl, sym, ap, subst, append_assoc, append-nil, rules, arith}
+use Rattle.std.proofs.Common.{◌≡◌, ◌∙◌, ◌++◌, ◌+◌, ◌≤◌, ◌||◌, ℕ, List, [], Ok, Some, IsErrOf, refl, sym, ap, subst, append_assoc, append-nil, rules, arith}
 use Rattle.rx_engine.specs.Engine.{standing_of}
 use Rattle.rx_handler.specs.Shown.{kinds_of}
 use Rattle.rx_sync.specs.Remote.{Heard}
 use Rattle.rx_top.specs.Hears.{stands}
-use Rattle.rx_top.specs.Reader.{Reading, TakesKept, max_input_bytes}
+use Rattle.rx_top.specs.Reader.{Reading, TakesKept, Took, max_input_bytes}
 use Rattle.rx_top.specs.declared.reader.Next.TheVariants.{Line, Last, End}
 use Rattle.rx_top.proofs.Exits.{Along, begins, took_on, within_on, none_left, only_line, taken_as, reader_stopped, ended, images_at, line_failed, line_kept, last_played, line_played}
+use Rattle.rx_top.proofs.Groups.{after_group, group_ended}
 use Rattle.rx_top.proofs.Hears.{heard_in, then_shown}
 use Rattle.rx_top.proofs.Growth.{grown_end, grown_more, grown_now, not_grown}
 use Rattle.rx_top.proofs.play.play.Goals as goal
@@ -48,11 +49,22 @@ lines-init g c = record {
   number = search rules;
 }
 
-pub play_line-requires : goal.play_line-requires
-play_line-requires g c = λ t.
+pub play_group-requires-clause-at : goal.play_group-requires-clause-at
+play_group-requires-clause-at g c = λ t.
     let start = c.requires.at t in
     let here = c.lines.invariant.grown t start.0 start.1 in
     (start.0 ++ here.more, here.at)
+
+pub play_group-requires-clause-few : goal.play_group-requires-clause-few
+play_group-requires-clause-few g c line =
+    omega (arith, c.in-Ok.ensures.smaller line, c.in-Ok.ensures.bounded, c.lines.invariant.number)
+
+pub play_line-requires : goal.play_line-requires
+play_line-requires g c = λ t.
+    let start = c.requires.at t in
+    let had = c.lines.invariant.grown t start.0 start.1 in
+    let grew = c.in-Ok-play_group.ensures.grows t (start.0 ++ had.more) had.at in
+    ((start.0 ++ had.more) ++ grew.more, grew.safe.at)
 
 pub returns-in-Err-clause-exit : goal.returns-in-Err-clause-exit
 returns-in-Err-clause-exit g c =
@@ -127,28 +139,82 @@ returns-in-End-clause-within g c = λ told _.
     (c.lines.invariant.took told) (within_on _ _ _ _ (c.in-Ok.ensures.took told)
     c.in-Ok.ensures.bounded)
 
+-- ---- the group
+
+pub returns-in-Err-play_group-clause-exit : goal.returns-in-Err-play_group-clause-exit
+returns-in-Err-play_group-clause-exit g c =
+    let kinds = kinds_of c.args.handlers.now in
+    let a = c.lines.invariant.along in (
+      a.0 ++ [],
+      λ told.
+          let left = g.S.Source.left c.next.new.source in
+          group_ended (standing_of kinds (a.0 ++ []) c.args.first) g.D.Disk g.K.Sink.tells
+          g.N.W.Wire.tells c.args.disk.now c.lines.disk (stands g.N.Dial c.args.dial.now)
+          (stands g.N.Dial c.lines.dial) c.args.first c.lines.engine
+          (g.K.Sink.written c.args.out.now) (g.K.Sink.written c.lines.out)
+          (g.S.Source.left c.args.source.now) _ c.lines.number c.lines.refused kinds [] (a.1 [] told)
+          c.in-Ok.next left c.play_group.new.reader c.play_group.new.disk
+          (g.K.Sink.written c.play_group.new.out) c.in-Err-play_group.cause
+          (c.in-Err-play_group.ensures.works
+          (c.lines.reader.unread ++ g.S.Source.left c.lines.source) left (c.in-Ok.ensures.next told))
+          refl c.in-Err-play_group.ensures.no_read c.in-Err-play_group.ensures.no_full
+          (λ t f. g.met.D.Disk.only_now c.play_group.new.disk f t)
+          (λ t s f le now. g.met.D.Disk.counts_now c.play_group.new.disk s f t le now),
+    )
+
+pub returns-in-Err-play_group-clause-legal : goal.returns-in-Err-play_group-clause-legal
+returns-in-Err-play_group-clause-legal g c = λ t bodies at.
+    let had = c.lines.invariant.grown t bodies at in
+    let grew = c.in-Err-play_group.ensures.grows t (bodies ++ had.more) had.at in
+    grown_end g.D.Disk c.args.disk.now c.lines.disk c.play_group.new.disk c.lines.engine bodies
+    grew.more had
+    (grew.safe.moments (images_at g.D.Disk c.lines.disk c.lines.engine (bodies ++ had.more) had.at))
+    (λ s f le now. g.met.D.Disk.counts_now c.play_group.new.disk s f t le now)
+
+pub returns-in-Err-play_group-clause-within : goal.returns-in-Err-play_group-clause-within
+returns-in-Err-play_group-clause-within g c = λ told _.
+    took_on c.lines.reader.given (g.S.Source.left c.args.source.now)
+    (g.S.Source.left c.lines.source) _ (λ n. n ≤ max_input_bytes)
+    (c.lines.invariant.took told) (within_on _ _ _ _ (c.in-Ok.ensures.took told)
+    c.in-Ok.ensures.bounded)
+
+-- ---- a line that is played alone, behind it
+
 pub returns-in-Err-play_line-clause-exit : goal.returns-in-Err-play_line-clause-exit
 returns-in-Err-play_line-clause-exit g c =
-    let a = c.lines.invariant.along in
-    let works = c.in-Err-play_line.ensures.works in (
-      a.0 ++ (works.heard ++ []),
-      λ told. line_failed
-          (standing_of (kinds_of c.args.handlers.now) (a.0 ++ (works.heard ++ [])) c.args.first)
-          (standing_of (kinds_of c.args.handlers.now) (works.heard ++ []) c.lines.engine) g.D.Disk
-          g.K.Sink.tells
-          g.N.W.Wire.tells c.args.disk.now c.lines.disk (stands g.N.Dial c.args.dial.now)
-          (stands g.N.Dial c.lines.dial) c.args.first
-          c.lines.engine (g.K.Sink.written c.args.out.now) (g.K.Sink.written c.lines.out)
-          (g.S.Source.left c.args.source.now) _ c.lines.number c.lines.refused
-          (a.1 (works.heard ++ []) told) c.play_line.new.disk (stands g.N.Dial c.play_line.new.dial)
-          (g.K.Sink.written c.play_line.new.out) c.in-Ok.next c.line.result.now
-          (c.next.new.self.unread ++ g.S.Source.left c.next.new.source) c.in_default.not-End
-          (taken_as _ _ _ _ _ (sym c.line.ensures) (c.in-Ok.ensures.next told))
-          c.in-Err-play_line.cause
-          (g.S.Source.left c.next.new.source) c.in-Err-play_line.ensures.no_read
+    let kinds = kinds_of c.args.handlers.now in
+    let along = c.lines.invariant.along in
+    let group = c.in-Ok-play_group.group in
+    let works = c.in-Err-play_line.ensures.works in
+    let later = works.heard ++ [] in (
+      along.0 ++ later,
+      λ told.
+          let s0 = standing_of kinds (along.0 ++ later) c.args.first in
+          let s1 = standing_of kinds later group.engine in
+          let left = g.S.Source.left c.next.new.source in
+          let done = c.in-Ok-play_group.ensures.works
+          (c.lines.reader.unread ++ g.S.Source.left c.lines.source) left (c.in-Ok.ensures.next told) in
+          let a = after_group s0 g.D.Disk g.K.Sink.tells g.N.W.Wire.tells c.args.disk.now c.lines.disk
+          (stands g.N.Dial c.args.dial.now) (stands g.N.Dial c.lines.dial) c.args.first c.lines.engine
+          (g.K.Sink.written c.args.out.now) (g.K.Sink.written c.lines.out)
+          (g.S.Source.left c.args.source.now) _ c.lines.number c.lines.refused kinds later
+          (along.1 later told) c.in-Ok.next left c.play_group.new.reader c.play_group.new.disk
+          (g.K.Sink.written c.play_group.new.out) group done c.in-Ok-play_group.ensures.limit
+          (λ t f. g.met.D.Disk.only_now c.play_group.new.disk f t) in
+          let behind : TakesKept c.in-Ok.next c.play_group.new.reader.line done.mid
+          (c.play_group.new.reader.unread ++ left) = rw c.if-group.false at done.behind in
+          line_failed s0 s1 g.D.Disk g.K.Sink.tells g.N.W.Wire.tells c.args.disk.now
+          c.play_group.new.disk (stands g.N.Dial c.args.dial.now)
+          (stands g.N.Dial c.lines.dial) c.args.first group.engine
+          (g.K.Sink.written c.args.out.now) (g.K.Sink.written c.play_group.new.out)
+          (g.S.Source.left c.args.source.now) done.mid group.number
+          (c.lines.refused || group.refused) a c.play_line.new.disk
+          (stands g.N.Dial c.play_line.new.dial) (g.K.Sink.written c.play_line.new.out)
+          c.in-Ok.next c.line-line.result.now (c.play_group.new.reader.unread ++ left)
+          c.in_default.not-End (taken_as _ _ _ _ _ (sym c.line-line.ensures) behind)
+          c.in-Err-play_line.cause left c.in-Err-play_line.ensures.no_read
           (works.front []) c.in-Err-play_line.ensures.unsaid (works.turn []) works.heard
-          (heard_in (kinds_of c.args.handlers.now) (works.heard ++ []) c.lines.engine
-          ∙ append-nil works.heard)
+          (heard_in kinds later group.engine ∙ append-nil works.heard)
           (works.later_so []) (works.shown []) (works.unharmed []) (works.safe [])
           (λ t f. g.met.D.Disk.only_now c.play_line.new.disk f t)
           (λ t s f le now. g.met.D.Disk.counts_now c.play_line.new.disk s f t le now),
@@ -157,10 +223,17 @@ returns-in-Err-play_line-clause-exit g c =
 pub returns-in-Err-play_line-clause-legal : goal.returns-in-Err-play_line-clause-legal
 returns-in-Err-play_line-clause-legal g c = λ t bodies at.
     let had = c.lines.invariant.grown t bodies at in
-    grown_end g.D.Disk c.args.disk.now c.lines.disk c.play_line.new.disk c.lines.engine bodies _ had
-    ((c.play_line.ensures.works.safe [] t (bodies ++ had.more) had.at).moments
-    (images_at g.D.Disk c.lines.disk c.lines.engine (bodies ++ had.more) had.at))
-    (λ s f le now. g.met.D.Disk.counts_now c.play_line.new.disk s f t le now)
+    let grew = c.in-Ok-play_group.ensures.grows t (bodies ++ had.more) had.at in
+    let now = grown_more g.D.Disk c.args.disk.now c.lines.disk c.play_group.new.disk c.lines.engine
+    c.in-Ok-play_group.group.engine bodies grew.more had
+    (grew.safe.moments (images_at g.D.Disk c.lines.disk c.lines.engine (bodies ++ had.more) had.at))
+    grew.safe.at in
+    grown_end g.D.Disk c.args.disk.now c.play_group.new.disk c.play_line.new.disk
+    c.in-Ok-play_group.group.engine bodies _ now
+    ((c.play_line.ensures.works.safe [] t (bodies ++ now.more) now.at).moments
+    (images_at g.D.Disk c.play_group.new.disk c.in-Ok-play_group.group.engine
+    (bodies ++ now.more) now.at))
+    (λ s f le here. g.met.D.Disk.counts_now c.play_line.new.disk s f t le here)
 
 pub returns-in-Err-play_line-clause-within : goal.returns-in-Err-play_line-clause-within
 returns-in-Err-play_line-clause-within g c = λ told _.
@@ -171,44 +244,52 @@ returns-in-Err-play_line-clause-within g c = λ told _.
 
 pub returns-in-Last-clause-exit : goal.returns-in-Last-clause-exit
 returns-in-Last-clause-exit g c =
+    let kinds = kinds_of c.args.handlers.now in
     let along = c.lines.invariant.along in
+    let group = c.in-Ok-play_group.group in
     let works = c.in-Ok-play_line.ensures.works in
-    let s0 =
-    standing_of (kinds_of c.args.handlers.now) (along.0 ++ (works.heard ++ [])) c.args.first in
-    let s1 = standing_of (kinds_of c.args.handlers.now) (works.heard ++ []) c.lines.engine in (
-      along.0 ++ (works.heard ++ []),
+    let later = works.heard ++ [] in (
+      along.0 ++ later,
       λ told.
-          let takes : TakesKept Last c.line.result.now (c.lines.reader.unread
-          ++ g.S.Source.left c.lines.source)
-          (c.next.new.self.unread
-          ++ g.S.Source.left c.next.new.source) =
-          taken_as Last _ _ _ _ (sym c.line.ensures)
-          (rw c.in-Last.is at (c.in-Ok.ensures.next told)) in
-          let a = along.1 (works.heard ++ []) told in
-          last_played s0 s1 g.D.Disk g.K.Sink.tells
-          g.N.W.Wire.tells c.args.disk.now c.lines.disk (stands g.N.Dial c.args.dial.now)
-          (stands g.N.Dial c.lines.dial) c.args.first
-          c.lines.engine (g.K.Sink.written c.args.out.now) (g.K.Sink.written c.lines.out)
-          (g.S.Source.left c.args.source.now) _ c.lines.number c.lines.refused a
-          c.play_line.new.disk
-          (stands g.N.Dial c.play_line.new.dial)
-          (g.K.Sink.written c.play_line.new.out) c.line.result.now _
-          (g.S.Source.left c.next.new.source) _ takes
+          let s0 = standing_of kinds (along.0 ++ later) c.args.first in
+          let s1 = standing_of kinds later group.engine in
+          let left = g.S.Source.left c.next.new.source in
+          let done = c.in-Ok-play_group.ensures.works
+          (c.lines.reader.unread ++ g.S.Source.left c.lines.source) left (c.in-Ok.ensures.next told) in
+          let a = after_group s0 g.D.Disk g.K.Sink.tells g.N.W.Wire.tells c.args.disk.now c.lines.disk
+          (stands g.N.Dial c.args.dial.now) (stands g.N.Dial c.lines.dial) c.args.first c.lines.engine
+          (g.K.Sink.written c.args.out.now) (g.K.Sink.written c.lines.out)
+          (g.S.Source.left c.args.source.now) _ c.lines.number c.lines.refused kinds later
+          (along.1 later told) c.in-Ok.next left c.play_group.new.reader c.play_group.new.disk
+          (g.K.Sink.written c.play_group.new.out) group done c.in-Ok-play_group.ensures.limit
+          (λ t f. g.met.D.Disk.only_now c.play_group.new.disk f t) in
+          let behind : TakesKept c.in-Ok.next c.play_group.new.reader.line done.mid
+          (c.play_group.new.reader.unread ++ left) = rw c.if-group.false at done.behind in
+          let takes : TakesKept Last c.line-line.result.now done.mid
+          (c.play_group.new.reader.unread ++ left) =
+          taken_as Last _ _ _ _ (sym c.line-line.ensures) (rw c.in-Last.is at behind) in
+          last_played s0 s1 g.D.Disk g.K.Sink.tells g.N.W.Wire.tells c.args.disk.now
+          c.play_group.new.disk (stands g.N.Dial c.args.dial.now)
+          (stands g.N.Dial c.lines.dial) c.args.first group.engine
+          (g.K.Sink.written c.args.out.now) (g.K.Sink.written c.play_group.new.out)
+          (g.S.Source.left c.args.source.now) done.mid group.number
+          (c.lines.refused || group.refused) a c.play_line.new.disk
+          (stands g.N.Dial c.play_line.new.dial) (g.K.Sink.written c.play_line.new.out)
+          c.line-line.result.now _ left _ takes
           (works.refused []) (works.told []) (works.turn []) works.heard
-          (heard_in (kinds_of c.args.handlers.now) (works.heard ++ []) c.lines.engine
-          ∙ append-nil works.heard)
-          (then_shown g.N.W.Wire.tells c.line.result.now (stands g.N.Dial c.lines.dial)
+          (heard_in kinds later group.engine ∙ append-nil works.heard)
+          (then_shown g.N.W.Wire.tells c.line-line.result.now (stands g.N.Dial c.lines.dial)
           (stands g.N.Dial c.play_line.new.dial) works.heard (λ all. refl) s1
           (works.shown [] (no_error _ _)))
           (works.later_so [])
-          (line_kept s0 s1 g.D.Disk g.K.Sink.tells
-          g.N.W.Wire.tells c.args.disk.now c.lines.disk (stands g.N.Dial c.args.dial.now)
-          (stands g.N.Dial c.lines.dial) c.args.first
-          c.lines.engine (g.K.Sink.written c.args.out.now) (g.K.Sink.written c.lines.out)
-          (g.S.Source.left c.args.source.now) _ c.lines.number c.lines.refused a
-          c.play_line.new.disk
-          (stands g.N.Dial c.play_line.new.dial)
-          (g.K.Sink.written c.play_line.new.out) Last c.line.result.now _ last_not_end takes
+          (line_kept s0 s1 g.D.Disk g.K.Sink.tells g.N.W.Wire.tells c.args.disk.now
+          c.play_group.new.disk (stands g.N.Dial c.args.dial.now)
+          (stands g.N.Dial c.lines.dial) c.args.first group.engine
+          (g.K.Sink.written c.args.out.now) (g.K.Sink.written c.play_group.new.out)
+          (g.S.Source.left c.args.source.now) done.mid group.number
+          (c.lines.refused || group.refused) a c.play_line.new.disk
+          (stands g.N.Dial c.play_line.new.dial) (g.K.Sink.written c.play_line.new.out)
+          Last c.line-line.result.now _ last_not_end takes
           (Ok c.in-Ok-play_line.played) (Some c.in-Ok-play_line.played.0) refl (works.safe [])
           (λ t f. g.met.D.Disk.only_now c.play_line.new.disk f t))
           (λ t f. g.met.D.Disk.only_now c.play_line.new.disk f t),
@@ -217,10 +298,17 @@ returns-in-Last-clause-exit g c =
 pub returns-in-Last-clause-legal : goal.returns-in-Last-clause-legal
 returns-in-Last-clause-legal g c = λ t bodies at.
     let had = c.lines.invariant.grown t bodies at in
-    grown_end g.D.Disk c.args.disk.now c.lines.disk c.play_line.new.disk c.lines.engine bodies _ had
-    ((c.play_line.ensures.works.safe [] t (bodies ++ had.more) had.at).moments
-    (images_at g.D.Disk c.lines.disk c.lines.engine (bodies ++ had.more) had.at))
-    (λ s f le now. g.met.D.Disk.counts_now c.play_line.new.disk s f t le now)
+    let grew = c.in-Ok-play_group.ensures.grows t (bodies ++ had.more) had.at in
+    let now = grown_more g.D.Disk c.args.disk.now c.lines.disk c.play_group.new.disk c.lines.engine
+    c.in-Ok-play_group.group.engine bodies grew.more had
+    (grew.safe.moments (images_at g.D.Disk c.lines.disk c.lines.engine (bodies ++ had.more) had.at))
+    grew.safe.at in
+    grown_end g.D.Disk c.args.disk.now c.play_group.new.disk c.play_line.new.disk
+    c.in-Ok-play_group.group.engine bodies _ now
+    ((c.play_line.ensures.works.safe [] t (bodies ++ now.more) now.at).moments
+    (images_at g.D.Disk c.play_group.new.disk c.in-Ok-play_group.group.engine
+    (bodies ++ now.more) now.at))
+    (λ s f le here. g.met.D.Disk.counts_now c.play_line.new.disk s f t le here)
 
 pub returns-in-Last-clause-whole : goal.returns-in-Last-clause-whole
 returns-in-Last-clause-whole g c = λ told.
@@ -237,79 +325,179 @@ returns-in-Last-clause-within g c = λ told _.
     (c.lines.invariant.took told) (within_on _ _ _ _ (c.in-Ok.ensures.took told)
     c.in-Ok.ensures.bounded)
 
+-- ---- the loop goes on
+
+-- behind a group whose last line is the one that was read
+pub lines-preserved-then-group : goal.lines-preserved-then-group
+lines-preserved-then-group g c =
+    let kinds = kinds_of c.args.handlers.now in
+    let along = c.lines.invariant.along in
+    let group = c.in-Ok-play_group.group in
+    let line = c.in-Ok-play_group.ensures.ended c.if-group.true in
+    record {
+      along = (
+        along.0,
+        λ later told.
+            let s0 = standing_of kinds (along.0 ++ later) c.args.first in
+            let s1 = standing_of kinds later group.engine in
+            let left = g.S.Source.left c.next.new.source in
+            let done = c.in-Ok-play_group.ensures.works
+            (c.lines.reader.unread ++ g.S.Source.left c.lines.source) left (c.in-Ok.ensures.next told) in
+            let a = after_group s0 g.D.Disk g.K.Sink.tells g.N.W.Wire.tells c.args.disk.now c.lines.disk
+            (stands g.N.Dial c.args.dial.now) (stands g.N.Dial c.lines.dial) c.args.first c.lines.engine
+            (g.K.Sink.written c.args.out.now) (g.K.Sink.written c.lines.out)
+            (g.S.Source.left c.args.source.now) _ c.lines.number c.lines.refused kinds later
+            (along.1 later told) c.in-Ok.next left c.play_group.new.reader c.play_group.new.disk
+            (g.K.Sink.written c.play_group.new.out) group done c.in-Ok-play_group.ensures.limit
+            (λ t f. g.met.D.Disk.only_now c.play_group.new.disk f t) in
+            let behind : done.mid ≡ c.play_group.new.reader.unread ++ left =
+            rw c.if-group.true at done.behind in
+            subst (λ (rest : List ℕ). Along s0 s1 g.D.Disk g.K.Sink.tells g.N.W.Wire.tells
+            c.args.disk.now c.play_group.new.disk (stands g.N.Dial c.args.dial.now)
+            (stands g.N.Dial c.lines.dial) c.args.first group.engine
+            (g.K.Sink.written c.args.out.now) (g.K.Sink.written c.play_group.new.out)
+            (g.S.Source.left c.args.source.now) rest group.number
+            (c.lines.refused || group.refused)) behind a,
+      );
+      grown = λ t bodies at.
+          let had = c.lines.invariant.grown t bodies at in
+          let grew = c.in-Ok-play_group.ensures.grows t (bodies ++ had.more) had.at in
+          let now = grown_more g.D.Disk c.args.disk.now c.lines.disk c.play_group.new.disk c.lines.engine
+          c.in-Ok-play_group.group.engine bodies grew.more had
+          (grew.safe.moments (images_at g.D.Disk c.lines.disk c.lines.engine (bodies ++ had.more) had.at))
+          grew.safe.at in
+          now;
+      took = λ told. subst (λ (k : ℕ). Took 0 (g.S.Source.left c.args.source.now)
+          (g.S.Source.left c.next.new.source) (λ n. n ≡ k)) (sym c.in-Ok-play_group.ensures.given)
+          (took_on c.lines.reader.given (g.S.Source.left c.args.source.now)
+          (g.S.Source.left c.lines.source) _
+          (λ n. n ≡ c.next.new.self.given) (c.lines.invariant.took told)
+          (c.in-Ok.ensures.took told));
+      source_faults = search rules;
+      sink_faults = search rules;
+      disk_faults = search rules;
+      dial_faults = search rules;
+      within = omega (arith, c.in-Ok.ensures.bounded, c.in-Ok-play_group.ensures.given);
+      number = omega (
+        arith,
+        c.in-Ok.ensures.smaller line,
+        c.in-Ok-play_group.ensures.count,
+        c.in-Ok-play_group.ensures.given,
+        c.lines.invariant.number,
+      );
+    }
+
+-- behind a line that was played alone
 pub lines-preserved : goal.lines-preserved
 lines-preserved g c =
+    let kinds = kinds_of c.args.handlers.now in
     let along = c.lines.invariant.along in
+    let group = c.in-Ok-play_group.group in
     let works = c.in-Ok-play_line.ensures.works in
     let line = only_line c.in-Ok.next c.in_default.not-End c.in_default-next.not-Last in
     record {
       along = (
         along.0 ++ works.heard,
         λ later told.
-            let s0 = standing_of (kinds_of c.args.handlers.now)
-            (along.0 ++ (works.heard ++ later)) c.args.first in
-            let s1 =
-            standing_of (kinds_of c.args.handlers.now) (works.heard ++ later) c.lines.engine in
-            let s2 = standing_of (kinds_of c.args.handlers.now) later c.in-Ok-play_line.played.0 in
-            let a = along.1 (works.heard ++ later) told in
-            let takes : TakesKept Line c.line.result.now (c.lines.reader.unread
-            ++ g.S.Source.left c.lines.source)
-            (c.next.new.self.unread
-            ++ g.S.Source.left c.next.new.source) =
-            taken_as Line _ _ _ _ (sym c.line.ensures) (rw line at (c.in-Ok.ensures.next told)) in
+            let hs = works.heard ++ later in
+            let s0 = standing_of kinds (along.0 ++ hs) c.args.first in
+            let s1 = standing_of kinds hs group.engine in
+            let s2 = standing_of kinds later c.in-Ok-play_line.played.0 in
+            let left = g.S.Source.left c.next.new.source in
+            let done = c.in-Ok-play_group.ensures.works
+            (c.lines.reader.unread ++ g.S.Source.left c.lines.source) left
+            (c.in-Ok.ensures.next told) in
+            let a = after_group s0 g.D.Disk g.K.Sink.tells g.N.W.Wire.tells c.args.disk.now
+            c.lines.disk (stands g.N.Dial c.args.dial.now) (stands g.N.Dial c.lines.dial)
+            c.args.first c.lines.engine (g.K.Sink.written c.args.out.now)
+            (g.K.Sink.written c.lines.out) (g.S.Source.left c.args.source.now) _ c.lines.number
+            c.lines.refused kinds hs (along.1 hs told) c.in-Ok.next left
+            c.play_group.new.reader c.play_group.new.disk (g.K.Sink.written c.play_group.new.out)
+            group done c.in-Ok-play_group.ensures.limit
+            (λ t f. g.met.D.Disk.only_now c.play_group.new.disk f t) in
+            let behind : TakesKept c.in-Ok.next c.play_group.new.reader.line done.mid
+            (c.play_group.new.reader.unread ++ left) = rw c.if-group.false at done.behind in
+            let takes : TakesKept Line c.line-line.result.now done.mid
+            (c.play_group.new.reader.unread ++ left) =
+            taken_as Line _ _ _ _ (sym c.line-line.ensures) (rw line at behind) in
             subst (λ (hs : List Heard).
-            Along (standing_of (kinds_of c.args.handlers.now) hs c.args.first) s2 g.D.Disk
-            g.K.Sink.tells g.N.W.Wire.tells c.args.disk.now c.play_line.new.disk
-            (stands g.N.Dial c.args.dial.now)
-            (stands g.N.Dial c.play_line.new.dial) c.args.first
+            Along (standing_of kinds hs c.args.first) s2 g.D.Disk g.K.Sink.tells
+            g.N.W.Wire.tells c.args.disk.now c.play_line.new.disk
+            (stands g.N.Dial c.args.dial.now) (stands g.N.Dial c.play_line.new.dial) c.args.first
             c.in-Ok-play_line.played.0 (g.K.Sink.written c.args.out.now)
             (g.K.Sink.written c.play_line.new.out) (g.S.Source.left c.args.source.now)
-            (c.next.new.self.unread ++ g.S.Source.left c.next.new.source) (c.lines.number + 1)
-            (c.lines.refused || c.in-Ok-play_line.played.1))
+            (c.play_group.new.reader.unread ++ left) (group.number + 1)
+            ((c.lines.refused || group.refused) || c.in-Ok-play_line.played.1))
             (sym (append_assoc along.0 works.heard later))
-            (line_played s0 s1 g.D.Disk g.K.Sink.tells
-            g.N.W.Wire.tells c.args.disk.now c.lines.disk (stands g.N.Dial c.args.dial.now)
-            (stands g.N.Dial c.lines.dial) c.args.first
-            c.lines.engine (g.K.Sink.written c.args.out.now) (g.K.Sink.written c.lines.out)
-            (g.S.Source.left c.args.source.now) _ c.lines.number c.lines.refused a
-            c.play_line.new.disk
-            (stands g.N.Dial c.play_line.new.dial)
-            (g.K.Sink.written c.play_line.new.out) c.line.result.now _ _
-            c.in-Ok-play_line.played.0 s2 takes
+            (line_played s0 s1 g.D.Disk g.K.Sink.tells g.N.W.Wire.tells c.args.disk.now
+            c.play_group.new.disk (stands g.N.Dial c.args.dial.now)
+            (stands g.N.Dial c.lines.dial) c.args.first group.engine
+            (g.K.Sink.written c.args.out.now) (g.K.Sink.written c.play_group.new.out)
+            (g.S.Source.left c.args.source.now) done.mid group.number
+            (c.lines.refused || group.refused) a c.play_line.new.disk
+            (stands g.N.Dial c.play_line.new.dial) (g.K.Sink.written c.play_line.new.out)
+            c.line-line.result.now _ _ c.in-Ok-play_line.played.0 s2 takes
             c.in-Ok-play_line.ensures.limit (works.refused later) (works.next later)
             (works.told later) (λ t before here. (works.safe later t before here).at)
             (works.turn later) works.heard
-            (then_shown g.N.W.Wire.tells c.line.result.now (stands g.N.Dial c.lines.dial)
+            (then_shown g.N.W.Wire.tells c.line-line.result.now (stands g.N.Dial c.lines.dial)
             (stands g.N.Dial c.play_line.new.dial) works.heard (λ all. refl) s1
             (works.shown later (no_error _ _)))
-            (heard_in (kinds_of c.args.handlers.now) (works.heard ++ later) c.lines.engine
+            (heard_in kinds hs group.engine
             ∙ ap (λ (hs : List Heard). works.heard ++ hs) (sym (works.later_so later)))
-            (line_kept s0 s1 g.D.Disk g.K.Sink.tells
-            g.N.W.Wire.tells c.args.disk.now c.lines.disk (stands g.N.Dial c.args.dial.now)
-            (stands g.N.Dial c.lines.dial) c.args.first
-            c.lines.engine (g.K.Sink.written c.args.out.now) (g.K.Sink.written c.lines.out)
-            (g.S.Source.left c.args.source.now) _ c.lines.number c.lines.refused a
-            c.play_line.new.disk
-            (stands g.N.Dial c.play_line.new.dial)
-            (g.K.Sink.written c.play_line.new.out) Line c.line.result.now _ line_not_end takes
-            (Ok c.in-Ok-play_line.played) (Some c.in-Ok-play_line.played.0) refl (works.safe later)
-            (λ t f. g.met.D.Disk.only_now c.play_line.new.disk f t))),
+            (line_kept s0 s1 g.D.Disk g.K.Sink.tells g.N.W.Wire.tells c.args.disk.now
+            c.play_group.new.disk (stands g.N.Dial c.args.dial.now)
+            (stands g.N.Dial c.lines.dial) c.args.first group.engine
+            (g.K.Sink.written c.args.out.now) (g.K.Sink.written c.play_group.new.out)
+            (g.S.Source.left c.args.source.now) done.mid group.number
+            (c.lines.refused || group.refused) a c.play_line.new.disk
+            (stands g.N.Dial c.play_line.new.dial) (g.K.Sink.written c.play_line.new.out)
+            Line c.line-line.result.now _ line_not_end takes
+            (Ok c.in-Ok-play_line.played) (Some c.in-Ok-play_line.played.0) refl
+            (works.safe later) (λ t f. g.met.D.Disk.only_now c.play_line.new.disk f t))),
       );
       grown = λ t bodies at.
           let had = c.lines.invariant.grown t bodies at in
-          grown_more g.D.Disk c.args.disk.now c.lines.disk c.play_line.new.disk c.lines.engine
-          c.in-Ok-play_line.played.0 bodies _ had
-          ((works.safe [] t (bodies ++ had.more) had.at).moments
+          let grew = c.in-Ok-play_group.ensures.grows t (bodies ++ had.more) had.at in
+          let now = grown_more g.D.Disk c.args.disk.now c.lines.disk c.play_group.new.disk
+          c.lines.engine group.engine bodies grew.more had
+          (grew.safe.moments
           (images_at g.D.Disk c.lines.disk c.lines.engine (bodies ++ had.more) had.at))
-          (works.safe [] t (bodies ++ had.more) had.at).at;
-      took = λ told. took_on c.lines.reader.given (g.S.Source.left c.args.source.now)
+          grew.safe.at in
+          let done = works.safe [] t (bodies ++ now.more) now.at in
+          grown_more g.D.Disk c.args.disk.now c.play_group.new.disk c.play_line.new.disk
+          group.engine c.in-Ok-play_line.played.0 bodies _ now
+          (done.moments
+          (images_at g.D.Disk c.play_group.new.disk group.engine (bodies ++ now.more) now.at))
+          done.at;
+      took = λ told. subst (λ (k : ℕ). Took 0 (g.S.Source.left c.args.source.now)
+          (g.S.Source.left c.next.new.source) (λ n. n ≡ k)) (sym c.in-Ok-play_group.ensures.given)
+          (took_on c.lines.reader.given (g.S.Source.left c.args.source.now)
           (g.S.Source.left c.lines.source) _
           (λ n. n ≡ c.next.new.self.given) (c.lines.invariant.took told)
-          (c.in-Ok.ensures.took told);
+          (c.in-Ok.ensures.took told));
       source_faults = search rules;
       sink_faults = search rules;
       disk_faults = search rules;
       dial_faults = search rules;
-      within = c.in-Ok.ensures.bounded;
-      number = omega (arith, c.in-Ok.ensures.smaller line, c.lines.invariant.number);
+      within = omega (arith, c.in-Ok.ensures.bounded, c.in-Ok-play_group.ensures.given);
+      number = omega (
+        arith,
+        c.in-Ok.ensures.smaller line,
+        c.in-Ok-play_group.ensures.count_alone c.if-group.false,
+        c.in-Ok-play_group.ensures.given,
+        c.lines.invariant.number,
+      );
     }
+
+pub lines-smaller : goal.lines-smaller
+lines-smaller g c =
+    let line = only_line c.in-Ok.next c.in_default.not-End c.in_default-next.not-Last in
+    omega (
+      arith,
+      c.in-Ok.ensures.smaller line,
+      c.in-Ok.ensures.bounded,
+      c.in-Ok-play_group.ensures.given,
+      c.in-Ok-play_group.ensures.shorter,
+      c.lines.invariant.within,
+    )

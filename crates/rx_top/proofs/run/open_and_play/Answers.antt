@@ -8,6 +8,7 @@ use Rattle.rx_handler.specs.Shown.{kinds_of}
 use Rattle.rx_world.specs.World.{empty}
 use Rattle.rx_top.specs.Hears.{HearsAll, stands}
 use Rattle.rx_top.specs.Lines.{lines}
+use Rattle.rx_top.specs.Chunks.{in_groups}
 use Rattle.rx_top.specs.Run.{KeepsRun, Plays}
 use Rattle.rx_top.specs.Script.{line_effect}
 use Rattle.rx_top.specs.Turns.{HoldsOfTurn}
@@ -29,9 +30,9 @@ returns-in-Err-clause-run g c =
       λ told t bodies w start.
           unplayed g.K.Sink.tells g.N.W.Wire.tells dial _ _ input _ (opened host [] w)
           (Err (Read ReadFault.Memory))
-          (KeepsRun host [] g.D.Disk c.args.disk.now c.args.disk.now bodies w c.args.limit
+          (KeepsRun in_groups host [] g.D.Disk c.args.disk.now c.args.disk.now bodies w c.args.limit
           (Err (Read ReadFault.Memory))) (heard_at_first host [] w) tt none
-          (no_reader_keeps host [] g.D.Disk bodies w c.args.limit c.args.disk.now
+          (no_reader_keeps in_groups host [] g.D.Disk bodies w c.args.limit c.args.disk.now
           (lines input) start
           (λ f. g.met.D.Disk.only_now c.args.disk.now f t)
           (λ s f le now. g.met.D.Disk.counts_now c.args.disk.now s f t le now)),
@@ -71,10 +72,10 @@ returns-in-Ok-open-clause-run g c =
           (g.K.Sink.written c.args.out.now) (g.K.Sink.written c.play.new.out)
           (g.S.Source.left c.args.source.now) (g.S.Source.left c.play.new.source) s c.play.result
           (HearsAll g.N.W.Wire.tells s n0 n2 c.play.result)
-          (KeepsRun host heard g.D.Disk c.args.disk.now c.play.new.disk bodies w c.args.limit
+          (KeepsRun in_groups host heard g.D.Disk c.args.disk.now c.play.new.disk bodies w c.args.limit
           c.play.result)) found
           (said_as _ _
-          (λ done rest kept. played_keeps host heard g.D.Disk bodies w c.args.limit
+          (λ done rest kept. played_keeps in_groups host heard g.D.Disk bodies w c.args.limit
           c.args.disk.now c.open.new.disk c.play.new.disk c.in-Ok-open.engine c.play.result done
           rest (safe.moments start.alike) (⊎_elim (λ none. cc) (λ le. le) safe.fits)
           c.in-Ok-open.ensures.limit first found safe.at t kept)
@@ -107,9 +108,9 @@ returns-clause-run g c =
       λ told t bodies w start.
           unplayed g.K.Sink.tells g.N.W.Wire.tells dial _ _ input _ (opened host [] w)
           (Err (Work c.in-Err-open.stop))
-          (KeepsRun host [] g.D.Disk c.args.disk.now c.open.new.disk bodies w c.args.limit
+          (KeepsRun in_groups host [] g.D.Disk c.args.disk.now c.open.new.disk bodies w c.args.limit
           (Err (Work c.in-Err-open.stop))) (heard_at_first host [] w) tt none
-          (open_keeps host [] g.D.Disk bodies w c.args.limit c.args.disk.now c.open.new.disk
+          (open_keeps in_groups host [] g.D.Disk bodies w c.args.limit c.args.disk.now c.open.new.disk
           c.in-Err-open.stop (lines input)
           ((c.in-Err-open.ensures.safe t bodies w start.legal).moments start.alike)
           (λ s f le now. g.met.D.Disk.counts_now c.open.new.disk s f t le now)

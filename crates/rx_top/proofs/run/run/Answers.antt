@@ -3,6 +3,7 @@ use Rattle.std.specs.Prelude.{codes}
 use Rattle.rx_engine.specs.Opening.{host_of}
 use Rattle.rx_top.specs.Hears.{stands}
 use Rattle.rx_top.specs.PlaysScript.{PlaysScript}
+use Rattle.rx_top.specs.Chunks.{in_groups}
 use Rattle.rx_top.specs.Run.{HasRun, HasRunSomewhere, KeepsRun}
 use Rattle.rx_top.specs.Start.{FromStart}
 use Rattle.rx_top.specs.Stops.{EndsWith, last_words, status_of, stop_line}
@@ -34,7 +35,7 @@ returns g c =
     c.write_end.ensures.ok c.write_end.ensures.err c.write_end.ensures.failed) in
     let headline : g.S.Source.tells → FromStart g.D.Disk c.args.disk.now (λ bodies w.
     HasRun host heard wires n0 n1 g.K.Sink.tells f0 f2 w0 w2 w input left (status_of ended)
-    (KeepsRun host heard g.D.Disk c.args.disk.now c.open_and_play-ended.new.disk bodies w
+    (KeepsRun in_groups host heard g.D.Disk c.args.disk.now c.open_and_play-ended.new.disk bodies w
     c.args.limit)) =
     λ told t bodies w start. record {
       ended = ended;
