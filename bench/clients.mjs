@@ -21,9 +21,11 @@ export async function runLoads(open, transport, count) {
     return c;
   };
   const inserts = await db.collection('inserts', schema), bulk = await db.collection('bulk', schema);
+  const together = await db.collection('together', schema);
   const gets = await made('gets'), observed = await made('observed');
   const seconds = {
     insert: await timed(async () => { for (let n = 0; n < count; n++) await inserts.insert({ id: key(n), n }); }),
+    together: await timed(() => Promise.all(Array.from({ length: count }, (_, n) => together.insert({ id: key(n), n })))),
     bulk: await timed(async () => {
       for (let at = 0; at < count; at += 500) await bulk.bulk(Array.from({ length: Math.min(500, count - at) }, (_, i) => ({ id: key(at + i), n: i })));
     }),

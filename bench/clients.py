@@ -4,10 +4,10 @@
     bench/clients.py [PROGRAM] [FOLDER]
 
 The files lie in FOLDER, or in memory-backed storage where it is left out. Each load has its own
-collection of one database: inserts with an answer awaited each, bulks of 500, gets, and patches of
-which each changes an observed, sorted and limited query, whose emission is awaited. The bare program
-gets the same lines as a file, without waiting, and the gets tenfold; what it takes to make the
-documents is taken off.
+collection of one database: inserts with an answer awaited each, inserts that are awaited together,
+bulks of 500, gets, and patches of which each changes an observed, sorted and limited query, whose
+emission is awaited. The bare program gets the same lines as a file, without waiting, and the gets
+tenfold; what it takes to make the documents is taken off.
 Python is here; Node and Chromium are in bench/clients.mjs, where there are the tools, and Chromium's
 files lie in FOLDER too. All take turns, three runs each, and the best time counts. Of the page of
 todos it tells how long after its loading began the first emission came.
@@ -30,7 +30,7 @@ RUNS = 3
 COUNT = 5_000
 GETS = 10
 FOLDER = sys.argv[2] if len(sys.argv) > 2 else "/dev/shm"
-LOADS = ["insert", "bulk", "get", "observed"]
+LOADS = ["insert", "together", "bulk", "get", "observed"]
 QUERY = {"sort": [{"n": "desc"}], "limit": 10}
 
 
@@ -62,6 +62,7 @@ def bare():
         "get": (full, [{"do": "get", "in": "c", "key": key(n)} for n in range(COUNT)] * GETS),
         "observed": (observed, [{"do": "patch", "in": "c", "key": key(n), "set": {"n": COUNT + n}} for n in range(COUNT)]),
     }
+    scripts["together"] = scripts["insert"]
     seconds = {}
     for load, (before, lines) in scripts.items():
         whole = before + [compact(it) for it in lines]
@@ -112,6 +113,9 @@ async def with_asyncio(path):
             for it in each:
                 await call(it)
             seconds[load] = time.perf_counter() - start
+        start = time.perf_counter()
+        await asyncio.gather(*map(c["together"].insert, rows(0, COUNT)))
+        seconds["together"] = time.perf_counter() - start
         async with c["observed"].observe(QUERY) as query:
             await query.__anext__()
             start = time.perf_counter()
@@ -143,6 +147,9 @@ def main():
             runs[who].append(run())
     for load in LOADS:
         for who in peers:
+            # each call of that client waits for its answer
+            if (load, who) == ("together", "Python"):
+                continue
             seconds = min(run[load] for run in runs[who])
             if who == "the bare program":
                 seconds -= min(run[f"before {load}"] for run in runs[who])

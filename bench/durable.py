@@ -4,17 +4,18 @@
     bench/durable.py [PROGRAM] [FOLDER] [--json FILE]
 
 The floor is what a journal can't do without: for each record two writes and two syncs of the data,
-of the same lengths, by os.pwrite and os.fdatasync. sqlite3 inserts the same documents as statements
-of their own, with its rollback journal and with its write-ahead log, synchronous=FULL. All take
-turns, three runs each, and the best time counts. FOLDER is where the files lie, this folder's disk
-where it is left out.
+of the same lengths, by os.pwrite and os.fdatasync. rx gets a line once the one before is answered,
+and beside that all lines in a file, where those that it reads together share their syncs. sqlite3
+inserts the same documents as statements of their own, with its rollback journal and with its
+write-ahead log, synchronous=FULL. All take turns, three runs each, and the best time counts. FOLDER
+is where the files lie, this folder's disk where it is left out.
 """
 import os
 import sys
 import tempfile
 import time
 
-from measuring import HERE, collection, compact, documents, figure, measure, program, report, sqlite
+from measuring import HERE, Talk, collection, compact, documents, figure, measure, program, report, sqlite
 
 RUNS = 3
 COUNT = 1_000
@@ -38,6 +39,14 @@ def floor(path):
     return time.perf_counter() - start, 0
 
 
+def one_by_one(path, lines):
+    start = time.perf_counter()
+    talk = Talk(path)
+    if not all(map(talk.ask, lines)) or talk.end():
+        sys.exit("the run ended early")
+    return time.perf_counter() - start, 0
+
+
 def in_folder(run):
     with tempfile.TemporaryDirectory(dir=FOLDER) as folder:
         return run(os.path.join(folder, "file"))
@@ -53,7 +62,8 @@ def main():
     lines = [collection()]
     lines += [compact({"do": "insert", "in": "c", "doc": {"id": k, "n": n}}) for k, n in documents(COUNT)]
     peers = {
-        "rx": lambda path: measure([program(), "run", path], lines),
+        "rx": lambda path: one_by_one(path, lines),
+        "rx, read together": lambda path: measure([program(), "run", path], lines),
         "floor": floor,
         "sqlite3, rollback journal": sqlite_run("DELETE"),
         "sqlite3, write-ahead log": sqlite_run("WAL"),

@@ -7,14 +7,15 @@ Where the program ends here, docs/COMMANDS.md says so; what is shown is that not
 import fcntl
 import os
 import resource
+import select
 import socket
 import subprocess
 import sys
 import tempfile
 import time
 
-from shared import (HERE, ROOT, RX, SECONDS, Server, Skipped, all_there, answers, ask, case, inserts, insist,
-                    is_served, main, pull, push, run, same, text, told)
+from shared import (HERE, ROOT, RX, SECONDS, Server, Skipped, Talk, all_there, answers, ask, case, inserts,
+                    insist, is_served, main, pull, push, run, same, text, told)
 
 NOBODY = 65_534
 DISK = {"stop": "disk"}
@@ -43,6 +44,26 @@ def failing_sync(folder):
         ends.append(status)
     insist(len(ends) > 2, f"{len(ends)} syncs")
     return f"each of {len(ends) - 1} syncs: 3, and all that was acknowledged is on the disk"
+
+
+# ---- an input that comes in pieces
+
+@case("an input that halts within a line")
+def input_that_halts(folder):
+    """Each whole line is answered while the rest of the next one is still to come."""
+    script = text(inserts([f"k{n}" for n in range(20)]))
+    for piece in (1, 7, len(script) - 3):
+        talk, replies = Talk(os.path.join(folder, f"journal{piece}")), 0
+        for at in range(0, len(script), piece):
+            talk.child.stdin.write(script[at:at + piece])
+            talk.child.stdin.flush()
+            while replies < script[:at + piece].count(b"\n"):
+                waits = not select.select([talk.child.stdout], [], [], SECONDS)[0]
+                written = b"" if waits else os.read(talk.child.stdout.fileno(), 1 << 16)
+                insist(written, f"pieces of {piece}: {replies} replies behind {at + piece} bytes")
+                replies += written.count(b"\n")
+        insist(talk.end() == 0, f"pieces of {piece}: the run failed")
+    return "pieces of 1, of 7 and of nearly all bytes: each whole line is answered at once"
 
 
 # ---- descriptors that don't block

@@ -285,6 +285,29 @@ def killed_in_a_loop(folder):
     return f"{rounds} times: the next run has all acknowledged inserts, {len(kept):,} in the end"
 
 
+@case("kill -9 in a group")
+def killed_in_a_group(folder):
+    """SIGKILL while lines that were sent in one piece are played. The first of them stand and no other,
+    and all that were answered do."""
+    moments = random.Random(SEED)
+    keys = [f"k{key:03}" for key in range(200)]
+    rounds, between, answered = 300, 0, 0
+    for round_ in range(rounds):
+        journal = os.path.join(folder, f"journal{round_}")
+        talk = Talk(journal)
+        insist(talk.ask(collection()), f"round {round_}: no journal")
+        talk.send(map(insert, keys))
+        time.sleep(moments.uniform(0, 0.01))
+        rest = sum(reply.get("ok") == "insert" for reply in answers(talk.kill()))
+        stand = held(journal)
+        insist(stand == set(keys[:len(stand)]), f"round {round_}: {len(stand)} stand, not the first")
+        insist(len(stand) >= rest, f"round {round_}: {rest} answered, {len(stand)} stand")
+        between += 0 < len(stand) < len(keys)
+        answered += rest > 0
+        os.remove(journal)
+    return f"{rounds} times, {answered} behind an answer, {between} with a part of the lines: the first stand"
+
+
 @case("kill -9 in a turn")
 def killed_in_a_turn(folder):
     """SIGKILL while exchanges are made. Numbers rise with each write on either side, and of two that
