@@ -83,11 +83,12 @@ def update_fault(update, fields):
 
 def after_hook(hook, field, state):
     """What a hook makes of a state, None where it vetoes the write."""
-    held = state.get(field)
     if hook == "lock":
-        return None if held is True else state
-    counted = {"count": (held or 0) + 1, "zero": held if field in state else 0}[hook]
-    return {**state, field: counted} if is_number(counted) else state
+        return None if state.get(field) is True else state
+    if hook == "zero":
+        return {field: 0, **state}
+    held = state.get(field, 0)
+    return {**state, field: held + 1} if is_number(held) and is_number(held + 1) else state
 
 
 def invalid_field(state):

@@ -741,6 +741,88 @@ def how_a_followed_fork_stands_by_what_its_turns_come_to(_folder):
 
 
 @case()
+def a_fork_that_is_followed_while_its_master_comes_and_goes(folder):
+    server = served(folder, [{"id": "a", "n": 1}])
+    server.kill()
+    with rx.open(new_journal(folder)) as db:
+        fork = db.collection("f", SCHEMA)
+        db.replicate("r", "f", port=server.port, handler="fork_wins")
+        fork.bulk([{"id": "b"}, {"id": "c"}])
+        with db.follow("r", every=0.02, longest=0.1) as following:
+            until(following, ("offline", 2))
+            same(following.status.lost, "dial")
+            server = served_again(folder, server.port)
+            until(following, ("in sync", 0))
+            same(fork.count(), 3)
+            fork.insert({"id": "d"})
+            until(following, ("in sync", 0))
+            server.kill()
+            fork.patch("d", {"n": 2})
+            until(following, ("offline", 1))
+        same(following.next(), None)
+        none = db.follow("none")
+        same([it.word for it in (fault(lambda: list(none)),)], ["no_replication"])
+        left = db.follow("r", every=0.02)
+        digest = fork.digest()
+    list(left)
+    with rx.open(server.journal) as db:
+        same(db.collection("m").count(), 4)
+        same(digest.count, 4)
+
+
+@case()
+def a_fork_that_is_followed_with_asyncio(folder):
+    server = served(folder, [{"id": "a", "n": 1}])
+    server.kill()
+    server = served_again(folder, server.port)
+
+    async def run():
+        async with rx.open_async(new_journal(folder)) as db:
+            fork = await db.collection("f", SCHEMA)
+            await db.replicate("r", "f", port=server.port, handler="fork_wins")
+            async with db.follow("r", every=0.02, longest=0.1) as following:
+                await until_async(following, ("in sync", 0))
+                same(await fork.count(), 1)
+                await fork.insert({"id": "b"})
+                await until_async(following, ("in sync", 0))
+                server.kill()
+                await fork.insert({"id": "c"})
+                await until_async(following, ("offline", 1))
+            same((await async_fault(collected(db.follow("none")))).word, "no_replication")
+            left = db.follow("r")
+        await collected(left)
+
+    asyncio.run(run())
+    with rx.open(server.journal) as db:
+        same(db.collection("m").count(), 2)
+
+
+def served_again(folder, port):
+    return Server(folder, 1_000_000, name="m", journal="master", port=port).wait()
+
+
+def until(following, due):
+    """Waits until it stands so."""
+    end = time.monotonic() + 20
+    while tuple(following.status)[:2] != due:
+        same(time.monotonic() < end, True, f"{following.status} and not {due}")
+        try:
+            following.next(0.1)
+        except TimeoutError:
+            pass
+
+
+async def until_async(following, due):
+    async for status in following:
+        if tuple(status)[:2] == due:
+            return
+
+
+async def collected(following):
+    return [it async for it in following]
+
+
+@case()
 def a_fork_of_a_served_master_with_asyncio(folder):
     server = served(folder, [{"id": "a", "n": 1}])
 
