@@ -759,6 +759,8 @@ def a_fork_that_is_followed_while_its_master_comes_and_goes(folder):
             server.kill()
             fork.patch("d", {"n": 2})
             until(following, ("offline", 1))
+        # what was told last may still be there
+        list(following)
         same(following.next(), None)
         none = db.follow("none")
         same([it.word for it in (fault(lambda: list(none)),)], ["no_replication"])
