@@ -2,6 +2,7 @@ pub mod Failed
 pub mod Source
 pub mod Sink
 pub mod Talk
+pub mod Waiting
 pub mod Clock
 pub mod Calls
 pub mod MemorySource

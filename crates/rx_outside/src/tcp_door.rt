@@ -8,17 +8,23 @@ use crate::tcp_wire::{TcpWire, wire_over};
 use std::alloc::AllocError;
 use std::io::ErrorKind;
 use std::net::{Ipv4Addr, Net, OpenListener, TcpListener};
+use std::rt;
+use std::time::Duration;
+
+/// How many milliseconds a call that found no connection waits before it answers. What was wanting,
+/// as a file that may be opened, may be there by then.
+pub const ACCEPT_PAUSE: u64 = 250;
 
 /// A door of the system, on 127.0.0.1.
 #[derive(Drop)]
-pub struct TcpDoor<R: Net + Drop> {
+pub struct TcpDoor<R: Net + rt::Clock + Copy + Drop> {
     rt: R,
     listener: Option<R::Listener>,
     faults: u64,
     broken: u64,
 }
 
-impl<R: Net + Drop> TcpDoor<R> {
+impl<R: Net + rt::Clock + Copy + Drop> TcpDoor<R> {
     /// A door that isn't open yet.
     pub fn new(rt: R) -> TcpDoor<R>
         ensures faults { ⟦<TcpDoor<R> as Listen>⟧.faults result ≡ 0 }
@@ -47,8 +53,8 @@ fn next_stream<L: OpenListener>(listener: &L) -> Option<L::Stream> {
     None
 }
 
-impl<R: Net + Drop> Listen for TcpDoor<R> {
-    type W = TcpWire<R::Stream>;
+impl<R: Net + rt::Clock + Copy + Drop> Listen for TcpDoor<R> {
+    type W = TcpWire<R::Stream, R>;
 
     ghost faults = { λ door. door.faults };
 
@@ -71,18 +77,18 @@ impl<R: Net + Drop> Listen for TcpDoor<R> {
         }
     }
 
-    fn accept(&mut self) -> Result<TcpWire<R::Stream>, Failed> {
+    fn accept(&mut self) -> Result<TcpWire<R::Stream, R>, Failed> {
         if let Some(listener) = &self.listener
             && let Some(stream) = next_stream(listener)
-            && let Ok(wire) = wire_over(stream)
         {
-            return Ok(wire);
+            return Ok(wire_over(self.rt, stream));
         }
+        self.rt.sleep(Duration::from_millis(ACCEPT_PAUSE));
         self.faults = self.faults.saturating_add(1);
         Err(Failed)
     }
 
-    fn close(&mut self, wire: TcpWire<R::Stream>) -> Result<(), AllocError> {
+    fn close(&mut self, wire: TcpWire<R::Stream, R>) -> Result<(), AllocError> {
         if 0 < wire.failed() {
             self.broken = self.broken.saturating_add(1);
         }
