@@ -6,14 +6,15 @@ use crate::Disk;
 use rx_outside::Failed;
 use rx_value::RxText;
 use std::fs::{File, Files, OpenFile, OpenOptions};
-use std::io;
-use std::os::unix::fs::FileExt;
+use std::os::unix::fs::{FileExt, MetadataExt};
 use std::path::Path;
+use std::{fs, io};
 
 /// Opens its file at the first use. A file that isn't there then reads as empty, and is made at the
 /// first write; where another process has made it by then, the disk failed. From its first sync or
-/// write on it has the file's lock, and where another process has that, the disk failed. A disk
-/// that is only read takes no lock.
+/// write on it has the file's lock, and where another process has that, the disk failed. From then
+/// on the path has to lead to this file at each sync and each read: a file that was renamed or
+/// replaced is another process's to come. A disk that is only read takes no lock.
 #[derive(Drop)]
 pub struct FileDisk<R: Files<File = File> + Drop> {
     rt: R,
@@ -74,7 +75,17 @@ impl<R: Files<File = File> + Drop> FileDisk<R> {
             _ => return Ok(()),
         }
         self.locked = true;
-        Ok(())
+        self.keep_place()
+    }
+
+    // The lock is the file's, not the path's: another process could lock what stands there now.
+    fn keep_place(&self) -> io::Result<()> {
+        match &self.file {
+            Some(file) if self.locked && !leads_to(&self.rt, self.path.as_str(), file)? => {
+                Err(io::ErrorKind::NotFound.into())
+            }
+            _ => Ok(()),
+        }
     }
 
     fn make(&mut self) -> io::Result<()>
@@ -91,6 +102,7 @@ impl<R: Files<File = File> + Drop> FileDisk<R> {
         ensures within { IfOk result (λ n. n ≤ length into.old) }
     {
         self.open()?;
+        self.keep_place()?;
         match &self.file {
             None => Ok(0),
             Some(file) => read_at(file, at, into),
@@ -124,7 +136,7 @@ impl<R: Files<File = File> + Drop> FileDisk<R> {
             sync_folder(&self.rt, self.path.as_str())?;
             self.named = true;
         }
-        Ok(())
+        self.keep_place()
     }
 }
 
@@ -134,6 +146,14 @@ fn open_if_there<R: Files<File = File>>(rt: &R, path: &str) -> io::Result<Option
         Err(e) if e.kind() == io::ErrorKind::NotFound => Ok(None),
         Err(e) => Err(e),
     }
+}
+
+// Whether a path leads to a file, by the numbers that the system gives to what is open and to what
+// stands there.
+fn leads_to<R: Files<File = File>>(rt: &R, path: &str, file: &File) -> io::Result<bool> {
+    let there = fs::metadata(rt, path)?;
+    let here = file.metadata()?;
+    Ok((there.dev(), there.ino()) == (here.dev(), here.ino()))
 }
 
 // Syncs the folder in which a file stands.
