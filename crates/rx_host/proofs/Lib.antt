@@ -2,6 +2,7 @@ mod Plans
 mod Hosts
 mod Answers
 mod Ends
+mod Tries
 mod InTurn
 mod Halting
 mod Kept

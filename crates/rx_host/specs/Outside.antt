@@ -1,6 +1,7 @@
 -- What is outside of a master while it serves connections, and how they end there.
-use Rattle.std.specs.Prelude.{◌≡◌, ◌⊎◌, ◌≤◌, ℕ, ◌+◌, List, [], ◌∷◌, ◌++◌, length, Option, None, Some}
+use Rattle.std.specs.Prelude.{◌≡◌, ◌⊎◌, ◌≤◌, ℕ, ◌+◌, List, [], ◌∷◌, ◌++◌, length, min, Option, None, Some}
 use Rattle.rx_collection.specs.Held.{Held}
+use Rattle.rx_outside.specs.Failed.{last_count}
 use Rattle.rx_outside.specs.Sink.{WritesFront}
 use Rattle.rx_outside.specs.Talk.{Talk}
 use Rattle.rx_outside.specs.declared.stop.Stop.{Stop}
@@ -43,6 +44,14 @@ pub record HaveServed
   pub kept : wires → Keeps (commits_through c conns)
 
 -- ---- where it halts
+
+-- how many calls for a connection may fail, one after another
+abbrev pub accept_tries : ℕ
+accept_tries = 64
+
+-- So many calls of a door failed, as far as counts go.
+abbrev pub HasGivenUp : ℕ → ℕ → Type 0
+HasGivenUp old new = min (old + accept_tries) last_count ≤ new
 
 -- between two connections: nothing more came
 pub record HaltsBetween

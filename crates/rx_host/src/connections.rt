@@ -1,9 +1,9 @@
 // Connections to a master, one after another.
-ghost use Rattle.std.specs.Prelude.{◌≡◌, ◌≤◌, ◌++◌, ◌∷◌, ℕ, List, [], length, Option, IfOk, IfErr, OnOk, IsErrOf};
+ghost use Rattle.std.specs.Prelude.{◌≡◌, ◌⊎◌, ◌≤◌, ◌++◌, ◌∷◌, ℕ, List, [], length, Option, IfOk, IfErr, OnOk, OnErr, IsErrOf};
 ghost use Rattle.rx_host.specs.Connections.{ServedConnection, connection_line};
 ghost use Rattle.rx_host.specs.Engine.{IsAt, collection_of, limit_of, name_of};
 ghost use Rattle.rx_host.specs.Moments.{GivesMoments};
-ghost use Rattle.rx_host.specs.Outside.{HaltsAfter, HaltsBy, HaveServed, IsStopBy};
+ghost use Rattle.rx_host.specs.Outside.{HaltsAfter, HaltsBy, HasGivenUp, HaveServed, IsStopBy};
 ghost use Rattle.rx_host.specs.Serving.{HasKept, HasStopped};
 ghost use Rattle.rx_outside.specs.Failed.{Rises};
 ghost use Rattle.rx_outside.specs.Sink.{WritesFront};
@@ -14,10 +14,13 @@ ghost use Rattle.rx_serve.specs.Answered.{Commits};
 use crate::engine::MasterEngine;
 use crate::lines::connection_line;
 use rx_disk::Disk;
-use rx_outside::{Clock, Listen, Sink, Stop, write_all};
+use rx_outside::{Clock, Failed, Listen, Sink, Stop, write_all};
 use rx_serve::Ended;
 use std::alloc::Global;
 use thiserror::Error;
+
+/// How many calls for the next connection may fail, one after another. Then no more are served.
+pub const ACCEPT_TRIES: u64 = 64;
 
 /// Why no more connections are served.
 #[derive(Debug, Drop, Error)]
@@ -73,6 +76,10 @@ pub fn serve_connections<L: Listen, D: Disk, C: Clock, K: Sink>(
     ensures name { IfOk result (λ m. name_of m ≡ name_of first) }
     ensures limit { IfOk result (λ m. limit_of m ≡ limit_of first) }
     ensures door { IsErrOf result ServeFault.Door → Rises (L.faults door.old) (L.faults door.new) }
+    // Once it stands open the door is given up only where so many of its calls failed.
+    ensures given_up { IsErrOf result ServeFault.Door
+        → ((out.new ≡ out.old) × (disk.new ≡ disk.old) × (clock.new ≡ clock.old))
+        ⊎ HasGivenUp (L.faults door.old) (L.faults door.new) }
     ensures sink { IsErrOf result ServeFault.Sink → Rises (K.faults out.old) (K.faults out.new) }
     ensures disk_only { IsErrOf result (ServeFault.Stopped Stop.Disk)
         → Rises (D.faults disk.old) (D.faults disk.new) }
@@ -127,6 +134,8 @@ fn serve_next<L: Listen, D: Disk, C: Clock, K: Sink>(
     ensures name { IfOk result (λ m. name_of m ≡ name_of engine) }
     ensures limit { IfOk result (λ m. limit_of m ≡ limit_of engine) }
     ensures door { IsErrOf result ServeFault.Door → Rises (L.faults door.old) (L.faults door.new) }
+    ensures given_up { IsErrOf result ServeFault.Door
+        → HasGivenUp (L.faults door.old) (L.faults door.new) }
     ensures sink { IsErrOf result ServeFault.Sink → Rises (K.faults out.old) (K.faults out.new) }
     ensures disk_only { IsErrOf result (ServeFault.Stopped Stop.Disk)
         → Rises (D.faults disk.old) (D.faults disk.new) }
@@ -135,7 +144,7 @@ fn serve_next<L: Listen, D: Disk, C: Clock, K: Sink>(
     ensures sink_count { K.faults out.old ≤ K.faults out.new }
     ensures disk_count { D.faults disk.old ≤ D.faults disk.new }
 {
-    let Ok(mut wire) = door.accept() else {
+    let Ok(mut wire) = next_wire(door) else {
         return Err(ServeFault::Door);
     };
     let served = engine.serve(alloc, &mut wire, disk, clock);
@@ -149,6 +158,27 @@ fn serve_next<L: Listen, D: Disk, C: Clock, K: Sink>(
         },
         Err(stop) => Err(ServeFault::Stopped(stop)),
     }
+}
+
+// The wire of the next one that dialled. A call that failed is made again.
+fn next_wire<L: Listen>(door: &mut L) -> Result<L::W, Failed>
+    requires listens { L.is_open door.old }
+    ensures fresh { IfOk result (λ wire. L.W.faults wire ≡ 0) }
+    ensures none_given { L.W.tells → IfOk result (λ wire. L.W.given wire ≡ []) }
+    ensures none_sent { L.W.tells → IfOk result (λ wire. L.W.sent wire ≡ []) }
+    ensures stays_open { L.is_open door.new }
+    ensures same_broken { L.broken door.new ≡ L.broken door.old }
+    ensures same_talks { L.talks door.new ≡ L.talks door.old }
+    ensures count { L.faults door.old ≤ L.faults door.new }
+    ensures failed { OnErr result (Rises (L.faults door.old) (L.faults door.new)) }
+    ensures given_up { OnErr result (HasGivenUp (L.faults door.old) (L.faults door.new)) }
+{
+    'tries: for _ in 0..ACCEPT_TRIES {
+        if let Ok(wire) = door.accept() {
+            return Ok(wire);
+        }
+    }
+    Err(Failed)
 }
 
 // Writes the line of a connection.

@@ -14,6 +14,6 @@ mod report;
 mod serving;
 
 pub use checking::check;
-pub use connections::{ServeFault, serve_connections};
+pub use connections::{ACCEPT_TRIES, ServeFault, serve_connections};
 pub use engine::MasterEngine;
 pub use host::{Host, Hosting, Work};

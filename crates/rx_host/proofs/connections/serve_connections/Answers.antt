@@ -1,4 +1,4 @@
-use Rattle.std.proofs.Common.{◌≡◌, ◌∙◌, ◌+◌, [], ◌∷◌, ◌++◌, length, None, inl, refl, sym, append-nil, arith, length-append}
+use Rattle.std.proofs.Common.{◌≡◌, ◌∙◌, ◌+◌, [], ◌∷◌, ◌++◌, length, None, inl, inr, refl, sym, append-nil, arith, length-append}
 use Rattle.rx_outside.proofs.Counts.{rises_later}
 use Rattle.rx_serve.specs.Answered.{Commits}
 use Rattle.rx_host.specs.Engine.{collection_of}
@@ -8,6 +8,7 @@ use Rattle.rx_host.specs.Serving.{HasKept, HasStopped}
 use Rattle.rx_host.proofs.Halting.{halts_on}
 use Rattle.rx_host.proofs.InTurn.{have_none, have_on}
 use Rattle.rx_host.proofs.Kept.{kept_left, kept_none, kept_on, stopped_on}
+use Rattle.rx_host.proofs.Tries.{given_up_later}
 use Rattle.rx_host.proofs.connections.serve_connections.Goals as goal
 
 -- ---- the door didn't open
@@ -39,6 +40,9 @@ returns-in_default-clause-left g c = (
       (kept_none g.D.Disk (λ disk i tells left. g.met.D.Disk.only_now disk i tells left)
       c.args.disk.now c.args.first),
 )
+
+pub returns-in_default-clause-given_up : goal.returns-in_default-clause-given_up
+returns-in_default-clause-given_up g c = λ is. inl (refl, refl, refl)
 
 -- ---- one connection after another
 
@@ -115,6 +119,10 @@ returns-in-Err-clause-left g c =
 pub returns-in-Err-clause-door : goal.returns-in-Err-clause-door
 returns-in-Err-clause-door g c = λ is.
     rises_later _ _ _ c.connections.invariant.door_count (c.in-Err.ensures.door is)
+
+pub returns-in-Err-clause-given_up : goal.returns-in-Err-clause-given_up
+returns-in-Err-clause-given_up g c = λ is.
+    inr (given_up_later _ _ _ c.connections.invariant.door_count (c.in-Err.ensures.given_up is))
 
 pub returns-in-Err-clause-sink : goal.returns-in-Err-clause-sink
 returns-in-Err-clause-sink g c = λ is.
