@@ -1,14 +1,12 @@
 -- The greatest write time of documents.
-use Rattle.std.proofs.Common.{◌≡◌, ℕ, ◌<◌, ◌≤◌, max, true, false, cond, List, [], ◌∷◌, length, Option, Some, None, is_some, IsSome, Less, Equal, Greater, refl, sym, ap, ◌∙◌, subst, true≢false, eqb-true, eq-eqb, arith}
+use Rattle.std.proofs.Common.{◌≡◌, ℕ, ◌<◌, ◌≤◌, max, true, false, cond, List, [], ◌∷◌, length, Some, Less, Equal, Greater, refl, sym, subst, true≢false, arith}
 use Rattle.std.proofs.Math.Nat.{le-max_left, le-max_right, max-le}
-use Rattle.std.specs.BTreeMap.{BTreeMap, get, IsUpperBound}
 use Rattle.std.specs.Cmp.{ranked}
 use Rattle.std.specs.List.{AllByRecursion}
 use Rattle.std.specs.Ordering.{is_lt, nat_cmp, ordering_then}
 use Rattle.std.specs.Str.{bytes_eq}
-use Rattle.rx_value.specs.Named.{named, AreRising}
+use Rattle.rx_value.specs.Named.{named}
 use Rattle.rx_value.specs.Order.{text_cmp}
-use Rattle.rx_value.proofs.Bytes.{bytes_itself}
 use Rattle.rx_document.specs.Documents.{Documents}
 use Rattle.rx_document.specs.Place.{place_cmp}
 use Rattle.rx_document.specs.declared.place.Place.{Place}
@@ -16,7 +14,6 @@ use Rattle.rx_document.specs.declared.stored.Stored.{Stored}
 use Rattle.rx_collection.specs.Held.{Held}
 use Rattle.rx_collection.specs.Lawful.{IsHeldAt, IsLawful}
 use Rattle.rx_collection.specs.Time.{last_lwt, most_lwt}
-use Rattle.rx_collection.proofs.Named.{all_named}
 
 -- what is held was written no later
 pub within_last : (es : Documents) (k : List ℕ) (d : Stored) → named es k ≡ Some d

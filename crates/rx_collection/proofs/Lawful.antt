@@ -1,17 +1,12 @@
 -- What holds of every collection holds after a row is put.
-use Rattle.std.proofs.Common.{◌≡◌, ℕ, ◌<◌, ◌≤◌, false, List, [], Option, Some, None, Less, refl, sym, subst, arith}
-use Rattle.std.specs.BTreeMap.{BTreeMap, Updates}
+use Rattle.std.proofs.Common.{◌≡◌, ℕ, ◌<◌, ◌≤◌, List, [], Option, Some, None, Less, refl, arith}
 use Rattle.std.specs.List.Sorted.{IsStrictlySortedBy}
-use Rattle.std.proofs.lemmas.Bool.Decides.{nat_tests}
-use Rattle.rx_value.specs.Named.{named, put_in_order, AreRising}
+use Rattle.rx_value.specs.Named.{named, AreRising}
 use Rattle.rx_value.proofs.Named.{put_in_order-rising}
-use Rattle.rx_document.specs.Documents.{Documents}
 use Rattle.rx_document.specs.Place.{place_cmp}
-use Rattle.rx_document.specs.declared.place.Place.{Place}
 use Rattle.rx_document.specs.declared.stored.Stored.{Stored}
-use Rattle.rx_schema.specs.declared.shape.Shape.{Shape}
 use Rattle.rx_collection.specs.Commit.{IsNext, IsNextHeight, next_height, with_row}
-use Rattle.rx_collection.specs.Held.{Held, held_with}
+use Rattle.rx_collection.specs.Held.{Held}
 use Rattle.rx_collection.specs.Lawful.{IsHeldAt, IsLawful}
 use Rattle.rx_collection.specs.Since.{place_of}
 use Rattle.rx_collection.specs.Time.{most_lwt}

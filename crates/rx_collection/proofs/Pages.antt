@@ -1,32 +1,22 @@
 -- Pages: the places of documents in order, and the documents that stand at them.
-use Rattle.std.proofs.Common.{T, ◌≡◌, ℕ, suc, ◌==◌, ◌&&◌, Bool, true, false, cond, List, [], ◌∷◌, map, take, filter, Option, Some, None, is_some, IsSome, Bor, option_map, Less, Equal, Greater, refl, sym, ap, ◌∙◌, ◌⊎◌, inl, inr, subst, subst₂, true≢false}
-use Rattle.std.specs.BTreeMap.{BTreeMap, IsOrdered}
-use Rattle.std.specs.BTreeMap.Range.{entries_between, range_contains}
-use Rattle.std.specs.FinMap.Entries.{put, find, is_sorted, below_all, by_order, same_entries, find-put, is_sorted-put}
+use Rattle.std.proofs.Common.{T, ◌≡◌, ℕ, ◌==◌, ◌&&◌, Bool, true, false, cond, List, [], ◌∷◌, map, filter, Option, Some, None, is_some, Less, Equal, Greater, refl, sym, ap, ◌∙◌, subst, true≢false}
+use Rattle.std.specs.FinMap.Entries.{put, find, is_sorted, below_all, by_order, find-put, is_sorted-put}
 use Rattle.std.specs.List.{AllByRecursion, filter_map}
 use Rattle.std.specs.List.Sorted.{IsStrictlySortedBy}
-use Rattle.std.specs.Map.{keys_of, values_of, lookup}
-use Rattle.std.specs.Map.Iter.{TakesFirst, deref}
-use Rattle.std.specs.Option.{option_copied}
-use Rattle.std.specs.Ordering.{is_eq, is_lt, eq_by_cmp}
-use Rattle.std.specs.Range.Bound.{bound_map}
+use Rattle.std.specs.Map.{keys_of, values_of}
+use Rattle.std.specs.Ordering.{is_lt, eq_by_cmp}
 use Rattle.std.specs.Str.{bytes_eq}
-use Rattle.std.specs.declared.ops.Bound.{Bound}
-use Rattle.std.specs.declared.ops.Bound.TheVariants.{Excluded, Unbounded}
 use Rattle.std.proofs.lemmas.Slice.Eq.{bytes_eq-Decides}
-use Rattle.std.proofs.Math.Bool.{and-true}
-use Rattle.std.proofs.lemmas.List.Elements.{filter_agree}
 use Rattle.rx_value.specs.Named.{named, AreRising}
 use Rattle.rx_value.proofs.Outcomes.{some_if}
-use Rattle.rx_value.proofs.Lists.{all_passed}
 use Rattle.rx_document.specs.Documents.{Documents}
 use Rattle.rx_document.specs.Place.{place_cmp, place_total}
 use Rattle.rx_document.specs.declared.place.Place.{Place}
 use Rattle.rx_document.specs.declared.stored.Stored.{Stored}
 use Rattle.rx_document.proofs.Places.{place_ties}
 use Rattle.rx_collection.specs.Lawful.{IsHeldAt}
-use Rattle.rx_collection.specs.Since.{place_of, by_place, is_above, since}
-use Rattle.rx_collection.proofs.Named.{first_alone, all_named, at_name}
+use Rattle.rx_collection.specs.Since.{place_of, by_place}
+use Rattle.rx_collection.proofs.Named.{first_alone}
 use Rattle.rx_collection.proofs.Placed.{place_tie_back}
 
 -- there is a document, and it was written at that time

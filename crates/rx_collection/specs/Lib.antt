@@ -4,3 +4,4 @@ pub mod Commit
 pub mod Since
 pub mod Lawful
 pub mod Log
+pub mod Migrated

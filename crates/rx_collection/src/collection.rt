@@ -20,9 +20,9 @@ pub const MOST_LWT: u64 = 9_007_199_254_740_991;
 /// A finite map from keys to documents, tombstones too.
 #[derive(Drop)]
 pub struct Collection {
-    alloc: Global,
+    pub(crate) alloc: Global,
     name: RxText,
-    schema: Schema,
+    pub(crate) schema: Schema,
     // The slot of each key.
     pub(crate) names: Run<u32>,
     // The documents by slot.

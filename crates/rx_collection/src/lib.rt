@@ -7,6 +7,7 @@ mod commit;
 mod hints;
 mod holder;
 mod log;
+mod migrating;
 mod page;
 mod same;
 

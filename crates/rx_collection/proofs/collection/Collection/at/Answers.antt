@@ -1,4 +1,4 @@
-use Rattle.std.proofs.Common.{◌≡◌, ◌∙◌, Some, ap, sym}
+use Rattle.std.proofs.Common.{◌∙◌, ap, sym}
 use Rattle.rx_value.specs.Named.{named}
 use Rattle.rx_runs.proofs.InSlots.{shown_some}
 use Rattle.rx_collection.specs.Held.{Held}
