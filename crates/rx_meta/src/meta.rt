@@ -1,6 +1,6 @@
 ghost use Rattle.std.specs.Prelude.{◌≡◌, [], None, OnOk, OnErr, option_map};
 ghost use Rattle.rx_value.specs.Named.{named, put_in_order};
-ghost use Rattle.rx_meta.specs.Side.{side_with, AreKnownByKey};
+ghost use Rattle.rx_meta.specs.Side.{side_with, is_above_known, AreKnownByKey};
 
 use rx_document::Place;
 use rx_value::State;
@@ -46,6 +46,16 @@ impl Meta {
         ensures lawful { AreKnownByKey self.now.known }
     {
         self.known.get(key)
+    }
+
+    /// Whether the key is above those of all known states.
+    pub fn is_above(&self, key: &str) -> bool
+        ensures { result ≡ is_above_known self.now.known key.now }
+    {
+        match self.known.last_key_value() {
+            Some((last, _)) => last.as_str().cmp(&key).is_lt(),
+            None => true,
+        }
     }
 
     /// The place up to which the fork's documents were pushed.

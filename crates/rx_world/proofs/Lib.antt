@@ -14,6 +14,12 @@ pub mod Sides
 pub mod Beginning
 pub mod Trees
 pub mod Links
+pub mod Called
 pub mod Making
 pub mod Deciding
 pub mod Sounds
+pub mod Copied
+pub mod Copies
+pub mod Passing
+pub mod Migrates
+pub mod Settled

@@ -136,7 +136,7 @@ module _ (before after : Collections) (stay : StayHeld before after) where
         down_has_time = l.down_has_time;
       }
 
-  links_stay : (rs : Replications) → AllByRecursion (λ e. IsLinked before e.0 e.1) rs
+  pub links_stay : (rs : Replications) → AllByRecursion (λ e. IsLinked before e.0 e.1) rs
       → AllByRecursion (λ e. IsLinked after e.0 e.1) rs
   links_stay [] all = tt
   links_stay (e ∷ rs) all = (link_stays e.0 e.1 all.0, links_stay rs all.1)
@@ -232,7 +232,7 @@ forks_put (e ∷ rs) name r free others apart =
 -- ---- an exchange
 
 -- a change that leaves the fork leaves all forks
-forks_changed : (f : Replication → Replication) → ((r : Replication) → (f r).fork ≡ r.fork)
+pub forks_changed : (f : Replication → Replication) → ((r : Replication) → (f r).fork ≡ r.fork)
     → (rs : Replications) (name : List ℕ) → forks_of (change_named rs name f) ≡ forks_of rs
 forks_changed f same [] name = refl
 forks_changed f same (e ∷ rs) name =
@@ -357,7 +357,7 @@ spelled_by text s (Ok t) is =
 spelled_by text s (Err e) is = not_none is
 
 -- a text is the canonical one of its schema
-read_spelled : (text : List ℕ) (s : Shape) → schema_in text ≡ Some s → canonical_text s ≡ text
+pub read_spelled : (text : List ℕ) (s : Shape) → schema_in text ≡ Some s → canonical_text s ≡ text
 read_spelled text s is =
     elim (read text) as (λ o. option_and_then (λ d. if_canonical text (schema_of d)) o ≡ Some s
     → canonical_text s ≡ text) [

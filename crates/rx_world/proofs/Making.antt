@@ -14,12 +14,13 @@ use Rattle.rx_world.specs.Made.{IsMadeWorld}
 use Rattle.rx_world.specs.Schema.{schema_in}
 use Rattle.rx_world.specs.Step.{legal, step, takes, collections_after, stored_rows, written_to}
 use Rattle.rx_world.specs.Touch.{no_collection, new_where, fork_rows}
-use Rattle.rx_world.specs.World.{World, empty}
+use Rattle.rx_world.specs.World.{World, empty, max_collections, max_replications}
 use Rattle.rx_world.specs.declared.replication.Replication.{Replication}
 use Rattle.rx_collection.specs.Held.{Held}
 use Rattle.rx_world.proofs.Trees.{forest_step}
 use Rattle.rx_world.proofs.Links.{linked_empty, linked_step, spelled_step}
 use Rattle.rx_world.proofs.Looked.{all_put_named, all_change_named}
+use Rattle.rx_world.proofs.Called.{names_none, collections_named, replications_named}
 use Rattle.rx_world.proofs.Steps.{rows_go, exchange_goes, fork_rows_taken}
 use Rattle.rx_world.proofs.Turns.{lawful_new, lawful_rows, taken_are_next, with_rows-name}
 use Rattle.rx_world.proofs.Valid.{valid_step, distinct_empty, distinct_step}
@@ -76,6 +77,8 @@ made_empty = record {
   distinct = distinct_empty;
   linked = linked_empty;
   forest = refl;
+  collection_names = names_none max_collections;
+  replication_names = names_none max_replications;
 }
 
 -- a legal record in order makes one of one
@@ -88,4 +91,6 @@ made_step entry w is ordered made = record {
   distinct = distinct_step entry w made.distinct;
   linked = linked_step entry w is ordered made.spelled made.forest made.linked;
   forest = forest_step entry w is made.forest;
+  collection_names = collections_named entry w is made.collection_names;
+  replication_names = replications_named entry w is made.replication_names;
 }

@@ -1,5 +1,5 @@
 -- What a legal record does to the collections of a world.
-use Rattle.std.proofs.Common.{◌≡◌, ℕ, ◌+◌, ◌&&◌, Bool, true, false, List, [], ◌∷◌, length, Option, Some, None, is_some, is_none, nat_lt, refl, sym, ap, ◌∙◌, subst, true≢false, eq-eqb}
+use Rattle.std.proofs.Common.{◌≡◌, ℕ, ◌+◌, ◌<◌, ◌&&◌, Bool, true, false, List, [], ◌∷◌, length, Option, Some, None, is_some, is_none, nat_lt, refl, sym, ap, ◌∙◌, subst, true≢false, eq-eqb, ltb-true}
 use Rattle.std.proofs.lemmas.Bool.{and_parts}
 use Rattle.std.specs.List.{list_all}
 use Rattle.std.specs.Map.{keys_of}
@@ -72,6 +72,7 @@ pub record IsNew (name schema : List ℕ) (w : World) : Type 0 where
   pub read : schema_in schema ≡ Some shape
   pub unheld : named w.collections name ≡ None
   pub called : is_name name ≡ true
+  pub room : length w.collections < max_collections
 
 pub collection_new : (name schema : List ℕ) (w : World) → legal (collection name schema) w ≡ true
     → IsNew name schema w
@@ -89,6 +90,7 @@ collection_new name schema w is =
       read = s.1;
       unheld = none_is (named w.collections name) two.1;
       called = two.0;
+      room = ltb-true (length w.collections) max_collections third.1;
     }
 
 -- ---- lawful worlds

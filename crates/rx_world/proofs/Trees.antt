@@ -60,7 +60,7 @@ values_put (e ∷ rs) name r free =
     ] free
 
 -- what an exchange learns leaves them
-forks_kept : (known : List State) (up down : Option Place) (rs : Replications) (name : List ℕ)
+pub forks_kept : (known : List State) (up down : Option Place) (rs : Replications) (name : List ℕ)
     → forest_of (change_named rs name (with_exchange known up down)) ≡ forest_of rs
 forks_kept known up down [] name = refl
 forks_kept known up down (e ∷ rs) name =

@@ -5,11 +5,15 @@ pub mod Replicating
 pub mod Touch
 pub mod Step
 pub mod Replay
+pub mod Copy
+pub mod Migrating
 pub mod Commit
 pub mod Lawful
 pub mod Valid
 pub mod Linked
+pub mod Names
 pub mod Made
 pub mod Holders
 pub mod Edit
 pub mod Sound
+pub mod MigrationLaws

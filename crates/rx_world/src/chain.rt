@@ -4,6 +4,7 @@ ghost use Rattle.std.specs.Str.{bytes_eq};
 ghost use Rattle.rx_tree.specs.Forest.{master_of};
 ghost use Rattle.rx_value.specs.Named.{by_bytes};
 ghost use Rattle.rx_world.specs.Chain.{IsForest, fork_before, forest_of, is_fork, may_follow, tree_root};
+ghost use Rattle.rx_world.specs.Migrating.{is_in_group};
 
 use crate::replication::Replication;
 use indexmap::IndexMap;
@@ -30,6 +31,18 @@ pub(crate) fn is_fork(replications: &IndexMap<String, Replication>, name: &str) 
     ensures { result ≡ is_fork name.now (by_bytes replications.now.entries) }
 {
     replications.values().any(|r| r.fork.as_str() == name)
+}
+
+// Whether local replications join two collections, over any number of them.
+pub(crate) fn is_in_group(
+    replications: &IndexMap<String, Replication>,
+    name: &str,
+    other: &str,
+) -> bool
+    requires { IsForest (by_bytes replications.now.entries) }
+    ensures { result ≡ is_in_group (by_bytes replications.now.entries) name.now other.now }
+{
+    tree_root(replications, name) == tree_root(replications, other)
 }
 
 // Where going from a fork to its master ends. No way up has more steps than there are forks.

@@ -4,10 +4,12 @@
 
 mod chain;
 mod change;
+mod copying;
 mod fault;
 mod following;
 mod holders;
 mod legality;
+mod migrating;
 mod names;
 mod parts;
 mod replicating;
@@ -20,8 +22,10 @@ mod schema_text;
 mod soundness;
 mod world;
 
+pub use copying::{MOST_COPIED_EPOCH, copy};
 pub use fault::{ApplyFault, StepFault};
 pub use holders::with_holders;
+pub use migrating::migration_laws;
 pub use parts::{MAX_COLLECTIONS, MAX_REPLICATIONS};
 pub use replication::Replication;
 pub use rows::{commit, rows_out};

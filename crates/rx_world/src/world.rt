@@ -15,6 +15,7 @@ ghost use Rattle.rx_world.specs.Holders.{After, IsWhole, holders_in, world_in};
 ghost use Rattle.rx_world.specs.Lawful.{IsLawfulWorld};
 ghost use Rattle.rx_world.specs.Linked.{IsLinked};
 ghost use Rattle.rx_world.specs.Made.{IsMadeWorld};
+ghost use Rattle.rx_world.specs.Migrating.{may_migrate};
 ghost use Rattle.rx_world.specs.Sound.{IsSoundWorld};
 ghost use Rattle.rx_world.specs.Step.{IsValidState, step, legal};
 ghost use Rattle.rx_world.specs.Touch.{touch};
@@ -26,6 +27,7 @@ use crate::change::change;
 use crate::fault::{ApplyFault, StepFault};
 use crate::following::follow_same;
 use crate::legality::{is_legal, is_legal_view};
+use crate::migrating::may_migrate;
 use crate::names::{edit, find, find_at};
 use crate::parts::Parts;
 use crate::replication::Replication;
@@ -35,6 +37,7 @@ use crate::same::hold_same;
 use crate::soundness::is_sound;
 use indexmap::IndexMap;
 use rx_collection::{Collection, Holder};
+use rx_migrate::Steps;
 use rx_record::{MasterName, Record, RecordView};
 use rx_value::State;
 use std::alloc::{AllocError, Global};
@@ -144,6 +147,22 @@ impl<H: Holder + Drop> World<H> {
             (λ b. b ≡ legal (content_in view.now) (world_in H.held self.now)) }
     {
         is_legal_view(&self.parts, alloc, view)
+    }
+
+    /// Whether the collection of that name, with all that local replications join to it, may go to
+    /// the schema of that text by those steps. Each of their states is taken through the steps for
+    /// the test, and so is each state that their replications know.
+    pub fn may_migrate(
+        &self,
+        alloc: Global,
+        name: &str,
+        text: &str,
+        steps: &Steps,
+    ) -> Result<bool, AllocError>
+        ensures { IfOk result (λ b. b
+            ≡ may_migrate name.now text.now steps.now (world_in H.held self.now)) }
+    {
+        may_migrate(&self.parts, alloc, name, text, steps)
     }
 
     /// The record of a view, where it may come next. One of several rows is tested first, from its

@@ -1,0 +1,224 @@
+// Where a migration is legal.
+ghost use Rattle.std.specs.Prelude.{◌≡◌, ◌&&◌, ◌||◌, not, IfOk};
+ghost use Rattle.std.specs.List.{list_all};
+ghost use Rattle.rx_value.specs.Named.{by_bytes, by_name};
+ghost use Rattle.rx_world.specs.Chain.{IsForest};
+ghost use Rattle.rx_world.specs.Holders.{AreWhole, holders_of, world_in};
+ghost use Rattle.rx_world.specs.Migrating.{collections_migrate, documents_migrate, group_migrates, is_in_group, is_local, is_next_schema, may_migrate, replication_migrates, replications_migrate, state_migrates};
+ghost use Rattle.rx_world.specs.MigrationLaws.{MigrationKeepsMade, MigrationKeepsSound};
+
+use crate::chain::is_in_group;
+use crate::legality::is_valid;
+use crate::names::find;
+use crate::parts::Parts;
+use crate::replication::Replication;
+use crate::schema_text::schema_in;
+use indexmap::IndexMap;
+use rx_collection::{Collection, Holder};
+use rx_meta::Meta;
+use rx_migrate::Steps;
+use rx_record::MasterName;
+use rx_schema::Schema;
+use rx_value::State;
+use std::alloc::{AllocError, Global};
+
+// Each state of the group is taken through the steps for the test, and let go again.
+pub(crate) fn may_migrate<H: Holder>(
+    parts: &Parts<H>,
+    alloc: Global,
+    name: &str,
+    text: &str,
+    steps: &Steps,
+) -> Result<bool, AllocError>
+    requires whole { AreWhole H.held H.is_broken parts.now.holders.entries }
+    requires forest { IsForest (by_bytes parts.now.replications.entries) }
+    ensures { IfOk result (λ b. b
+        ≡ may_migrate name.now text.now steps.now (world_in H.held (holders_of parts.now))) }
+{
+    let Some(holder) = find(&parts.holders, name) else {
+        return Ok(false);
+    };
+    let Some(schema) = schema_in(alloc, text)? else {
+        return Ok(false);
+    };
+    if !is_next_schema(&schema, steps, holder.collection().schema()) {
+        return Ok(false);
+    }
+    group_migrates(parts, alloc, name, &schema, steps)
+}
+
+fn is_next_schema(schema: &Schema, steps: &Steps, old: &Schema) -> bool
+    ensures { result ≡ is_next_schema schema.now steps.now old.now }
+{
+    schema.version() as u32 == old.version() as u32 + 1
+        && schema.primary() == old.primary()
+        && !steps.names(old.primary())
+}
+
+fn group_migrates<H: Holder>(
+    parts: &Parts<H>,
+    alloc: Global,
+    name: &str,
+    schema: &Schema,
+    steps: &Steps,
+) -> Result<bool, AllocError>
+    requires whole { AreWhole H.held H.is_broken parts.now.holders.entries }
+    requires forest { IsForest (by_bytes parts.now.replications.entries) }
+    ensures { IfOk result (λ b. b
+        ≡ group_migrates name.now schema.now steps.now (world_in H.held (holders_of parts.now))) }
+{
+    if !collections_migrate(
+        &parts.holders,
+        &parts.replications,
+        alloc,
+        name,
+        schema,
+        steps,
+    )? {
+        return Ok(false);
+    }
+    replications_migrate(&parts.replications, alloc, name, schema, steps)
+}
+
+fn collections_migrate<H: Holder>(
+    holders: &IndexMap<String, H>,
+    replications: &IndexMap<String, Replication>,
+    alloc: Global,
+    name: &str,
+    schema: &Schema,
+    steps: &Steps,
+) -> Result<bool, AllocError>
+    requires whole { AreWhole H.held H.is_broken holders.now.entries }
+    requires forest { IsForest (by_bytes replications.now.entries) }
+    ensures { IfOk result (λ b. b ≡ collections_migrate
+        (is_in_group (by_bytes replications.now.entries) name.now) schema.now steps.now
+        (by_name H.held holders.now.entries)) }
+{
+    for holder in holders.values() {
+        let collection = holder.collection();
+        if !collection_migrates(collection, replications, alloc, name, schema, steps)? {
+            return Ok(false);
+        }
+    }
+    Ok(true)
+}
+
+// Whether a collection isn't of the group, or all its documents migrate.
+fn collection_migrates(
+    collection: &Collection,
+    replications: &IndexMap<String, Replication>,
+    alloc: Global,
+    name: &str,
+    schema: &Schema,
+    steps: &Steps,
+) -> Result<bool, AllocError>
+    requires { IsForest (by_bytes replications.now.entries) }
+    ensures { IfOk result (λ b. b ≡ (not (is_in_group (by_bytes replications.now.entries) name.now
+        collection.now.name) || documents_migrate schema.now steps.now collection.now)) }
+{
+    if !is_in_group(replications, name, collection.name().as_str()) {
+        return Ok(true);
+    }
+    documents_migrate(collection, alloc, schema, steps)
+}
+
+fn documents_migrate(
+    collection: &Collection,
+    alloc: Global,
+    schema: &Schema,
+    steps: &Steps,
+) -> Result<bool, AllocError>
+    ensures { IfOk result (λ b. b ≡ documents_migrate schema.now steps.now collection.now) }
+{
+    for held in collection.all() {
+        if !state_migrates(&held.state, alloc, schema, steps)? {
+            return Ok(false);
+        }
+    }
+    Ok(true)
+}
+
+fn state_migrates(
+    state: &State,
+    alloc: Global,
+    schema: &Schema,
+    steps: &Steps,
+) -> Result<bool, AllocError>
+    ensures { IfOk result (λ b. b ≡ state_migrates schema.now steps.now state.now) }
+{
+    match steps.migrated(alloc, state)? {
+        Some(next) => Ok(is_valid(schema, &next)),
+        None => Ok(false),
+    }
+}
+
+fn replications_migrate(
+    replications: &IndexMap<String, Replication>,
+    alloc: Global,
+    name: &str,
+    schema: &Schema,
+    steps: &Steps,
+) -> Result<bool, AllocError>
+    requires { IsForest (by_bytes replications.now.entries) }
+    ensures { IfOk result (λ b. b ≡ replications_migrate
+        (is_in_group (by_bytes replications.now.entries) name.now) schema.now steps.now
+        (by_bytes replications.now.entries)) }
+{
+    for replication in replications.values() {
+        if !follower_migrates(replication, replications, alloc, name, schema, steps)? {
+            return Ok(false);
+        }
+    }
+    Ok(true)
+}
+
+// Whether a replication isn't of the group, or it migrates.
+fn follower_migrates(
+    replication: &Replication,
+    replications: &IndexMap<String, Replication>,
+    alloc: Global,
+    name: &str,
+    schema: &Schema,
+    steps: &Steps,
+) -> Result<bool, AllocError>
+    requires { IsForest (by_bytes replications.now.entries) }
+    ensures { IfOk result (λ b. b ≡ (not (is_in_group (by_bytes replications.now.entries) name.now
+        replication.now.fork) || replication_migrates schema.now steps.now replication.now)) }
+{
+    if !is_in_group(replications, name, replication.fork.as_str()) {
+        return Ok(true);
+    }
+    if !is_local(&replication.master) {
+        return Ok(false);
+    }
+    known_migrate(&replication.side, alloc, schema, steps)
+}
+
+fn is_local(master: &MasterName) -> bool
+    ensures { result ≡ is_local master.now }
+{
+    matches!(master, MasterName::Local(_))
+}
+
+fn known_migrate(
+    side: &Meta,
+    alloc: Global,
+    schema: &Schema,
+    steps: &Steps,
+) -> Result<bool, AllocError>
+    ensures { IfOk result (λ b. b
+        ≡ list_all (λ e. state_migrates schema.now steps.now e.1) side.now.known) }
+{
+    for state in side.all() {
+        if !state_migrates(state, alloc, schema, steps)? {
+            return Ok(false);
+        }
+    }
+    Ok(true)
+}
+
+/// States what holds of every migration that is legal, and does nothing.
+pub fn migration_laws()
+    ensures made { MigrationKeepsMade }
+    ensures sound { MigrationKeepsSound }
+{}
