@@ -3,12 +3,11 @@ use Rattle.std.proofs.Common.{◌≡◌, inl, inr, ⊎_elim, ℕ, ◌<◌, ◌�
 use Rattle.rx_disk.specs.declared.disk.Disk.{Ghosts}
 use Rattle.rx_disk.specs.Moments.{LeavesOnly}
 use Rattle.rx_disk.proofs.Moments.{started, weaker, joined}
-use Rattle.rx_frame.specs.File.{header, BeginsWith, IsWhole, end_of}
+use Rattle.rx_frame.specs.File.{StandsFor, end_of}
 use Rattle.rx_journal.specs.declared.journal.Journal.{Journal}
 use Rattle.rx_world.specs.World.{World}
-use Rattle.rx_world.specs.Replay.{replay}
-use Rattle.rx_world.specs.Sound.{IsSoundWorld}
-use Rattle.rx_store.specs.Holds.{StandsInFirst, StandsLegally, GrowsLegally, Holds, ImagesStandFor, IsLegalFile, Leaves}
+use Rattle.rx_store.specs.Holds.{StandsAlike, StandsLegally, GrowsLegally, Holds, ImagesStandFor, IsLegalFile, Leaves}
+use Rattle.rx_store.specs.Versions.{replay_in, replay_of}
 
 -- a front of some bodies is a front of more
 pub longer : (bodies xs ys : List (List ℕ)) (c : List ℕ) → StandsLegally bodies xs c
@@ -34,28 +33,28 @@ behind bodies xs ys c s =
       front = xs ++ s.front;
       rest = s.rest;
       whole = ap (λ l. xs ++ l) s.whole ∙ sym (append_assoc xs s.front s.rest);
-      stands = subst (λ (bs : List (List ℕ)). StandsInFirst c bs) all s.stands;
+      stands = subst (λ (bs : List (List ℕ)). StandsFor c bs) all s.stands;
       short = subst (λ (bs : List (List ℕ)). end_of bs < 2 ^ 32) all s.short;
       world = s.world;
-      legal = subst (λ (bs : List (List ℕ)). replay bs ≡ Some s.world) all s.legal;
+      legal = subst (λ (bs : List (List ℕ)). replay_of c bs ≡ Some s.world) all s.legal;
       sound = s.sound;
     }
 
--- none of the new bodies yet
-pub none_yet : (bodies more : List (List ℕ)) (w : World) (c : List ℕ) → replay bodies ≡ Some w
-    → IsSoundWorld w → StandsInFirst c bodies → end_of bodies < 2 ^ 32
-    → StandsLegally bodies more c
-none_yet bodies more w c plays sound stands short =
+-- none of the new bodies yet, where a legal file of the old ones stands, or one like it
+pub none_yet : {file : List ℕ} (bodies more : List (List ℕ)) (w : World) (c : List ℕ)
+    → IsLegalFile file bodies w → StandsAlike file bodies c → StandsLegally bodies more c
+none_yet bodies more w c legal alike =
     let same = sym (append-nil bodies) in
     record {
       front = [];
       rest = more;
       whole = refl;
-      stands = subst (λ (bs : List (List ℕ)). StandsInFirst c bs) same stands;
-      short = subst (λ (bs : List (List ℕ)). end_of bs < 2 ^ 32) same short;
+      stands = subst (λ (bs : List (List ℕ)). StandsFor c bs) same alike.stands;
+      short = subst (λ (bs : List (List ℕ)). end_of bs < 2 ^ 32) same legal.short;
       world = w;
-      legal = subst (λ (bs : List (List ℕ)). replay bs ≡ Some w) same plays;
-      sound = sound;
+      legal = subst (λ (bs : List (List ℕ)). replay_of c bs ≡ Some w) same
+          (ap (λ (n : ℕ). replay_in n bodies) alike.version ∙ legal.plays);
+      sound = legal.sound;
     }
 
 module _ {D : Type 0} (d : Ghosts D) where
@@ -86,25 +85,25 @@ module _ {D : Type 0} (d : Ghosts D) where
   pub held_alike : (disk : D) (journal : Journal) (bodies : List (List ℕ)) (w : World)
       → Holds d disk journal bodies w → ImagesStandFor d disk bodies
   held_alike disk journal bodies w holds c now =
-      inr (subst (λ (l : List ℕ). IsWhole l bodies × BeginsWith header l)
-      (sym (holds.ready.durable c now)) (holds.ready.whole, holds.first))
-
-  pub held : (disk : D) (journal : Journal) (bodies more : List (List ℕ)) (w : World)
-      → Holds d disk journal bodies w → Leaves d disk bodies more
-  held disk journal bodies more w holds c now =
-      let short : end_of bodies < 2 ^ 32 = omega (arith, holds.ready.ends, journal.short) in
-      none_yet bodies more w c holds.played holds.sound
-      (held_alike disk journal bodies w holds c now) short
+      subst (λ (l : List ℕ). StandsAlike (d.content disk) bodies l)
+      (sym (holds.ready.durable c now))
+      (record { stands = inr holds.ready.whole; version = refl })
 
   -- and so is what a read gives
   pub held_legal : (disk : D) (journal : Journal) (bodies : List (List ℕ)) (w : World)
       → Holds d disk journal bodies w → IsLegalFile (d.content disk) bodies w
   held_legal disk journal bodies w holds = record {
-    stands = inr (holds.ready.whole, holds.first);
+    stands = inr holds.ready.whole;
     short = omega (arith, holds.ready.ends, journal.short);
     plays = holds.played;
     sound = holds.sound;
   }
+
+  pub held : (disk : D) (journal : Journal) (bodies more : List (List ℕ)) (w : World)
+      → Holds d disk journal bodies w → Leaves d disk bodies more
+  held disk journal bodies more w holds c now =
+      none_yet bodies more w c (held_legal disk journal bodies w holds)
+      (held_alike disk journal bodies w holds c now)
 
   -- nothing was done yet
   pub stays : (disk : D) (journal : Journal) (bodies more : List (List ℕ)) (w : World)

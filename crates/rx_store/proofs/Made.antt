@@ -1,5 +1,5 @@
 -- Holders that the records of a journal make.
-use Rattle.std.proofs.Common.{◌≡◌, ℕ, List, [], ◌∷◌, ◌++◌, refl, sym, ap, ◌∙◌, subst}
+use Rattle.std.proofs.Common.{◌≡◌, ℕ, List, [], ◌∷◌, ◌++◌, refl, ap, ◌∙◌}
 use Rattle.rx_collection.specs.Held.{Held}
 use Rattle.rx_document.specs.declared.stored.Stored.{Stored}
 use Rattle.rx_world.specs.Holders.{After}

@@ -5,29 +5,29 @@ use Rattle.std.proofs.lemmas.Bool.{cases_lt, leb-true, leb-false}
 use Rattle.rx_disk.specs.declared.disk.Disk.{Ghosts}
 use Rattle.rx_disk.specs.Moments.{LeavesOnly}
 use Rattle.rx_disk.proofs.Moments.{weaker, joined, leaves_now}
-use Rattle.rx_frame.specs.File.{header, BeginsWith, IsSecond, StandsFor, IsWhole, shortest}
+use Rattle.rx_frame.specs.File.{header, BeginsWith, StandsFor, IsWhole, shortest}
 use Rattle.rx_frame.proofs.Records.{stands_for_one}
-use Rattle.rx_journal.specs.Opening.{IsJournal, IsNoWorse}
+use Rattle.rx_journal.specs.Opening.{IsBegun, IsJournal, IsNoWorse}
 use Rattle.rx_journal.specs.Reading.{IsUntouched}
 use Rattle.rx_journal.specs.Ready.{IsReady}
-use Rattle.rx_journal.specs.Windows.{Begin}
+use Rattle.rx_journal.specs.Windows.{Begin, HasVersion, version_of}
 use Rattle.rx_journal.specs.declared.journal.Journal.{Journal}
 use Rattle.rx_journal.specs.declared.open.OpenFault.{OpenFault}
 use Rattle.rx_journal.specs.declared.open.OpenFault.TheVariants as opening
 use Rattle.rx_journal.specs.declared.windows.Windows.{Windows}
 use Rattle.rx_outside.specs.declared.stop.Stop.{Stop}
 use Rattle.rx_outside.specs.declared.stop.Stop.TheVariants.{NotJournal, Full}
-use Rattle.rx_world.specs.Replay.{replay}
 use Rattle.rx_world.specs.Sound.{IsSoundWorld}
 use Rattle.rx_world.specs.World.{World, empty}
 use Rattle.rx_world.proofs.Replays.{replay_from-nothing}
 use Rattle.rx_world.proofs.Sounds.{sound_empty}
-use Rattle.rx_store.specs.Holds.{Holds, GrowsLegally, ImagesStandFor, IsIllegalFile, IsLegalFile, StandsInFirst}
+use Rattle.rx_store.specs.Holds.{Holds, GrowsLegally, ImagesStandFor, IsIllegalFile, IsLegalFile, StandsAlike}
 use Rattle.rx_store.specs.Safe.{IsCrashSafe}
 use Rattle.rx_store.specs.Stops.{of_open}
+use Rattle.rx_store.specs.Versions.{file_version, replay_in, replay_of}
 use Rattle.rx_store.proofs.Crashes.{other_stop}
 use Rattle.rx_store.proofs.Growing.{none_yet}
-use Rattle.rx_store.proofs.Versions.{long_begins, not_second, stands_for}
+use Rattle.rx_store.proofs.Versions.{plays_told, version_begun, version_short}
 
 -- one world
 pub some_is : (a b : World) → Some a ≡ Some b → a ≡ b
@@ -40,32 +40,47 @@ some_is a b e = ap (or_else a) e
 pub some_is_not_none : (o : Option World) (w : World) → o ≡ Some w → o ≡ None → ⊥
 some_is_not_none o w is none = true≢false (ap is_some (sym is ∙ none))
 
--- a journal of the first version was opened, its records were read to their end, and they make
--- this world
+-- a journal was opened, its records were read to their end, and they make this world
 module _ {D : Type 0} (d : Ghosts D) (old mid new : D) (windows : Windows)
-    (begin : Begin d old mid windows) (other : IsSecond (d.content old) → ⊥)
+    (begin : Begin d old mid windows) (told : HasVersion (d.content old) (version_of windows))
     (same : d.content new ≡ d.content mid) (journal : Journal) (lent : List (List ℕ)) (v : World)
-    (ready : IsReady d new journal lent) (plays : replay lent ≡ Some v) where
+    (ready : IsReady d new journal lent)
+    (plays : replay_in (version_of windows) lent ≡ Some v) where
   lent_stand : StandsFor (d.content old) lent
   lent_stand = begin.stood lent (subst (λ (l : List ℕ). IsWhole l lent) same ready.whole)
 
-  lent_first : StandsInFirst (d.content old) lent
-  lent_first = not_second (d.content old) lent other lent_stand
+  lent_play : replay_of (d.content old) lent ≡ Some v
+  lent_play = sym (plays_told (d.content old) (version_of windows) lent told) ∙ plays
 
-  begins : BeginsWith header (d.content new)
-  begins =
-      subst (λ (l : List ℕ). BeginsWith header l) (sym same)
-      (elim (cases_lt shortest (length (d.content old))) [
-        | inl long ↦ subst (λ (l : List ℕ). BeginsWith header l) (sym (begin.long long))
-            (long_begins (d.content old) lent long lent_first)
-        | inr short ↦ begin.first short
-      ])
+  -- a file that was too short for records has the first version's header now
+  short_begins : length (d.content old) ≤ shortest → BeginsWith header (d.content new)
+  short_begins short =
+      subst (λ (l : List ℕ). BeginsWith header l) (sym same) (begin.first short)
+
+  long_same : shortest < length (d.content old) → d.content new ≡ d.content old
+  long_same long = same ∙ begin.long long
+
+  same_version : file_version (d.content new) ≡ file_version (d.content old)
+  same_version = elim (cases_lt shortest (length (d.content old))) [
+    | inl long ↦ ap file_version (long_same long)
+    | inr short ↦ version_begun (d.content new) (short_begins short)
+        ∙ sym (version_short (d.content old) short)
+  ]
+
+  is_begun : IsBegun (d.content new) lent
+  is_begun = (
+    ready.whole,
+    λ short. elim (cases_lt shortest (length (d.content old))) [
+      | inl long ↦ absurd (omega (arith, long, short, ap length (long_same long)))
+      | inr brief ↦ short_begins brief
+    ],
+  )
 
   pub is_legal : IsSoundWorld v → IsLegalFile (d.content old) lent v
   is_legal sound = record {
-    stands = lent_first;
+    stands = lent_stand;
     short = omega (arith, ready.ends, journal.short);
-    plays = plays;
+    plays = lent_play;
     sound = sound;
   }
 
@@ -74,19 +89,19 @@ module _ {D : Type 0} (d : Ghosts D) (old mid new : D) (windows : Windows)
       (lawful : IsLegalFile (d.content old) bodies w) where
     same_bodies : lent ≡ bodies
     same_bodies =
-        stands_for_one (d.content old) lent bodies lent_stand
-        (stands_for (d.content old) bodies lawful.stands)
+        stands_for_one (d.content old) lent bodies lent_stand lawful.stands
 
     pub holds_these : Holds d new journal bodies w
     holds_these = record {
       ready = subst (λ (bs : List (List ℕ)). IsReady d new journal bs) same_bodies ready;
-      first = begins;
-      played = lawful.plays;
+      begun = subst (λ (bs : List (List ℕ)). IsBegun (d.content new) bs) same_bodies is_begun;
+      played = ap (λ (n : ℕ). replay_in n bodies) same_version ∙ lawful.plays;
       sound = lawful.sound;
     }
 
     pub same_world : v ≡ w
-    same_world = some_is v w (sym plays ∙ ap replay same_bodies ∙ lawful.plays)
+    same_world =
+        some_is v w (sym lent_play ∙ ap (replay_of (d.content old)) same_bodies ∙ lawful.plays)
 
     -- so the world isn't refused
     pub is_sound : IsSoundWorld v
@@ -108,19 +123,21 @@ module _ {D : Type 0} (d : Ghosts D) (old mid new : D)
 module _ {D : Type 0} (d : Ghosts D) (old mid : D) (bodies : List (List ℕ)) (w : World)
     (lawful : IsLegalFile (d.content old) bodies w)
     (run : LeavesOnly d old mid (IsNoWorse d old)) where
-  lawful_stands : StandsFor (d.content old) bodies
-  lawful_stands = stands_for (d.content old) bodies lawful.stands
-
-  still : ImagesStandFor d old bodies → (c : List ℕ) → IsNoWorse d old c → StandsInFirst c bodies
+  still : ImagesStandFor d old bodies → (c : List ℕ) → IsNoWorse d old c
+      → StandsAlike (d.content old) bodies c
   still alike c (inl before) = alike c before
-  still alike c (inr brief) =
-      inl (brief.1, stands_for_one (d.content old) bodies [] lawful_stands (inl (brief.0, refl)))
+  still alike c (inr brief) = record {
+    stands = inl (
+      brief.1,
+      stands_for_one (d.content old) bodies [] lawful.stands (inl (brief.0, refl)),
+    );
+    version = version_short c brief.1 ∙ sym (version_short (d.content old) brief.0);
+  }
 
   -- nothing came
   pub no_more : ImagesStandFor d old bodies → GrowsLegally d old mid bodies []
   no_more alike =
-      weaker d old mid _ _ (λ c left.
-      none_yet bodies [] w c lawful.plays lawful.sound (still alike c left) lawful.short) run
+      weaker d old mid _ _ (λ c left. none_yet bodies [] w c lawful (still alike c left)) run
 
   -- it was opened
   pub opened_safely : {A : Type 0} (limit : ℕ) (P : A → List (List ℕ) → Type 0) (x : A) → P x bodies
@@ -153,7 +170,7 @@ module _ {D : Type 0} (d : Ghosts D) (old mid : D) (bodies : List (List ℕ)) (w
   journal_fault : {T : Type 0} (fault : OpenFault)
       → (IsErrOf {T = T} (Err fault) opening.NotJournal → IsJournal (d.content old) → ⊥)
       → IsErrOf {T = T} (Err (of_open fault)) NotJournal → ⊥
-  journal_fault opening.NotJournal refused is = refused refl (bodies, lawful_stands, lawful.short)
+  journal_fault opening.NotJournal refused is = refused refl (bodies, lawful.stands, lawful.short)
   journal_fault opening.Memory refused is = absurd (cc)
   journal_fault opening.Disk refused is = absurd (cc)
 
@@ -182,7 +199,9 @@ illegal_long file illegal =
       | true ↦ (λ is. absurd (illegal [] empty (record {
         stands = inl (leb-true (length file) shortest is, refl);
         short = omega arith;
-        plays = replay_from-nothing (Some empty);
+        plays = ap (λ (n : ℕ). replay_in n [])
+            (version_short file (leb-true (length file) shortest is))
+            ∙ replay_from-nothing (Some empty);
         sound = sound_empty;
       })))
       | false ↦ (λ is. leb-false (length file) shortest is)

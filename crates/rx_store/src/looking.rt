@@ -28,7 +28,7 @@ pub struct Looked<H: Holder + Drop> {
     pub end: u64,
 }
 
-/// Reads a journal and plays its records as an opening does, and writes nothing.
+/// Reads a journal of either version and plays its records as an opening does, and writes nothing.
 pub fn look<H: Holder + Drop, D: Disk, F: Fn(Collection) -> Result<H, AllocError>>(
     alloc: Global,
     disk: &mut D,
@@ -56,9 +56,6 @@ pub fn look<H: Holder + Drop, D: Disk, F: Fn(Collection) -> Result<H, AllocError
         Ok(windows) => windows,
         Err(fault) => return Err(of_open(fault)),
     };
-    if windows.version() != 1 {
-        return Err(Stop::NotJournal);
-    }
     let replayed = replay(alloc, disk, &mut windows, make)?;
     if !replayed.world.sound() {
         return Err(Stop::NotJournal);

@@ -1,18 +1,18 @@
-// Plays the records of a journal, one after another as they are read.
+// The world that the records of a journal make.
 ghost use Rattle.std.specs.Prelude.{◌≡◌, ◌<◌, ◌≤◌, ◌+◌, ◌^◌, ℕ, List, [], false, Ok, IfOk, IsErr, IsErrOf, Some, None};
 ghost use Rattle.rx_disk.specs.Calls.{OnlyReads};
 ghost use Rattle.rx_journal.specs.Reading.{IsUntouched};
-ghost use Rattle.rx_journal.specs.Windows.{HaveLent, IsAtEnd, MayGoOn, WillLend, limit_of};
+ghost use Rattle.rx_journal.specs.Windows.{HaveLent, IsAtEnd, MayGoOn, WillLend, limit_of, version_of};
 ghost use Rattle.rx_outside.specs.Failed.{Rises};
 ghost use Rattle.rx_outside.specs.declared.stop.Stop.TheVariants as Stop;
 ghost use Rattle.rx_record.specs.Content.{record_of};
 ghost use Rattle.rx_world.specs.Holders.{holders_in, world_in};
-ghost use Rattle.rx_world.specs.Replay as replays;
 ghost use Rattle.rx_world.specs.Replay.{after_body};
 ghost use Rattle.rx_store.specs.Counted.{AreCounted};
 ghost use Rattle.rx_store.specs.Made.{AreMade};
+ghost use Rattle.rx_store.specs.Versions.{replay_in};
 
-use crate::stopping::of_open;
+use crate::phase::{Phase, Played, play};
 use rx_collection::{Collection, Holder};
 use rx_disk::Disk;
 use rx_journal::Windows;
@@ -20,9 +20,6 @@ use rx_outside::Stop;
 use rx_record::RecordView;
 use rx_world::World;
 use std::alloc::{AllocError, Global};
-
-/// The bytes of a record before its body: a gate and a length.
-const LENGTH_BYTES: u64 = 5;
 
 /// The world that the records of a journal make, how many they are, and how many bytes they have,
 /// with their gates and lengths.
@@ -33,7 +30,7 @@ pub(crate) struct Replayed<H: Holder + Drop> {
     pub bytes: u64,
 }
 
-/// Plays the records of a journal. They are read to the closed gate.
+/// Plays the records of a journal of either version. They are read to the closed gate.
 pub(crate) fn replay<H: Holder + Drop, D: Disk, F: Fn(Collection) -> Result<H, AllocError>>(
     alloc: Global,
     disk: &mut D,
@@ -47,21 +44,22 @@ pub(crate) fn replay<H: Holder + Drop, D: Disk, F: Fn(Collection) -> Result<H, A
     // All that were lent make the world, and the journal may go on from them.
     ensures ok { D.tells → HaveLent D.Disk disk.old windows.old [] → IfOk result (λ r.
         (bodies : List (List ℕ)) × MayGoOn D.Disk disk.new windows.new bodies
-        × (replays.replay bodies ≡ Some (world_in H.held r.world))) }
+        × (replay_in (version_of windows.old) bodies ≡ Some (world_in H.held r.world))) }
     // They are those that were to come, and counted.
     ensures counted { D.tells → IfOk result (λ r. (bodies : List (List ℕ))
         × WillLend (D.content disk.old) windows.old bodies
-        × AreCounted bodies (world_in H.held r.world) r.records r.bytes) }
+        × AreCounted (version_of windows.old) bodies (world_in H.held r.world) r.records r.bytes) }
     ensures ended { IfOk result (λ _. IsAtEnd windows.new) }
     ensures limit { limit_of windows.new ≡ limit_of windows.old }
 
     // The bodies to come are refused only where they make no world.
     ensures not_journal { D.tells → IsErrOf result Stop.NotJournal → (bodies : List (List ℕ))
-        → WillLend (D.content disk.old) windows.old bodies → replays.replay bodies ≡ None }
+        → WillLend (D.content disk.old) windows.old bodies
+        → replay_in (version_of windows.old) bodies ≡ None }
 
     ensures made { IfOk result (λ r.
         AreMade (λ c h. F.post make.now c (Ok h)) H.written (holders_in r.world)) }
-    ensures epochs { IfOk result (λ r. r.world.epoch < 2 ^ 32) }
+    ensures epochs { IfOk result (λ r. r.world.epoch < 2 ^ 63) }
     ensures short { IfOk result (λ r. r.bytes < 2 ^ 32) }
     ensures untouched { D.tells → IsUntouched D.Disk disk.old disk.new }
     ensures only_reads { D.tells → OnlyReads D.Disk disk.old disk.new }
@@ -69,29 +67,23 @@ pub(crate) fn replay<H: Holder + Drop, D: Disk, F: Fn(Collection) -> Result<H, A
     ensures faults { D.faults disk.old ≤ D.faults disk.new }
     ensures no_full { (would limit : ℕ) → IsErrOf result (Stop.Full would limit) → ⊥ }
 {
-    let mut world = World::new(alloc);
-    let mut records = 0u64;
-    let mut bytes = 0u64;
-    loop {
-        let body = match windows.next(disk) {
-            Ok(Some(body)) => body,
-            Ok(None) => {
-                return Ok(Replayed {
-                    world,
-                    records,
-                    bytes,
-                });
-            }
-            Err(fault) => return Err(of_open(fault)),
-        };
-        records += 1;
-        bytes += LENGTH_BYTES + body.len() as u64;
-        world = replay_one(alloc, world, body, make)?;
+    let Played {
+        phase,
+        records,
+        bytes,
+    } = play(alloc, disk, windows, make)?;
+    match phase {
+        Phase::Running(world) => Ok(Replayed {
+            world,
+            records,
+            bytes,
+        }),
+        Phase::Copying(_) => Err(Stop::NotJournal),
     }
 }
 
 // What is no record is refused before memory is taken.
-fn replay_one<H: Holder + Drop, F: Fn(Collection) -> Result<H, AllocError>>(
+pub(crate) fn replay_one<H: Holder + Drop, F: Fn(Collection) -> Result<H, AllocError>>(
     alloc: Global,
     world: World<H>,
     body: &[u8],

@@ -1,11 +1,25 @@
-use Rattle.std.proofs.Common.{◌∙◌, List, ℕ, arith, sym, subst, true≢false}
-use Rattle.rx_journal.specs.Windows.{WillLend}
+use Rattle.std.proofs.Common.{◌∙◌, List, ℕ, arith, rules, sym, subst, true≢false}
+use Rattle.rx_journal.specs.Windows.{WillLend, version_of}
 use Rattle.rx_world.specs.Holders.{world_in}
+use Rattle.rx_store.specs.Versions.{replay_in}
+use Rattle.rx_store.proofs.Opened.{some_is_not_none}
 use Rattle.rx_store.proofs.Seen.{is_legal, is_shown, is_sound}
 use Rattle.rx_store.proofs.Playing.{read_on}
 use Rattle.rx_store.proofs.Stops.{ok_cause, refused_cause}
-use Rattle.rx_store.proofs.Versions.{is_not_second}
+use Rattle.rx_store.proofs.Versions.{plays_told}
 use Rattle.rx_store.proofs.looking.look.Goals as goal
+
+-- a legal file's bodies make a world
+pub returns-in_err-replayed-clause-not_journal : goal.returns-in_err-replayed-clause-not_journal
+returns-in_err-replayed-clause-not_journal g c told is bodies w lawful =
+    let file = g.D.Disk.content c.args.disk.now in
+    let version = version_of c.in-Ok.windows in
+    let will = subst (λ (l : List ℕ). WillLend l c.in-Ok.windows bodies)
+    (sym (c.in-Ok.ensures.untouched told).same)
+    ((c.in-Ok.ensures.shown told).to_come bodies lawful.stands lawful.short) in
+    some_is_not_none (replay_in version bodies) w
+    (plays_told file version bodies (c.in-Ok.ensures.version told) ∙ lawful.plays)
+    (c.in_err-replayed.ensures.not_journal told (search rules) bodies will)
 
 pub returns-then-not-sound-clause-not_journal : goal.returns-then-not-sound-clause-not_journal
 returns-then-not-sound-clause-not_journal g c told is bodies w lawful =
@@ -13,13 +27,8 @@ returns-then-not-sound-clause-not_journal g c told is bodies w lawful =
     let r = c.in_ok-replayed.ensures.counted told in
     let will = subst (λ (l : List ℕ). WillLend l c.in-Ok.windows r.0)
     (c.in-Ok.ensures.untouched told).same r.1 in
-    let sound = is_sound file c.in-Ok.windows (c.in-Ok.ensures.shown told) (λ second.
-    omega (
-      arith,
-      c.if-version-ne1.false,
-      c.version.ensures,
-      (c.in-Ok.ensures.version told).second second,
-    )) r.0 will
+    let sound = is_sound file c.in-Ok.windows (c.in-Ok.ensures.shown told)
+    (c.in-Ok.ensures.version told) r.0 will
     (world_in g.H.Holder.held c.in_ok-replayed.replayed.world) c.in_ok-replayed.replayed.records
     c.in_ok-replayed.replayed.bytes r.2 bodies w lawful in
     absurd (true≢false (sym (c.sound.ensures.1 sound) ∙ c.if-not-sound.true))
@@ -35,13 +44,8 @@ returns-clause-shown g c told bodies w lawful =
     let r = c.in_ok-replayed.ensures.counted told in
     let will = subst (λ (l : List ℕ). WillLend l c.in-Ok.windows r.0)
     (c.in-Ok.ensures.untouched told).same r.1 in
-    is_shown file c.in-Ok.windows (c.in-Ok.ensures.shown told) (λ second.
-    omega (
-      arith,
-      c.if-version-ne1.false,
-      c.version.ensures,
-      (c.in-Ok.ensures.version told).second second,
-    )) r.0 will
+    is_shown file c.in-Ok.windows (c.in-Ok.ensures.shown told)
+    (c.in-Ok.ensures.version told) r.0 will
     (world_in g.H.Holder.held c.in_ok-replayed.replayed.world) c.in_ok-replayed.replayed.records
     c.in_ok-replayed.replayed.bytes r.2 bodies w lawful
 
@@ -54,13 +58,8 @@ returns-clause-stood g c told =
     (c.in-Ok.ensures.untouched told).same r.1 in (
       r.0,
       world,
-      is_legal file c.in-Ok.windows (c.in-Ok.ensures.shown told) (λ second.
-          omega (
-            arith,
-            c.if-version-ne1.false,
-            c.version.ensures,
-            (c.in-Ok.ensures.version told).second second,
-          )) r.0 will world
+      is_legal file c.in-Ok.windows (c.in-Ok.ensures.shown told)
+          (c.in-Ok.ensures.version told) r.0 will world
           c.in_ok-replayed.replayed.records c.in_ok-replayed.replayed.bytes r.2
           (c.sound.ensures.0 c.if-not-sound.false),
     )
@@ -90,19 +89,3 @@ returns-then-not-sound-clause-only_reads g c told =
 pub returns-clause-only_reads : goal.returns-clause-only_reads
 returns-clause-only_reads g c told =
     c.replay.ensures.only_reads told ∙ c.in-Ok.ensures.only_reads told
-
--- a file of the second version
-
-pub returns-then-version-ne1-clause-not_journal : goal.returns-then-version-ne1-clause-not_journal
-returns-then-version-ne1-clause-not_journal g c told is bodies w lawful =
-    let other = is_not_second (g.D.Disk.content c.args.disk.now) bodies lawful.stands in
-    c.if-version-ne1.true (c.version.ensures ∙ (c.in-Ok.ensures.version told).first other)
-
-pub returns-then-version-ne1-clause-shown : goal.returns-then-version-ne1-clause-shown
-returns-then-version-ne1-clause-shown g c told bodies w lawful =
-    let other = is_not_second (g.D.Disk.content c.args.disk.now) bodies lawful.stands in
-    absurd (c.if-version-ne1.true
-    (c.version.ensures ∙ (c.in-Ok.ensures.version told).first other))
-
-pub returns-then-version-ne1-clause-cause : goal.returns-then-version-ne1-clause-cause
-returns-then-version-ne1-clause-cause g c = refused_cause _ _ c.look.ensures.faults

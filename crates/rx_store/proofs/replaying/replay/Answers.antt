@@ -1,194 +1,43 @@
-use Rattle.std.proofs.Common.{ℕ, List, Option, None, Some, Ok, Result, refl, sym, ◌∙◌, ap, subst, arith, rules}
-use Rattle.std.proofs.lemmas.Result.{IfOk-from_err}
-use Rattle.std.specs.Borrow.{Bor}
-use Rattle.rx_frame.specs.Gate.{IsClosed, NextIs}
-use Rattle.rx_journal.specs.Windows.{Move, WillLend, left}
-use Rattle.rx_journal.specs.declared.open.OpenFault.{OpenFault}
-use Rattle.rx_journal.proofs.Moving.{closed_left}
-use Rattle.rx_outside.proofs.Counts.{rises_later}
+use Rattle.std.proofs.Common.{◌≡◌, ◌∙◌, [], ap, Some, rules}
+use Rattle.rx_world.specs.Copy.{plain_world}
 use Rattle.rx_world.specs.Holders.{world_in}
-use Rattle.rx_world.specs.World.{World}
-use Rattle.rx_store.proofs.Counting.{read_all, read_none, read_one}
-use Rattle.rx_store.proofs.Playing.{Lends, begun, disk_is, goes_on, none_made, not_full, not_read, not_yet, played_none, played_one, read_on, refused, stop_is}
+use Rattle.rx_world.proofs.Replays.{replay_from-nothing}
+use Rattle.rx_store.specs.Phase.{world_to_come}
+use Rattle.rx_store.specs.declared.phase.Phase.{Phase}
+use Rattle.rx_store.specs.declared.phase.Phase.TheVariants.{Copying, Running}
+use Rattle.rx_store.proofs.Phases.{copy_unended}
 use Rattle.rx_store.proofs.replaying.replay.Goals as goal
 
-pub loop-body-init : goal.loop-body-init
-loop-body-init g c =
-    let is = c.new-world.ensures in
-    record {
-      untouched = λ told.
-          not_yet g.D.Disk c.args.disk.now (λ f. g.met.D.Disk.only_now c.args.disk.now f told);
-      only_reads = λ told. refl;
-      playing = λ told.
-          begun (g.D.Disk.content c.args.disk.now) c.args.windows.now
-          (world_in g.H.Holder.held c.new-world.result) is;
-      lent = λ told lent.
-          played_none g.D.Disk c.args.disk.now c.args.windows.now
-          (world_in g.H.Holder.held c.new-world.result) is lent;
-      counted = λ told.
-          read_none (g.D.Disk.content c.args.disk.now) c.args.windows.now
-          (world_in g.H.Holder.held c.new-world.result) is;
-      epoch = omega (arith, ap (λ (w : World). w.epoch) is);
-      fewer = omega arith;
-      size = omega arith;
-      made = none_made (λ held h. g.F.Fn.post c.args.make.now (held, tt) (Ok h)) g.H.Holder.held
-          g.H.Holder.written
-          c.new-world.result is;
-      limit = refl;
-      faults = omega arith;
-    }
+pub returns-in-Running-clause-ok : goal.returns-in-Running-clause-ok
+returns-in-Running-clause-ok g c = λ told lent.
+    let run = c.in-Running.world in
+    let is : c.in_ok-phase.field-0.phase ≡ Running run = search rules in
+    let r = c.in_ok-phase.ensures.ok told lent in (
+      r.0,
+      r.1,
+      r.2 ∙ ap (λ (p : Phase _). world_to_come g.H.Holder.held p []) is
+          ∙ replay_from-nothing (Some (world_in g.H.Holder.held run)),
+    )
 
-pub returns-in-Ok-None-clause-epochs : goal.returns-in-Ok-None-clause-epochs
-returns-in-Ok-None-clause-epochs g c =
-    omega (arith, c.loop-body.invariant.epoch, c.loop-body.windows.short)
+pub returns-in-Running-clause-counted : goal.returns-in-Running-clause-counted
+returns-in-Running-clause-counted g c = λ told.
+    let run = c.in-Running.world in
+    let is : c.in_ok-phase.field-0.phase ≡ Running run = search rules in
+    let r = c.in_ok-phase.ensures.counted told in (
+      r.0,
+      r.1,
+      record {
+        plays = r.2.plays ∙ ap (λ (p : Phase _). world_to_come g.H.Holder.held p []) is
+            ∙ replay_from-nothing (Some (world_in g.H.Holder.held run));
+        counted = r.2.counted;
+        sized = r.2.sized;
+      },
+    )
 
-pub returns-in-Ok-None-clause-counted : goal.returns-in-Ok-None-clause-counted
-returns-in-Ok-None-clause-counted g c = λ told.
-    let content = g.D.Disk.content c.args.disk.now in
-    let inv = c.loop-body.invariant in
-    let now = c.next.follows.lender-at-none in
-    let move : Move g.D.Disk c.loop-body.disk c.next.new.disk c.loop-body.windows now
-    (λ (b : Bor (List ℕ)). b.now) (Ok None) =
-    subst (λ (r : Result (Option (Bor (List ℕ))) OpenFault).
-    Move g.D.Disk c.loop-body.disk c.next.new.disk
-    c.loop-body.windows now (λ (b : Bor (List ℕ)). b.now) r)
-    (c.in-Ok-None.is ∙ ap (λ o. Ok o) c.in-Ok-None.field-0-is) c.next.follows.holds-at-none in
-    let here = g.D.Disk.content c.loop-body.disk in
-    let closed : IsClosed (left c.loop-body.windows here) =
-    subst IsClosed (move.stay told).bytes (closed_left now here move.end) in
-    read_all content c.args.windows.now c.loop-body.windows
-    (world_in g.H.Holder.held c.loop-body.world) c.loop-body.records c.loop-body.bytes
-    (subst (λ (l : List ℕ). IsClosed (left c.loop-body.windows l)) (inv.untouched told).same closed)
-    c.loop-body.windows.short (inv.counted told)
-
-pub returns-in_err-world-clause-untouched : goal.returns-in_err-world-clause-untouched
-returns-in_err-world-clause-untouched g c = λ told.
-    read_on g.D.Disk c.args.disk.now c.loop-body.disk c.next.new.disk
-    (c.loop-body.invariant.untouched told)
-    (c.in-Ok-Some.ensures.untouched told)
-
-pub returns-in-Err-clause-not_journal : goal.returns-in-Err-clause-not_journal
-returns-in-Err-clause-not_journal g c = λ told is.
-    let content = g.D.Disk.content c.args.disk.now in
-    let same = (c.loop-body.invariant.untouched told).same in
-    not_read content c.args.windows.now c.loop-body.windows
-    (world_in g.H.Holder.held c.loop-body.world)
-    (c.loop-body.invariant.playing told)
-    (λ bodies will.
-    c.in-Err.ensures.not_journal told
-    (stop_is c.in-Err.fault c.of_open.result c.of_open.ensures is) bodies
-    (subst (λ (l : List ℕ). WillLend l c.loop-body.windows bodies) (sym same) will))
-
-pub returns-in_err-world-clause-not_journal : goal.returns-in_err-world-clause-not_journal
-returns-in_err-world-clause-not_journal g c = λ told is.
-    let content = g.D.Disk.content c.args.disk.now in
-    let same = (c.loop-body.invariant.untouched told).same in
-    let now = c.next.follows.lender-at-none in
-    let body = c.in-Ok-Some.body in
-    let move : Move g.D.Disk c.loop-body.disk c.next.new.disk c.loop-body.windows now
-    (λ (b : Bor (List ℕ)). b.now) (Ok (Some body)) =
-    subst (λ (r : Result (Option (Bor (List ℕ))) OpenFault).
-    Move g.D.Disk c.loop-body.disk c.next.new.disk
-    c.loop-body.windows now (λ (b : Bor (List ℕ)). b.now) r)
-    (c.in-Ok-Some.is ∙ ap (λ o. Ok o) c.in-Ok-Some.field-0-is) c.next.follows.holds-at-none in
-    let lends : Lends content c.loop-body.windows body.now now =
-    subst (λ (l : List ℕ). Lends l c.loop-body.windows body.now now) same (move.lends told) in
-    refused content c.args.windows.now c.loop-body.windows now body.now
-    (world_in g.H.Holder.held c.loop-body.world) (c.loop-body.invariant.playing told) lends
-    (c.in_err-world.ensures.not_journal (search rules))
-
-pub loop-body-preserved : goal.loop-body-preserved
-loop-body-preserved g c =
-    let content = g.D.Disk.content c.args.disk.now in
-    let inv = c.loop-body.invariant in
-    let now = c.next.follows.lender-at-none in
-    let body = c.in-Ok-Some.body in
-    let w = world_in g.H.Holder.held c.loop-body.world in
-    let w' = world_in g.H.Holder.held c.in_ok-world.world in
-    let move : Move g.D.Disk c.loop-body.disk c.next.new.disk c.loop-body.windows now
-    (λ (b : Bor (List ℕ)). b.now) (Ok (Some body)) =
-    subst (λ (r : Result (Option (Bor (List ℕ))) OpenFault).
-    Move g.D.Disk c.loop-body.disk c.next.new.disk
-    c.loop-body.windows now (λ (b : Bor (List ℕ)). b.now) r)
-    (c.in-Ok-Some.is ∙ ap (λ o. Ok o) c.in-Ok-Some.field-0-is) c.next.follows.holds-at-none in
-    record {
-      untouched = λ told.
-          read_on g.D.Disk c.args.disk.now c.loop-body.disk c.next.new.disk (inv.untouched told)
-          (c.in-Ok-Some.ensures.untouched told);
-      only_reads = λ told. c.in-Ok-Some.ensures.only_reads told ∙ inv.only_reads told;
-      playing = λ told.
-          goes_on content c.args.windows.now c.loop-body.windows now body.now w w'
-          (inv.playing told)
-          (subst (λ (l : List ℕ). Lends l c.loop-body.windows body.now now)
-          (inv.untouched told).same
-          (move.lends told)) c.in_ok-world.ensures.ok;
-      lent = λ told first.
-          played_one g.D.Disk c.loop-body.disk c.next.new.disk c.loop-body.windows now body.now w w'
-          (move.lent told) c.in_ok-world.ensures.ok (inv.lent told first);
-      counted = λ told.
-          read_one content c.args.windows.now c.loop-body.windows now body.now w w'
-          c.loop-body.records c.loop-body.bytes
-          (subst (λ (l : List ℕ). NextIs (left c.loop-body.windows l) body.now (left now l))
-          (inv.untouched told).same (move.stood told))
-          move.place c.in_ok-world.ensures.ok (inv.counted told);
-      epoch = omega (arith, inv.epoch, c.in_ok-world.ensures.epoch, move.place);
-      fewer = omega (arith, inv.fewer, move.place);
-      size = omega (arith, inv.size, move.place);
-      made = c.in_ok-world.ensures.made;
-      limit = move.limit ∙ inv.limit;
-      faults = omega (arith, inv.faults, c.in-Ok-Some.ensures.faults);
-    }
-
-pub returns-in-Ok-None-clause-untouched : goal.returns-in-Ok-None-clause-untouched
-returns-in-Ok-None-clause-untouched g c = λ told.
-    read_on g.D.Disk c.args.disk.now c.loop-body.disk c.next.new.disk
-    (c.loop-body.invariant.untouched told)
-    (c.in-Ok-None.ensures.untouched told)
-
-pub returns-in-Err-clause-untouched : goal.returns-in-Err-clause-untouched
-returns-in-Err-clause-untouched g c = λ told.
-    read_on g.D.Disk c.args.disk.now c.loop-body.disk c.next.new.disk
-    (c.loop-body.invariant.untouched told)
-    (c.in-Err.ensures.untouched told)
-
--- a search for these takes long
-
-pub returns-in-Err-clause-no_full : goal.returns-in-Err-clause-no_full
-returns-in-Err-clause-no_full g c = not_full c.in-Err.fault c.of_open.result c.of_open.ensures
-
-pub returns-in-Err-clause-disk_only : goal.returns-in-Err-clause-disk_only
-returns-in-Err-clause-disk_only g c = λ is.
-    rises_later _ _ _ c.loop-body.invariant.faults
-    (c.in-Err.ensures.disk_only (disk_is c.in-Err.fault c.of_open.result c.of_open.ensures is))
-
-pub returns-in_err-world-clause-ok : goal.returns-in_err-world-clause-ok
-returns-in_err-world-clause-ok g c = λ told lent.
-    IfOk-from_err c.from_residual.result _ c.from_residual.ensures.0
-
-pub returns-in_err-world-clause-counted : goal.returns-in_err-world-clause-counted
-returns-in_err-world-clause-counted g c = λ told.
-    IfOk-from_err c.from_residual.result _ c.from_residual.ensures.0
-
-pub returns-in-Ok-None-clause-only_reads : goal.returns-in-Ok-None-clause-only_reads
-returns-in-Ok-None-clause-only_reads g c = λ told.
-    c.in-Ok-None.ensures.only_reads told ∙ c.loop-body.invariant.only_reads told
-
-pub returns-in-Err-clause-only_reads : goal.returns-in-Err-clause-only_reads
-returns-in-Err-clause-only_reads g c = λ told.
-    c.in-Err.ensures.only_reads told ∙ c.loop-body.invariant.only_reads told
-
-pub returns-in_err-world-clause-only_reads : goal.returns-in_err-world-clause-only_reads
-returns-in_err-world-clause-only_reads g c = λ told.
-    c.in-Ok-Some.ensures.only_reads told ∙ c.loop-body.invariant.only_reads told
-
-pub returns-in-Ok-None-clause-ok : goal.returns-in-Ok-None-clause-ok
-returns-in-Ok-None-clause-ok g c = λ told lent.
-    let now = c.next.follows.lender-at-none in
-    let move : Move g.D.Disk c.loop-body.disk c.next.new.disk c.loop-body.windows now
-    (λ (b : Bor (List ℕ)). b.now) (Ok None) =
-    subst (λ (r : Result (Option (Bor (List ℕ))) OpenFault).
-    Move g.D.Disk c.loop-body.disk c.next.new.disk
-    c.loop-body.windows now (λ (b : Bor (List ℕ)). b.now) r)
-    (c.in-Ok-None.is ∙ ap (λ o. Ok o) c.in-Ok-None.field-0-is) c.next.follows.holds-at-none in
-    let played = c.loop-body.invariant.lent told lent in
-    (played.0, move.lent told played.0 played.1, played.2)
+-- a copy without its end makes no world
+pub returns-clause-not_journal : goal.returns-clause-not_journal
+returns-clause-not_journal g c = λ told _ bodies will.
+    let is : c.in_ok-phase.field-0.phase ≡ Copying c.in-Copying.field-0 = search rules in
+    c.in_ok-phase.ensures.all told bodies will
+    ∙ ap (λ (p : Phase _). world_to_come g.H.Holder.held p []) is
+    ∙ copy_unended (plain_world c.in-Copying.field-0)
