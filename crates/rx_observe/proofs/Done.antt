@@ -1,8 +1,7 @@
 -- Lists whose first members have been changed in place.
-use Rattle.std.proofs.Common.{◌≡◌, ℕ, zero, suc, ◌+◌, ◌<◌, List, [], ◌∷◌, length, drop, map, get_or, refl, sym, ap, ◌∙◌, arith, add-one}
+use Rattle.std.proofs.Common.{◌≡◌, ℕ, zero, suc, ◌+◌, ◌<◌, List, [], ◌∷◌, length, map, get_or, refl, sym, ap, ◌∙◌, arith, add-one}
 use Rattle.std.proofs.Math.ListN.{set}
 use Rattle.std.specs.List.{AllByRecursion}
-use Rattle.rx_value.proofs.Lists.{cons_parts}
 
 -- with the first i changed
 abbrev pub done : {X : Type 0} → (X → X) → ℕ → List X → List X
@@ -60,40 +59,3 @@ pub all_at : {X : Type 0} (P : X → Type 0) (i : ℕ) (xs : List X) (d : X) →
 all_at P i [] d all h = absurd (omega arith)
 all_at P zero (x ∷ xs) d all h = all.0
 all_at P (suc i) (x ∷ xs) d all h = all_at P i xs d all.1 (omega arith)
-
--- ---- beside a second list, of which some are left
-
--- what is left is what a function gives of the members from i on, and something is left
-pub record IsNext {A B : Type 0} (g : B → A) (i : ℕ) (xs : List B) (a : A) (more : List A)
-    : Type 0 where
-  pub within : i < length xs
-  pub rest : more ≡ map g (drop (i + 1) xs)
-  pub here : (d : B) → a ≡ g (get_or xs i d)
-
-pub next_is : {A B : Type 0} (g : B → A) (i : ℕ) (xs : List B) (a : A) (more : List A)
-    → a ∷ more ≡ map g (drop i xs) → IsNext g i xs a more
-next_is g zero [] a more e = cc
-next_is g zero (x ∷ xs) a more e = record {
-  within = omega arith;
-  rest = (cons_parts a (g x) more (map g xs) e).1;
-  here = λ d. (cons_parts a (g x) more (map g xs) e).0;
-}
-next_is g (suc i) [] a more e = cc
-next_is g (suc i) (x ∷ xs) a more e =
-    let h = next_is g i xs a more e in
-    let within = h.within in
-    record {
-      within = omega arith;
-      rest =
-          h.rest
-          ∙ ap (λ k. map g (drop k (x ∷ xs))) (ap suc (add-one i) ∙ sym (add-one (suc i)));
-      here = h.here;
-    }
-
--- nothing is left: all are changed
-pub done-past : {A B : Type 0} (g : B → A) (f : B → B) (i : ℕ) (xs : List B)
-    → [] ≡ map g (drop i xs) → done f i xs ≡ map f xs
-done-past g f zero [] e = refl
-done-past g f zero (x ∷ xs) e = cc
-done-past g f (suc i) [] e = refl
-done-past g f (suc i) (x ∷ xs) e = ap (λ ys. f x ∷ ys) (done-past g f i xs e)

@@ -2,6 +2,7 @@ pub mod Fresh
 pub mod Applying
 pub mod Unseen
 pub mod Done
+pub mod Places
 pub mod Steps
 pub mod Emitting
 pub mod Putting

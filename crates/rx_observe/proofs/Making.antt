@@ -15,7 +15,7 @@ use Rattle.rx_query.specs.Result.{IsCollection}
 use Rattle.rx_collection.proofs.Named.{above_other}
 use Rattle.rx_collection.specs.Held.{Held}
 use Rattle.rx_collection.specs.Lawful.{IsLawful}
-use Rattle.rx_index.specs.Index.{Indexed, has_key, is_key_of, Holds, Replaces}
+use Rattle.rx_index.specs.Index.{Indexed, is_key_of, Holds, Replaces}
 use Rattle.rx_index.specs.Position.{id_of}
 use Rattle.rx_observe.proofs.Fresh.{is_collection_for}
 

@@ -1,5 +1,5 @@
 -- Rows are the same exactly where the test says so.
-use Rattle.std.proofs.Common.{◌≡◌, ℕ, ◌+◌, drop, slice_get, bytes_eq, true, false, cond, Option, Some, None, List, refl, sym, ap, ◌∙◌}
+use Rattle.std.proofs.Common.{◌≡◌, ℕ, ◌+◌, drop, slice_get, bytes_eq, true, false, cond, is_none, Option, Some, None, List, refl, sym, ap, ◌∙◌}
 use Rattle.std.proofs.lemmas.Bool.Decides.{Decides-and}
 use Rattle.std.proofs.lemmas.Slice.Eq.{bytes_eq-Decides, slice_eq-Decides}
 use Rattle.std.specs.Bool.{Decides}
@@ -40,6 +40,15 @@ unseen_none (Some r) emitted h =
     ap (unseen (Some r)) (h r refl)
     ∙ ap (λ b. cond b None (Some r)) ((same_rows-Decides r r).1 refl)
 
+-- unseen rows are those that are kept
+pub rows_unseen : (rows emitted : Option (List Row)) (r : List Row) → unseen rows emitted ≡ Some r
+    → rows ≡ Some r
+rows_unseen None emitted r h = cc
+rows_unseen (Some s) None r h = h
+rows_unseen (Some s) (Some last) r h =
+    elim (same_rows s last) as (λ b. cond b None (Some s) ≡ Some r → Some s ≡ Some r)
+    [ true ↦ (λ h. cc) | false ↦ (λ h. h) ] h
+
 -- where none are unseen, those emitted last are kept
 pub kept_seen : (rows emitted : Option (List Row)) → unseen rows emitted ≡ None
     → emitted ≡ kept rows emitted
@@ -60,3 +69,12 @@ settled_none r = unseen_none (Some r) (Some r) (λ s is. is)
 pub seen_last : (r : List Row) (last : Option (List Row)) → unseen (Some r) last ≡ None
     → last ≡ Some r
 seen_last r last h = kept_seen (Some r) last h
+
+-- and so where that is known by a test
+none_is : (o : Option (List Row)) → true ≡ is_none o → o ≡ None
+none_is None h = refl
+none_is (Some r) h = cc
+
+pub emitted_last : (r : List Row) (last : Option (List Row))
+    → true ≡ is_none (unseen (Some r) last) → last ≡ Some r
+emitted_last r last h = seen_last r last (none_is (unseen (Some r) last) h)

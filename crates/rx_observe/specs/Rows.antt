@@ -1,5 +1,5 @@
 -- Whether rows were emitted last, and what is emitted.
-use Rattle.std.specs.Prelude.{ℕ, Bool, ◌&&◌, List, [], ◌∷◌, Option, Some, None, if◌then◌else◌}
+use Rattle.std.specs.Prelude.{ℕ, ◌+◌, Bool, ◌&&◌, List, [], ◌∷◌, Option, Some, None, if◌then◌else◌}
 use Rattle.std.specs.Cmp.Lexicographic.{pointwise}
 use Rattle.std.specs.Str.{bytes_eq}
 use Rattle.rx_value.specs.Equal.{fields_eq}
@@ -41,6 +41,16 @@ with_emission name (Some rows) es = record { name = name; rows = rows } ∷ es
 abbrev pub emissions_of : List (List ℕ × Watched) → List Emission
 emissions_of [] = []
 emissions_of (q ∷ qs) = with_emission q.0 (unseen_of q) (emissions_of qs)
+
+-- with a query's place and rows in front, where there are rows for it
+abbrev pub with_place : ℕ → Option (List Row) → List (ℕ × List Row) → List (ℕ × List Row)
+with_place n None ps = ps
+with_place n (Some rows) ps = (n, rows) ∷ ps
+
+-- the place of each such query with its rows, where the first one stands at n
+abbrev pub places_of : ℕ → List (List ℕ × Watched) → List (ℕ × List Row)
+places_of n [] = []
+places_of n (q ∷ qs) = with_place n (unseen_of q) (places_of (n + 1) qs)
 
 -- the same by the rows from scratch, whether they are kept or not
 abbrev pub emissions_due : Held → List (List ℕ × Watched) → List Emission

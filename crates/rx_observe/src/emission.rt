@@ -1,9 +1,9 @@
-ghost use Rattle.std.specs.Prelude.{◌≡◌, ◌∷◌, ◌++◌, [], OnOk, map};
+ghost use Rattle.std.specs.Prelude.{◌≡◌, ◌∷◌, ◌++◌, [], OnOk};
 ghost use Rattle.rx_observe.specs.Observing.{each};
-ghost use Rattle.rx_observe.specs.Rows.{emitted, with_emission, emissions_of, unseen_of};
+ghost use Rattle.rx_observe.specs.Rows.{emitted, with_emission, emissions_of, with_place, places_of, unseen_of};
 
 use crate::observed::Observed;
-use rx_query::Results;
+use crate::shared_rows::SharedRows;
 use rx_value::RxText;
 use std::alloc::{AllocError, Global};
 
@@ -11,67 +11,66 @@ use std::alloc::{AllocError, Global};
 #[derive(Debug, Drop)]
 pub struct Emission {
     pub name: RxText,
-    pub rows: Results,
+    pub rows: SharedRows,
 }
 
-// The emissions, and for each query the copy of its rows that it is to keep.
+// The emissions, and for each of them the place of its query, with the rows that it is to keep.
 #[derive(Drop)]
 pub(crate) struct Unseen {
     pub emissions: Vec<Emission>,
-    pub copies: Vec<Option<Results>>,
+    pub places: Vec<(usize, SharedRows)>,
 }
 
 // Takes all memory that the emissions need, and changes no query.
 pub(crate) fn look_all(
     alloc: Global,
-    queries: &[(RxText, Observed)],
+    queries: &mut Vec<(RxText, Observed)>,
     unseen: &mut Unseen,
 ) -> Result<(), AllocError>
     requires emissions { unseen.old.emissions.items ≡ [] }
-    requires copies { unseen.old.copies.items ≡ [] }
-    ensures emissions { OnOk result (unseen.new.emissions.items ≡ emissions_of queries.now) }
-    ensures copies { OnOk result (unseen.new.copies.items ≡ map unseen_of queries.now) }
+    requires places { unseen.old.places.items ≡ [] }
+    ensures same { queries.new.items ≡ queries.old.items }
+    ensures emissions { OnOk result (unseen.new.emissions.items ≡ emissions_of queries.old.items) }
+    ensures places { OnOk result (unseen.new.places.items ≡ places_of 0 queries.old.items) }
 {
-    for (name, observed) in queries {
-        look(alloc, name, observed, unseen)?;
+    for place in 0..queries.len() {
+        let query = &mut queries[place];
+        look(alloc, place, query, unseen)?;
     }
     Ok(())
 }
 
 fn look(
     alloc: Global,
-    name: &RxText,
-    observed: &Observed,
+    place: usize,
+    query: &mut (RxText, Observed),
     unseen: &mut Unseen,
 ) -> Result<(), AllocError>
+    ensures same { query.new ≡ query.old }
     ensures emissions { OnOk result (unseen.new.emissions.items ≡ unseen.old.emissions.items
-        ++ with_emission name.now (unseen_of (name.now, observed.now)) []) }
-    ensures copies { OnOk result (unseen.new.copies.items
-        ≡ unseen.old.copies.items ++ unseen_of (name.now, observed.now) ∷ []) }
+        ++ with_emission query.old.0 (unseen_of query.old) []) }
+    ensures places { OnOk result (unseen.new.places.items ≡ unseen.old.places.items
+        ++ with_place place (unseen_of query.old) []) }
 {
-    match observed.unseen()? {
-        None => unseen.copies.push(None)?,
-        Some(rows) => {
-            let emission = Emission {
-                name: name.copy(alloc)?,
-                rows: rows.copy(alloc)?,
-            };
-            unseen.emissions.push(emission)?;
-            unseen.copies.push(Some(rows))?;
-        }
-    }
+    let Some(rows) = query.1.unseen()? else {
+        return Ok(());
+    };
+    let emission = Emission {
+        name: query.0.copy(alloc)?,
+        rows: rows.share()?,
+    };
+    unseen.emissions.push(emission)?;
+    unseen.places.push((place, rows))?;
     Ok(())
 }
 
-// Gives each query its copy.
-pub(crate) fn emit_all(queries: &mut Vec<(RxText, Observed)>, copies: Vec<Option<Results>>)
-    requires { copies.items ≡ map unseen_of queries.old.items }
+// Gives each query its rows.
+pub(crate) fn emit_all(queries: &mut Vec<(RxText, Observed)>, places: Vec<(usize, SharedRows)>)
+    requires { places.items ≡ places_of 0 queries.old.items }
     ensures { queries.new.items ≡ each emitted queries.old.items }
 {
-    let mut i = 0;
-    for copy in copies {
-        let query = &mut queries[i];
-        query.1.emit(copy);
-        i += 1;
+    for (place, rows) in places {
+        let query = &mut queries[place];
+        query.1.emit(rows);
     }
 }

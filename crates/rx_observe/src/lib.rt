@@ -9,9 +9,11 @@ mod laws;
 mod live;
 mod observed;
 mod rows;
+mod shared_rows;
 mod step;
 
 pub use emission::Emission;
 pub use laws::observed_laws;
 pub use live::Live;
 pub use observed::{Applied, Observed};
+pub use shared_rows::SharedRows;

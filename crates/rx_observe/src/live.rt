@@ -175,11 +175,11 @@ impl Live {
     {
         let mut unseen = Unseen {
             emissions: Vec::new(self.alloc),
-            copies: Vec::new(self.alloc),
+            places: Vec::new(self.alloc),
         };
-        look_all(self.alloc, self.queries.as_slice(), &mut unseen)?;
-        let Unseen { emissions, copies } = unseen;
-        emit_all(&mut self.queries, copies);
+        look_all(self.alloc, &mut self.queries, &mut unseen)?;
+        let Unseen { emissions, places } = unseen;
+        emit_all(&mut self.queries, places);
         Ok(emissions)
     }
 
@@ -234,6 +234,10 @@ impl Holder for Live {
 
     fn collection(&self) -> &Collection {
         &self.collection
+    }
+
+    fn into_collection(self) -> Collection {
+        self.collection
     }
 
     fn put_rows(&mut self, rows: Vec<Stored>) -> Result<(), AllocError>

@@ -1,4 +1,4 @@
-ghost use Rattle.std.specs.Prelude.{◌≡◌, ◌≢◌, Some, None, IfSome, IfOk, OnOk, OnErr, option_map};
+ghost use Rattle.std.specs.Prelude.{◌≡◌, ◌≢◌, Some, None, IfSome, IfOk, OnOk, OnErr, is_none, option_map};
 ghost use Rattle.rx_document.specs.declared.change.Before.TheVariants.{Unknown};
 ghost use Rattle.rx_diagram.specs.Asked.{asked_of};
 ghost use Rattle.rx_table.specs.Counts.{is_full};
@@ -19,6 +19,7 @@ ghost use Rattle.rx_observe.specs.Watched.{cold, bits_at, action_at, asked_at, a
 use crate::front::Front;
 use crate::full::rows_of;
 use crate::rows::are_same_rows;
+use crate::shared_rows::SharedRows;
 use rx_actions::act;
 use rx_collection::Collection;
 use rx_diagram::{Decided, Diagram};
@@ -46,7 +47,7 @@ pub struct Observed {
     alloc: Global,
     query: Query,
     rows: Option<Results>,
-    emitted: Option<Results>,
+    emitted: Option<SharedRows>,
     /// Whether the rows may differ from those emitted last.
     touched: bool,
     counts: Counts,
@@ -186,38 +187,32 @@ impl Observed {
         }
     }
 
-    /// A copy of the rows, where they differ from those emitted last.
-    pub(crate) fn unseen(&self) -> Result<Option<Results>, AllocError>
-        ensures { IfOk result (λ copy. copy ≡ unseen self.now.rows self.now.emitted) }
+    /// A copy of the rows, where they differ from those emitted last. Where they don't it is known
+    /// from then on.
+    pub(crate) fn unseen(&mut self) -> Result<Option<SharedRows>, AllocError>
+        ensures same { self.new ≡ self.old }
+        ensures copy { IfOk result (λ copy. copy ≡ unseen self.old.rows self.old.emitted) }
     {
         if !self.touched {
             return Ok(None);
         }
-        match (&self.rows, &self.emitted) {
-            (None, _) => Ok(None),
-            (Some(rows), None) => Ok(Some(rows.copy(self.alloc)?)),
-            (Some(rows), Some(last)) => {
-                if are_same_rows(rows, last) {
-                    Ok(None)
-                } else {
-                    Ok(Some(rows.copy(self.alloc)?))
-                }
-            }
+        let Some(rows) = &self.rows else {
+            return Ok(None);
+        };
+        if was_emitted(rows, &self.emitted) {
+            self.touched = false;
+            return Ok(None);
         }
+        Ok(Some(SharedRows::new(self.alloc, rows)?))
     }
 
-    /// Takes the rows as emitted, given a copy of them where they differ from those emitted last.
-    pub(crate) fn emit(&mut self, copy: Option<Results>)
-        requires { copy ≡ unseen self.old.rows self.old.emitted }
+    /// Takes its rows as emitted, given a copy of them.
+    pub(crate) fn emit(&mut self, copy: SharedRows)
+        requires { unseen self.old.rows self.old.emitted ≡ Some copy }
         ensures { self.new ≡ emitted self.old }
     {
-        match copy {
-            Some(rows) => {
-                self.emitted = Some(rows);
-                self.touched = false;
-            }
-            None => self.touched = false,
-        }
+        self.emitted = Some(copy);
+        self.touched = false;
     }
 
     /// The rows that it has over a collection, by its front where that tells them.
@@ -243,6 +238,15 @@ impl Observed {
         ensures { self.new ≡ cooled self.old }
     {
         self.rows = None;
+    }
+}
+
+fn was_emitted(rows: &Results, last: &Option<SharedRows>) -> bool
+    ensures { result ≡ is_none (unseen (Some rows.now) last.now) }
+{
+    match last {
+        Some(last) => are_same_rows(rows, last.as_results()),
+        None => false,
     }
 }
 
