@@ -14,14 +14,14 @@ use Rattle.rx_script.specs.declared.fault.LineFault.{LineFault}
 use Rattle.rx_script.specs.declared.happening.Happening.{Happening}
 use Rattle.rx_session.specs.Session.{Session}
 use Rattle.rx_world.specs.declared.replication.Replication.{Replication}
-use Rattle.rx_engine.specs.Faults.{of_line}
+use Rattle.rx_writes.specs.Faults.{of_line}
 use Rattle.rx_engine.specs.Calling.{Call as ToCall, CanCall}
 use Rattle.rx_engine.specs.Lines.{Task, answered, turns, calls, asked_outcome, asked_task, task, task_or_refusal, turn_line, turn_to}
 use Rattle.rx_engine.specs.Outcome.{Outcome}
 use Rattle.rx_engine.specs.Replicate.{has_handler, takes_field}
 use Rattle.rx_engine.specs.Turning.{CanTurn, Turn as ToTurn, is_handled, turn_here, turned_at}
-use Rattle.rx_engine.specs.declared.fault.Fault.{Fault}
-use Rattle.rx_engine.specs.declared.fault.Fault.TheVariants.{Refused, Memory}
+use Rattle.rx_writes.specs.declared.fault.Fault.{Fault}
+use Rattle.rx_writes.specs.declared.fault.Fault.TheVariants.{Refused, Memory}
 
 -- ---- what was demanded
 

@@ -7,7 +7,7 @@ use Rattle.rx_value.specs.Due.{◌>>◌, demand, lifted, or_fault}
 use Rattle.rx_script.specs.Line.{max_line_bytes, json_of, form_of, line_of}
 use Rattle.rx_script.specs.Member.{is_object}
 use Rattle.rx_script.specs.declared.fault.LineFault.TheVariants as fault
-use Rattle.rx_engine.specs.Faults.{of_line}
+use Rattle.rx_writes.specs.Faults.{of_line}
 use Rattle.rx_engine.specs.Lines.{asked_task, task, task_or_refusal}
 use Rattle.rx_engine.specs.Meaning.{meaning, task_meaning}
 use Rattle.rx_engine.specs.Standing.{Standing}

@@ -7,11 +7,7 @@ pub mod CanTurns
 pub mod AfterTurns
 pub mod Opened
 pub mod Outcomes
-pub mod Setting
 pub mod LastPlace
-pub mod Live
-pub mod Hooked
-pub mod EachRow
 pub mod OneRow
 pub mod Reading
 pub mod Rows

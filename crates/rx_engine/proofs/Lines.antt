@@ -15,7 +15,7 @@ use Rattle.rx_session.specs.Session.{Session}
 use Rattle.rx_engine.specs.Listing.{changes_answer, changes_line, place_after, place_named}
 use Rattle.rx_engine.specs.Outcome.{Outcome, answer_alone, collection_at}
 use Rattle.rx_engine.specs.Queries.{find_line, count_line, query_on, rows_found}
-use Rattle.rx_engine.specs.declared.fault.Fault.{Fault}
+use Rattle.rx_writes.specs.declared.fault.Fault.{Fault}
 
 module _ (coll : List ℕ) (d : Data) (s : Session) (c : Held) (q : QuerySpec) (o : Outcome)
     (at : collection_at coll s ≡ Ok c) (asked : query_on c d ≡ Ok q) where

@@ -18,8 +18,8 @@ use Rattle.rx_session.specs.Session.{Session}
 use Rattle.rx_store.proofs.Stops.{handed_on}
 use Rattle.rx_engine.specs.Outcome.{Outcome, collection_at}
 use Rattle.rx_engine.specs.Writes.{commit_one}
-use Rattle.rx_engine.specs.declared.fault.Fault.{Fault}
-use Rattle.rx_engine.specs.declared.fault.Fault.TheVariants.{Memory}
+use Rattle.rx_writes.specs.declared.fault.Fault.{Fault}
+use Rattle.rx_writes.specs.declared.fault.Fault.TheVariants.{Memory}
 
 -- the rows of a collection that a record writes
 abbrev pub rows_in : Content → List RowOut

@@ -73,7 +73,7 @@ module _ {D : Type 0} (d : Ghosts D) (disk : D)
   not_begun bodies more w limit P r is lawful =
       ran_out d disk disk bodies more limit P r is
       (λ alike. started d disk (StandsLegally bodies more)
-      (λ c left. none_yet bodies more w c lawful.plays lawful.sound (alike c (only_now c left)) lawful.short))
+      (λ c left. none_yet bodies more w c lawful (alike c (only_now c left))))
 
 -- a stop behind what went well shows in the disk's count from the beginning on
 rises_before : (x y z : ℕ) → x ≤ y → Rises y z → Rises x z

@@ -32,9 +32,9 @@ use Rattle.rx_world.specs.World.{World, max_replications}
 use Rattle.rx_world.specs.Commit.{commit_to, out_of}
 use Rattle.rx_world.proofs.Sounds.{IsNoExchange}
 use Rattle.rx_engine.specs.Shown.{WritesNoExchange}
-use Rattle.rx_engine.specs.Documents.{document_at, next_revision}
+use Rattle.rx_writes.specs.Documents.{document_at, next_revision}
 use Rattle.rx_world.specs.declared.replication.Replication.{Replication}
-use Rattle.rx_engine.specs.Faults.{of_line, of_schema}
+use Rattle.rx_writes.specs.Faults.{of_line, of_schema}
 use Rattle.rx_engine.specs.Lines.{IsRestart, Task, answered, asked_outcome, asked_task, task, task_or_refusal, turn_to}
 use Rattle.rx_engine.specs.Listing.{changes_answer, place_named}
 use Rattle.rx_update.specs.declared.attached.When.{When}
@@ -44,9 +44,11 @@ use Rattle.rx_engine.specs.Outcome.{Outcome, answer_alone, collection_at, write_
 use Rattle.rx_engine.specs.Replicate.{has_handler, has_schema, master_at, master_of, replicate_line}
 use Rattle.rx_engine.specs.Turning.{turned_at}
 use Rattle.rx_engine.specs.Queries.{max_queries, observe_line, query_on, rows_found}
-use Rattle.rx_engine.specs.Writes.{collection_with, commit_all, commit_one, insert_state, patch_state, remove_state, rows_states, update_state, upsert_state}
-use Rattle.rx_engine.specs.declared.fault.Fault.{Fault}
-use Rattle.rx_engine.specs.declared.fault.Fault.TheVariants.{Refused, Memory}
+use Rattle.rx_engine.specs.Writes.{collection_with, commit_all, commit_one}
+use Rattle.rx_writes.specs.States.{insert_state, patch_state, remove_state, update_state, upsert_state}
+use Rattle.rx_writes.specs.Rows.{rows_states}
+use Rattle.rx_writes.specs.declared.fault.Fault.{Fault}
+use Rattle.rx_writes.specs.declared.fault.Fault.TheVariants.{Refused, Memory}
 
 -- the journal is opened again
 abbrev is_restart : Doing → Bool

@@ -1,5 +1,5 @@
 -- The line that has a hook stand before the writes of a collection.
-use Rattle.std.specs.Prelude.{ℕ, List, length, filter, nat_lt, Bool, true, false, Option, Some, None, Result, Ok}
+use Rattle.std.specs.Prelude.{ℕ, List, length, filter, nat_lt, Bool, true, false, Option, Some, Result, Ok}
 use Rattle.std.specs.Str.{bytes_eq}
 use Rattle.rx_value.specs.Due.{◌>>◌, demand, or_fault}
 use Rattle.rx_value.specs.Named.{named}
@@ -16,8 +16,8 @@ use Rattle.rx_update.specs.declared.attached.When.{When}
 use Rattle.rx_update.specs.declared.kind.HookKind.{HookKind}
 use Rattle.rx_update.specs.declared.kind.HookKind.TheVariants.{Count, Zero, Lock}
 use Rattle.rx_engine.specs.Outcome.{Outcome, collection_at}
-use Rattle.rx_engine.specs.declared.fault.Fault.{Fault}
-use Rattle.rx_engine.specs.declared.fault.Fault.TheVariants.{Refused}
+use Rattle.rx_writes.specs.declared.fault.Fault.{Fault}
+use Rattle.rx_writes.specs.declared.fault.Fault.TheVariants.{Refused}
 
 -- the most hooks of a collection
 abbrev pub max_hooks : ℕ

@@ -1,5 +1,3 @@
-pub mod Faults
-pub mod Documents
 pub mod Standing
 pub mod Remembered
 pub mod Marks

@@ -13,7 +13,7 @@ use Rattle.rx_script.specs.declared.happening.Happening.{Happening}
 use Rattle.rx_session.specs.Doing.{nothing, set_clock, restart as open_again}
 use Rattle.rx_session.specs.Session.{Session}
 use Rattle.rx_engine.specs.Calling.{Call}
-use Rattle.rx_engine.specs.Faults.{of_line}
+use Rattle.rx_writes.specs.Faults.{of_line}
 use Rattle.rx_engine.specs.Listing.{changes_line, digest_line}
 use Rattle.rx_engine.specs.Outcome.{Outcome, answer_alone}
 use Rattle.rx_engine.specs.Queries.{get_line, find_line, count_line, observe_line, unobserve_line, explain_line}
@@ -22,8 +22,8 @@ use Rattle.rx_engine.specs.Hooking.{hook_line}
 use Rattle.rx_engine.specs.Replicate.{master_of, replicate_line}
 use Rattle.rx_engine.specs.Standing.{Standing}
 use Rattle.rx_engine.specs.Turning.{Turn as ToTurn, turn_here, turned_at}
-use Rattle.rx_engine.specs.declared.fault.Fault.{Fault}
-use Rattle.rx_engine.specs.declared.fault.Fault.TheVariants.{Refused, Memory}
+use Rattle.rx_writes.specs.declared.fault.Fault.{Fault}
+use Rattle.rx_writes.specs.declared.fault.Fault.TheVariants.{Refused, Memory}
 
 -- the present moment is set, and may go back
 abbrev pub tick_line : ℕ → Result Outcome Fault

@@ -9,7 +9,7 @@ use Rattle.rx_reply.specs.Answer.{Answer, changes, digest}
 use Rattle.rx_script.specs.declared.since.Since.{Since}
 use Rattle.rx_session.specs.Session.{Session}
 use Rattle.rx_engine.specs.Outcome.{Outcome, answer_alone, collection_at}
-use Rattle.rx_engine.specs.declared.fault.Fault.{Fault}
+use Rattle.rx_writes.specs.declared.fault.Fault.{Fault}
 
 -- the place that a line names
 abbrev pub place_named : Since → Place

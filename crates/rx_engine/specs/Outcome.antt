@@ -10,8 +10,8 @@ use Rattle.rx_value.specs.Due.{or_fault}
 use Rattle.rx_world.specs.Commit.{commit_to}
 use Rattle.rx_session.specs.Doing.{Doing, nothing, write}
 use Rattle.rx_session.specs.Session.{Session}
-use Rattle.rx_engine.specs.declared.fault.Fault.{Fault}
-use Rattle.rx_engine.specs.declared.fault.Fault.TheVariants.{Refused}
+use Rattle.rx_writes.specs.declared.fault.Fault.{Fault}
+use Rattle.rx_writes.specs.declared.fault.Fault.TheVariants.{Refused}
 
 pub record Outcome : Type 0 where
   pub doing : Doing

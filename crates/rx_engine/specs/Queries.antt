@@ -14,11 +14,11 @@ use Rattle.rx_reply.specs.Emission.{rows_fields}
 use Rattle.rx_reply.specs.declared.refusal.Refusal.TheVariants.{Exists, NoQuery, TooMany}
 use Rattle.rx_session.specs.Doing.{watch, unwatch}
 use Rattle.rx_session.specs.Session.{Session, is_observed, counts_of}
-use Rattle.rx_engine.specs.Documents.{document_at}
-use Rattle.rx_engine.specs.Faults.{of_query}
+use Rattle.rx_writes.specs.Documents.{document_at}
+use Rattle.rx_writes.specs.Faults.{of_query}
 use Rattle.rx_engine.specs.Outcome.{Outcome, answer_alone, collection_at}
-use Rattle.rx_engine.specs.declared.fault.Fault.{Fault}
-use Rattle.rx_engine.specs.declared.fault.Fault.TheVariants.{Refused}
+use Rattle.rx_writes.specs.declared.fault.Fault.{Fault}
+use Rattle.rx_writes.specs.declared.fault.Fault.TheVariants.{Refused}
 
 abbrev pub get_line : List ℕ → List ℕ → Session → Result Outcome Fault
 get_line coll key s =

@@ -24,8 +24,8 @@ use Rattle.rx_world.specs.Chain.{may_follow}
 use Rattle.rx_world.specs.Replicating.{has_schema_of}
 use Rattle.rx_world.specs.World.{max_replications}
 use Rattle.rx_engine.specs.Outcome.{Outcome, collection_at}
-use Rattle.rx_engine.specs.declared.fault.Fault.{Fault}
-use Rattle.rx_engine.specs.declared.fault.Fault.TheVariants.{Refused}
+use Rattle.rx_writes.specs.declared.fault.Fault.{Fault}
+use Rattle.rx_writes.specs.declared.fault.Fault.TheVariants.{Refused}
 
 -- ---- handlers
 

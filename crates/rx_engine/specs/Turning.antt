@@ -17,8 +17,8 @@ use Rattle.rx_sync.specs.Turn.{Turned, turn}
 use Rattle.rx_world.specs.declared.replication.Replication.{Replication}
 use Rattle.rx_engine.specs.Replicate.{has_handler}
 use Rattle.rx_engine.specs.Standing.{Standing, asks_of}
-use Rattle.rx_engine.specs.declared.fault.Fault.{Fault}
-use Rattle.rx_engine.specs.declared.fault.Fault.TheVariants.{Refused}
+use Rattle.rx_writes.specs.declared.fault.Fault.{Fault}
+use Rattle.rx_writes.specs.declared.fault.Fault.TheVariants.{Refused}
 
 -- ---- whether a turn is made
 

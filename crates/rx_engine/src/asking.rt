@@ -7,9 +7,8 @@ ghost use Rattle.rx_script.specs.Asked.{asked, IsLawful};
 ghost use Rattle.rx_session.specs.Doing.{set_clock, MayDo};
 ghost use Rattle.rx_engine.specs.Lines.{line_task, asked_outcome, asked_task, restart_line, task};
 ghost use Rattle.rx_engine.specs.Shown.{doing_of, outcome_of, task_of, MayDoTask};
-ghost use Rattle.rx_engine.specs.declared.fault.Fault.TheVariants.{Memory};
+ghost use Rattle.rx_writes.specs.declared.fault.Fault.TheVariants.{Memory};
 
-use crate::fault::Fault;
 use crate::hooking::hook_line;
 use crate::listing::{changes_line, digest_line};
 use crate::outcome::{LineDoing, Outcome, Task};
@@ -26,6 +25,7 @@ use rx_reply::{Refusal, Reply};
 use rx_script::Line;
 use rx_session::{Doing, Session};
 use rx_update::Hooks;
+use rx_writes::Fault;
 use std::alloc::{AllocError, Global};
 
 /// What a line that isn't blank comes to.

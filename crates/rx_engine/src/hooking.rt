@@ -1,26 +1,21 @@
-// Hooks: the line that attaches one, and the state that is written after them.
-ghost use Rattle.std.specs.Prelude.{◌≡◌, Some, filter, length, IfOk, option_map};
+// The line that attaches a hook.
+ghost use Rattle.std.specs.Prelude.{◌≡◌, filter, length, IfOk, option_map};
 ghost use Rattle.std.specs.Str.{bytes_eq};
-ghost use Rattle.rx_value.specs.Due.{Due, DueBy};
+ghost use Rattle.rx_value.specs.Due.{DueBy};
 ghost use Rattle.rx_value.specs.Named.{named};
-ghost use Rattle.rx_value.specs.declared.value.Value.TheVariants.{Text};
 ghost use Rattle.rx_session.specs.Doing.{MayDo};
-ghost use Rattle.rx_world.specs.Step.{IsValidState};
 ghost use Rattle.rx_engine.specs.Hooking.{hook_line, hooks_in, takes};
 ghost use Rattle.rx_engine.specs.Shown.{doing_of, outcome_of};
-ghost use Rattle.rx_engine.specs.Writes.{written_state};
-ghost use Rattle.rx_engine.specs.declared.fault.Fault.TheVariants.{Memory};
+ghost use Rattle.rx_writes.specs.declared.fault.Fault.TheVariants.{Memory};
 
-use crate::documents::check_fields;
-use crate::fault::Fault;
 use crate::lookup::find_collection;
 use crate::outcome::{LineDoing, Outcome};
-use rx_collection::Collection;
 use rx_reply::{Refusal, Reply};
 use rx_schema::Schema;
 use rx_session::{Doing, Session};
-use rx_update::{Attached, HookKind, Hooks, MAX_HOOKS, When, run_hooks};
-use rx_value::{Kind, RxText, State};
+use rx_update::{Attached, HookKind, MAX_HOOKS, When};
+use rx_value::{Kind, RxText};
+use rx_writes::Fault;
 use std::alloc::Global;
 
 /// Has a hook stand before such writes of a collection, behind those that do.
@@ -91,28 +86,4 @@ pub(crate) fn attached_in(session: &Session) -> &[Attached]
     ensures { result.now ≡ session.now.hooks.attached }
 {
     session.hooks().attached.as_slice()
-}
-
-/// The state that is written in the place of one: after the hooks that stand before such a write,
-/// and valid then.
-pub(crate) fn written_state(
-    alloc: Global,
-    hooks: &Hooks,
-    attached: &[Attached],
-    collection: &Collection,
-    when: When,
-    state: State,
-) -> Result<State, Fault>
-    requires carries { named state.fields collection.now.schema.primary ≡ Some (Text state.key) }
-    ensures exact { Due Memory result
-        (written_state collection.now when attached.now state) }
-    ensures key { IfOk result (λ hooked. hooked.key ≡ state.key) }
-    ensures carries { IfOk result (λ hooked.
-        named hooked.fields collection.now.schema.primary ≡ Some (Text state.key)) }
-    ensures valid { IfOk result (λ hooked. IsValidState collection.now.schema hooked) }
-{
-    let name = collection.name().as_str();
-    let hooked = run_hooks(alloc, hooks, attached, name, when, state)?;
-    check_fields(alloc, collection.schema(), &hooked.fields)?;
-    Ok(hooked)
 }

@@ -4,15 +4,12 @@
 
 mod answering;
 mod asking;
-mod bulk;
 mod calling;
 mod calls;
 mod changing;
 mod dialling;
-mod documents;
 mod engine;
 mod exchanging;
-mod fault;
 mod grouping;
 mod hooking;
 mod judging;

@@ -4,9 +4,8 @@ ghost use Rattle.rx_value.specs.Due.{DueBy};
 ghost use Rattle.rx_session.specs.Doing.{MayDo};
 ghost use Rattle.rx_engine.specs.Listing.{place_named, place_after, changes_line, digest_line};
 ghost use Rattle.rx_engine.specs.Shown.{doing_of, outcome_of};
-ghost use Rattle.rx_engine.specs.declared.fault.Fault.TheVariants.{Memory};
+ghost use Rattle.rx_writes.specs.declared.fault.Fault.TheVariants.{Memory};
 
-use crate::fault::Fault;
 use crate::lookup::find_collection;
 use crate::outcome::Outcome;
 use crate::queries::answer_alone;
@@ -17,6 +16,7 @@ use rx_reply::Reply;
 use rx_script::Since;
 use rx_session::Session;
 use rx_value::RxText;
+use rx_writes::Fault;
 use std::alloc::{AllocError, Global};
 
 pub(crate) fn changes_line<'a>(

@@ -4,14 +4,14 @@ ghost use Rattle.rx_value.specs.Due.{DueBy};
 ghost use Rattle.rx_value.specs.Named.{named};
 ghost use Rattle.rx_world.specs.Valid.{AreValid};
 ghost use Rattle.rx_engine.specs.Outcome.{collection_at};
-ghost use Rattle.rx_engine.specs.declared.fault.Fault.TheVariants.{Memory};
+ghost use Rattle.rx_writes.specs.declared.fault.Fault.TheVariants.{Memory};
 
-use crate::fault::Fault;
 use rx_collection::{Collection, Holder};
 use rx_observe::Live;
 use rx_reply::Refusal;
 use rx_session::Session;
 use rx_value::RxText;
+use rx_writes::Fault;
 use std::alloc::Global;
 
 /// The collection of a name, which is to be held, with its observed queries.

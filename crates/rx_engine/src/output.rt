@@ -49,7 +49,7 @@ fn add_lines(alloc: Global, emissions: &[Emission], text: &mut String) -> Result
         ≡ string_bytes text.old ++ lines_of emissions.now) }
 {
     for emission in emissions {
-        let line = emission_line(alloc, emission.name.as_str(), &emission.rows)?;
+        let line = emission_line(alloc, emission.name.as_str(), emission.rows.as_results())?;
         text.push_str(line.as_str())?;
     }
     Ok(())

@@ -8,10 +8,8 @@ ghost use Rattle.rx_session.specs.Doing.{MayDo};
 ghost use Rattle.rx_engine.specs.Outcome.{answer_alone};
 ghost use Rattle.rx_engine.specs.Queries.{get_line, find_line, count_line, observe_line, unobserve_line, explain_line, query_on};
 ghost use Rattle.rx_engine.specs.Shown.{doing_of, outcome_of};
-ghost use Rattle.rx_engine.specs.declared.fault.Fault.TheVariants.{Memory};
+ghost use Rattle.rx_writes.specs.declared.fault.Fault.TheVariants.{Memory};
 
-use crate::documents::find_document;
-use crate::fault::Fault;
 use crate::lookup::{find_collection, find_live};
 use crate::outcome::{LineDoing, Outcome};
 use rx_collection::{Collection, Holder};
@@ -19,6 +17,7 @@ use rx_query::Query;
 use rx_reply::{Refusal, Reply};
 use rx_session::{Doing, Session, Watch};
 use rx_value::RxText;
+use rx_writes::{Fault, find_document};
 use serde_json::Value as Json;
 use std::alloc::Global;
 

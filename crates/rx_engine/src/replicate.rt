@@ -9,9 +9,8 @@ ghost use Rattle.rx_script.specs.Target.{IsTarget};
 ghost use Rattle.rx_session.specs.Doing.{MayDo};
 ghost use Rattle.rx_engine.specs.Replicate.{has_handler, has_schema, master_at, master_of, replicate_line, takes_field, HasPort};
 ghost use Rattle.rx_engine.specs.Shown.{doing_of, outcome_of};
-ghost use Rattle.rx_engine.specs.declared.fault.Fault.TheVariants.{Memory};
+ghost use Rattle.rx_writes.specs.declared.fault.Fault.TheVariants.{Memory};
 
-use crate::fault::Fault;
 use crate::lookup::find_collection;
 use crate::outcome::{LineDoing, Outcome};
 use rx_collection::Collection;
@@ -23,6 +22,7 @@ use rx_script::Target;
 use rx_session::{Doing, Session};
 use rx_value::{Kind, RxText};
 use rx_world::MAX_REPLICATIONS;
+use rx_writes::Fault;
 use std::alloc::Global;
 
 /// A replication as a line asks for it.

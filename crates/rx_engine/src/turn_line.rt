@@ -6,9 +6,8 @@ ghost use Rattle.rx_session.specs.Session.{Session as Definition};
 ghost use Rattle.rx_engine.specs.Lines.{turn_line, turn_to};
 ghost use Rattle.rx_engine.specs.Shown.{task_of, MayDoTask};
 ghost use Rattle.rx_engine.specs.Turning.{is_handled, turned_at};
-ghost use Rattle.rx_engine.specs.declared.fault.Fault.TheVariants.{Memory};
+ghost use Rattle.rx_writes.specs.declared.fault.Fault.TheVariants.{Memory};
 
-use crate::fault::Fault;
 use crate::outcome::Task;
 use crate::remote::Call;
 use crate::replicate::has_handler;
@@ -21,6 +20,7 @@ use rx_script::{Happening, LineFault};
 use rx_session::Session;
 use rx_value::RxText;
 use rx_world::Replication;
+use rx_writes::Fault;
 use std::alloc::Global;
 
 /// The turn that a line asks for: its replication is there, and so is its handler.

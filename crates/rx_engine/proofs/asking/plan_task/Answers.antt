@@ -8,7 +8,7 @@ use Rattle.rx_script.specs.declared.line.Line.TheVariants.{Collection, Insert, B
 use Rattle.rx_session.specs.Session.{Session}
 use Rattle.rx_engine.specs.Lines.{Task, answered, asked_outcome, asked_task}
 use Rattle.rx_engine.specs.Outcome.{Outcome}
-use Rattle.rx_engine.specs.declared.fault.Fault.{Fault}
+use Rattle.rx_writes.specs.declared.fault.Fault.{Fault}
 use Rattle.rx_engine.proofs.asking.plan_task.Goals as goal
 
 abbrev as_task : Result Outcome Fault → Result Task Fault

@@ -2,8 +2,9 @@ use Rattle.std.proofs.Common.{◌∙◌, ap, sym}
 use Rattle.serde_json.specs.View.{view}
 use Rattle.rx_reply.specs.Answer.{insert}
 use Rattle.rx_engine.specs.Shown.{outcome_of}
-use Rattle.rx_engine.specs.Writes.{insert_line, insert_state}
-use Rattle.rx_engine.specs.declared.fault.Fault.TheVariants.{Memory}
+use Rattle.rx_engine.specs.Writes.{insert_line}
+use Rattle.rx_writes.specs.States.{insert_state}
+use Rattle.rx_writes.specs.declared.fault.Fault.TheVariants.{Memory}
 use Rattle.rx_engine.proofs.OneRow.{refused_on, state_refused, state_written}
 use Rattle.rx_engine.proofs.writes.insert_line.Goals as goal
 

@@ -10,7 +10,7 @@ use Rattle.rx_record.specs.declared.record.Record.{Record}
 use Rattle.rx_record.specs.declared.record.RowOut.{RowOut}
 use Rattle.rx_world.specs.Commit.{commit_to}
 use Rattle.rx_session.specs.Doing.{write}
-use Rattle.rx_engine.specs.Documents.{next_revision}
+use Rattle.rx_writes.specs.Documents.{next_revision}
 use Rattle.rx_engine.specs.Outcome.{write_outcome}
 use Rattle.rx_engine.proofs.OneRow.{first_height, no_other, one_row, rows_in}
 use Rattle.rx_engine.proofs.writes.plan_one_write.Goals as goal

@@ -1,8 +1,9 @@
 use Rattle.std.proofs.Common.{◌∙◌, ap, sym}
 use Rattle.rx_reply.specs.Answer.{remove}
 use Rattle.rx_engine.specs.Shown.{outcome_of}
-use Rattle.rx_engine.specs.Writes.{remove_line, remove_state}
-use Rattle.rx_engine.specs.declared.fault.Fault.TheVariants.{Memory}
+use Rattle.rx_engine.specs.Writes.{remove_line}
+use Rattle.rx_writes.specs.States.{remove_state}
+use Rattle.rx_writes.specs.declared.fault.Fault.TheVariants.{Memory}
 use Rattle.rx_engine.proofs.OneRow.{refused_on, state_refused, state_written}
 use Rattle.rx_engine.proofs.writes.remove_line.Goals as goal
 

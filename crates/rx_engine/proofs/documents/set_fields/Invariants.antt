@@ -1,8 +1,0 @@
-use Rattle.std.proofs.Common.{◌≡◌, drop}
-use Rattle.rx_engine.specs.Documents.{with_fields}
-use Rattle.rx_engine.proofs.documents.set_fields.Given as goal
-
--- the fields that are left are still to be set
-abbrev pub invariant-loop-i : goal.invariant-loop-i
-invariant-loop-i l =
-    with_fields l.initial.fields l.more ≡ with_fields l.fields (drop l.i l.more)

@@ -1,0 +1,4 @@
+pub mod Setting
+pub mod Live
+pub mod AfterHooks
+pub mod EachRow

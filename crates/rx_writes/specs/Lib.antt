@@ -1,0 +1,4 @@
+pub mod Faults
+pub mod Documents
+pub mod States
+pub mod Rows
