@@ -76,8 +76,7 @@ module _ {D : Type 0} (d : Ghosts D) (bodies : List (List ℕ)) (w : World) wher
       → GrowsLegally d disk disk bodies []
   nothing_yet disk only start =
       started d disk (StandsLegally bodies [])
-      (λ c here. none_grown bodies [] w c start.legal.plays start.legal.sound
-      (start.alike c (only c here)) start.legal.short)
+      (λ c here. none_grown bodies [] w c start.legal (start.alike c (only c here)))
 
   -- nothing was done to the disk
   pub still_legal : (disk : D) → IsStart d disk bodies w → OnlyNow d disk → CountsNow d disk

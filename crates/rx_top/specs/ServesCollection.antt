@@ -5,6 +5,7 @@ use Rattle.rx_disk.specs.declared.disk.Disk.{Ghosts}
 use Rattle.rx_host.specs.Connections.{ServedConnection, lines_from, talks_of}
 use Rattle.rx_host.specs.Keeping.{Keeps}
 use Rattle.rx_host.specs.Moments.{GivesMoments}
+use Rattle.rx_host.specs.Outside.{HasGivenUp}
 use Rattle.rx_host.specs.Records.{bodies_of}
 use Rattle.rx_host.specs.Worlds.{is_served}
 use Rattle.rx_journal.specs.Reading.{IsUntouched}
@@ -66,6 +67,9 @@ pub record ServesCollection
   -- The disk, the door and the sink are the cause only where they failed.
   pub disk_fault : status ≡ 3 → Rises (d.faults disk) (d.faults disk')
   pub door_fault : status ≡ 4 → Rises (l.faults door) (l.faults door')
+  -- Once the clock was asked, for a connection, the door is given up only where so many of its
+  -- calls failed.
+  pub given_up : status ≡ 4 → (clock' ≡ clock) ⊎ HasGivenUp (l.faults door) (l.faults door')
   pub sink_fault : status ≡ 5 → Rises (k.faults out) (k.faults out')
   -- A legal file is never refused, and only over one does it end otherwise.
   pub not_journal : status ≡ 7 → d.tells → IsIllegalFile (d.content disk)

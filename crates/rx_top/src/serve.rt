@@ -2,6 +2,7 @@
 ghost use Rattle.std.specs.Prelude.{◌≡◌, ◌≤◌, ◌<◌, ◌^◌, ◌++◌, ◌⊎◌, ⊤, ℕ, List, OnOk, OnErr, IsErrOf};
 ghost use Rattle.rx_host.specs.Keeping.{Keeps};
 ghost use Rattle.rx_host.specs.Moments.{GivesMoments};
+ghost use Rattle.rx_host.specs.Outside.{HasGivenUp};
 ghost use Rattle.rx_host.specs.Records.{bodies_of};
 ghost use Rattle.rx_host.specs.declared.connections.ServeFault.TheVariants as fault;
 ghost use Rattle.rx_journal.specs.Reading.{IsUntouched};
@@ -99,6 +100,8 @@ fn open_and_serve<K: Sink, D: Disk, L: Listen, C: Clock>(
         (bodies_of offer.now.collection.now more) would limit) }
     ensures door { IsErrOf result (Halt.Fault fault.Door)
         → Rises (L.faults door.old) (L.faults door.new) }
+    ensures given_up { IsErrOf result (Halt.Fault fault.Door)
+        → (clock.new ≡ clock.old) ⊎ HasGivenUp (L.faults door.old) (L.faults door.new) }
     ensures sink { IsErrOf result (Halt.Fault fault.Sink)
         → Rises (K.faults out.old) (K.faults out.new) }
     ensures disk_only { IsErrOf result (Halt.Fault (fault.Stopped stop.Disk))

@@ -76,6 +76,7 @@ returns g c =
                 given (λ stop sure more. ⊤) anywhere.1 is;
             disk_fault = λ is. step.ensures.disk_only (by.is_disk ended is);
             door_fault = λ is. step.ensures.door (by.is_door ended is);
+            given_up = λ is. step.ensures.given_up (by.is_door ended is);
             sink_fault = λ is.
                 rises_still f0 f1 f2 step.ensures.sink_faults c.write_halt.ensures.count
                 (step.ensures.sink (by.is_sink ended is));
