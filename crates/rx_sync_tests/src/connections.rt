@@ -11,9 +11,10 @@
 //     ! {"connection":1,..}              a line that is written
 //     = door                             how the call answers
 //
-// The numbers beside the count of connections: door and sink, a call that fails; room, how many
-// bytes the journal may grow by; clock, the moment of all pushes. A full journal tells how many
-// bytes it would have grown by, and how many it may.
+// The numbers beside the count of connections: door and sink, a call that fails; times, how many
+// calls of the door fail from that one on; room, how many bytes the journal may grow by; clock, the
+// moment of all pushes. A full journal tells how many bytes it would have grown by, and how many it
+// may.
 ghost use Rattle.std.specs.Prelude.{IfOk};
 ghost use Rattle.rx_outside.specs.MemoryWire.{Unused};
 
@@ -63,8 +64,28 @@ const CASES: &str = r#"
 @ connections=2 door=1
 = door
 
-== a door that fails at its second wire
+== a door that fails at its second wire is asked again, and there it is
 @ connections=2 door=3
+* wire=0
+> {"ask":"pull","batch":1,"epoch":1,"n":1,"schema":HASH}
+< {"docs":[],"epoch":1,"n":1}
+* wire=0
+> {"ask":"pull","batch":1,"epoch":1,"n":2,"schema":HASH}
+< {"docs":[],"epoch":1,"n":2}
+! {"connection":1,"end":"peer","requests":1}
+! {"connection":2,"end":"peer","requests":1}
+= ok
+
+== so it is after sixty-three calls that failed
+@ connections=1 door=2 times=63
+* wire=0
+> {"ask":"pull","batch":1,"epoch":1,"n":1,"schema":HASH}
+< {"docs":[],"epoch":1,"n":1}
+! {"connection":1,"end":"peer","requests":1}
+= ok
+
+== a door that gives no second wire
+@ connections=2
 * wire=0
 > {"ask":"pull","batch":1,"epoch":1,"n":1,"schema":HASH}
 < {"docs":[],"epoch":1,"n":1}
@@ -132,6 +153,7 @@ struct Peer {
 struct Call {
     connections: u64,
     door: u64,
+    times: u64,
     sink: u64,
     room: u64,
     clock: u64,
@@ -170,6 +192,7 @@ fn no_call(alloc: Global) -> Call {
     Call {
         connections: 0,
         door: 0,
+        times: 1,
         sink: 0,
         room: 1_000_000,
         clock: 0,
@@ -209,6 +232,8 @@ impl Call {
                 self.connections = number_after(word, "connections=")?;
             } else if word.starts_with("door=") {
                 self.door = number_after(word, "door=")?;
+            } else if word.starts_with("times=") {
+                self.times = number_after(word, "times=")?;
             } else if word.starts_with("sink=") {
                 self.sink = number_after(word, "sink=")?;
             } else if word.starts_with("room=") {
@@ -248,7 +273,7 @@ fn open_again(alloc: Global, disk: &mut MemoryDisk) -> Result<(), Fail> {
 
 fn answer_of(alloc: Global, call: &Call, disk: &mut MemoryDisk) -> Result<String, Fail> {
     let wires = wires_of(alloc, call.peers.as_slice())?;
-    let mut door = MemoryDoor::new(alloc, wires, one_call(alloc, call.door)?);
+    let mut door = MemoryDoor::new(alloc, wires, calls_from(alloc, call.door, call.times)?);
     let mut out = MemorySink::new(alloc, one_call(alloc, call.sink)?);
     let answer = serve_at(alloc, call, disk, &mut door, &mut out)?;
     compare_written(call, &out)?;
@@ -312,9 +337,16 @@ fn wires_of(alloc: Global, peers: &[Peer]) -> Result<Vec<MemoryWire>, AllocError
 
 // A list of one number, or of none where it is 0.
 fn one_call(alloc: Global, number: u64) -> Result<Vec<u64>, AllocError> {
+    calls_from(alloc, number, 1)
+}
+
+// A list of so many numbers from one on, or of none where that is 0.
+fn calls_from(alloc: Global, number: u64, count: u64) -> Result<Vec<u64>, AllocError> {
     let mut calls = Vec::new(alloc);
     if number > 0 {
-        calls.push(number)?;
+        for i in 0..count {
+            calls.push(number.saturating_add(i))?;
+        }
     }
     Ok(calls)
 }

@@ -9,6 +9,8 @@ mod forks;
 #[cfg(test)]
 mod handlers;
 #[cfg(test)]
+mod legal;
+#[cfg(test)]
 mod messages;
 #[cfg(test)]
 mod records;
@@ -16,5 +18,7 @@ mod records;
 mod reports;
 #[cfg(test)]
 mod served;
+#[cfg(test)]
+mod spelled;
 #[cfg(test)]
 mod trees;

@@ -4,14 +4,13 @@
 // its length.
 //
 //     == a fork                    what the case is about
-//     + rows f 5 1:a 2:b!          a record; a height and a key, with a mark where it is deleted
+//     + rows f 5 1:a 2:b!          a record, as spelled.rt has it
 //     < {"end":END,..}             a line of the report
-use crate::served::{add_record, collection, hash};
+use crate::served::{add_record, hash};
+use crate::spelled::record_of;
 use rx_disk::MemoryDisk;
 use rx_host::check;
 use rx_outside::Stop;
-use rx_record::{MasterName, Record, RowOut};
-use rx_value::{Fields, RxText, State, Value};
 use std::alloc::{AllocError, Global};
 use std::test::Fail;
 
@@ -131,97 +130,4 @@ fn compare(alloc: Global, bytes: &[u8], due: &str) -> Result<(), Fail> {
         return Err(Fail::new("the journal is changed"));
     }
     Ok(())
-}
-
-// The record that these words say.
-fn record_of(alloc: Global, words: &str) -> Result<Record, Fail> {
-    let (kind, rest) = words.split_once(' ').unwrap_or((words, ""));
-    match kind {
-        "epoch" => Ok(Record::Epoch {
-            number: rest.parse()?,
-        }),
-        "collection" => collection(alloc, rest),
-        "rows" => rows(alloc, rest),
-        "replication" => replication(alloc, rest, false),
-        "remote" => replication(alloc, rest, true),
-        _ => known(alloc, rest),
-    }
-}
-
-// Documents of a collection, with their write time.
-fn rows(alloc: Global, words: &str) -> Result<Record, Fail> {
-    let mut words = words.split(' ');
-    let name = words.next().unwrap_or("");
-    let lwt = words.next().unwrap_or("").parse()?;
-    let mut rows = Vec::new(alloc);
-    for word in words {
-        rows.push(row(alloc, word)?)?;
-    }
-    let name = RxText::new(alloc, name)?;
-    Ok(Record::Rows { name, lwt, rows })
-}
-
-fn row(alloc: Global, word: &str) -> Result<RowOut, Fail> {
-    let (height, key) = word.split_once(':').unwrap_or(("", ""));
-    let height = height.parse()?;
-    let state = state_of(alloc, key)?;
-    Ok(RowOut { height, state })
-}
-
-// A replication of a fork with a master, here or at a port.
-fn replication(alloc: Global, words: &str, is_remote: bool) -> Result<Record, Fail> {
-    let mut words = words.split(' ');
-    let name = RxText::new(alloc, words.next().unwrap_or(""))?;
-    let fork = RxText::new(alloc, words.next().unwrap_or(""))?;
-    let master = master(alloc, words.next().unwrap_or(""), is_remote)?;
-    let handler = RxText::new(alloc, "join")?;
-    Ok(Record::Replication {
-        name,
-        fork,
-        master,
-        handler,
-        field: None,
-    })
-}
-
-fn master(alloc: Global, word: &str, is_remote: bool) -> Result<MasterName, Fail> {
-    if is_remote {
-        return Ok(MasterName::Port(word.parse()?));
-    }
-    Ok(MasterName::Local(RxText::new(alloc, word)?))
-}
-
-// What the fork of a replication knows.
-fn known(alloc: Global, words: &str) -> Result<Record, Fail> {
-    let (name, keys) = words.split_once(' ').unwrap_or((words, ""));
-    let mut known = Vec::new(alloc);
-    for key in keys.split(' ') {
-        known.push(state_of(alloc, key)?)?;
-    }
-    Ok(Record::Exchange {
-        name: RxText::new(alloc, name)?,
-        lwt: 0,
-        rows: Vec::new(alloc),
-        known,
-        up: None,
-        down: None,
-    })
-}
-
-// A document of a key alone; a mark tells that it is deleted.
-fn state_of(alloc: Global, key: &str) -> Result<State, AllocError> {
-    let (key, deleted) = match key.strip_suffix('!') {
-        Some(key) => (key, true),
-        None => (key, false),
-    };
-    let mut fields = Fields::new(alloc);
-    fields.set(
-        RxText::new(alloc, "id")?,
-        Value::Text(RxText::new(alloc, key)?),
-    )?;
-    Ok(State {
-        key: RxText::new(alloc, key)?,
-        fields,
-        deleted,
-    })
 }

@@ -331,6 +331,26 @@ pub(crate) fn collection(alloc: Global, name: &str) -> Result<Record, Fail> {
     })
 }
 
+/// The canonical text of a schema that differs from that one as its name says, or another text.
+pub(crate) fn schema_like(alloc: Global, name: &str) -> Result<RxText, Fail> {
+    let text = match name {
+        "same" => String::from_str(alloc, SCHEMA)?,
+        "next" => SCHEMA.replace(alloc, ":0,", ":1,")?,
+        "second" => SCHEMA.replace(alloc, ":0,", ":2,")?,
+        "counted" => {
+            let next = SCHEMA.replace(alloc, ":0,", ":1,")?;
+            next.as_str().replace(alloc, "\"n\"", "\"count\"")?
+        }
+        "keyed" => {
+            let next = SCHEMA.replace(alloc, ":0,", ":1,")?;
+            next.as_str().replace(alloc, "\"id\"", "\"key\"")?
+        }
+        _ => return Ok(RxText::new(alloc, name)?),
+    };
+    let schema = Schema::read(alloc, &Json::from_str(alloc, text.as_str())?)?;
+    Ok(schema.canonical().copy(alloc)?)
+}
+
 pub(crate) fn schema(alloc: Global) -> Result<Schema, Fail> {
     Ok(Schema::read(alloc, &Json::from_str(alloc, SCHEMA)?)?)
 }

@@ -255,7 +255,7 @@ const ILLEGAL: &str = r#"
 < {"stop":"not_journal"}
 ! 7
 
-== a header of another version
+== the second version's header, and no copy
 ^ 'RXJOURN2' 00 00
 > C(c)
 < {"stop":"not_journal"}

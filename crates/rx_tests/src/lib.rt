@@ -11,6 +11,8 @@ mod case;
 #[cfg(test)]
 mod commands;
 #[cfg(test)]
+mod copied;
+#[cfg(test)]
 mod counted;
 #[cfg(test)]
 mod elsewhere;

@@ -60,6 +60,12 @@ $ check journal
 < {"end":23,"epoch":1,"records":1}
 = 'RXJOURN1' 01 00000009 05 0000000000000001 ff
 
+== a copy of a world without collections
+^ 'RXJOURN2' 01 00000009 09 0000000000000003 00
+$ check journal
+< {"end":23,"epoch":3,"records":1}
+= 'RXJOURN2' 01 00000009 09 0000000000000003 00
+
 == a file that is cut within a length
 ^ 'RXJOURN1' 01 00
 $ check journal

@@ -83,10 +83,15 @@ pub fn add_due_line(
 const BASE: &str =
     r#"'RXJOURN1' 01 00000009 05 0000000000000001 01 000000a4 01 00000001 'c' 0000009a '{"indexes":[],"primaryKey":"id","properties":{"id":{"maxLength":20,"type":"string"},"n":{"type":"integer"}},"required":["id"],"type":"object","version":0}'"#;
 
+const COPY: &str =
+    r#"'RXJOURN2' 01 000000a4 01 00000001 'c' 0000009a '{"indexes":[],"primaryKey":"id","properties":{"id":{"maxLength":20,"type":"string"},"n":{"type":"integer"}},"required":["id"],"type":"object","version":0}'"#;
+
 /// Adds the bytes that stand in hex, or as texts between apostrophes. `BASE` stands for a journal
-/// with one epoch and the collection c of `S1`, up to the gate behind it.
+/// with one epoch and the collection c of `S1`, up to the gate behind it, and `COPY` for one that
+/// begins with a copy of that collection, without documents so far.
 pub fn journal_bytes(alloc: Global, text: &str, bytes: &mut Vec<u8>) -> Result<(), Fail> {
     let text = text.replace(alloc, "BASE", BASE)?;
+    let text = text.as_str().replace(alloc, "COPY", COPY)?;
     for word in text.as_str().split_whitespace() {
         add_word(alloc, word, bytes)?;
     }
