@@ -5,6 +5,7 @@ who reaches a served collection and who reads a journal, and connections that ca
 Where the program ends here, docs/COMMANDS.md says so; what is shown is that nothing acknowledged is lost then.
 """
 import fcntl
+import json
 import os
 import resource
 import select
@@ -14,8 +15,9 @@ import sys
 import tempfile
 import time
 
-from shared import (HERE, ROOT, RX, SECONDS, Server, Skipped, Talk, all_there, answers, ask, case, inserts,
-                    insist, is_served, main, pull, push, run, same, text, told)
+from shared import (HERE, ROOT, RX, SECONDS, Server, Skipped, Talk, all_there, answers, ask, case, collection,
+                    compact, content, held, insert, inserts, insist, is_served, main, pull, push, room, run,
+                    said_line, same, text, told)
 
 NOBODY = 65_534
 DISK = {"stop": "disk"}
@@ -64,6 +66,42 @@ def input_that_halts(folder):
                 replies += written.count(b"\n")
         insist(talk.end() == 0, f"pieces of {piece}: the run failed")
     return "pieces of 1, of 7 and of nearly all bytes: each whole line is answered at once"
+
+
+# ---- an output that ends
+
+MOST = 1 << 16
+RESTART = compact({"do": "restart"})
+
+
+def cut_short(journal, script, out, count):
+    """The status of a run whose output, a file, has room for so many bytes."""
+    with open(out, "wb") as sink:
+        sink.seek(MOST - count)
+        status = run(journal, script, prepare=room(MOST), stdout=sink)[0]
+    return status, content(out)[MOST - count:]
+
+
+@case("an output that ends at each byte")
+def output_that_ends(folder):
+    """Lines that were read together are written together, and the lines behind a restart after its reply:
+    what was answered is in the journal, and no record of lines that come after those answered last."""
+    groups = [[f"{group}{n}" for n in range(3)] for group in "abc"]
+    lines = [collection()]
+    for keys in groups:
+        lines += [*map(insert, keys), RESTART]
+    journal, out = os.path.join(folder, "journal"), os.path.join(folder, "out")
+    _, whole = cut_short(journal, lines, out, MOST)
+    ends = [at + 1 for at, byte in enumerate(whole) if byte == ord("\n")]
+    insist(len(ends) == len(lines), f"{len(ends)} replies")
+    before = [0, ends[4], ends[8]]
+    for count in range(len(whole)):
+        os.remove(journal)
+        status, taken = cut_short(journal, lines, out, count)
+        insist((status, taken) == (5, whole[:count]), f"{count} bytes: status {status}, {taken[-80:]}")
+        due = {key for at, keys in zip(before, groups) if at <= count for key in keys}
+        same(held(journal), due, f"{count} bytes")
+    return f"each of {len(whole)} bytes: 5, and the journal holds the lines up to those of the last reply"
 
 
 # ---- descriptors that don't block
@@ -251,9 +289,35 @@ def idle_connections(folder):
     return f"{count} of them end one that was to have {count}"
 
 
+@case("connections that can be had once there are files")
+def files_that_come(folder):
+    """A connection that can't be accepted waits at the door, and is served as soon as it can."""
+    few, enough = 5, 64
+
+    def limit():
+        resource.setrlimit(resource.RLIMIT_NOFILE, (few, enough))
+
+    server = Server(folder, 2, ["a"], prepare=limit)
+    with server.dial() as first, server.dial() as second:
+        first.sendall(text([pull(1)]))
+        first.settimeout(2)
+        try:
+            insist(False, f"with {few} files it is answered {first.recv(1)}")
+        except TimeoutError:
+            pass
+        insist(server.child.poll() is None, "serving has ended")
+        resource.prlimit(server.child.pid, resource.RLIMIT_NOFILE, (enough, enough))
+        first.settimeout(SECONDS)
+        insist(len(json.loads(said_line(first))["docs"]) == 1, "the first connection")
+        first.close()
+        insist(len(ask(second, pull(1))["docs"]) == 1, "the second")
+    same(server.end(), (0, [told(1, "peer", 1), told(2, "peer", 1)]), "the end")
+    return "two that came while there were none are served"
+
+
 @case("connections that can't be had for want of files")
 def too_few_files(folder):
-    """Serving may end then. What was answered is there, and it may be started again."""
+    """Serving may end after some tries. What was answered is there, and it may be started again."""
     kept, seen, journal = set(), [], os.path.join(folder, "journal")
     same(run(journal, inserts([]))[0], 0, "a journal")
     for most in range(4, 12):

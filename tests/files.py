@@ -71,6 +71,61 @@ def runs_at_once(folder):
     return f"40 races of 4 runs: {wrote} wrote, the others ended with 3, and all acknowledged is there"
 
 
+def renamed(path):
+    os.rename(path, path + ".other")
+
+
+def replaced(path):
+    """By another journal, which has a run of its own then."""
+    other = path + ".other"
+    insist(run(other, inserts(["other"]))[0] == 0, "no other journal")
+    os.replace(other, path)
+
+
+def remade(path):
+    """Renamed, and a run after it makes a journal of that name."""
+    os.rename(path, path + ".other")
+    status, replies = run(path, inserts(["new"]))
+    insist(status == 0 and len(replies) == 2, f"the second run: {status} {replies}")
+
+
+WRITE, AGAIN = insert("b"), compact({"do": "restart"})
+
+
+@case("a journal that is renamed, removed or replaced while a run has it")
+def journal_that_goes(folder):
+    """The run ends before it answers another line that writes or reads the file."""
+    for number, (goes, line) in enumerate((it, line) for it in (renamed, os.remove, replaced, remade)
+                                          for line in (WRITE, AGAIN)):
+        journal = os.path.join(folder, f"journal{number}")
+        first, at = Talk(journal), f"{goes.__name__}, {line}"
+        insist(first.ask(collection()).get("ok") == "collection", f"{at}: no collection")
+        insist(first.ask(insert("a")).get("ok") == "insert", f"{at}: no insert")
+        goes(journal)
+        insist(first.ask(line) == DISK, f"{at}: it is answered")
+        insist(first.end() == 3, f"{at}: another status")
+        if os.path.exists(journal + ".other"):
+            all_there(journal + ".other", {"a"})
+        if os.path.exists(journal):
+            insist(held(journal) in ({"new"}, {"other"}), f"{at}: the other journal changed")
+    return f"{number + 1} times: 3 before another answer, and what was acknowledged is in the file"
+
+
+@case("a journal at the end of a link")
+def journal_by_a_link(folder):
+    """The path leads there, also where the link is another one later."""
+    journal, link = os.path.join(folder, "journal"), os.path.join(folder, "link")
+    insist(run(journal, inserts(["a"]))[0] == 0, "no journal")
+    os.symlink(journal, link)
+    first = Talk(link)
+    insist(first.ask(insert("b")).get("ok") == "insert", "by a link")
+    os.remove(link)
+    os.link(journal, link)
+    insist(first.ask(insert("d")).get("ok") == "insert", "by another one")
+    insist(first.end() == 0 and held(journal) == {"a", "b", "d"}, "another end")
+    return "a link leads to it as its own name does"
+
+
 @case("closed standard streams")
 def closed_streams(folder):
     """All seven ways to leave standard streams closed, over a journal that is there and a new one."""

@@ -27,8 +27,8 @@ RX = os.path.abspath(os.environ.get("RX") or os.path.join(ROOT, "crates", "rx", 
 DEBIANS_PYTHON = "/usr/bin/python3"
 # A run that is read to its end may take so long.
 SECONDS = 240
-# A call of the program waits for a minute, and one that moved a part in it is made again: a reply that
-# was sent in part is one more, and some systems take a part twice.
+# A message has a minute, and a second for each 64 KiB that moved, of which the system takes some for a
+# peer that takes none.
 HANG_SECONDS = 180
 LONGEST = 268_435_456
 SEED = 7_919

@@ -2,17 +2,22 @@
 """The built program over real sockets, as a master with peers that no clause speaks of, and killed in turns.
 
 All sockets are on 127.0.0.1. A peer that says nothing is waited for as long as the program waits, a
-minute to three.
+minute.
 """
 import json
 import os
 import random
 import socket
 import time
+from concurrent.futures import ThreadPoolExecutor
 
 from shared import (HANG_SECONDS, HASH, LONGEST, SECONDS, SEED, Server, Talk, all_there, answers, ask,
                     case, collection, command, compact, digest, free_port, held, insist, main, peak_of, pull,
                     push, reset, room, run, said, said_line, text, told)
+
+
+# A byte comes so often, and a message has a minute; what the test waits besides is the machine's.
+TRICKLE_SECONDS, WITHIN = 3, (55, 90)
 
 
 @case("connections one after another")
@@ -138,7 +143,7 @@ def peers_that_hang(folder):
         with server.dial() as wire:
             insist(len(ask(wire, pull(1))["docs"]) == 100, f"peer {number}: the next connection")
     waited = time.monotonic() - begun
-    insist(waited < HANG_SECONDS + 10, f"{waited:.0f} seconds")
+    insist(waited < WITHIN[1], f"{waited:.0f} seconds")
     for number, server in enumerate(servers):
         status, ends = server.end()
         insist(status == 0 and [end["end"] for end in ends] == ["wire", "peer"],
@@ -146,6 +151,54 @@ def peers_that_hang(folder):
     for wire in wires:
         wire.close()
     return f"`wire` within {waited:.0f} seconds, and the next connection is served"
+
+
+def trickle(wire, line):
+    """Sends a line a byte every few seconds, until the other side ends. The seconds that it took."""
+    begun = time.monotonic()
+    wire.settimeout(TRICKLE_SECONDS)
+    for byte in line:
+        try:
+            wire.sendall(bytes([byte]))
+            if not wire.recv(1):
+                break
+        except TimeoutError:
+            pass
+        except OSError:
+            break
+    return time.monotonic() - begun
+
+
+def trickled_reply(folder):
+    """How a turn ends whose master's reply comes so, and the seconds that the reply took."""
+    with socket.create_server(("127.0.0.1", 0)) as door:
+        fork = Follower(folder, door.getsockname()[1], None)
+        fork.begin()
+        master, _ = door.accept()
+    with master:
+        said_line(master)
+        seconds = trickle(master, text([compact({"docs": [], "epoch": 1, "n": 1})]))
+    last, end = fork.turned()
+    insist(fork.end() in (0, 1), "the run of the fork failed")
+    return last.get("lost"), end, seconds
+
+
+@case("peers that send a byte every few seconds", seconds=300)
+def peers_that_trickle(folder):
+    """Both at once: a request and a reply that come so. The other dials meanwhile, and is served then."""
+    server = Server(folder, 2, ["a"])
+    with server.dial() as first, server.dial() as second, ThreadPoolExecutor(2) as pool:
+        asked = pool.submit(trickle, first, text([pull(1)]))
+        turned = pool.submit(trickled_reply, folder)
+        begun = time.monotonic()
+        insist(len(ask(second, pull(1))["docs"]) == 1, "the next connection")
+        waited = time.monotonic() - begun
+        lost, end, seconds = turned.result()
+    for name, it in (("the request", asked.result()), ("the next one", waited), ("the reply", seconds)):
+        insist(WITHIN[0] < it < WITHIN[1], f"{name}: {it:.0f} seconds")
+    insist((lost, end) == ("wire", "lost"), f"the turn: {lost} {end}")
+    insist(server.end() == (0, [told(1, "wire", 0), told(2, "peer", 1)]), "the end")
+    return f"a minute for each: `wire` after {waited:.0f} and {seconds:.0f} seconds"
 
 
 @case("what else has the journal or the port")
