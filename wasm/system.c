@@ -42,6 +42,8 @@ int open(const byte *path, int flags, ...) {
 // The host has the journal for itself as long as it runs, and a file there has no mode.
 int flock(int file, int how) { return 0; }
 int fchmod(int file, int mode) { return 0; }
+// So the journal that is open is what stands at its path: both have the number 0, which is there already.
+int statx(int folder, const byte *path, int flags, unsigned asked, void *at) { return 0; }
 
 // The program reads and writes at places that it names, and cuts nothing off.
 #define ENOSYS 38
@@ -83,7 +85,7 @@ int getsockopt(int file, int level, int name, int *at, unsigned *n) {
     return 0;
 }
 
-// The program has one connection at a time, and gives it both limits before it says anything. 0 is forever.
+// The program has one connection at a time, and gives it a limit before it waits. 0 is forever.
 static long receive_ms = -1, send_ms = -1;
 int setsockopt(int file, int level, int name, const long *at, unsigned n) {
     if (level == SOL_SOCKET && (name == SO_RCVTIMEO || name == SO_SNDTIMEO)) {
@@ -97,7 +99,8 @@ int rattle_set_nonblocking(int file, _Bool on) { return 0; }
 long recv(int file, byte *at, size_t n, int flags) { return told(host_receive(file, at, n, receive_ms)); }
 long send(int file, const byte *at, size_t n, int flags) { return told(host_send(file, at, n, send_ms)); }
 
-// Only the limit of a dial asks for the time.
+// Only limits ask for the time, and only a door that fails sleeps.
+int nanosleep(const long *asked, long *left) { return 0; }
 int clock_gettime(int clock, long *at) {
     long ms = host_now();
     at[0] = ms / 1000;
