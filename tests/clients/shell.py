@@ -627,6 +627,7 @@ def ctrl_c_in_an_import_leaves_what_was_acknowledged(folder):
         it.until("rx>")
         it.type("count c\r")
         it.until(f"{count:,}")
+        it.until("rx>")
         it.type("\x04")
         same(it.end(), 0)
         same(0 < count < 400_000 and count % 1000 == 0, True, f"{count} documents")
