@@ -1,2 +1,3 @@
 pub mod Learning
 pub mod Above
+pub mod After

@@ -4,6 +4,7 @@
 
 mod all;
 mod meta;
+mod migrating;
 
 pub use all::Known;
 pub use meta::Meta;

@@ -11,10 +11,10 @@ use std::marker::Model;
 /// A fork's knowledge of its master.
 #[derive(Drop)]
 pub struct Meta {
-    alloc: Global,
+    pub(crate) alloc: Global,
     pub(crate) known: BTreeMap<String, State>,
-    up: Option<Place>,
-    down: Option<Place>,
+    pub(crate) up: Option<Place>,
+    pub(crate) down: Option<Place>,
 }
 
 impl Model for Meta {

@@ -32,13 +32,91 @@ const CASES: &str = r#"
 - replication t c a
 - remote t c 7001
 
-== the records of a copy, and migrations, have no place in the first version
+== a migration goes to the next version of the schema
+= 1
++ collection m
++ rows m 1 1:a=5 1:b!
++ collection f
++ replication r f m
++ rows f 1 1:c=6
+* migration m next
+* migration f next
+* migration m next scale:n:2 set:n:3
+* migration m counted rename:n:count
+* migration m counted drop:n
+- migration x next
+- migration m same
+- migration m second
+- migration m keyed
+- migration m {}
+- migration m next drop:id
+- migration m next rename:n:id
+- migration m next rename:id:n
+- migration m next set:id:1
+- migration m counted
+- migration m next rename:n:count
+
+== a number that grows too great has no next state
+= 1
++ collection m
++ rows m 1 1:a=9007199254740991
+* migration m next scale:n:1
+- migration m next scale:n:2
+
+== documents are of the new schema from then on, and at the next height
+= 1
++ collection m
++ rows m 1 1:a=5
++ migration m counted rename:n:count
+* rows m 2 2:a#7
+- rows m 2 1:a#7
+- rows m 2 2:a=7
+- rows m 1 2:a#7
+
+== a tombstone goes too
+= 1
++ collection m
++ rows m 1 1:a=5!
+* migration m counted drop:n
+- migration m counted
+
+== so does what is known
+= 1
++ collection m
++ rows m 1 1:a
++ collection f
++ rows f 1 1:a
++ replication r f m
++ known r a=5
+* migration m next
+* migration f counted drop:n
+- migration m counted
+- migration f counted
+
+== a fork of a master elsewhere stays, and so does what follows it
+= 1
++ collection f
++ collection g
++ remote r f 7001
++ replication s g f
+- migration f next
+- migration g next
+
+== what isn't joined goes alone
+= 1
++ collection m
++ rows m 1 1:a=5
++ collection g
++ rows g 1 1:a
+* migration g counted
+- migration m counted
+
+== the records of a copy have no place in the first version
 = 1
 + collection m
 * rows m 1 1:a
 - part m 1.1:a
 - end 0
-- migration m next
 
 == a copy has an end
 = 2
@@ -70,6 +148,7 @@ const CASES: &str = r#"
 * rows m 2 2:a
 * epoch 4
 * collection n
+* migration m next
 - epoch 1
 - epoch 3
 - part m 2.1:b
@@ -139,7 +218,7 @@ fn a_record_may_come_next_as_the_journal_has_it(rt: HostRuntime) -> Result<(), F
     for case in CASES.split("\n== ").skip(1) {
         tried = tried.saturating_add(try_case(rt.alloc(), case)?);
     }
-    assert_eq!(&rt; tried, 61);
+    assert_eq!(&rt; tried, 93);
     Ok(())
 }
 

@@ -6,7 +6,8 @@
 //     remote r f 7001                    of one at a port
 //     known r a                          what it knows, with no checkpoint
 //     epoch 1
-//     migration c NAME                   to the schema of that name, by no steps
+//     migration c NAME rename:n:m set:m:1 drop:m scale:n:2
+//                                        to the schema of that name, by these steps
 //     part c 5.1:a ..                    documents of a copy, by write time and height
 //     learnt r a up:5:a down:5:a         what a replication of a copy knows
 //     end 7                              of a copy
@@ -16,7 +17,8 @@ use crate::served::{collection, schema_like};
 use rx_document::Place;
 use rx_migrate::Steps;
 use rx_record::{MasterName, PartRow, Record, RowOut};
-use rx_value::{Fields, RxText, State, Value};
+use rx_value::{Fields, RxText, State, Value, is_number};
+use serde_json::Value as Json;
 use std::alloc::{AllocError, Global};
 use std::test::Fail;
 
@@ -107,12 +109,37 @@ fn known(alloc: Global, words: &str) -> Result<Record, Fail> {
 }
 
 fn migration(alloc: Global, words: &str) -> Result<Record, Fail> {
-    let (name, schema) = words.split_once(' ').unwrap_or((words, ""));
+    let mut words = words.split(' ');
+    let name = name_of(alloc, words.next())?;
+    let schema = schema_like(alloc, words.next().unwrap_or(""))?;
+    let mut text = String::from_str(alloc, "[")?;
+    for word in words {
+        if text.len() > 1 {
+            text.push(',')?;
+        }
+        text.push_str(step_of(alloc, word)?.as_str())?;
+    }
+    text.push(']')?;
     Ok(Record::Migration {
-        name: RxText::new(alloc, name)?,
-        schema: schema_like(alloc, schema)?,
-        steps: Steps::new(alloc),
+        name,
+        schema,
+        steps: Steps::read(alloc, &Json::from_str(alloc, text.as_str())?)?,
     })
+}
+
+// A step as a line has it.
+fn step_of(alloc: Global, word: &str) -> Result<String, Fail> {
+    let mut parts = word.split(':');
+    let kind = parts.next().unwrap_or("");
+    let field = parts.next().unwrap_or("");
+    let rest = parts.next().unwrap_or("");
+    let more = match kind {
+        "rename" => format!(in alloc; ",\"to\":\"{rest}\"")?,
+        "set" => format!(in alloc; ",\"value\":{rest}")?,
+        "scale" => format!(in alloc; ",\"by\":{rest}")?,
+        _ => String::new(alloc),
+    };
+    Ok(format!(in alloc; "{{\"{kind}\":\"{field}\"{more}}}")?)
 }
 
 // Documents of a copy, each with its write time and its height.
@@ -199,7 +226,10 @@ fn numbered<'a>(
     field: &str,
     number: &str,
 ) -> Result<&'a str, Fail> {
-    let number: u32 = number.parse()?;
-    fields.set(RxText::new(alloc, field)?, Value::Int(number as i64))?;
+    let number: i64 = number.parse()?;
+    if !is_number(number as i128) {
+        return Err(Fail::new("a greater number than a document may have"));
+    }
+    fields.set(RxText::new(alloc, field)?, Value::Int(number))?;
     Ok(key)
 }

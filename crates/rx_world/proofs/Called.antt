@@ -7,12 +7,12 @@ use Rattle.std.specs.Str.{bytes_eq}
 use Rattle.rx_value.specs.Name.{is_name}
 use Rattle.rx_value.specs.Named.{named, put_named}
 use Rattle.rx_collection.specs.Held.{held_with}
-use Rattle.rx_record.specs.Content.{Content, collection, rows, replication, exchange}
+use Rattle.rx_record.specs.Content.{Content, collection, rows, replication, exchange, migration}
 use Rattle.rx_record.specs.declared.record.RowOut.{RowOut}
 use Rattle.rx_world.specs.Names.{AreNames}
 use Rattle.rx_world.specs.Replicating.{new_replication, with_exchange}
 use Rattle.rx_world.specs.Step.{legal, step, collections_after, written_to}
-use Rattle.rx_world.specs.Touch.{no_collection, new_where, fork_rows}
+use Rattle.rx_world.specs.Touch.{IsNoMigration, no_collection, new_where, fork_rows}
 use Rattle.rx_world.specs.World.{World, max_collections, max_replications}
 use Rattle.rx_world.specs.declared.replication.Replication.{Replication}
 use Rattle.rx_world.proofs.Beginning.{begins}
@@ -66,28 +66,30 @@ fork_named lwt [] w names (Some r) = names
 fork_named lwt (row ∷ written) w names (Some r) =
     subst (AreNames max_collections) (sym (keys-change_named (written_to lwt (row ∷ written)) w.collections r.fork)) names
 
--- those of collections after a legal record
-pub collections_named : (entry : Content) (w : World) → legal entry w ≡ true
+-- those of collections after a legal record that is no migration
+pub collections_named : (entry : Content) (w : World) → legal entry w ≡ true → IsNoMigration entry
     → AreNames max_collections (keys_of w.collections)
     → AreNames max_collections (keys_of (step entry w).collections)
-collections_named (collection name schema) w is names =
+collections_named (collection name schema) w is other names =
     let new = collection_new name schema w is in
     subst (λ o. AreNames max_collections (keys_of (collections_after (new_where name o) w.collections))) (sym new.read)
     (names_put max_collections w.collections name (held_with name new.shape []) new.called new.room names)
-collections_named (rows name lwt written) w is names =
+collections_named (rows name lwt written) w is other names =
     subst (AreNames max_collections) (sym (rows_names name lwt written w)) names
-collections_named (replication name fork master handler field) w is names = names
-collections_named (exchange name lwt written known up down) w is names =
+collections_named (replication name fork master handler field) w is other names = names
+collections_named (exchange name lwt written known up down) w is other names =
     fork_named lwt written w names (named w.replications name)
-collections_named other w is names = names
+collections_named (migration name text steps) w is other names = absurd other
+collections_named entry w is other names = names
 
 -- those of replications
-pub replications_named : (entry : Content) (w : World) → legal entry w ≡ true
+pub replications_named : (entry : Content) (w : World) → legal entry w ≡ true → IsNoMigration entry
     → AreNames max_replications (keys_of w.replications)
     → AreNames max_replications (keys_of (step entry w).replications)
-replications_named (replication name fork master handler field) w is names =
+replications_named (replication name fork master handler field) w is other names =
     let b = begins name fork master w is in
     names_put max_replications w.replications name (new_replication name fork master handler field) b.called b.room names
-replications_named (exchange name lwt written known up down) w is names =
+replications_named (exchange name lwt written known up down) w is other names =
     subst (AreNames max_replications) (sym (keys-change_named (with_exchange known up down) w.replications name)) names
-replications_named other w is names = names
+replications_named (migration name text steps) w is other names = absurd other
+replications_named entry w is other names = names

@@ -5,6 +5,9 @@ pub mod States
 pub mod Turns
 pub mod Commits
 pub mod Steps
+pub mod Spelled
+pub mod Migrates
+pub mod Settled
 pub mod Valid
 pub mod Replays
 pub mod Alike
@@ -21,5 +24,4 @@ pub mod Sounds
 pub mod Copied
 pub mod Copies
 pub mod Passing
-pub mod Migrates
-pub mod Settled
+pub mod Regrouped

@@ -1,5 +1,5 @@
 -- Replications stay linked.
-use Rattle.std.proofs.Common.{◌≡◌, ◌≢◌, ℕ, ◌||◌, not, true, false, true≢false, cond, List, [], ◌∷◌, map, Option, Some, None, is_some, IfSome, option_map, option_and_then, Result, Ok, Err, refl, sym, ap, ◌∙◌, inl, inr, subst, arith}
+use Rattle.std.proofs.Common.{◌≡◌, ◌≢◌, ℕ, ◌||◌, not, true, false, true≢false, cond, List, [], ◌∷◌, map, Option, Some, None, is_some, IfSome, option_map, refl, sym, ap, ◌∙◌, inl, inr, subst, arith}
 use Rattle.std.proofs.lemmas.Bool.{and_parts, or_parts, not-true, ltb-true}
 use Rattle.std.proofs.lemmas.Slice.Eq.{bytes_eq-Decides}
 use Rattle.std.specs.Borrow.{Bor}
@@ -11,10 +11,7 @@ use Rattle.rx_value.specs.Named.{named, put_named, change_named, put_in_order}
 use Rattle.rx_value.specs.declared.state.State.{State}
 use Rattle.rx_value.proofs.Outcomes.{some_same, not_none}
 use Rattle.rx_value.proofs.Bytes.{bytes_cases}
-use Rattle.serde_json.specs.Read.{read}
-use Rattle.rx_schema.specs.Reading.{schema_of}
 use Rattle.rx_schema.specs.Writing.{canonical_text}
-use Rattle.rx_schema.specs.declared.fault.SchemaFault.{SchemaFault}
 use Rattle.rx_schema.specs.declared.shape.Shape.{Shape}
 use Rattle.rx_document.specs.declared.place.Place.{Place}
 use Rattle.rx_document.specs.declared.stored.Stored.{Stored}
@@ -23,7 +20,7 @@ use Rattle.rx_collection.specs.Held.{Held, held_with}
 use Rattle.rx_collection.proofs.Named.{at_name, all_put}
 use Rattle.rx_collection.proofs.Lawful.{rising_none}
 use Rattle.rx_meta.specs.Side.{AreKnownByKey}
-use Rattle.rx_record.specs.Content.{Content, collection, rows, replication, exchange}
+use Rattle.rx_record.specs.Content.{Content, collection, rows, replication, exchange, migration}
 use Rattle.rx_record.specs.Writable.{IsOrdered, IsOrderedExchange}
 use Rattle.rx_record.specs.declared.record.MasterName.{MasterName}
 use Rattle.rx_record.specs.declared.record.MasterName.TheVariants.{Local, Port}
@@ -33,14 +30,15 @@ use Rattle.rx_replication.proofs.Commits.{learn-rising}
 use Rattle.rx_world.specs.Chain.{has_fork, is_fork, tree_root, IsForest, may_follow}
 use Rattle.rx_world.specs.Linked.{HasMaster, IsLinked, AreLinked, forks_of}
 use Rattle.rx_world.specs.Replicating.{new_replication, with_exchange, has_schema_of, is_fitting}
-use Rattle.rx_world.specs.Schema.{if_canonical, schema_in}
+use Rattle.rx_world.specs.Schema.{schema_in}
 use Rattle.rx_world.specs.Step.{IsValidState, is_valid_state, is_held_with, takes_rows, has_key, legal, step, collections_after, stored_rows, written_to}
-use Rattle.rx_world.specs.Touch.{no_collection, new_where, fork_rows}
+use Rattle.rx_world.specs.Touch.{IsNoMigration, no_collection, new_where, fork_rows}
 use Rattle.rx_world.specs.Valid.{AllSpelled, IsSpelled}
 use Rattle.rx_world.specs.World.{World, Collections, Replications, empty}
 use Rattle.rx_world.specs.declared.replication.Replication.{Replication}
 use Rattle.rx_world.proofs.Looked.{named-put_other, named-change_same, named-change_other, all_put_named, all_change_named}
 use Rattle.rx_world.proofs.Beginning.{Begins, begins}
+use Rattle.rx_world.proofs.Spelled.{read_spelled}
 use Rattle.rx_world.proofs.Steps.{collection_new, exchange_goes}
 use Rattle.rx_world.proofs.Trees.{other_than_root}
 
@@ -97,20 +95,21 @@ stay_fork cs lwt written None = stay_same cs
 stay_fork cs lwt [] (Some r) = stay_same cs
 stay_fork cs lwt (row ∷ written) (Some r) = stay_written cs r.fork lwt (row ∷ written)
 
--- so they do after a legal record
-pub stay_step : (entry : Content) (w : World) → legal entry w ≡ true
+-- so they do after a legal record that is no migration
+pub stay_step : (entry : Content) (w : World) → legal entry w ≡ true → IsNoMigration entry
     → StayHeld w.collections (step entry w).collections
-stay_step (collection name schema) w is =
+stay_step (collection name schema) w is other =
     let unheld = (collection_new name schema w is).unheld in
     elim (schema_in schema) as (λ o. StayHeld w.collections (collections_after (new_where name o) w.collections)) [
       | None ↦ stay_same w.collections
       | Some s ↦ stay_new w.collections name (held_with name s []) unheld
     ]
-stay_step (rows name lwt written) w is = stay_written w.collections name lwt written
-stay_step (replication name fork master handler field) w is = stay_same w.collections
-stay_step (exchange name lwt written known up down) w is =
+stay_step (rows name lwt written) w is other = stay_written w.collections name lwt written
+stay_step (replication name fork master handler field) w is other = stay_same w.collections
+stay_step (exchange name lwt written known up down) w is other =
     stay_fork w.collections lwt written (named w.replications name)
-stay_step other w is = stay_same w.collections
+stay_step (migration name text steps) w is other = absurd other
+stay_step entry w is other = stay_same w.collections
 
 -- ---- a replication stays linked
 
@@ -305,20 +304,20 @@ exchange_links name lwt written known up down w is ordered links r at after stay
 
 -- ---- all
 
--- a legal record leaves replications linked
-pub linked_step : (entry : Content) (w : World) → legal entry w ≡ true → IsOrdered entry → AllSpelled w
+-- a legal record that is no migration leaves replications linked
+pub linked_step : (entry : Content) (w : World) → legal entry w ≡ true → IsNoMigration entry → IsOrdered entry → AllSpelled w
     → IsForest w.replications → AreLinked w → AreLinked (step entry w)
-linked_step (collection name schema) w is ordered spelled forest links = record {
+linked_step (collection name schema) w is other ordered spelled forest links = record {
   each = links_stay w.collections (step (collection name schema) w).collections
-      (stay_step (collection name schema) w is) w.replications links.each;
+      (stay_step (collection name schema) w is tt) w.replications links.each;
   apart = links.apart;
 }
-linked_step (rows name lwt written) w is ordered spelled forest links = record {
+linked_step (rows name lwt written) w is other ordered spelled forest links = record {
   each = links_stay w.collections (step (rows name lwt written) w).collections
-      (stay_step (rows name lwt written) w is) w.replications links.each;
+      (stay_step (rows name lwt written) w is tt) w.replications links.each;
   apart = links.apart;
 }
-linked_step (replication name fork master handler field) w is ordered spelled forest links =
+linked_step (replication name fork master handler field) w is other ordered spelled forest links =
     let b = begins name fork master w is in
     let r = new_replication name fork master handler field in
     record {
@@ -327,10 +326,10 @@ linked_step (replication name fork master handler field) w is ordered spelled fo
       apart = forks_put w.replications name r b.free
           (others_apart w.replications fork (no_fork w.replications fork master b.follows)) links.apart;
     }
-linked_step (exchange name lwt written known up down) w is ordered spelled forest links =
+linked_step (exchange name lwt written known up down) w is other ordered spelled forest links =
     let entry = exchange name lwt written known up down in
     let after : Collections = (step entry w).collections in
-    let stay : StayHeld w.collections after = stay_step entry w is in
+    let stay : StayHeld w.collections after = stay_step entry w is tt in
     record {
       each = all_change_named (λ k x. IsLinked after k x) w.replications name (with_exchange known up down)
           (λ r at here. exchange_links name lwt written known up down w is ordered links r at after stay)
@@ -338,32 +337,14 @@ linked_step (exchange name lwt written known up down) w is ordered spelled fores
       apart = subst (IsDistinct bytes_eq)
           (sym (forks_changed (with_exchange known up down) (λ r. refl) w.replications name)) links.apart;
     }
-linked_step other w is ordered spelled forest links = record { each = links.each; apart = links.apart }
+linked_step (migration name text steps) w is other ordered spelled forest links = absurd other
+linked_step entry w is other ordered spelled forest links = record { each = links.each; apart = links.apart }
 
 pub linked_empty : AreLinked empty
 unfolding IsDistinct
 linked_empty = record { each = tt; apart = tt }
 
 -- ---- the texts of schemas
-
-spelled_by : (text : List ℕ) (s : Shape) (r : Result Shape SchemaFault) → if_canonical text r ≡ Some s
-    → canonical_text s ≡ text
-spelled_by text s (Ok t) is =
-    elim (bytes_eq (canonical_text t) text) as (λ b. bytes_eq (canonical_text t) text ≡ b
-    → cond b (Some t) None ≡ Some s → canonical_text s ≡ text) [
-      | true ↦ (λ h is. ap canonical_text (sym (some_same is)) ∙ (bytes_eq-Decides (canonical_text t) text).0 h)
-      | false ↦ (λ h is. not_none is)
-    ] refl is
-spelled_by text s (Err e) is = not_none is
-
--- a text is the canonical one of its schema
-pub read_spelled : (text : List ℕ) (s : Shape) → schema_in text ≡ Some s → canonical_text s ≡ text
-read_spelled text s is =
-    elim (read text) as (λ o. option_and_then (λ d. if_canonical text (schema_of d)) o ≡ Some s
-    → canonical_text s ≡ text) [
-      | None ↦ (λ none. not_none none)
-      | Some d ↦ (λ some. spelled_by text s (schema_of d) some)
-    ] is
 
 -- rows leave them so
 spelled_rows : (cs : Collections) (name : List ℕ) (lwt : ℕ) (written : List RowOut)
@@ -380,20 +361,21 @@ spelled_fork cs lwt written None all = all
 spelled_fork cs lwt [] (Some r) all = all
 spelled_fork cs lwt (row ∷ written) (Some r) all = spelled_rows cs r.fork lwt (row ∷ written) all
 
--- a legal record leaves collections whose schemas' texts read back
-pub spelled_step : (entry : Content) (w : World) → legal entry w ≡ true → AllSpelled w
+-- a legal record that is no migration leaves collections whose schemas' texts read back
+pub spelled_step : (entry : Content) (w : World) → legal entry w ≡ true → IsNoMigration entry → AllSpelled w
     → AllSpelled (step entry w)
-spelled_step (collection name schema) w is all =
+spelled_step (collection name schema) w is other all =
     let new = collection_new name schema w is in
     let back : IsSpelled (held_with name new.shape []) =
     ap schema_in (read_spelled schema new.shape new.read) ∙ new.read in
     subst (λ o. AllByRecursion (λ e. IsSpelled e.1) (collections_after (new_where name o) w.collections)) (sym new.read)
     (all_put_named (λ k c. IsSpelled c) w.collections name (held_with name new.shape []) back all)
-spelled_step (rows name lwt written) w is all = spelled_rows w.collections name lwt written all
-spelled_step (replication name fork master handler field) w is all = all
-spelled_step (exchange name lwt written known up down) w is all =
+spelled_step (rows name lwt written) w is other all = spelled_rows w.collections name lwt written all
+spelled_step (replication name fork master handler field) w is other all = all
+spelled_step (exchange name lwt written known up down) w is other all =
     spelled_fork w.collections lwt written (named w.replications name) all
-spelled_step other w is all = all
+spelled_step (migration name text steps) w is other all = absurd other
+spelled_step entry w is other all = all
 
 -- ---- what a call lends
 

@@ -18,10 +18,13 @@ use Rattle.rx_document.specs.Documents.{Documents}
 use Rattle.rx_document.specs.declared.stored.Stored.{Stored}
 use Rattle.rx_collection.specs.Held.{Held}
 use Rattle.rx_collection.specs.Lawful.{IsHeldAt, IsLawful}
+use Rattle.rx_collection.specs.Migrated.{CarryAfter, documents_after, migrated_collection, state_after, stored_after}
 use Rattle.rx_meta.specs.Side.{AreKnownByKey}
 use Rattle.rx_migrate.specs.Migrated.{migrated}
 use Rattle.rx_migrate.specs.declared.step.Step.{Step}
-use Rattle.rx_migrate.proofs.Laws.{key}
+use Rattle.rx_collection.proofs.Migrated.{key_after}
+use Rattle.rx_meta.proofs.After.{known_stay}
+use Rattle.rx_meta.specs.Migrated.{known_after}
 use Rattle.rx_record.specs.declared.record.MasterName.{MasterName}
 use Rattle.rx_record.specs.declared.record.MasterName.TheVariants.{Local, Port}
 use Rattle.rx_replication.specs.Known.{KnownStates}
@@ -31,16 +34,16 @@ use Rattle.rx_world.specs.Chain.{Forks, fork_before, forest_of, local_forks}
 use Rattle.rx_world.specs.Lawful.{IsLawfulAt}
 use Rattle.rx_world.specs.Linked.{HasMaster, IsLinked, forks_of}
 use Rattle.rx_world.specs.Made.{IsMadeWorld}
-use Rattle.rx_collection.specs.Migrated.{state_after, stored_after, migrated_collection}
-use Rattle.rx_world.specs.Migrating.{is_in_group, migrated_replication, migrated_collections, migrated_replications, state_migrates, documents_migrate, is_local, replication_migrates, collections_migrate, replications_migrate, is_next_schema, group_migrates}
-use Rattle.rx_world.specs.MigrationLaws.{MigrationKeepsMade}
+use Rattle.rx_world.specs.Migrating.{is_in_group, migrated_replication, migrated_collections, migrated_replications, migrate_step, state_migrates, documents_migrate, is_local, replication_migrates, collections_migrate, replications_migrate, is_next_schema, group_migrates, may_migrate}
+use Rattle.rx_world.specs.MigrationLaws.{MigrationKeepsMade, MigrationMigrates}
 use Rattle.rx_world.specs.Names.{AreNames}
 use Rattle.rx_world.specs.Schema.{schema_in}
-use Rattle.rx_world.specs.Step.{IsValidState, is_valid_state}
+use Rattle.rx_world.specs.Step.{IsValidState, is_valid_state, collections_after}
+use Rattle.rx_world.specs.Touch.{remade_where}
 use Rattle.rx_world.specs.Valid.{AreValid, IsSpelled}
 use Rattle.rx_world.specs.World.{World, Collections, Replications, max_collections, max_replications}
 use Rattle.rx_world.specs.declared.replication.Replication.{Replication}
-use Rattle.rx_world.proofs.Links.{read_spelled}
+use Rattle.rx_world.proofs.Spelled.{read_spelled}
 use Rattle.rx_world.proofs.States.{state_carries, state_valid}
 
 -- a fork and a master that is here are both of the group, or neither is
@@ -68,28 +71,24 @@ module _ (s : Shape) (steps : List Step) where
   after_is : (x : State) (g : Goes x) → state_after steps x ≡ g.next
   after_is x g = ap (λ (o : Option State). unwrap_or o x) g.is
 
-  pub after_valid : (x : State) → state_migrates s steps x ≡ true → IsValidState s (state_after steps x)
+  after_valid : (x : State) → state_migrates s steps x ≡ true → IsValidState s (state_after steps x)
   after_valid x may = let g = goes x may in subst (IsValidState s) (sym (after_is x g)) g.valid
-
-  -- it keeps its key
-  pub after_key : (x : State) → state_migrates s steps x ≡ true → (state_after steps x).key ≡ x.key
-  after_key x may = let g = goes x may in ap (λ (y : State). y.key) (after_is x g) ∙ key steps x g.next g.is
 
   -- ---- documents
 
-  docs_keys : (es : Documents) → keys_of (map (λ e. (e.0, stored_after steps e.1)) es) ≡ keys_of es
+  docs_keys : (es : Documents) → keys_of (documents_after steps es) ≡ keys_of es
   docs_keys [] = refl
   docs_keys (e ∷ es) = ap (λ ks. e.0 ∷ ks) (docs_keys es)
 
   docs_held : (primary : List ℕ) (es : Documents)
       → list_all (λ e. state_migrates s steps e.1.state) es ≡ true
       → AllByRecursion (λ e. IsHeldAt primary e.0 e.1) es
-      → AllByRecursion (λ (e : List ℕ × Stored). IsHeldAt s.primary e.0 e.1) (map (λ e. (e.0, stored_after steps e.1)) es)
+      → AllByRecursion (λ (e : List ℕ × Stored). IsHeldAt s.primary e.0 e.1) (documents_after steps es)
   docs_held primary [] may held = tt
   docs_held primary (e ∷ es) may held =
       let both = and_parts (state_migrates s steps e.1.state) (list_all (λ e. state_migrates s steps e.1.state) es) may in (
         record {
-          keyed = after_key e.1.state both.0 ∙ held.0.keyed;
+          keyed = key_after steps e.1.state ∙ held.0.keyed;
           carried = state_carries s (state_after steps e.1.state) (after_valid e.1.state both.0);
           written = held.0.written;
           in_range = held.0.in_range;
@@ -99,14 +98,22 @@ module _ (s : Shape) (steps : List Step) where
         docs_held primary es both.1 held.1,
       )
 
+  -- they carry their keys
+  pub docs_carry : (es : Documents) → list_all (λ e. state_migrates s steps e.1.state) es ≡ true
+      → CarryAfter s steps es
+  docs_carry [] may = tt
+  docs_carry (e ∷ es) may =
+      let both = and_parts (state_migrates s steps e.1.state) (list_all (λ e. state_migrates s steps e.1.state) es) may in
+      (state_carries s (state_after steps e.1.state) (after_valid e.1.state both.0), docs_carry es both.1)
+
   docs_valid : (es : Documents) → list_all (λ e. state_migrates s steps e.1.state) es ≡ true
-      → AllByRecursion (λ (e : List ℕ × Stored). first_fault s e.1.state.fields ≡ None) (map (λ e. (e.0, stored_after steps e.1)) es)
+      → AllByRecursion (λ (e : List ℕ × Stored). first_fault s e.1.state.fields ≡ None) (documents_after steps es)
   docs_valid [] may = tt
   docs_valid (e ∷ es) may =
       let both = and_parts (state_migrates s steps e.1.state) (list_all (λ e. state_migrates s steps e.1.state) es) may in
       (state_valid s (state_after steps e.1.state) (after_valid e.1.state both.0), docs_valid es both.1)
 
-  lawful_after : (c : Held) → documents_migrate s steps c ≡ true → IsLawful c
+  pub lawful_after : (c : Held) → documents_migrate s steps c ≡ true → IsLawful c
       → IsLawful (migrated_collection s steps c)
   lawful_after c may lawful = record {
     rising = subst (IsStrictlySortedBy text_cmp) (sym (docs_keys c.documents)) lawful.rising;
@@ -115,31 +122,12 @@ module _ (s : Shape) (steps : List Step) where
 
   -- ---- known states
 
-  known_keys : (known : KnownStates) → keys_of (map (λ e. (e.0, state_after steps e.1)) known) ≡ keys_of known
-  known_keys [] = refl
-  known_keys (e ∷ known) = ap (λ ks. e.0 ∷ ks) (known_keys known)
-
-  known_keyed : (known : KnownStates) → list_all (λ e. state_migrates s steps e.1) known ≡ true
-      → AllByRecursion (λ e. e.1.key ≡ e.0) known
-      → AllByRecursion (λ (e : List ℕ × State). e.1.key ≡ e.0) (map (λ e. (e.0, state_after steps e.1)) known)
-  known_keyed [] may all = tt
-  known_keyed (e ∷ known) may all =
-      let both = and_parts (state_migrates s steps e.1) (list_all (λ e. state_migrates s steps e.1) known) may in
-      (after_key e.1 both.0 ∙ all.0, known_keyed known both.1 all.1)
-
   known_valid : (known : KnownStates) → list_all (λ e. state_migrates s steps e.1) known ≡ true
-      → AllByRecursion (λ (e : List ℕ × State). IsValidState s e.1) (map (λ e. (e.0, state_after steps e.1)) known)
+      → AllByRecursion (λ (e : List ℕ × State). IsValidState s e.1) (known_after steps known)
   known_valid [] may = tt
   known_valid (e ∷ known) may =
       let both = and_parts (state_migrates s steps e.1) (list_all (λ e. state_migrates s steps e.1) known) may in
       (after_valid e.1 both.0, known_valid known both.1)
-
-  known_by_key : (known : KnownStates) → list_all (λ e. state_migrates s steps e.1) known ≡ true
-      → AreKnownByKey known → AreKnownByKey (map (λ e. (e.0, state_after steps e.1)) known)
-  known_by_key known may by_key = record {
-    rising = subst (IsStrictlySortedBy text_cmp) (sym (known_keys known)) by_key.rising;
-    keyed = known_keyed known may by_key.keyed;
-  }
 
   module _ (G : List ℕ → Bool) where
     -- ---- collections
@@ -159,7 +147,7 @@ module _ (s : Shape) (steps : List Step) where
           all_after P moves cs both.1 all.1,
         )
 
-    names_after : (cs : Collections) → keys_of (migrated_collections G s steps cs) ≡ keys_of cs
+    pub names_after : (cs : Collections) → keys_of (migrated_collections G s steps cs) ≡ keys_of cs
     names_after [] = refl
     names_after (e ∷ cs) =
         elim (G e.0) as (λ b. keys_of (cond b (e.0, migrated_collection s steps e.1) e ∷ migrated_collections G s steps cs)
@@ -229,7 +217,7 @@ module _ (s : Shape) (steps : List Step) where
           fork = migrated_collection s steps l.fork;
           held = fork_after cs r.fork l.fork true is l.held;
           master = master_after cs r.fork l.fork r.master true is both l.master;
-          by_key = known_by_key r.side.known known l.by_key;
+          by_key = known_stay steps r.side.known l.by_key;
           valid = known_valid r.side.known known;
           up_has_time = l.up_has_time;
           down_has_time = l.down_has_time;
@@ -328,19 +316,46 @@ splits rs name = go (values_of rs) (one_root bytes_eq bytes_eq-Decides (forest_o
 
 -- ---- a legal migration
 
-pub keeps_made : MigrationKeepsMade
-keeps_made name text s steps w read may made =
+-- what is legal of it
+pub record IsLegalMigration (name text : List ℕ) (steps : List Step) (w : World) : Type 0 where
+  pub schema : Shape
+  pub read : schema_in text ≡ Some schema
+  pub collections : collections_migrate (is_in_group w.replications name) schema steps w.collections ≡ true
+  pub replications : replications_migrate (is_in_group w.replications name) schema steps w.replications ≡ true
+
+pub legal_migration : (name text : List ℕ) (steps : List Step) (w : World)
+    → may_migrate name text steps w ≡ true → IsLegalMigration name text steps w
+legal_migration name text steps w may =
     let G = is_in_group w.replications name in
-    let spelled : schema_in (canonical_text s) ≡ Some s = ap schema_in (read_spelled text s read) ∙ read in
-    let here : (c : Held) → option_map_or (λ schema. is_next_schema schema steps c.schema && group_migrates name schema steps w)
-    (schema_in text) false ≡ true → group_migrates name s steps w ≡ true =
-    λ c is. (and_parts (is_next_schema s steps c.schema) (group_migrates name s steps w)
-    (sym (ap (λ (o : Option Shape). option_map_or (λ schema. is_next_schema schema steps c.schema && group_migrates name schema steps w) o false) read)
-    ∙ is)).1 in
-    let group : group_migrates name s steps w ≡ true =
-    (elim (named w.collections name) as (λ o. option_map_or (λ (c : Held). option_map_or
-    (λ schema. is_next_schema schema steps c.schema && group_migrates name schema steps w)
-    (schema_in text) false) o false ≡ true → group_migrates name s steps w ≡ true)
-    [ None ↦ (λ isnt. absurd (true≢false (sym isnt))) | Some c ↦ (λ is. here c is) ]) may in
-    let both = and_parts (collections_migrate G s steps w.collections) (replications_migrate G s steps w.replications) group in
-    made_after s steps G w spelled both.0 both.1 (splits w.replications name) made
+    let fits : Held → Shape → Bool = λ c schema. is_next_schema schema steps c.schema && group_migrates name schema steps w in
+    let here : (c : Held) → option_map_or (fits c) (schema_in text) false ≡ true → IsLegalMigration name text steps w =
+    λ c is. (elim (schema_in text) as (λ o. schema_in text ≡ o → option_map_or (fits c) o false ≡ true
+    → IsLegalMigration name text steps w) [
+      | None ↦ (λ at isnt. absurd (true≢false (sym isnt)))
+      | Some s ↦ (λ at yes.
+          let group = (and_parts (is_next_schema s steps c.schema) (group_migrates name s steps w) yes).1 in
+          let both = and_parts (collections_migrate G s steps w.collections) (replications_migrate G s steps w.replications) group in
+          record { schema = s; read = at; collections = both.0; replications = both.1 })
+    ]) refl is in
+    (elim (named w.collections name) as (λ o. option_map_or (λ (c : Held). option_map_or (fits c) (schema_in text) false) o false ≡ true
+    → IsLegalMigration name text steps w)
+    [ None ↦ (λ isnt. absurd (true≢false (sym isnt))) | Some c ↦ (λ is. here c is) ]) may
+
+-- its record takes the group to the schema of its text
+pub migrates : MigrationMigrates
+migrates name text s steps w read =
+    let G = is_in_group w.replications name in
+    ap (λ (o : Option Shape). record {
+      collections = collections_after (remade_where G steps o) w.collections;
+      replications = migrated_replications G steps w.replications;
+      epoch = w.epoch;
+    }) read
+
+pub keeps_made : MigrationKeepsMade
+keeps_made name text steps w is made =
+    let m = legal_migration name text steps w is in
+    let spelled : schema_in (canonical_text m.schema) ≡ Some m.schema =
+    ap schema_in (read_spelled text m.schema m.read) ∙ m.read in
+    subst IsMadeWorld (sym (migrates name text m.schema steps w m.read))
+    (made_after m.schema steps (is_in_group w.replications name) w spelled m.collections m.replications
+    (splits w.replications name) made)

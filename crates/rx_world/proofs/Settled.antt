@@ -13,22 +13,23 @@ use Rattle.rx_document.specs.Documents.{Documents}
 use Rattle.rx_document.specs.declared.place.Place.{Place}
 use Rattle.rx_document.specs.declared.stored.Stored.{Stored}
 use Rattle.rx_collection.specs.Held.{Held}
+use Rattle.rx_collection.specs.Migrated.{documents_after, migrated_collection, state_after, stored_after}
 use Rattle.rx_collection.specs.Since.{place_of}
 use Rattle.rx_migrate.specs.Migrated.{migrated}
 use Rattle.rx_migrate.specs.declared.step.Step.{Step}
-use Rattle.rx_migrate.proofs.Laws.{key}
+use Rattle.rx_collection.proofs.Migrated.{key_after}
+use Rattle.rx_meta.specs.Migrated.{known_after}
 use Rattle.rx_record.specs.declared.record.MasterName.{MasterName}
 use Rattle.rx_record.specs.declared.record.MasterName.TheVariants.{Local, Port}
 use Rattle.rx_replication.specs.Known.{KnownStates}
-use Rattle.rx_replication.specs.Sound.{IsSound, IsSoundSide, Reach}
+use Rattle.rx_replication.specs.Sound.{AreKnownUpTo, HoldKnown, IsSound, IsSoundSide, Reach}
 use Rattle.rx_replication.specs.Write.{is_up_to}
-use Rattle.rx_collection.specs.Migrated.{state_after, stored_after, migrated_collection}
-use Rattle.rx_world.specs.Migrating.{is_in_group, migrated_replication, migrated_collections, migrated_replications}
+use Rattle.rx_world.specs.Migrating.{is_in_group, migrated_replication, migrated_collections, migrated_replications, migrate_step}
 use Rattle.rx_world.specs.MigrationLaws.{MigrationKeepsSound}
-use Rattle.rx_world.specs.Sound.{IsSoundIn, IsSoundWith}
+use Rattle.rx_world.specs.Sound.{IsSoundIn, IsSoundWith, IsSoundWorld}
 use Rattle.rx_world.specs.World.{Collections, Replications}
 use Rattle.rx_world.specs.declared.replication.Replication.{Replication}
-use Rattle.rx_world.proofs.Migrates.{AreAlike, splits}
+use Rattle.rx_world.proofs.Migrates.{AreAlike, legal_migration, migrates, splits}
 
 -- what a name names, where all things are changed
 named_map : {X Y : Type 0} (g : X → Y) (es : List (List ℕ × X)) (k : List ℕ)
@@ -50,21 +51,15 @@ was_there g None y at = not_none at
 was_there g (Some x) y at = record { x = x; there = refl; made = some_same at }
 
 module _ (steps : List Step) where
-  -- the key stays
-  key_after : (x : State) → (state_after steps x).key ≡ x.key
-  key_after x =
-      elim (migrated steps x) as (λ o. migrated steps x ≡ o → (unwrap_or o x).key ≡ x.key)
-      [ None ↦ (λ at. refl) | Some t ↦ (λ at. key steps x t at) ] refl
-
-  -- so does the place
+  -- the place stays
   place_after : (d : Stored) → place_of (stored_after steps d) ≡ place_of d
-  place_after d = ap (λ (k : List ℕ). record { lwt = d.lwt; id = k }) (key_after d.state)
+  place_after d = ap (λ (k : List ℕ). record { lwt = d.lwt; id = k }) (key_after steps d.state)
 
   -- ---- a side
 
   side_after : (es : Documents) (known : KnownStates) (o : Option Place) → IsSoundSide es known o
-      → IsSoundSide (map (λ (e : List ℕ × Stored). (e.0, stored_after steps e.1)) es)
-      (map (λ (e : List ℕ × State). (e.0, state_after steps e.1)) known) o
+      → IsSoundSide (documents_after steps es)
+      (known_after steps known) o
   side_after es known o sound = record {
     settled = λ k d at up.
         let was = was_there (stored_after steps) (named es k) d (sym (named_map (stored_after steps) es k) ∙ at) in
@@ -82,7 +77,7 @@ module _ (steps : List Step) where
   }
     where
       reach_after : (es : Documents) (o : Option Place) → Reach es o
-          → Reach (map (λ (e : List ℕ × Stored). (e.0, stored_after steps e.1)) es) o
+          → Reach (documents_after steps es) o
       reach_after es None r = tt
       reach_after es (Some p) r = (
         r.0,
@@ -178,7 +173,10 @@ module _ (steps : List Step) where
           all_sound cs rs alike.1 all.1,
         )
 
+-- a legal migration leaves a sound world
 pub keeps_sound : MigrationKeepsSound
-keeps_sound name s steps w sound =
-    all_sound steps s (is_in_group w.replications name) w.collections w.replications
-    (splits w.replications name) sound
+keeps_sound name text steps w is sound =
+    let m = legal_migration name text steps w is in
+    subst IsSoundWorld (sym (migrates name text m.schema steps w m.read))
+    (all_sound steps m.schema (is_in_group w.replications name) w.collections w.replications
+    (splits w.replications name) sound)

@@ -17,7 +17,7 @@ use Rattle.rx_collection.specs.Commit.{by_key, next_height, row_of, rows_of, wit
 use Rattle.rx_collection.specs.Held.{Held, held_with}
 use Rattle.rx_collection.proofs.Named.{at_name}
 use Rattle.rx_meta.specs.Side.{Side}
-use Rattle.rx_record.specs.Content.{Content, collection, rows, replication, exchange}
+use Rattle.rx_record.specs.Content.{Content, collection, rows, replication, exchange, migration}
 use Rattle.rx_record.specs.Rows.{key_of}
 use Rattle.rx_record.specs.Writable.{IsOrdered, KeysRise}
 use Rattle.rx_record.specs.declared.record.MasterName.{MasterName}
@@ -38,6 +38,7 @@ use Rattle.rx_world.specs.Touch.{no_collection, new_where, fork_rows}
 use Rattle.rx_world.specs.World.{World, Collections, Replications, empty}
 use Rattle.rx_world.specs.declared.replication.Replication.{Replication}
 use Rattle.rx_world.proofs.Links.{held_other}
+use Rattle.rx_world.proofs.Settled.{keeps_sound}
 use Rattle.rx_world.proofs.Looked.{named-put_other, named-change_same, named-change_other, all_put_named, all_change_named}
 use Rattle.rx_world.proofs.Steps.{rows_go, collection_new, exchange_goes, fork_rows_taken}
 use Rattle.rx_world.proofs.Turns.{takes_parts}
@@ -257,6 +258,7 @@ sound_step (replication name fork master handler field) w is ordered none made s
     (λ c held. new_sound w.collections master c (new_replication name fork master handler field).side refl refl refl)
     sound
 sound_step (exchange name lwt written known up down) w is ordered none made sound = absurd none
+sound_step (migration name text steps) w is ordered none made sound = keeps_sound name text steps w is sound
 sound_step other w is ordered none made sound = sound
 
 -- ---- an exchange

@@ -14,12 +14,13 @@ use Rattle.rx_tree.specs.Forest.{root_of, is_forest, master_of, climbed}
 use Rattle.rx_tree.proofs.Climbing.{apart, climb_end}
 use Rattle.rx_tree.proofs.Depth.{few}
 use Rattle.rx_tree.proofs.Forests.{below, made_last}
-use Rattle.rx_record.specs.Content.{Content, replication, exchange}
+use Rattle.rx_record.specs.Content.{Content, replication, exchange, migration}
 use Rattle.rx_record.specs.declared.record.MasterName.{MasterName}
 use Rattle.rx_record.specs.declared.record.MasterName.TheVariants.{Local, Port}
 use Rattle.rx_world.specs.Chain.{Forks, has_fork, is_fork, fork_before, local_forks, forest_of, IsForest, tree_root, may_follow}
 use Rattle.rx_world.specs.Replicating.{new_replication, with_exchange}
 use Rattle.rx_world.specs.Step.{legal, step}
+use Rattle.rx_world.specs.Touch.{IsNoMigration}
 use Rattle.rx_world.specs.World.{World, Replications}
 use Rattle.rx_world.specs.declared.replication.Replication.{Replication}
 use Rattle.rx_world.proofs.Beginning.{begins}
@@ -146,7 +147,7 @@ found_later fork (Local k) es n none =
     [ true ↦ (λ no. not_none (sym no)) | false ↦ (λ h. refl) ] none
 found_later fork (Port port) es n none = refl
 
--- ---- a legal record leaves a forest
+-- ---- a legal record that is no migration leaves a forest
 
 -- one more that may follow its master
 grown : (rs : Replications) (fork : List ℕ) (m : MasterName) → IsForest rs → may_follow rs fork m ≡ true
@@ -160,14 +161,15 @@ grown rs fork (Local name) forest may =
 grown rs fork (Port port) forest may =
     subst (λ (es : Forks). is_forest bytes_eq es ≡ true) (sym (append-nil (forest_of rs))) forest
 
-pub forest_step : (entry : Content) (w : World) → legal entry w ≡ true → IsForest w.replications
+pub forest_step : (entry : Content) (w : World) → legal entry w ≡ true → IsNoMigration entry → IsForest w.replications
     → IsForest (step entry w).replications
-forest_step (replication name fork master handler field) w is forest =
+forest_step (replication name fork master handler field) w is other forest =
     let b = begins name fork master w is in
     let r = new_replication name fork master handler field in
     subst (λ (es : Forks). is_forest bytes_eq es ≡ true)
     (sym (ap local_forks (values_put w.replications name r b.free) ∙ forks_more (values_of w.replications) r))
     (grown w.replications fork master forest b.follows)
-forest_step (exchange name lwt written known up down) w is forest =
+forest_step (exchange name lwt written known up down) w is other forest =
     subst (λ (es : Forks). is_forest bytes_eq es ≡ true) (sym (forks_kept known up down w.replications name)) forest
-forest_step other w is forest = forest
+forest_step (migration name text steps) w is other forest = absurd other
+forest_step entry w is other forest = forest

@@ -13,15 +13,17 @@ use Rattle.rx_document.specs.declared.place.Place.{Place}
 use Rattle.rx_collection.specs.Commit.{next_height, with_row, with_rows}
 use Rattle.rx_collection.specs.Held.{Held, held_with}
 use Rattle.rx_collection.proofs.Named.{at_name, all_put}
-use Rattle.rx_record.specs.Content.{Content, collection, rows, replication, exchange}
+use Rattle.rx_record.specs.Content.{Content, collection, rows, replication, exchange, migration}
 use Rattle.rx_record.specs.declared.record.RowOut.{RowOut}
+use Rattle.rx_world.specs.Migrating.{is_in_group}
 use Rattle.rx_world.specs.Schema.{schema_in}
 use Rattle.rx_world.specs.Step.{is_valid_state, is_next_row, takes, legal, step, collections_after, stored_of, stored_rows, written_to}
-use Rattle.rx_world.specs.Touch.{no_collection, new_where, fork_rows}
+use Rattle.rx_world.specs.Touch.{IsNoMigration, no_collection, new_where, fork_rows, remade_where}
 use Rattle.rx_world.specs.Valid.{AreValid, AllValid, AreDistinct}
 use Rattle.rx_world.specs.World.{World, empty}
 use Rattle.rx_world.specs.declared.replication.Replication.{Replication}
 use Rattle.rx_world.proofs.Looked.{all_put_named, all_change_named, distinct_put_named, keys-change_named}
+use Rattle.rx_world.proofs.Migrates.{names_after}
 use Rattle.rx_world.proofs.States.{state_valid}
 use Rattle.rx_world.proofs.Steps.{rows_go, rows_names, exchange_goes, fork_rows_taken}
 use Rattle.rx_world.proofs.Turns.{takes_parts}
@@ -84,25 +86,26 @@ fork_valid name lwt (row ∷ written) known up down w is valid (Some r) at =
     (fork_rows_taken lwt row written known c (exchange_goes name lwt (row ∷ written) known up down w is r at c there)) here)
     valid
 
--- a legal record leaves a valid world
-pub valid_step : (entry : Content) (w : World) → legal entry w ≡ true → AllValid w
+-- a legal record that is no migration leaves a valid world
+pub valid_step : (entry : Content) (w : World) → legal entry w ≡ true → IsNoMigration entry → AllValid w
     → AllValid (step entry w)
-valid_step (collection name schema) w is valid =
+valid_step (collection name schema) w is other valid =
     elim (schema_in schema) as (λ o. AllByRecursion (λ e. AreValid e.1)
     (collections_after (new_where name o) w.collections)) [
       | None ↦ valid
       | Some s ↦ all_put_named (λ k x. AreValid x) w.collections name (held_with name s []) tt valid
     ]
-valid_step (rows name lwt written) w is valid =
+valid_step (rows name lwt written) w is other valid =
     all_change_named (λ k x. AreValid x) w.collections name (written_to lwt written)
     (λ c at here.
     let to = rows_go name lwt written w is in
     let same : to.held ≡ c = let there = to.named in cc in
     valid_taken lwt written c (subst (λ x. takes lwt written x ≡ true) same to.taken) here) valid
-valid_step (replication name fork master handler field) w is valid = valid
-valid_step (exchange name lwt written known up down) w is valid =
+valid_step (replication name fork master handler field) w is other valid = valid
+valid_step (exchange name lwt written known up down) w is other valid =
     fork_valid name lwt written known up down w is valid (named w.replications name) refl
-valid_step other w is valid = valid
+valid_step (migration name text steps) w is other valid = absurd other
+valid_step entry w is other valid = valid
 
 -- ---- names
 
@@ -131,4 +134,10 @@ distinct_step (rows name lwt written) w distinct =
 distinct_step (replication name fork master handler field) w distinct = distinct
 distinct_step (exchange name lwt written known up down) w distinct =
     fork_distinct lwt written w distinct (named w.replications name)
+distinct_step (migration name text steps) w distinct =
+    let G = is_in_group w.replications name in
+    elim (schema_in text) as (λ o. IsDistinct bytes_eq (keys_of (collections_after (remade_where G steps o) w.collections))) [
+      | None ↦ distinct
+      | Some s ↦ subst (IsDistinct bytes_eq) (sym (names_after s steps G w.collections)) distinct
+    ]
 distinct_step other w distinct = distinct

@@ -1,14 +1,17 @@
 -- A world with the holders of its collections.
-use Rattle.std.specs.Prelude.{◌≡◌, ℕ, List, [], Bool, false, String, string_bytes}
+use Rattle.std.specs.Prelude.{◌≡◌, ℕ, List, [], ◌∷◌, Bool, true, false, String, string_bytes}
 use Rattle.std.specs.declared.alloc.Global.{Global}
 use Rattle.std.specs.List.{AllByRecursion}
 use Rattle.rx_value.specs.Named.{by_name, by_bytes, put_named, change_named}
 use Rattle.rx_document.specs.declared.stored.Stored.{Stored}
 use Rattle.rx_collection.specs.Held.{Held, held_with}
 use Rattle.rx_collection.specs.Lawful.{IsLawful}
+use Rattle.rx_collection.specs.Migrated.{migrated_collection}
+use Rattle.rx_migrate.specs.declared.step.Step.{Step}
+use Rattle.rx_schema.specs.declared.shape.Shape.{Shape}
 use Rattle.rx_world.specs.Made.{IsMadeWorld}
 use Rattle.rx_world.specs.Step.{stored_rows}
-use Rattle.rx_world.specs.Touch.{Touch, no_collection, new_collection, new_rows}
+use Rattle.rx_world.specs.Touch.{Touch, no_collection, new_collection, new_rows, remade}
 use Rattle.rx_world.specs.World.{World, Replications}
 use Rattle.rx_world.specs.declared.parts.Parts.{Parts}
 
@@ -58,8 +61,31 @@ pub record AreSound
 abbrev pub holders_in : {H : Type 0} → Holders H → List (List ℕ × H)
 holders_in h = by_bytes h.entries
 
+-- a holder of the group was made for its migrated collection, and each other one stays
+pub record IsRemade
+    {H : Type 0}
+    (held : H → Held)
+    (IsMadeFor : Held → H → Type 0)
+    (in_group : List ℕ → Bool)
+    (schema : Shape)
+    (steps : List Step)
+    (old new : List ℕ × H) : Type 0 where
+  pub called : new.0 ≡ old.0
+  pub made : in_group old.0 ≡ true → IsMadeFor (migrated_collection schema steps (held old.1)) new.1
+  pub stays : in_group old.0 ≡ false → new.1 ≡ old.1
+
+-- the same of holders by name, in their order
+abbrev pub AreRemade : {H : Type 0} → (H → Held) → (Held → H → Type 0) → (List ℕ → Bool) → Shape
+    → List Step → List (List ℕ × H) → List (List ℕ × H) → Type 0
+AreRemade held IsMadeFor in_group schema steps [] [] = Unit {0}
+AreRemade held IsMadeFor in_group schema steps (e ∷ es) (f ∷ fs) =
+    IsRemade held IsMadeFor in_group schema steps e f
+    × AreRemade held IsMadeFor in_group schema steps es fs
+AreRemade held IsMadeFor in_group schema steps old new = ⊥
+
 -- What the touch of a record makes of holders by name: all stay, a new one comes that was made for
--- the new collection, or the one of the name is what it is after the rows.
+-- the new collection, the one of the name is what it is after the rows, or those of the group are
+-- made anew.
 abbrev pub After : {H : Type 0} → (H → Held) → (H → List Stored → H) → (Held → H → Type 0) → Touch
     → List (List ℕ × H) → List (List ℕ × H) → Type 0
 After {H} held written IsMadeFor no_collection old new = new ≡ old
@@ -67,6 +93,8 @@ After {H} held written IsMadeFor (new_collection name schema) old new =
     (h : H) × IsMadeFor (held_with name schema []) h × (new ≡ put_named old name h)
 After {H} held written IsMadeFor (new_rows name lwt rows) old new =
     new ≡ change_named old name (λ h. written h (stored_rows (held h).name lwt rows))
+After {H} held written IsMadeFor (remade in_group schema steps) old new =
+    AreRemade held IsMadeFor in_group schema steps old new
 
 -- each of the holders was made for some collection
 abbrev pub AreMadeFor : {H : Type 0} → (Held → H → Type 0) → List (List ℕ × H) → Type 0

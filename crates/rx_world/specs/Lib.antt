@@ -2,11 +2,12 @@ pub mod World
 pub mod Schema
 pub mod Chain
 pub mod Replicating
+pub mod ValidState
+pub mod Migrating
 pub mod Touch
 pub mod Step
 pub mod Replay
 pub mod Copy
-pub mod Migrating
 pub mod Commit
 pub mod Lawful
 pub mod Valid

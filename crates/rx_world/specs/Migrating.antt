@@ -8,7 +8,8 @@ use Rattle.rx_value.specs.Named.{named}
 use Rattle.rx_value.specs.declared.state.State.{State}
 use Rattle.rx_schema.specs.declared.shape.Shape.{Shape}
 use Rattle.rx_collection.specs.Held.{Held}
-use Rattle.rx_collection.specs.Migrated.{migrated_collection, state_after}
+use Rattle.rx_collection.specs.Migrated.{migrated_collection}
+use Rattle.rx_meta.specs.Migrated.{known_after}
 use Rattle.rx_meta.specs.Side.{side_with}
 use Rattle.rx_migrate.specs.Migrated.{migrated}
 use Rattle.rx_migrate.specs.Step.{is_named}
@@ -18,7 +19,7 @@ use Rattle.rx_record.specs.declared.record.MasterName.TheVariants.{Local, Port}
 use Rattle.rx_tree.specs.Forest.{are_joined}
 use Rattle.rx_world.specs.Chain.{forest_of}
 use Rattle.rx_world.specs.Schema.{schema_in}
-use Rattle.rx_world.specs.Step.{is_valid_state}
+use Rattle.rx_world.specs.ValidState.{is_valid_state}
 use Rattle.rx_world.specs.World.{World, Collections, Replications}
 use Rattle.rx_world.specs.declared.replication.Replication.{Replication}
 
@@ -30,9 +31,13 @@ is_in_group rs name other = are_joined bytes_eq (forest_of rs) name other
 
 -- a replication with its known states after the steps
 abbrev pub migrated_replication : List Step → Replication → Replication
-migrated_replication steps r = record r {
-  side = side_with (map (λ e. (e.0, state_after steps e.1)) r.side.known) r.side.up r.side.down;
-}
+migrated_replication steps r =
+    record r { side = side_with (known_after steps r.side.known) r.side.up r.side.down }
+
+-- with its name, where it is of a group
+abbrev pub migrated_entry : (List ℕ → Bool) → List Step → List ℕ × Replication → List ℕ × Replication
+migrated_entry in_group steps e =
+    if in_group e.1.fork then (e.0, migrated_replication steps e.1) else e
 
 -- those of a group
 abbrev pub migrated_collections : (List ℕ → Bool) → Shape → List Step → Collections → Collections
@@ -40,8 +45,7 @@ migrated_collections in_group schema steps cs =
     map (λ e. if in_group e.0 then (e.0, migrated_collection schema steps e.1) else e) cs
 
 abbrev pub migrated_replications : (List ℕ → Bool) → List Step → Replications → Replications
-migrated_replications in_group steps rs =
-    map (λ e. if in_group e.1.fork then (e.0, migrated_replication steps e.1) else e) rs
+migrated_replications in_group steps rs = map (migrated_entry in_group steps) rs
 
 -- the world after it
 abbrev pub migrate_step : List ℕ → Shape → List Step → World → World

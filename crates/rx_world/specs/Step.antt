@@ -1,26 +1,25 @@
 -- What a record does to a world, and where it is legal.
-use Rattle.std.specs.Prelude.{◌≡◌, ℕ, ◌+◌, List, [], ◌∷◌, map, length, Bool, true, false, ◌&&◌, ◌||◌, ◌==◌, nat_lt, nat_le, if◌then◌else◌, Option, Some, None, is_some, is_none}
+use Rattle.std.specs.Prelude.{ℕ, ◌+◌, List, [], ◌∷◌, map, length, Bool, false, ◌&&◌, ◌||◌, ◌==◌, nat_lt, nat_le, if◌then◌else◌, Option, Some, None, is_some, is_none}
 use Rattle.std.specs.List.{list_all, list_any}
 use Rattle.std.specs.Option.{option_map_or}
 use Rattle.std.specs.Str.{bytes_eq}
 use Rattle.rx_value.specs.Name.{is_name}
 use Rattle.rx_value.specs.Named.{named, put_named, change_named}
 use Rattle.rx_value.specs.declared.state.State.{State}
-use Rattle.rx_value.specs.Value.{is_text}
-use Rattle.rx_schema.specs.Validity.{first_fault}
-use Rattle.rx_schema.specs.declared.shape.Shape.{Shape}
 use Rattle.rx_document.specs.declared.place.Place.{Place}
 use Rattle.rx_document.specs.declared.stored.Stored.{Stored}
 use Rattle.rx_collection.specs.Commit.{next_height, with_rows}
 use Rattle.rx_collection.specs.Held.{Held, held_with}
 use Rattle.rx_collection.specs.Time.{last_lwt, most_lwt}
-use Rattle.rx_record.specs.Content.{Content, collection, rows, replication, exchange, epoch}
+use Rattle.rx_record.specs.Content.{Content, collection, rows, replication, exchange, epoch, migration}
 use Rattle.rx_record.specs.declared.record.MasterName.{MasterName}
 use Rattle.rx_record.specs.declared.record.RowOut.{RowOut}
 use Rattle.rx_world.specs.Chain.{may_follow}
+use Rattle.rx_world.specs.Migrating.{is_in_group, may_migrate, migrated_collections, migrated_replications}
 use Rattle.rx_world.specs.Replicating.{new_replication, with_exchange, is_fitting, stays_or_rises}
 use Rattle.rx_world.specs.Schema.{schema_in}
-use Rattle.rx_world.specs.Touch.{Touch, no_collection, new_collection, new_rows, touch}
+use Rattle.rx_world.specs.Touch.{Touch, no_collection, new_collection, new_rows, remade, touch}
+pub use Rattle.rx_world.specs.ValidState.{is_valid_state, IsValidState}
 use Rattle.rx_world.specs.World.{World, Collections, Replications, max_collections, max_replications}
 use Rattle.rx_world.specs.declared.replication.Replication.{Replication}
 
@@ -43,13 +42,18 @@ abbrev pub collections_after : Touch → List (List ℕ × Held) → List (List 
 collections_after no_collection cs = cs
 collections_after (new_collection name schema) cs = put_named cs name (held_with name schema [])
 collections_after (new_rows name lwt written) cs = change_named cs name (written_to lwt written)
+collections_after (remade in_group schema steps) cs =
+    migrated_collections in_group schema steps cs
 
--- replications with what a record makes of them, which changes them for the two kinds that name one
+-- replications with what a record makes of them: the two kinds that name one change that, and a
+-- migration changes those of its group
 abbrev pub replications_after : Content → Replications → Replications
 replications_after (replication name fork master handler field) rs =
     put_named rs name (new_replication name fork master handler field)
 replications_after (exchange name lwt written known up down) rs =
     change_named rs name (with_exchange known up down)
+replications_after (migration name text steps) rs =
+    migrated_replications (is_in_group rs name) steps rs
 replications_after other rs = rs
 
 -- the last epoch, which a record of an epoch alone changes
@@ -66,15 +70,6 @@ step c w = record {
 }
 
 -- ---- where a record is legal
-
--- the state's fields are valid, and hold its key as their primary key
-abbrev pub is_valid_state : Shape → State → Bool
-is_valid_state s state =
-    is_none (first_fault s state.fields) && is_text state.key (named state.fields s.primary)
-
--- the same as a fact
-abbrev pub IsValidState : Shape → State → Type 0
-IsValidState s state = is_valid_state s state ≡ true
 
 -- the row's state is valid, and its height is the next one
 abbrev pub is_next_row : Held → RowOut → Bool
@@ -126,7 +121,8 @@ may_begin name fork master w =
 -- A collection is legal where its name is a name and isn't held, its schema's text is canonical,
 -- and there is room for it. Rows are legal where the collection is held and takes them, a
 -- replication where it may begin, and an exchange where the replication is held and takes it. An
--- epoch is legal where it is the one after the last. No record of another kind is legal yet.
+-- epoch is legal where it is the one after the last, and a migration where its group may go to the
+-- schema. The records of a copy are legal nowhere.
 abbrev pub legal : Content → World → Bool
 legal (collection name schema) w =
     is_name name && is_none (named w.collections name)
@@ -137,6 +133,7 @@ legal (exchange name lwt written known up down) w =
     option_map_or (takes_exchange w.collections lwt written known up down)
     (named w.replications name) false
 legal (epoch number) w = number == w.epoch + 1
+legal (migration name text steps) w = may_migrate name text steps w
 legal other w = false
 
 -- the world after a record, where it is legal

@@ -1,8 +1,10 @@
 ghost use Rattle.std.specs.Prelude.{◌≡◌, true, false, Ok, OnOk, IfOk};
+ghost use Rattle.rx_record.specs.Content.{migration};
 ghost use Rattle.rx_record.specs.Shown.{content};
 ghost use Rattle.rx_record.specs.Writable.{IsOrdered};
 ghost use Rattle.rx_world.specs.Holders.{After, AreWhole, holders_of, world_in};
 ghost use Rattle.rx_value.specs.Named.{by_bytes, by_name, named};
+ghost use Rattle.rx_world.specs.Made.{IsMadeWorld};
 ghost use Rattle.rx_world.specs.Schema.{schema_in};
 ghost use Rattle.rx_collection.specs.Commit.{AreNext};
 ghost use Rattle.rx_world.specs.Step.{step, legal, collections_after, stored_rows};
@@ -11,10 +13,12 @@ ghost use Rattle.rx_world.specs.Touch.{touch, new_where, exchange_touch};
 
 use crate::names::{add, write};
 use crate::parts::Parts;
+use crate::remade::{migrate_known, remake};
 use crate::replications::{add as add_replication, exchange, find};
 use crate::schema_text::schema_in;
 use indexmap::IndexMap;
 use rx_collection::{Collection, Holder};
+use rx_migrate::Steps;
 use rx_record::{Record, RowOut};
 use rx_value::RxText;
 use std::alloc::{AllocError, Global};
@@ -33,6 +37,7 @@ pub(crate) fn change<H: Holder + Drop, F: Fn(Collection) -> Result<H, AllocError
     requires ordered { IsOrdered (content entry) }
     requires legal { legal (content entry) (world_in H.held (holders_of parts.old)) ≡ true }
     requires whole { AreWhole H.held H.is_broken parts.old.holders.entries }
+    requires made { IsMadeWorld (world_in H.held (holders_of parts.old)) }
     ensures world { OnOk result (world_in H.held (holders_of parts.new)
         ≡ step (content entry) (world_in H.held (holders_of parts.old))) }
     ensures whole { OnOk result (AreWhole H.held H.is_broken parts.new.holders.entries) }
@@ -78,8 +83,41 @@ pub(crate) fn change<H: Holder + Drop, F: Fn(Collection) -> Result<H, AllocError
             parts.epoch = number;
             Ok(())
         }
+        Record::Migration {
+            name,
+            schema,
+            steps,
+        } => migrate(parts, alloc, name.as_str(), schema.as_str(), &steps, make),
         _ => Ok(()),
     }
+}
+
+// Takes a group through the steps of a migration: its collections, and what its forks know.
+fn migrate<H: Holder + Drop, F: Fn(Collection) -> Result<H, AllocError>>(
+    parts: &mut Parts<H>,
+    alloc: Global,
+    name: &str,
+    text: &str,
+    steps: &Steps,
+    make: &F,
+) -> Result<(), AllocError>
+    requires callable { F.IsAlwaysCallable make.now }
+    requires makes { (c : _) (r : _) → F.post make.now c r
+        → IfOk r (λ h. (H.held h ≡ c) × (H.is_broken h ≡ false)) }
+    requires legal { legal (migration name.now text.now steps.now)
+        (world_in H.held (holders_of parts.old)) ≡ true }
+    requires whole { AreWhole H.held H.is_broken parts.old.holders.entries }
+    requires made { IsMadeWorld (world_in H.held (holders_of parts.old)) }
+    ensures world { OnOk result (world_in H.held (holders_of parts.new)
+        ≡ step (migration name.now text.now steps.now) (world_in H.held (holders_of parts.old))) }
+    ensures whole { OnOk result (AreWhole H.held H.is_broken parts.new.holders.entries) }
+    ensures holders { OnOk result (After H.held H.written (λ c h. F.post make.now c (Ok h))
+        (touch (migration name.now text.now steps.now) (world_in H.held (holders_of parts.old)))
+        (by_bytes parts.old.holders.entries)
+        (by_bytes parts.new.holders.entries)) }
+{
+    remake(parts, alloc, name, text, steps, make)?;
+    migrate_known(&mut parts.replications, alloc, name, steps)
 }
 
 // Writes the rows of an exchange to the replication's fork, if there is a row.

@@ -10,7 +10,6 @@ ghost use Rattle.rx_record.specs.Shown.{content};
 ghost use Rattle.rx_record.specs.Writable.{IsOrdered};
 ghost use Rattle.rx_replication.specs.Known.{with_learnt};
 ghost use Rattle.rx_value.specs.Named.{by_bytes, by_name, change_named, named};
-ghost use Rattle.rx_world.specs.Chain.{IsForest};
 ghost use Rattle.rx_world.specs.Copy.{ArePlain, are_copied_rows, are_copied_states, copy_step, is_copied_row, is_copied_state, may_copy, most_copied_epoch, none_above, part_stored, plain_world, takes_known, takes_part, with_part};
 ghost use Rattle.rx_world.specs.Holders.{holders_of};
 ghost use Rattle.rx_world.specs.Made.{IsMadeWorld};
@@ -54,7 +53,7 @@ pub fn copy(alloc: Global, world: World<Plain>, entry: Record) -> Result<World<P
 fn copy_into(parts: &mut Parts<Plain>, alloc: Global, entry: Record) -> Result<(), ApplyFault>
     requires ordered { IsOrdered (content entry) }
     requires whole { ArePlain parts.old.holders.entries }
-    requires forest { IsForest (by_bytes parts.old.replications.entries) }
+    requires made { IsMadeWorld (plain_world (holders_of parts.old)) }
     ensures world { OnOk result (plain_world (holders_of parts.new)
         ≡ copy_step (content entry) (plain_world (holders_of parts.old))) }
     ensures may { OnOk result
@@ -107,7 +106,7 @@ fn copy_into(parts: &mut Parts<Plain>, alloc: Global, entry: Record) -> Result<(
 fn begin(parts: &mut Parts<Plain>, alloc: Global, entry: Record) -> Result<(), ApplyFault>
     requires ordered { IsOrdered (content entry) }
     requires whole { ArePlain parts.old.holders.entries }
-    requires forest { IsForest (by_bytes parts.old.replications.entries) }
+    requires made { IsMadeWorld (plain_world (holders_of parts.old)) }
     ensures world { OnOk result (plain_world (holders_of parts.new)
         ≡ step (content entry) (plain_world (holders_of parts.old))) }
     ensures legal { OnOk result

@@ -8,6 +8,7 @@ ghost use Rattle.rx_world.specs.Chain.{IsForest};
 ghost use Rattle.rx_world.specs.Holders.{AreWhole, holders_of, world_in};
 ghost use Rattle.rx_world.specs.Step.{is_valid_state, is_next_row, takes, legal};
 
+use crate::migrating::may_migrate;
 use crate::names::find;
 use crate::parts::{MAX_COLLECTIONS, Parts};
 use crate::replicating::{may_begin, takes_exchange};
@@ -64,12 +65,17 @@ pub(crate) fn is_legal<H: Holder>(
             None => Ok(false),
         },
         Record::Epoch { number } => Ok(is_next(*number, parts.epoch)),
+        Record::Migration {
+            name,
+            schema,
+            steps,
+        } => may_migrate(parts, alloc, name.as_str(), schema.as_str(), steps),
         _ => Ok(false),
     }
 }
 
-/// The same of a record that is only lent. A schema, one state at a time, a master's name or a
-/// checkpoint is owned.
+/// The same of a record that is only lent. A schema, one state at a time, a master's name, a
+/// checkpoint or a migration is owned.
 pub(crate) fn is_legal_view<H: Holder>(
     parts: &Parts<H>,
     alloc: Global,
@@ -119,6 +125,7 @@ pub(crate) fn is_legal_view<H: Holder>(
             None => Ok(false),
         },
         RecordView::Epoch { number } => Ok(is_next(*number, parts.epoch)),
+        RecordView::Migration { .. } => is_legal(parts, alloc, &view.own(alloc)?),
         _ => Ok(false),
     }
 }

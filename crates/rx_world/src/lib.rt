@@ -12,6 +12,7 @@ mod legality;
 mod migrating;
 mod names;
 mod parts;
+mod remade;
 mod replicating;
 mod replicating_views;
 mod replication;

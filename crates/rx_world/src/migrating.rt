@@ -5,7 +5,7 @@ ghost use Rattle.rx_value.specs.Named.{by_bytes, by_name};
 ghost use Rattle.rx_world.specs.Chain.{IsForest};
 ghost use Rattle.rx_world.specs.Holders.{AreWhole, holders_of, world_in};
 ghost use Rattle.rx_world.specs.Migrating.{collections_migrate, documents_migrate, group_migrates, is_in_group, is_local, is_next_schema, may_migrate, replication_migrates, replications_migrate, state_migrates};
-ghost use Rattle.rx_world.specs.MigrationLaws.{MigrationKeepsMade, MigrationKeepsSound};
+ghost use Rattle.rx_world.specs.MigrationLaws.{MigrationKeepsMade, MigrationKeepsSound, MigrationMigrates};
 
 use crate::chain::is_in_group;
 use crate::legality::is_valid;
@@ -217,8 +217,9 @@ fn known_migrate(
     Ok(true)
 }
 
-/// States what holds of every migration that is legal, and does nothing.
+/// States what holds of every migration, and does nothing.
 pub fn migration_laws()
+    ensures migrates { MigrationMigrates }
     ensures made { MigrationKeepsMade }
     ensures sound { MigrationKeepsSound }
 {}

@@ -8,6 +8,7 @@ ghost use Rattle.rx_record.specs.Writable.{IsOrdered};
 ghost use Rattle.rx_world.specs.Commit.{out_of, commit_to};
 ghost use Rattle.rx_world.specs.Step.{IsValidState, legal, stored_of, stored_rows};
 ghost use Rattle.rx_world.specs.World.{World};
+ghost use Rattle.rx_world.specs.Touch.{IsNoMigration};
 
 use crate::fault::StepFault;
 use rx_collection::Collection;
@@ -82,6 +83,7 @@ pub fn commit(
     ensures legal { (w : World) → named w.collections collection.now.name ≡ Some collection.now
         → IfOk result (λ entry. legal (content entry) w ≡ true) }
     ensures ordered { IfOk result (λ entry. IsOrdered (content entry)) }
+    ensures rows { IfOk result (λ entry. IsNoMigration (content entry)) }
     ensures clock_end { IsErrOf result StepFault.ClockEnd
         → commit_to collection.now.name states.items now collection.now ≡ None }
 {

@@ -18,7 +18,7 @@ ghost use Rattle.rx_world.specs.Made.{IsMadeWorld};
 ghost use Rattle.rx_world.specs.Migrating.{may_migrate};
 ghost use Rattle.rx_world.specs.Sound.{IsSoundWorld};
 ghost use Rattle.rx_world.specs.Step.{IsValidState, step, legal};
-ghost use Rattle.rx_world.specs.Touch.{touch};
+ghost use Rattle.rx_world.specs.Touch.{IsNoMigration, touch};
 ghost use Rattle.rx_world.specs.Valid.{AreValid, AreDistinct};
 ghost use Rattle.rx_world.specs.World.{empty};
 
@@ -336,6 +336,7 @@ impl<H: Holder + Drop> World<H> {
         ensures legal { IfOk result (λ entry. legal (content entry) (world_in H.held self.now)
             ≡ true) }
         ensures ordered { IfOk result (λ entry. IsOrdered (content entry)) }
+        ensures rows { IfOk result (λ entry. IsNoMigration (content entry)) }
         ensures clock_end { IsErrOf result StepFault.ClockEnd
             → commit (world_in H.held self.now) name.now states.items now ≡ None }
     {

@@ -1,8 +1,10 @@
-use Rattle.std.proofs.Common.{◌≡◌, true, sym, subst}
+use Rattle.std.proofs.Common.{◌≡◌, Ok, true, sym, subst}
 use Rattle.rx_record.specs.Shown.{content}
-use Rattle.rx_world.specs.Holders.{holders_of, world_in}
+use Rattle.rx_value.specs.Named.{by_bytes}
+use Rattle.rx_world.specs.Holders.{After, holders_in, holders_of, world_in}
 use Rattle.rx_world.specs.Made.{IsMadeWorld}
 use Rattle.rx_world.specs.Step.{legal}
+use Rattle.rx_world.specs.Touch.{touch}
 use Rattle.rx_world.specs.Valid.{AreDistinct}
 use Rattle.rx_world.proofs.Making.{made_step}
 use Rattle.rx_world.proofs.Valid.{distinct_step}
@@ -31,3 +33,10 @@ returns-clause-distinct g c =
     subst AreDistinct (sym c.in_ok-change.ensures.world)
     (distinct_step (content c.args.entry) (world_in g.H.Holder.held (holders_of c.self.inside.parts))
     c.self.invariant.made.distinct)
+
+pub returns-clause-holders : goal.returns-clause-holders
+returns-clause-holders g c =
+    let held = g.H.Holder.held in
+    subst (λ w. After held g.H.Holder.written (λ x h. g.F.Fn.post c.args.make.now (x, tt) (Ok h))
+    (touch (content c.args.entry) (world_in held w)) (holders_in w)
+    (by_bytes c.change.new.parts.holders.entries)) c.self.view_is c.in_ok-change.ensures.holders
