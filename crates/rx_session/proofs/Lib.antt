@@ -10,3 +10,4 @@ pub mod Carrying
 pub mod Several
 pub mod Played
 pub mod Naming
+pub mod Remade

@@ -14,8 +14,9 @@ use Rattle.rx_observe.specs.Rows.{emissions_due}
 use Rattle.rx_update.specs.Attached.{Hooking}
 use Rattle.rx_world.specs.Holders.{Holders, holders_in}
 use Rattle.rx_world.specs.Step.{step, legal}
-use Rattle.rx_world.specs.Touch.{Touch, no_collection, new_collection, new_rows, touch}
+use Rattle.rx_world.specs.Touch.{IsNoMigration, Touch, no_collection, new_collection, new_rows, remade, touch}
 use Rattle.rx_world.specs.Valid.{AreDistinct}
+use Rattle.rx_world.specs.World.{World}
 use Rattle.rx_world.proofs.Looked.{all_change_named, all_put_named}
 use Rattle.rx_world.proofs.Valid.{distinct_step}
 use Rattle.rx_session.specs.Applied.{IsAfter, coll_written, with_written}
@@ -27,7 +28,7 @@ use Rattle.rx_session.specs.declared.query_place.QueryPlace.{QueryPlace}
 use Rattle.rx_session.proofs.Places.{colls, distinct_in, world_colls}
 use Rattle.rx_session.proofs.Settling.{same_world, session_of}
 use Rattle.rx_session.proofs.Several.{colls_each, placed_each, queries_each, quiet_each, taken_is_due}
-use Rattle.rx_session.proofs.Writing.{queries_after, legal_unheld, placed_after}
+use Rattle.rx_session.proofs.Writing.{IsUnheld, queries_after, legal_unheld, placed_after}
 
 -- ---- what is quiet
 
@@ -61,17 +62,17 @@ now_noted coll written none =
     ] refl none
 
 -- a record leaves all quiet but the collections that were written, with its own
-quiet_noted : (t : Touch) (written : List (List ℕ)) (ls new : Lives) → IsAfter t ls new
-    → AreQuietUnless written ls → AreQuietUnless (add_written (coll_written t) written) new
-quiet_noted no_collection written ls new session_after quiet =
+quiet_noted : (w : World) (t : Touch) (written : List (List ℕ)) (ls new : Lives) → IsUnheld w t
+    → IsAfter t ls new → AreQuietUnless written ls → AreQuietUnless (add_written (coll_written t) written) new
+quiet_noted w no_collection written ls new unheld session_after quiet =
     subst (AreQuietUnless written) (sym session_after) quiet
-quiet_noted (new_collection name schema) written ls new session_after quiet =
+quiet_noted w (new_collection name schema) written ls new unheld session_after quiet =
     subst (AreQuietUnless written) (sym session_after.2)
     (all_put_named (λ n (l : Observing).
     list_any (bytes_eq n) written ≡ false → emissions_due l.collection l.queries ≡ []) ls name
     session_after.0
     (λ none. ap (λ (l : Observing). emissions_due l.collection l.queries) session_after.1) quiet)
-quiet_noted (new_rows name lwt rows) written ls new session_after quiet =
+quiet_noted w (new_rows name lwt rows) written ls new unheld session_after quiet =
     let now : List (List ℕ) = add_written (Some name) written in
     let P = λ (n : List ℕ) (l : Observing).
     (list_any (bytes_eq n) now ≡ false → emissions_due l.collection l.queries ≡ []) in
@@ -81,6 +82,7 @@ quiet_noted (new_rows name lwt rows) written ls new session_after quiet =
     subst (AreQuietUnless now) (sym session_after)
     (all_change_named P ls name (with_written lwt rows)
     (λ l at was none. absurd (true≢false (now_noted name written none))) each)
+quiet_noted w (remade in_group schema steps) written ls new unheld session_after quiet = absurd unheld
 
 -- nothing is to be emitted of a collection without queries
 none_due_of : (c : Held) (qs : Queries) → keys_of qs ≡ [] → emissions_due c qs ≡ []
@@ -110,6 +112,7 @@ pub record IsPlayed (content : Content) (old new : Holders Observing) (ps : List
   pub distinct : AreDistinct (world_of old)
   pub quiet : AreQuietUnless written (holders_in old)
   pub allowed : legal content (world_of old) ≡ true
+  pub other : IsNoMigration content
   pub stepped : world_of new ≡ step content (world_of old)
   pub applied : IsAfter (touch content (world_of old)) (holders_in old) (holders_in new)
 
@@ -120,7 +123,7 @@ module _ (content : Content) (old new : Holders Observing) (moment : ℕ) (hooks
   played_placed =
       placed_after (touch content (world_of old)) (world_of old) (holders_in old)
       (holders_in new) ps
-      (world_colls old) so.placed (legal_unheld content (world_of old) so.allowed) so.applied
+      (world_colls old) so.placed (legal_unheld content (world_of old) so.allowed so.other) so.applied
 
   -- the queries have followed the record
   followed : queries_of (holders_in new) ps
@@ -129,7 +132,7 @@ module _ (content : Content) (old new : Holders Observing) (moment : ℕ) (hooks
   followed =
       queries_after (touch content (world_of old)) (world_of old) (holders_in old)
       (holders_in new) ps
-      (world_colls old) so.placed (legal_unheld content (world_of old) so.allowed) so.applied
+      (world_colls old) so.placed (legal_unheld content (world_of old) so.allowed so.other) so.applied
 
   pub played_distinct : AreDistinct (world_of new)
   played_distinct =
@@ -141,7 +144,8 @@ module _ (content : Content) (old new : Holders Observing) (moment : ℕ) (hooks
   played_quiet =
       let t = touch content (world_of old) in
       quiet_to_note ps t written (holders_in new) played_placed
-      (quiet_noted t written (holders_in old) (holders_in new) so.applied so.quiet)
+      (quiet_noted (world_of old) t written (holders_in old) (holders_in new)
+      (legal_unheld content (world_of old) so.allowed so.other) so.applied so.quiet)
 
   pub played_session : session_of new moment hooks ps
       ≡ session_after (write content) (session_of old moment hooks ps)

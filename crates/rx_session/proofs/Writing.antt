@@ -12,14 +12,14 @@ use Rattle.rx_value.proofs.Outcomes.{none_is, none_mapped}
 use Rattle.rx_value.proofs.Lists.{all_weaker}
 use Rattle.rx_value.proofs.Bytes.{bytes_itself, bytes_apart}
 use Rattle.rx_collection.specs.Held.{Held}
-use Rattle.rx_record.specs.Content.{Content, collection, rows, replication, exchange}
+use Rattle.rx_record.specs.Content.{Content, collection, rows, replication, exchange, migration}
 use Rattle.rx_record.specs.declared.record.RowOut.{RowOut}
 use Rattle.rx_observe.specs.Observing.{Observing, watch_after}
 use Rattle.rx_observe.specs.Rows.{emissions_due}
 use Rattle.rx_observe.specs.Watched.{Watched}
 use Rattle.rx_world.specs.Schema.{schema_in}
 use Rattle.rx_world.specs.Step.{legal, stored_rows}
-use Rattle.rx_world.specs.Touch.{Touch, no_collection, new_collection, new_rows, new_where, fork_rows, touch}
+use Rattle.rx_world.specs.Touch.{IsNoMigration, Touch, no_collection, new_collection, new_rows, remade, new_where, fork_rows, touch}
 use Rattle.rx_world.specs.World.{World}
 use Rattle.rx_world.specs.declared.replication.Replication.{Replication}
 use Rattle.rx_world.proofs.Looked.{all_change_named, all_put_named, named-change_other, named-change_same, named-put_other}
@@ -32,11 +32,12 @@ use Rattle.rx_session.proofs.Places.{all_of, colls, keys-map, map_same, named-co
 
 -- ---- a new collection
 
--- the name of what a record makes isn't held
+-- the name of what a record makes isn't held, and it makes none anew
 abbrev pub IsUnheld : World → Touch → Type 0
 IsUnheld w no_collection = Unit {0}
 IsUnheld w (new_collection name schema) = named w.collections name ≡ None
 IsUnheld w (new_rows name lwt written) = Unit {0}
+IsUnheld w (remade in_group schema steps) = ⊥
 
 -- the fork of an exchange is no new collection
 fork_unheld : (w : World) (lwt : ℕ) (written : List RowOut) (o : Option Replication)
@@ -45,20 +46,21 @@ fork_unheld w lwt written None = tt
 fork_unheld w lwt [] (Some r) = tt
 fork_unheld w lwt (row ∷ written) (Some r) = tt
 
--- a legal one's isn't
-pub legal_unheld : (content : Content) (w : World) → legal content w ≡ true
+-- so it is with a legal one that is no migration
+pub legal_unheld : (content : Content) (w : World) → legal content w ≡ true → IsNoMigration content
     → IsUnheld w (touch content w)
-legal_unheld (collection name schema) w allowed =
+legal_unheld (collection name schema) w allowed other =
     let is = (and_parts _ _ (and_parts _ _ (and_parts _ _ allowed).0).0).1 in
     elim (schema_in schema) as (λ o. IsUnheld w (new_where name o)) [
       | None ↦ tt
       | Some s ↦ none_is (named w.collections name) is
     ]
-legal_unheld (rows name lwt written) w allowed = tt
-legal_unheld (replication name fork master handler field) w allowed = tt
-legal_unheld (exchange name lwt written known up down) w allowed =
+legal_unheld (rows name lwt written) w allowed other = tt
+legal_unheld (replication name fork master handler field) w allowed other = tt
+legal_unheld (exchange name lwt written known up down) w allowed other =
     fork_unheld w lwt written (named w.replications name)
-legal_unheld other w allowed = tt
+legal_unheld (migration name text steps) w allowed other = absurd other
+legal_unheld entry w allowed other = tt
 
 -- so no collection with queries has it
 free_name : (name : List ℕ) (w : World) (ls : Lives) → w.collections ≡ colls ls
@@ -227,6 +229,7 @@ queries_after (new_rows name lwt written) w ls new ps same placed unheld after =
     ∙ queries_become (query_after w (new_rows name lwt written)) ls
     (change_named ls name (with_written lwt written)) ps
     (all_of _ (after_at w ls same lwt written name) ps)
+queries_after (remade in_group schema steps) w ls new ps same placed unheld after = absurd unheld
 
 -- all stays in its places
 pub placed_after : (t : Touch) (w : World) (ls new : Lives) (ps : List QueryPlace)
@@ -243,3 +246,4 @@ placed_after (new_rows name lwt written) w ls new ps same placed unheld after =
     (placed_changed (with_written lwt written)
     (λ l. keys-map (watch_after l.collection (stored_rows l.collection.name lwt written)) l.queries)
     ls name ps placed)
+placed_after (remade in_group schema steps) w ls new ps same placed unheld after = absurd unheld

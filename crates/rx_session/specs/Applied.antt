@@ -8,7 +8,7 @@ use Rattle.rx_observe.specs.Observing.{Observing, put_all}
 use Rattle.rx_observe.specs.declared.emission.Emission.{Emission}
 use Rattle.rx_world.specs.Holders.{After}
 use Rattle.rx_world.specs.Step.{stored_rows}
-use Rattle.rx_world.specs.Touch.{Touch, no_collection, new_collection, new_rows}
+use Rattle.rx_world.specs.Touch.{Touch, no_collection, new_collection, new_rows, remade}
 use Rattle.rx_session.specs.Lives.{due_of, with_query, with_settled, without_query}
 use Rattle.rx_session.specs.Placed.{Lives}
 use Rattle.rx_session.specs.declared.query_place.QueryPlace.{QueryPlace}
@@ -18,6 +18,7 @@ abbrev pub coll_written : Touch → Option (List ℕ)
 coll_written no_collection = None
 coll_written (new_collection name schema) = None
 coll_written (new_rows name lwt written) = Some name
+coll_written (remade in_group schema steps) = None
 
 -- with the rows of a record
 abbrev pub with_written : ℕ → List RowOut → Observing → Observing
@@ -27,8 +28,8 @@ with_written lwt written l = put_all l (stored_rows l.collection.name lwt writte
 abbrev pub IsMadeFor : Held → Observing → Type 0
 IsMadeFor c l = l ≡ record { collection = c; queries = []; broken = false }
 
--- A new collection has no queries, the collection of rows takes them and its queries follow, and
--- all others stay.
+-- A new collection has no queries, the collection of rows takes them and its queries follow, those
+-- of a group are made anew without queries, and all others stay.
 abbrev pub IsAfter : Touch → Lives → Lives → Type 0
 IsAfter t old new = After (λ (l : Observing). l.collection) put_all IsMadeFor t old new
 

@@ -12,7 +12,7 @@ use Rattle.rx_observe.specs.Watched.{Watched}
 use Rattle.rx_update.specs.Attached.{Hooking}
 use Rattle.rx_update.specs.declared.attached.Attached.{Attached}
 use Rattle.rx_world.specs.Step.{step, legal, stored_rows}
-use Rattle.rx_world.specs.Touch.{Touch, no_collection, new_collection, new_rows, touch}
+use Rattle.rx_world.specs.Touch.{IsNoMigration, Touch, no_collection, new_collection, new_rows, remade, touch}
 use Rattle.rx_world.specs.World.{World}
 use Rattle.rx_session.specs.Emissions.{documents_at}
 use Rattle.rx_session.specs.Session.{Observed, Session, is_observed, with_watched}
@@ -40,6 +40,7 @@ query_after w (new_collection name schema) o = o
 query_after w (new_rows name lwt written) o =
     if bytes_eq name o.coll
     then with_watched (watch_in (named w.collections name) lwt written o.watched) o else o
+query_after w (remade in_group schema steps) o = o
 
 -- a query that was run once, and of which nothing was emitted
 abbrev pub new_query : World → List ℕ → List ℕ → QuerySpec → Observed
@@ -77,10 +78,10 @@ abbrev pub has_key : List ℕ → Option Held → Bool
 has_key primary None = false
 has_key primary (Some c) = bytes_eq primary c.schema.primary
 
--- a record is legal and in order; a query's name is free, and its collection has its primary key;
--- an epoch is the next one
+-- a record is legal, in order and no migration; a query's name is free, and its collection has its
+-- primary key; an epoch is the next one
 abbrev pub MayDo : Doing → Session → Type 0
-MayDo (write c) s = (legal c s.world ≡ true) × IsOrdered c
+MayDo (write c) s = (legal c s.world ≡ true) × IsOrdered c × IsNoMigration c
 MayDo (watch name coll q) s =
     (is_observed name s ≡ false) × (has_key q.primary (named s.world.collections coll) ≡ true)
 MayDo (restart number) s = number ≡ s.world.epoch + 1

@@ -7,9 +7,10 @@ ghost use Rattle.rx_world.specs.Made.{IsMadeWorld};
 ghost use Rattle.rx_world.specs.Step.{step, legal};
 ghost use Rattle.rx_world.specs.Touch.{touch};
 ghost use Rattle.rx_world.specs.Valid.{AreDistinct};
-ghost use Rattle.rx_session.specs.Applied.{IsAfter, coll_written};
+ghost use Rattle.rx_session.specs.Applied.{IsAfter, IsMadeFor, coll_written};
 ghost use Rattle.rx_session.specs.Placed.{AreUnwatched, world_of};
 
+use rx_collection::Collection;
 use rx_diagram::Diagram;
 use rx_observe::Live;
 use rx_record::Record;
@@ -35,16 +36,24 @@ pub fn apply(
     ensures illegal { IsErrOf result ApplyFault.Illegal
         → legal (content entry) (world_of world) ≡ false }
 {
-    change(world, alloc, entry, diagram)
+    change(
+        world,
+        alloc,
+        entry,
+        &|collection| { Live::new(alloc, collection, diagram.clone()?) },
+    )
 }
 
-// Applies a record, and brings the queries of its collection up to date.
-fn change(
+// Applies a record, and brings the queries of its collection up to date. What makes a collection gives
+// it no queries.
+fn change<F: Fn(Collection) -> Result<Live, AllocError>>(
     world: World<Live>,
     alloc: Global,
     entry: Record,
-    diagram: &Rc<Diagram>,
+    make: &F,
 ) -> Result<World<Live>, ApplyFault>
+    requires callable { F.IsAlwaysCallable make.now }
+    requires makes { (c : _) (r : _) → F.post make.now c r → IfOk r (IsMadeFor c) }
     requires ordered { IsOrdered (content entry) }
     ensures ok { IfOk result (λ w. (world_of w ≡ step (content entry) (world_of world))
         × (legal (content entry) (world_of world) ≡ true)) }
@@ -55,11 +64,8 @@ fn change(
     ensures illegal { IsErrOf result ApplyFault.Illegal
         → legal (content entry) (world_of world) ≡ false }
 {
-    world.apply(
-        alloc,
-        entry,
-        &|collection| { Live::new(alloc, collection, diagram.clone()?) },
-    )
+    let applied = world.apply(alloc, entry, make)?;
+    Ok(applied)
 }
 
 // The same of a legal record.
@@ -75,11 +81,30 @@ pub(crate) fn apply_legal(
     ensures lives { IfOk result
         (λ w. IsAfter (touch (content entry) (world_of world)) (holders_in world) (holders_in w)) }
 {
-    world.apply_legal(
+    change_legal(
+        world,
         alloc,
         entry,
         &|collection| { Live::new(alloc, collection, diagram.clone()?) },
     )
+}
+
+fn change_legal<F: Fn(Collection) -> Result<Live, AllocError>>(
+    world: World<Live>,
+    alloc: Global,
+    entry: Record,
+    make: &F,
+) -> Result<World<Live>, AllocError>
+    requires callable { F.IsAlwaysCallable make.now }
+    requires makes { (c : _) (r : _) → F.post make.now c r → IfOk r (IsMadeFor c) }
+    requires ordered { IsOrdered (content entry) }
+    requires legal { legal (content entry) (world_of world) ≡ true }
+    ensures world { IfOk result (λ w. world_of w ≡ step (content entry) (world_of world)) }
+    ensures lives { IfOk result
+        (λ w. IsAfter (touch (content entry) (world_of world)) (holders_in world) (holders_in w)) }
+{
+    let applied = world.apply_legal(alloc, entry, make)?;
+    Ok(applied)
 }
 
 // The collection whose documents a record writes: that of its rows, or the fork of an exchange that

@@ -6,7 +6,7 @@ ghost use Rattle.rx_record.specs.Shown.{content};
 ghost use Rattle.rx_record.specs.Writable.{IsOrdered};
 ghost use Rattle.rx_world.specs.Holders.{holders_in};
 ghost use Rattle.rx_world.specs.Step.{legal};
-ghost use Rattle.rx_world.specs.Touch.{touch};
+ghost use Rattle.rx_world.specs.Touch.{IsNoMigration, touch};
 ghost use Rattle.rx_session.specs.Doing as doing;
 ghost use Rattle.rx_session.specs.Doing.{session_after};
 ghost use Rattle.rx_session.specs.Emissions.{emissions, settled_session, IsSettled};
@@ -84,6 +84,7 @@ impl Playing {
     pub fn write(self, alloc: Global, entry: Record) -> Result<Playing, AllocError>
         requires legal { legal (content entry) self.world ≡ true }
         requires ordered { IsOrdered (content entry) }
+        requires no_migration { IsNoMigration (content entry) }
         ensures { IfOk result (λ p. p ≡ session_after (doing.write (content entry)) self) }
     {
         let Playing {

@@ -11,6 +11,7 @@ ghost use Rattle.rx_world.specs.Commit.{commit_to};
 ghost use Rattle.rx_world.specs.Holders.{holders_in};
 ghost use Rattle.rx_world.specs.Lawful.{IsLawfulWorld};
 ghost use Rattle.rx_world.specs.Step.{IsValidState, legal};
+ghost use Rattle.rx_world.specs.Touch.{IsNoMigration};
 ghost use Rattle.rx_world.specs.Valid.{AreDistinct, AreValid};
 ghost use Rattle.rx_session.specs.Placed.{AreUnwatched, place_named, world_of};
 ghost use Rattle.rx_session.specs.Session.{is_observed, counts_of};
@@ -151,6 +152,7 @@ impl Session {
             ≡ Some (content entry)) }
         ensures legal { IfOk result (λ entry. legal (content entry) self.now.world ≡ true) }
         ensures ordered { IfOk result (λ entry. IsOrdered (content entry)) }
+        ensures rows { IfOk result (λ entry. IsNoMigration (content entry)) }
         ensures clock_end { IsErrOf result StepFault.ClockEnd
             → commit_to collection.now.name states.items self.now.moment collection.now ≡ None }
     {

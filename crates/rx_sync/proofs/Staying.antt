@@ -7,11 +7,12 @@ use Rattle.rx_value.proofs.Outcomes.{some_same}
 use Rattle.rx_schema.specs.declared.shape.Shape.{Shape}
 use Rattle.rx_collection.specs.Held.{Held}
 use Rattle.rx_handler.specs.Handlers.{Kinds}
-use Rattle.rx_record.specs.Content.{Content, collection, rows, replication, exchange}
+use Rattle.rx_record.specs.Content.{Content, collection, rows, replication, exchange, migration}
 use Rattle.rx_world.specs.Made.{IsMadeWorld}
 use Rattle.rx_world.specs.Replicating.{new_replication, with_exchange}
 use Rattle.rx_world.specs.Sound.{IsSoundWorld}
 use Rattle.rx_world.specs.Step.{legal, step}
+use Rattle.rx_world.specs.Touch.{IsNoMigration}
 use Rattle.rx_world.specs.World.{World}
 use Rattle.rx_world.specs.declared.replication.Replication.{Replication}
 use Rattle.rx_world.proofs.Beginning.{begins}
@@ -64,18 +65,18 @@ still_same : (w : World) (name : List ℕ) (r : Replication) → named w.replica
 still_same w name r at =
     record { now = r; held = at; fork = refl; master = refl; handler = refl }
 
--- after a legal record
+-- after a legal record that is no migration
 still_step : (c : Content) (w : World) (name : List ℕ) (r : Replication) → legal c w ≡ true
-    → named w.replications name ≡ Some r → IsStillThere (step c w) name r
-still_step (collection k schema) w name r is at = still_same (step (collection k schema) w) name r
+    → IsNoMigration c → named w.replications name ≡ Some r → IsStillThere (step c w) name r
+still_step (collection k schema) w name r is other at = still_same (step (collection k schema) w) name r
     at
-still_step (rows k lwt written) w name r is at = still_same (step (rows k lwt written) w) name r at
-still_step (replication k fork m handler field) w name r is at =
+still_step (rows k lwt written) w name r is other at = still_same (step (rows k lwt written) w) name r at
+still_step (replication k fork m handler field) w name r is other at =
     let free = (begins k fork m w is).free in
     let new = new_replication k fork m handler field in
     still_same (step (replication k fork m handler field) w) name r
     (named-put_other w.replications k name new (held_other w.replications name k r free at) ∙ at)
-still_step (exchange k lwt written known up down) w name r is at =
+still_step (exchange k lwt written known up down) w name r is other at =
     elim (bytes_cases name k) [
       | inl same ↦ record {
         now = with_exchange known up down r;
@@ -88,10 +89,11 @@ still_step (exchange k lwt written known up down) w name r is at =
         master = refl;
         handler = refl;
       }
-      | inr other ↦ still_same (step (exchange k lwt written known up down) w) name r
-          (named-change_other (with_exchange known up down) w.replications k name other ∙ at)
+      | inr apart ↦ still_same (step (exchange k lwt written known up down) w) name r
+          (named-change_other (with_exchange known up down) w.replications k name apart ∙ at)
     ]
-still_step other w name r is at = still_same (step other w) name r at
+still_step (migration k text steps) w name r is other at = absurd other
+still_step entry w name r is other at = still_same (step entry w) name r at
 
 -- after several
 pub still_after : (cs : List Content) (w : World) (name : List ℕ) (r : Replication)
@@ -99,7 +101,7 @@ pub still_after : (cs : List Content) (w : World) (name : List ℕ) (r : Replica
     → IsStillThere (world_after cs w) name r
 still_after [] w name r come at = still_same w name r at
 still_after (c ∷ cs) w name r come at =
-    let first = still_step c w name r come.0.lawful at in
+    let first = still_step c w name r come.0.lawful come.0.no_migration at in
     let rest = still_after cs (step c w) name first.now come.1 first.held in
     record {
       now = rest.now;
@@ -114,7 +116,7 @@ pub stay_after : (cs : List Content) (w : World) → MayComeInTurn w cs
     → StayHeld w.collections (world_after cs w).collections
 stay_after [] w come = record { held = λ k c at. (c, at, refl) }
 stay_after (c ∷ cs) w come =
-    let first = stay_step c w come.0.lawful in
+    let first = stay_step c w come.0.lawful come.0.no_migration in
     let rest = stay_after cs (step c w) come.1 in
     record {
       held = λ k x at.

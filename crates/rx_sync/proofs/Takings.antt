@@ -249,6 +249,7 @@ module _ (w : World) (made : IsMadeWorld w) (sound : IsSoundWorld w) (name : Lis
         up_has_time = subst PlaceHasTime (sym t.of.up) times.0;
         down_has_time = subst PlaceHasTime (sym t.of.down) times.1;
       };
+      no_migration = tt;
     }
 
     -- it leaves a sound world, where the master has answered

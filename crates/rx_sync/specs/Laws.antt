@@ -30,6 +30,7 @@ use Rattle.rx_script.specs.declared.happening.Happening.{Happening}
 use Rattle.rx_script.specs.declared.happening.Happening.TheVariants as link
 use Rattle.rx_world.specs.Sound.{IsSoundWorld}
 use Rattle.rx_world.specs.Step.{step, legal}
+use Rattle.rx_world.specs.Touch.{IsNoMigration}
 use Rattle.rx_world.specs.World.{World, Collections}
 use Rattle.rx_world.specs.declared.replication.Replication.{Replication}
 use Rattle.rx_sync.specs.Asking.{asked_in, pending_in}
@@ -44,10 +45,11 @@ use Rattle.rx_sync.specs.declared.fault.TakeFault.TheVariants.{ClockEnd}
 
 -- ---- records
 
--- the record may come next, and is in order
+-- the record may come next, is in order, and is no migration
 pub record MayCome (w : World) (c : Content) : Type 0 where
   pub lawful : legal c w ≡ true
   pub ordered : IsOrdered c
+  pub no_migration : IsNoMigration c
 
 -- so may each of them, one after another
 abbrev pub MayComeInTurn : World → List Content → Type 0

@@ -24,6 +24,7 @@ done c = record {
   allowed =
       subst (λ (s : Session). legal (content c.args.entry) s.world ≡ true) (sym c.self.view_is)
       c.requires.legal;
+  other = c.requires.no_migration;
   stepped = c.in_ok-world.ensures.world;
   applied = c.in_ok-world.ensures.lives;
 }
