@@ -11,7 +11,7 @@ use Rattle.rx_collection.specs.Commit.{with_row, with_rows}
 use Rattle.rx_collection.specs.Held.{Held, held_with}
 use Rattle.rx_collection.specs.Time.{last_lwt}
 use Rattle.rx_collection.proofs.Last.{within_last}
-use Rattle.rx_record.specs.Content.{Content, collection, rows, replication, exchange, epoch}
+use Rattle.rx_record.specs.Content.{Content, collection, rows, replication, exchange, epoch, migration}
 use Rattle.rx_record.specs.declared.record.RowOut.{RowOut}
 use Rattle.rx_session.specs.Doing as doing
 use Rattle.rx_session.specs.Doing.{Doing, nothing, set_clock, write, watch, unwatch, attach, restart, MayDo}
@@ -24,7 +24,7 @@ use Rattle.rx_sync.proofs.Pulls.{pending_is}
 use Rattle.rx_world.specs.Replicating.{new_replication, with_exchange}
 use Rattle.rx_world.specs.Schema.{schema_in}
 use Rattle.rx_world.specs.Step.{collections_after, legal, step, stored_of, stored_rows, takes, written_to}
-use Rattle.rx_world.specs.Touch.{fork_rows, new_where, no_collection}
+use Rattle.rx_world.specs.Touch.{IsNoMigration, fork_rows, new_where, no_collection}
 use Rattle.rx_world.specs.World.{Collections, World}
 use Rattle.rx_world.specs.declared.replication.Replication.{Replication}
 use Rattle.rx_world.proofs.Beginning.{begins}
@@ -103,10 +103,10 @@ then_exchanged w k old lwt (row ∷ more) (Some r) at taken =
     then_written w.collections k r.fork old lwt (row ∷ more) at
     (λ same. taken r row more refl refl same)
 
--- after a legal record
+-- after a legal record that is no migration
 then_step : (c : Content) (w : World) (k : List ℕ) (old : Held) → legal c w ≡ true
-    → named w.collections k ≡ Some old → IsThen (step c w).collections k old
-then_step (collection name schema) w k old is at =
+    → IsNoMigration c → named w.collections k ≡ Some old → IsThen (step c w).collections k old
+then_step (collection name schema) w k old is plain at =
     let unheld = (collection_new name schema w is).unheld in
     elim (schema_in schema)
     as (λ (o : Option Shape). IsThen (collections_after (new_where name o) w.collections) k old) [
@@ -115,14 +115,14 @@ then_step (collection name schema) w k old is at =
           (named-put_other w.collections name k (held_with name s [])
           (held_other w.collections k name old unheld at) ∙ at)
     ]
-then_step (rows name lwt written) w k old is at =
+then_step (rows name lwt written) w k old is plain at =
     let to = rows_go name lwt written w is in
     then_written w.collections k name old lwt written at (λ same.
     subst (λ (c : Held). takes lwt written c ≡ true)
     (some_same (sym to.named ∙ ap (named w.collections) (sym same) ∙ at)) to.taken)
-then_step (replication name fork master handler field) w k old is at =
+then_step (replication name fork master handler field) w k old is plain at =
     then_same w.collections k old at
-then_step (exchange name lwt written known up down) w k old is at =
+then_step (exchange name lwt written known up down) w k old is plain at =
     then_exchanged w k old lwt written (named w.replications name) at
     (λ r row more there some same.
     subst (λ (l : List RowOut). takes lwt l old ≡ true) (sym some)
@@ -130,33 +130,35 @@ then_step (exchange name lwt written known up down) w k old is at =
     (exchange_goes name lwt (row ∷ more) known up down w
     (subst (λ (l : List RowOut). legal (exchange name lwt l known up down) w ≡ true) some is) r
     there old (ap (named w.collections) (sym same) ∙ at))))
-then_step other w k old is at = then_same w.collections k old at
+then_step (migration name text steps) w k old is plain at = absurd plain
+then_step other w k old is plain at = then_same w.collections k old at
 
 -- ---- a replication
 
 -- a record that is apart from it leaves it
 same_step : (c : Content) (w : World) (name : List ℕ) (r : Replication) → legal c w ≡ true
-    → IsApart name c → named w.replications name ≡ Some r
+    → IsNoMigration c → IsApart name c → named w.replications name ≡ Some r
     → named (step c w).replications name ≡ Some r
-same_step (collection k schema) w name r is apart at = at
-same_step (rows k lwt written) w name r is apart at = at
-same_step (replication k fork m handler field) w name r is apart at =
+same_step (collection k schema) w name r is plain apart at = at
+same_step (rows k lwt written) w name r is plain apart at = at
+same_step (replication k fork m handler field) w name r is plain apart at =
     let free = (begins k fork m w is).free in
     named-put_other w.replications k name (new_replication k fork m handler field)
     (held_other w.replications name k r free at)
     ∙ at
-same_step (exchange k lwt written known up down) w name r is apart at =
+same_step (exchange k lwt written known up down) w name r is plain apart at =
     named-change_other (with_exchange known up down) w.replications k name (λ e. apart (sym e)) ∙ at
-same_step other w name r is apart at = at
+same_step (migration k text steps) w name r is plain apart at = absurd plain
+same_step other w name r is plain apart at = at
 
 -- ---- a mark
 
 marked_step : (c : Content) (w : World) (name : List ℕ) (lwt : ℕ) → legal c w ≡ true
-    → IsApart name c → IsMarked w name lwt → IsMarked (step c w) name lwt
-marked_step c w name lwt is apart m =
+    → IsNoMigration c → IsApart name c → IsMarked w name lwt → IsMarked (step c w) name lwt
+marked_step c w name lwt is plain apart m =
     let r = m.replication in
-    let at = same_step c w name r is apart m.held in
-    let t = then_step c w r.fork m.fork is m.fork_held in
+    let at = same_step c w name r is plain apart m.held in
+    let t = then_step c w r.fork m.fork is plain m.fork_held in
     elim t.later [
       | inl same ↦ record {
         replication = r;
@@ -186,7 +188,7 @@ pub marked_after : (cs : List Content) (w : World) (name : List ℕ) (lwt : ℕ)
 marked_after [] w name lwt come apart m = m
 marked_after (c ∷ cs) w name lwt come apart m =
     marked_after cs (step c w) name lwt come.1 apart.1
-    (marked_step c w name lwt come.0.lawful apart.0 m)
+    (marked_step c w name lwt come.0.lawful come.0.no_migration apart.0 m)
 
 -- where a mark tells of the last write, nothing is to be pushed
 pub told_by : (w : World) (name : List ℕ) (lwt : ℕ) → IsMarked w name lwt → IsLastWrite w name lwt
@@ -237,7 +239,7 @@ pub marked_doing : (d : Doing) (s : Session) (marks : List (List ℕ × Option �
 marked_doing nothing s marks may plain all = all
 marked_doing (set_clock at) s marks may plain all = all
 marked_doing (write c) s marks may plain all = λ name lwt at.
-    marked_after (c ∷ []) s.world name lwt (record { lawful = may.0; ordered = may.1 }, tt)
+    marked_after (c ∷ []) s.world name lwt (record { lawful = may.0; ordered = may.1; no_migration = may.2 }, tt)
     (plain_apart name c plain, tt) (all name lwt at)
 marked_doing (watch name coll q) s marks may plain all = all
 marked_doing (unwatch name) s marks may plain all = all
@@ -247,6 +249,7 @@ marked_doing (restart number) s marks may plain all = λ name lwt at.
       record {
         lawful = ap (λ n. legal (epoch n) s.world) may ∙ epoch_legal s.world;
         ordered = tt;
+        no_migration = tt;
       },
       tt,
     )

@@ -89,7 +89,7 @@ pub remembered_doing : (d : Doing) (s : Session) (asks : List (List ℕ × Asks)
 remembered_doing nothing s asks may all = all
 remembered_doing (set_clock at) s asks may all = all
 remembered_doing (write c) s asks may all =
-    remembered_after (c ∷ []) s.world asks (record { lawful = may.0; ordered = may.1 }, tt) all
+    remembered_after (c ∷ []) s.world asks (record { lawful = may.0; ordered = may.1; no_migration = may.2 }, tt) all
 remembered_doing (watch name coll q) s asks may all = all
 remembered_doing (unwatch name) s asks may all = all
 remembered_doing (attach one) s asks may all = all
@@ -99,6 +99,7 @@ remembered_doing (restart number) s asks may all =
         lawful = ap (λ n. legal (epoch n) s.world) may
             ∙ epoch_legal s.world;
         ordered = tt;
+        no_migration = tt;
       },
       tt,
     )

@@ -103,9 +103,9 @@ impl Engine {
             diagram,
         } = self;
         let parts = session.release();
-        let (session, mut asks, mut marks) = parts;
+        let (session, mut remembered) = parts;
         let name = wanted.name.as_str();
-        let none = marks.tell_none(&session, name);
+        let none = remembered.marks.tell_none(session.world(), name);
         let now = session.moment();
         let play = Play {
             journal,
@@ -113,7 +113,15 @@ impl Engine {
             past: None,
         };
         let made = call_by_name(
-            alloc, disk, dial, handlers, play, &mut asks, wanted, now, none,
+            alloc,
+            disk,
+            dial,
+            handlers,
+            play,
+            &mut remembered.asks,
+            wanted,
+            now,
+            none,
         )?;
         let Turned {
             play,
@@ -126,10 +134,16 @@ impl Engine {
             playing,
             ..
         } = play;
-        let (session, emissions) = settle_turn(alloc, playing, &mut marks, name, pulled)?;
+        let (session, emissions) = settle_turn(
+            alloc,
+            playing,
+            &mut remembered.marks,
+            name,
+            pulled,
+        )?;
         let engine = Engine {
             journal,
-            session: SoundSession::new(session, asks, marks),
+            session: SoundSession::new(session, remembered),
             diagram,
         };
         Ok(AfterTurn {

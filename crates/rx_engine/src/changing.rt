@@ -13,14 +13,14 @@ ghost use Rattle.rx_engine.specs.Shown.{doing_of, turn_of, WritesNoExchange};
 ghost use Rattle.rx_engine.specs.Turning.{CanTurn, turned};
 
 use crate::engine::Engine;
-use crate::marks::{Marks, settle_turn};
+use crate::marks::settle_turn;
 use crate::opening::{Opened, is_next, open};
 use crate::outcome::LineDoing;
 use crate::play::Play;
+use crate::remembered::Remembered;
 use crate::requests::turn_by_name;
 use crate::sound_session::SoundSession;
 use crate::turning::{Turn, Turned};
-use indexmap::IndexMap;
 use rx_disk::Disk;
 use rx_handler::Handlers;
 use rx_observe::Emission;
@@ -125,7 +125,7 @@ impl Engine {
             diagram,
         } = self;
         let parts = session.release();
-        let (session, asks, marks) = parts;
+        let (session, remembered) = parts;
         let play = Play {
             journal,
             playing: session.begin(alloc),
@@ -141,7 +141,7 @@ impl Engine {
         let (session, emissions) = playing.settle(alloc)?;
         let engine = Engine {
             journal,
-            session: SoundSession::new(session, asks, marks),
+            session: SoundSession::new(session, remembered),
             diagram,
         };
         Ok((engine, emissions))
@@ -171,11 +171,11 @@ impl Engine {
             diagram,
         } = self;
         let parts = session.release();
-        let (session, asks, marks) = parts;
+        let (session, remembered) = parts;
         let (session, emissions) = session.next(alloc, doing)?;
         let engine = Engine {
             journal,
-            session: SoundSession::new(session, asks, marks),
+            session: SoundSession::new(session, remembered),
             diagram,
         };
         Ok((engine, emissions))
@@ -203,11 +203,10 @@ impl Engine {
             return Err(Stop::NotJournal);
         }
         let session = before.reopen(alloc, world)?;
-        let asks = IndexMap::new(alloc);
-        let marks = Marks::new(alloc);
+        let remembered = Remembered::new(alloc);
         Ok(Engine {
             journal,
-            session: SoundSession::new(session, asks, marks),
+            session: SoundSession::new(session, remembered),
             diagram,
         })
     }
@@ -240,16 +239,24 @@ impl Engine {
             diagram,
         } = self;
         let parts = session.release();
-        let (session, mut asks, mut marks) = parts;
+        let (session, mut remembered) = parts;
         let name = wanted.name.as_str();
-        let none = marks.tell_none(&session, name);
+        let none = remembered.marks.tell_none(session.world(), name);
         let now = session.moment();
         let play = Play {
             journal,
             playing: session.begin(alloc),
             past: None,
         };
-        let made = turn_by_name(alloc, handlers, play, &mut asks, wanted, now, none)?;
+        let made = turn_by_name(
+            alloc,
+            handlers,
+            play,
+            &mut remembered.asks,
+            wanted,
+            now,
+            none,
+        )?;
         let Turned {
             play,
             exchanges,
@@ -262,10 +269,16 @@ impl Engine {
             playing,
             ..
         } = play;
-        let (session, emissions) = settle_turn(alloc, playing, &mut marks, name, pulled)?;
+        let (session, emissions) = settle_turn(
+            alloc,
+            playing,
+            &mut remembered.marks,
+            name,
+            pulled,
+        )?;
         let engine = Engine {
             journal,
-            session: SoundSession::new(session, asks, marks),
+            session: SoundSession::new(session, remembered),
             diagram,
         };
         Ok(AfterTurn {

@@ -16,11 +16,10 @@ ghost use Rattle.rx_engine.specs.Lines.{IsIdle, IsRestart, calls, task};
 ghost use Rattle.rx_engine.specs.Opening.{epoch_body, host_with, opened};
 
 use crate::judging::{Judged, judge};
-use crate::marks::Marks;
 use crate::opening::{Opened, open};
 use crate::output::Output;
+use crate::remembered::Remembered;
 use crate::sound_session::SoundSession;
-use indexmap::IndexMap;
 use rx_collection::Holder;
 use rx_diagram::Diagram;
 use rx_digest::digest;
@@ -87,9 +86,8 @@ impl Engine {
         let share = diagram.clone()?;
         let Opened { journal, world } = open(alloc, disk, limit, &diagram)?;
         let session = Session::new(alloc, world, share, known);
-        let asks = IndexMap::new(alloc);
-        let marks = Marks::new(alloc);
-        let sound = SoundSession::new(session, asks, marks);
+        let remembered = Remembered::new(alloc);
+        let sound = SoundSession::new(session, remembered);
         Ok(Engine {
             journal,
             session: sound,

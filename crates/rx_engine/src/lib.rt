@@ -22,6 +22,7 @@ mod outcome;
 mod output;
 mod play;
 mod queries;
+mod remembered;
 mod remote;
 mod replicate;
 mod requests;

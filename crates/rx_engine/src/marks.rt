@@ -1,13 +1,15 @@
 // Where a fork had nothing to push, so that the next turn need not look for it.
 ghost use Rattle.std.specs.Prelude.{◌≡◌, [], true, IfSome, IfOk, OnOk, Some};
 ghost use Rattle.rx_session.specs.Emissions.{emissions, settled_session};
+ghost use Rattle.rx_session.specs.Placed.{world_of};
 ghost use Rattle.rx_sync.specs.Asking.{pending_in};
 ghost use Rattle.rx_engine.specs.Marks.{AreMarked, AreMarkedBut, IsLastWrite};
 
 use indexmap::IndexMap;
 use rx_collection::Holder;
-use rx_observe::Emission;
+use rx_observe::{Emission, Live};
 use rx_session::{Playing, Session};
+use rx_world::World;
 use std::alloc::{AllocError, Global};
 use std::marker::Model;
 
@@ -37,12 +39,12 @@ impl Marks {
     }
 
     /// Whether a mark tells that nothing is to be pushed.
-    pub(crate) fn tell_none(&self, session: &Session, name: &str) -> bool
-        requires marked { AreMarked session.now.world self.now }
-        ensures { result ≡ true → pending_in session.now.world name.now ≡ Some 0 }
+    pub(crate) fn tell_none(&self, world: &World<Live>, name: &str) -> bool
+        requires marked { AreMarked (world_of world.now) self.now }
+        ensures { result ≡ true → pending_in (world_of world.now) name.now ≡ Some 0 }
     {
         match self.by_name.get(name) {
-            Some(Some(lwt)) => was_last(session, name, *lwt),
+            Some(Some(lwt)) => was_last(world, name, *lwt),
             Some(None) => false,
             None => false,
         }
@@ -53,19 +55,15 @@ impl Marks {
     pub(crate) fn set(
         &mut self,
         alloc: Global,
-        session: &Session,
+        world: &World<Live>,
         name: &str,
         none: bool,
     ) -> Result<(), AllocError>
-        requires none { none ≡ true → pending_in session.now.world name.now ≡ Some 0 }
-        requires others { AreMarkedBut name.now session.now.world self.old }
-        ensures { OnOk result (AreMarked session.now.world self.new) }
+        requires none { none ≡ true → pending_in (world_of world.now) name.now ≡ Some 0 }
+        requires others { AreMarkedBut name.now (world_of world.now) self.old }
+        ensures { OnOk result (AreMarked (world_of world.now) self.new) }
     {
-        let mark = if none {
-            last_write(session, name)
-        } else {
-            None
-        };
+        let mark = if none { last_write(world, name) } else { None };
         self.by_name.insert(String::from_str(alloc, name)?, mark)?;
         Ok(())
     }
@@ -85,23 +83,23 @@ pub(crate) fn settle_turn(
     ensures emissions { IfOk result (λ p. p.1.items ≡ emissions playing) }
     ensures marked { IfOk result (λ p. AreMarked p.0.world marks.new) }
 {
+    marks.set(alloc, playing.world(), name, none)?;
     let (session, emissions) = playing.settle(alloc)?;
-    marks.set(alloc, &session, name, none)?;
     Ok((session, emissions))
 }
 
 // Whether the fork's last write was at that time.
-fn was_last(session: &Session, name: &str, lwt: u64) -> bool
-    ensures { result ≡ true → IsLastWrite session.now.world name.now lwt }
+fn was_last(world: &World<Live>, name: &str, lwt: u64) -> bool
+    ensures { result ≡ true → IsLastWrite (world_of world.now) name.now lwt }
 {
-    last_write(session, name) == Some(lwt)
+    last_write(world, name) == Some(lwt)
 }
 
 // When the fork of a replication was written last.
-fn last_write(session: &Session, name: &str) -> Option<u64>
-    ensures { IfSome result (IsLastWrite session.now.world name.now) }
+fn last_write(world: &World<Live>, name: &str) -> Option<u64>
+    ensures { IfSome result (IsLastWrite (world_of world.now) name.now) }
 {
-    let replication = session.world().replication(name)?;
-    let fork = session.holder(replication.fork.as_str())?;
+    let replication = world.replication(name)?;
+    let fork = world.holder(replication.fork.as_str())?;
     Some(fork.collection().last_lwt())
 }

@@ -7,20 +7,16 @@ ghost use Rattle.rx_engine.specs.Marks.{AreMarked};
 ghost use Rattle.rx_engine.specs.Remembered.{AreRemembered};
 ghost use Rattle.rx_engine.specs.SoundSession.{HasSoundWorld, with_asks};
 
-use crate::marks::Marks;
-use indexmap::IndexMap;
+use crate::remembered::Remembered;
 use rx_session::Session;
-use rx_sync::Asks;
 use std::marker::Model;
 
-/// A session whose world is one that records made, and sound, with what is remembered of the
-/// requests of its replications, by their names, and where they have nothing to push. The marks are
-/// no part of what a session means.
+/// A session whose world is one that records made, and sound, with what is remembered beside it. The
+/// marks are no part of what a session means.
 #[derive(Drop)]
 pub(crate) struct SoundSession {
     session: Session,
-    asks: IndexMap<String, Asks>,
-    marks: Marks,
+    remembered: Remembered,
 }
 
 impl Model for SoundSession {
@@ -32,24 +28,24 @@ impl Model for SoundSession {
 
     ghost coded = { with_asks_code };
 
-    ghost view = { λ s. with_asks s.session (by_bytes s.asks.entries) };
+    ghost view = { λ s. with_asks s.session (by_bytes s.remembered.asks.entries) };
 
-    ghost invariant = { λ s. HasSoundWorld (with_asks s.session (by_bytes s.asks.entries))
-        × AreMarked s.session.world s.marks };
+    ghost invariant = { λ s. HasSoundWorld
+        (with_asks s.session (by_bytes s.remembered.asks.entries))
+        × AreMarked s.session.world s.remembered.marks };
 }
 
 impl SoundSession {
-    pub(crate) fn new(session: Session, asks: IndexMap<String, Asks>, marks: Marks) -> SoundSession
+    pub(crate) fn new(session: Session, remembered: Remembered) -> SoundSession
         requires made { IsMadeWorld session.world }
         requires sound { IsSoundWorld session.world }
-        requires remembered { AreRemembered session.world (by_bytes asks.entries) }
-        requires marked { AreMarked session.world marks }
-        ensures { result ≡ with_asks session (by_bytes asks.entries) }
+        requires remembered { AreRemembered session.world (by_bytes remembered.asks.entries) }
+        requires marked { AreMarked session.world remembered.marks }
+        ensures { result ≡ with_asks session (by_bytes remembered.asks.entries) }
     {
         SoundSession {
             session,
-            asks,
-            marks,
+            remembered,
         }
     }
 
@@ -60,24 +56,24 @@ impl SoundSession {
         &self.session
     }
 
-    /// The session alone: its requests and marks are forgotten.
+    /// The session alone: what is remembered beside it is forgotten.
     pub(crate) fn into_session(self) -> Session
         ensures same { result ≡ self.session }
         ensures made { IsMadeWorld self.session.world }
         ensures sound { IsSoundWorld self.session.world }
     {
-        let (session, _asks, _marks) = self.release();
+        let (session, _remembered) = self.release();
         session
     }
 
-    pub(crate) fn release(self) -> (Session, IndexMap<String, Asks>, Marks)
+    pub(crate) fn release(self) -> (Session, Remembered)
         ensures same { result.0 ≡ self.session }
-        ensures asks { by_bytes result.1.entries ≡ self.asks }
+        ensures asks { by_bytes result.1.asks.entries ≡ self.asks }
         ensures made { IsMadeWorld self.session.world }
         ensures sound { IsSoundWorld self.session.world }
         ensures remembered { AreRemembered self.session.world self.asks }
-        ensures marked { AreMarked self.session.world result.2 }
+        ensures marked { AreMarked self.session.world result.1.marks }
     {
-        (self.session, self.asks, self.marks)
+        (self.session, self.remembered)
     }
 }

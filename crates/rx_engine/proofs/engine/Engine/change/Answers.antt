@@ -60,7 +60,7 @@ unfolding session_of
 new-requires-clause-marked c =
     let doing = done_by c.args.doing in
     let s = c.args.self.session.session in
-    let marks = c.release-parts.result.2 in
+    let marks = c.release-parts.result.1.marks in
     let parts = c.release-parts.ensures in
     let then = c.in_ok-session.ensures.session
     ∙ ap (λ (x : Session). settled_session (session_after doing x)) parts.same in

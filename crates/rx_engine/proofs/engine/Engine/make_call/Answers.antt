@@ -7,6 +7,7 @@ use Rattle.rx_store.specs.Holds.{Holds}
 use Rattle.rx_sync.specs.Asking.{pending_in}
 use Rattle.rx_world.specs.Made.{IsMadeWorld}
 use Rattle.rx_world.specs.Sound.{IsSoundWorld}
+use Rattle.rx_world.specs.World.{World}
 use Rattle.rx_engine.specs.Calling.{called}
 use Rattle.rx_engine.specs.Engine.{IsAfterCall, IsAt, asks_in, session_of, standing_of}
 use Rattle.rx_engine.specs.Marks.{AreMarked, AreMarkedBut}
@@ -40,7 +41,7 @@ call_by_name-requires-clause-may g c =
     let s = standing_of (kinds_of c.args.handlers.now) [] c.args.self in
     let u = call_of c.args.wanted.now in
     let parts = c.release-parts.ensures in
-    may_call_here u s c.begin.result c.moment-now.result (by_bytes c.release-parts.result.1.entries)
+    may_call_here u s c.begin.result c.moment-now.result (by_bytes c.release-parts.result.1.asks.entries)
     (c.begin.ensures.same ∙ parts.same)
     (c.moment-now.ensures ∙ ap (λ (x : Session). x.moment) parts.same) parts.asks
     (may_call u s c.requires.batch parts.made parts.sound c.requires.can parts.remembered)
@@ -52,7 +53,7 @@ returns-in_err-made-clause-turned g c =
     let u = call_of c.args.wanted.now in
     let parts = c.release-parts.ensures in
     let here = call_here u s c.begin.result c.moment-now.result
-    (by_bytes c.release-parts.result.1.entries) (c.begin.ensures.same ∙ parts.same)
+    (by_bytes c.release-parts.result.1.asks.entries) (c.begin.ensures.same ∙ parts.same)
     (c.moment-now.ensures ∙ ap (λ (x : Session). x.moment) parts.same) parts.asks g.D.Disk
     c.args.disk.now c.call_by_name.new.disk c.args.self.journal c.args.self.journal.limit
     (λ (m : Made). IsPlayAt g.D.Disk c.call_by_name.new.disk m.play) g.L.W.Wire.tells _ _
@@ -69,7 +70,7 @@ returns-in_err-session-clause-turned g c =
     let u = call_of c.args.wanted.now in
     let parts = c.release-parts.ensures in
     let here = call_here u s c.begin.result c.moment-now.result
-    (by_bytes c.release-parts.result.1.entries) (c.begin.ensures.same ∙ parts.same)
+    (by_bytes c.release-parts.result.1.asks.entries) (c.begin.ensures.same ∙ parts.same)
     (c.moment-now.ensures ∙ ap (λ (x : Session). x.moment) parts.same) parts.asks g.D.Disk
     c.args.disk.now c.call_by_name.new.disk c.args.self.journal c.args.self.journal.limit
     (λ (m : Made). IsPlayAt g.D.Disk c.call_by_name.new.disk m.play) g.L.W.Wire.tells _ _
@@ -82,8 +83,9 @@ returns-in_err-session-clause-turned g c =
 pub tell_none-none-requires : goal.tell_none-none-requires
 unfolding session_of
 tell_none-none-requires g c = record {
-  marked = subst (λ (x : Session). AreMarked x.world c.release-parts.result.2)
-      (sym c.release-parts.ensures.same) c.release-parts.ensures.marked;
+  marked = subst (λ (w : World). AreMarked w c.release-parts.result.1.marks) (sym c.world.ensures)
+      (subst (λ (x : Session). AreMarked x.world c.release-parts.result.1.marks)
+      (sym c.release-parts.ensures.same) c.release-parts.ensures.marked);
 }
 
 pub call_by_name-requires-clause-none : goal.call_by_name-requires-clause-none
@@ -91,7 +93,9 @@ call_by_name-requires-clause-none g c is =
     subst (λ (x : Session). pending_in x.world c.args.wanted.now.name ≡ Some 0)
     (sym c.begin.ensures.same)
     (subst (λ (n : List ℕ). pending_in c.release-parts.result.0.world n ≡ Some 0)
-    c.as_str-name.ensures (c.tell_none-none.ensures is))
+    c.as_str-name.ensures
+    (subst (λ (w : World). pending_in w c.as_str-name.result.now ≡ Some 0) c.world.ensures
+    (c.tell_none-none.ensures is)))
 
 pub settle_turn-requires-clause-none : goal.settle_turn-requires-clause-none
 settle_turn-requires-clause-none g c is =
@@ -108,7 +112,7 @@ settle_turn-requires-clause-others g c =
     let u = call_of c.args.wanted.now in
     let parts = c.release-parts.ensures in
     let here = call_here u (standing_of kinds [] c.args.self) c.begin.result c.moment-now.result
-    (by_bytes c.release-parts.result.1.entries) (c.begin.ensures.same ∙ parts.same)
+    (by_bytes c.release-parts.result.1.asks.entries) (c.begin.ensures.same ∙ parts.same)
     (c.moment-now.ensures ∙ ap (λ (x : Session). x.moment) parts.same) parts.asks g.D.Disk
     c.args.disk.now c.call_by_name.new.disk c.args.self.journal c.args.self.journal.limit
     (λ (m : Made). IsPlayAt g.D.Disk c.call_by_name.new.disk m.play) g.L.W.Wire.tells _ _
@@ -117,11 +121,11 @@ settle_turn-requires-clause-others g c =
     let s = standing_of kinds (here.heard ++ []) c.args.self in
     let made = here.so [] in
     subst (λ (n : List ℕ). AreMarkedBut n c.in_ok-made.made.play.playing.world
-    c.release-parts.result.2) (sym c.as_str-name.ensures)
-    (subst (λ (x : Session). AreMarkedBut u.name x.world c.release-parts.result.2)
+    c.release-parts.result.1.marks) (sym c.as_str-name.ensures)
+    (subst (λ (x : Session). AreMarkedBut u.name x.world c.release-parts.result.1.marks)
     (sym made.made_so.session)
     (others_called u s c.requires.batch parts.made parts.sound c.requires.can parts.remembered
-    c.release-parts.result.2 parts.marked))
+    c.release-parts.result.1.marks parts.marked))
 
 -- the session's world stays one that records made, and sound
 pub new-requires-clause-made : goal.new-requires-clause-made
@@ -131,7 +135,7 @@ new-requires-clause-made g c =
     let u = call_of c.args.wanted.now in
     let parts = c.release-parts.ensures in
     let here = call_here u (standing_of kinds [] c.args.self) c.begin.result c.moment-now.result
-    (by_bytes c.release-parts.result.1.entries) (c.begin.ensures.same ∙ parts.same)
+    (by_bytes c.release-parts.result.1.asks.entries) (c.begin.ensures.same ∙ parts.same)
     (c.moment-now.ensures ∙ ap (λ (x : Session). x.moment) parts.same) parts.asks g.D.Disk
     c.args.disk.now c.call_by_name.new.disk c.args.self.journal c.args.self.journal.limit
     (λ (m : Made). IsPlayAt g.D.Disk c.call_by_name.new.disk m.play) g.L.W.Wire.tells _ _
@@ -151,7 +155,7 @@ new-requires-clause-sound g c =
     let u = call_of c.args.wanted.now in
     let parts = c.release-parts.ensures in
     let here = call_here u (standing_of kinds [] c.args.self) c.begin.result c.moment-now.result
-    (by_bytes c.release-parts.result.1.entries) (c.begin.ensures.same ∙ parts.same)
+    (by_bytes c.release-parts.result.1.asks.entries) (c.begin.ensures.same ∙ parts.same)
     (c.moment-now.ensures ∙ ap (λ (x : Session). x.moment) parts.same) parts.asks g.D.Disk
     c.args.disk.now c.call_by_name.new.disk c.args.self.journal c.args.self.journal.limit
     (λ (m : Made). IsPlayAt g.D.Disk c.call_by_name.new.disk m.play) g.L.W.Wire.tells _ _
@@ -171,7 +175,7 @@ new-requires-clause-remembered g c =
     let u = call_of c.args.wanted.now in
     let parts = c.release-parts.ensures in
     let here = call_here u (standing_of kinds [] c.args.self) c.begin.result c.moment-now.result
-    (by_bytes c.release-parts.result.1.entries) (c.begin.ensures.same ∙ parts.same)
+    (by_bytes c.release-parts.result.1.asks.entries) (c.begin.ensures.same ∙ parts.same)
     (c.moment-now.ensures ∙ ap (λ (x : Session). x.moment) parts.same) parts.asks g.D.Disk
     c.args.disk.now c.call_by_name.new.disk c.args.self.journal c.args.self.journal.limit
     (λ (m : Made). IsPlayAt g.D.Disk c.call_by_name.new.disk m.play) g.L.W.Wire.tells _ _
@@ -194,7 +198,7 @@ returns-clause-turned g c =
     let u = call_of c.args.wanted.now in
     let parts = c.release-parts.ensures in
     let here = call_here u (standing_of kinds [] c.args.self) c.begin.result c.moment-now.result
-    (by_bytes c.release-parts.result.1.entries) (c.begin.ensures.same ∙ parts.same)
+    (by_bytes c.release-parts.result.1.asks.entries) (c.begin.ensures.same ∙ parts.same)
     (c.moment-now.ensures ∙ ap (λ (x : Session). x.moment) parts.same) parts.asks g.D.Disk
     c.args.disk.now c.call_by_name.new.disk c.args.self.journal c.args.self.journal.limit
     (λ (m : Made). IsPlayAt g.D.Disk c.call_by_name.new.disk m.play) g.L.W.Wire.tells _ _

@@ -8,6 +8,7 @@ use Rattle.rx_sync.specs.Asking.{pending_in}
 use Rattle.rx_sync.specs.Laws.{IsLevel}
 use Rattle.rx_world.specs.Made.{IsMadeWorld}
 use Rattle.rx_world.specs.Sound.{IsSoundWorld}
+use Rattle.rx_world.specs.World.{World}
 use Rattle.rx_engine.specs.Engine.{asks_in, session_of, standing_of}
 use Rattle.rx_engine.specs.Marks.{AreMarked, AreMarkedBut}
 use Rattle.rx_engine.specs.Remembered.{AreRemembered}
@@ -26,7 +27,7 @@ turn_by_name-requires-clause-may g c =
     let s = standing_of (kinds_of c.args.handlers.now) [] c.args.self in
     let u = turn_of c.args.wanted.now in
     let parts = c.release-parts.ensures in
-    may_here u s c.begin.result c.moment-now.result (by_bytes c.release-parts.result.1.entries)
+    may_here u s c.begin.result c.moment-now.result (by_bytes c.release-parts.result.1.asks.entries)
     (c.begin.ensures.same ∙ parts.same)
     (c.moment-now.ensures ∙ ap (λ (x : Session). x.moment) parts.same) parts.asks
     (may u s c.requires.batch parts.made parts.sound c.requires.can parts.remembered)
@@ -61,7 +62,7 @@ returns-in_err-play-clause-commits g c =
     c.from_residual-in_err-play.result
     (handed_on c.from_residual-in_err-play.result stop c.from_residual-in_err-play.ensures.1)
     (commits_play d old new self (turned u s).records c.begin.result session c.in_ok-made.made.play
-    (follows_here u s c.begin.result c.moment-now.result (by_bytes c.release-parts.result.1.entries)
+    (follows_here u s c.begin.result c.moment-now.result (by_bytes c.release-parts.result.1.asks.entries)
     session (c.moment-now.ensures ∙ ap (λ (x : Session). x.moment) parts.same) parts.asks
     (play_of self.journal c.begin.result) c.in_ok-made.made.play c.in_ok-made.ensures.staged) _
     c.in_err-play.ensures)
@@ -81,7 +82,7 @@ returns-in_err-session-clause-commits g c =
     c.from_residual-in_err-session.result
     (memory_stop c.from_residual-in_err-session.result c.from_residual-in_err-session.ensures.1)
     (commits_play d old new self (turned u s).records c.begin.result session c.in_ok-made.made.play
-    (follows_here u s c.begin.result c.moment-now.result (by_bytes c.release-parts.result.1.entries)
+    (follows_here u s c.begin.result c.moment-now.result (by_bytes c.release-parts.result.1.asks.entries)
     session (c.moment-now.ensures ∙ ap (λ (x : Session). x.moment) parts.same) parts.asks
     (play_of self.journal c.begin.result) c.in_ok-made.made.play c.in_ok-made.ensures.staged) _
     c.in_ok-play.ensures)
@@ -104,7 +105,7 @@ returns-clause-commits g c =
     (λ bodies held.
     subst (λ (x : Session). Holds d new play.journal bodies x.world) (sym settled) held) refl
     (commits_play d old new self (turned u s).records c.begin.result session c.in_ok-made.made.play
-    (follows_here u s c.begin.result c.moment-now.result (by_bytes c.release-parts.result.1.entries)
+    (follows_here u s c.begin.result c.moment-now.result (by_bytes c.release-parts.result.1.asks.entries)
     session (c.moment-now.ensures ∙ ap (λ (x : Session). x.moment) parts.same) parts.asks
     (play_of self.journal c.begin.result) c.in_ok-made.made.play c.in_ok-made.ensures.staged) _
     c.in_ok-play.ensures)
@@ -112,8 +113,9 @@ returns-clause-commits g c =
 pub tell_none-none-requires : goal.tell_none-none-requires
 unfolding session_of
 tell_none-none-requires g c = record {
-  marked = subst (λ (x : Session). AreMarked x.world c.release-parts.result.2)
-      (sym c.release-parts.ensures.same) c.release-parts.ensures.marked;
+  marked = subst (λ (w : World). AreMarked w c.release-parts.result.1.marks) (sym c.world.ensures)
+      (subst (λ (x : Session). AreMarked x.world c.release-parts.result.1.marks)
+      (sym c.release-parts.ensures.same) c.release-parts.ensures.marked);
 }
 
 pub turn_by_name-requires-clause-none : goal.turn_by_name-requires-clause-none
@@ -121,7 +123,9 @@ turn_by_name-requires-clause-none g c is =
     subst (λ (x : Session). pending_in x.world c.args.wanted.now.name ≡ Some 0)
     (sym c.begin.ensures.same)
     (subst (λ (n : List ℕ). pending_in c.release-parts.result.0.world n ≡ Some 0)
-    c.as_str-name.ensures (c.tell_none-none.ensures is))
+    c.as_str-name.ensures
+    (subst (λ (w : World). pending_in w c.as_str-name.result.now ≡ Some 0) c.world.ensures
+    (c.tell_none-none.ensures is)))
 
 pub settle_turn-requires-clause-none : goal.settle_turn-requires-clause-none
 settle_turn-requires-clause-none g c is =
@@ -142,14 +146,14 @@ settle_turn-requires-clause-others g c =
     let session = c.begin.ensures.same ∙ parts.same in
     let now = c.moment-now.ensures ∙ ap (λ (x : Session). x.moment) parts.same in
     let made = made_here u s c.begin.result c.moment-now.result
-    (by_bytes c.release-parts.result.1.entries) session now parts.asks c.in_ok-made.made
+    (by_bytes c.release-parts.result.1.asks.entries) session now parts.asks c.in_ok-made.made
     (by_bytes c.turn_by_name.new.asks.entries) c.in_ok-made.ensures.turned in
     subst (λ (n : List ℕ). AreMarkedBut n c.in_ok-play.play.playing.world
-    c.release-parts.result.2) (sym c.as_str-name.ensures)
-    (subst (λ (x : Session). AreMarkedBut u.name x.world c.release-parts.result.2)
+    c.release-parts.result.1.marks) (sym c.as_str-name.ensures)
+    (subst (λ (x : Session). AreMarkedBut u.name x.world c.release-parts.result.1.marks)
     (sym (c.in_ok-play.ensures.session ∙ made.session))
     (others_then u s c.requires.batch parts.made parts.sound c.requires.can parts.remembered
-    c.release-parts.result.2 parts.marked))
+    c.release-parts.result.1.marks parts.marked))
 
 -- the session's world stays one that records made, and sound
 pub new-requires-clause-made : goal.new-requires-clause-made
@@ -161,7 +165,7 @@ new-requires-clause-made g c =
     let session = c.begin.ensures.same ∙ parts.same in
     let now = c.moment-now.ensures ∙ ap (λ (x : Session). x.moment) parts.same in
     let made = made_here u s c.begin.result c.moment-now.result
-    (by_bytes c.release-parts.result.1.entries) session now parts.asks c.in_ok-made.made
+    (by_bytes c.release-parts.result.1.asks.entries) session now parts.asks c.in_ok-made.made
     (by_bytes c.turn_by_name.new.asks.entries) c.in_ok-made.ensures.turned in
     let settled = c.in_ok-session.ensures.session
     ∙ ap (λ (x : Session). settled_session x) (c.in_ok-play.ensures.session ∙ made.session) in
@@ -177,7 +181,7 @@ new-requires-clause-sound g c =
     let session = c.begin.ensures.same ∙ parts.same in
     let now = c.moment-now.ensures ∙ ap (λ (x : Session). x.moment) parts.same in
     let made = made_here u s c.begin.result c.moment-now.result
-    (by_bytes c.release-parts.result.1.entries) session now parts.asks c.in_ok-made.made
+    (by_bytes c.release-parts.result.1.asks.entries) session now parts.asks c.in_ok-made.made
     (by_bytes c.turn_by_name.new.asks.entries) c.in_ok-made.ensures.turned in
     let settled = c.in_ok-session.ensures.session
     ∙ ap (λ (x : Session). settled_session x) (c.in_ok-play.ensures.session ∙ made.session) in
@@ -193,7 +197,7 @@ new-requires-clause-remembered g c =
     let session = c.begin.ensures.same ∙ parts.same in
     let now = c.moment-now.ensures ∙ ap (λ (x : Session). x.moment) parts.same in
     let made = made_here u s c.begin.result c.moment-now.result
-    (by_bytes c.release-parts.result.1.entries) session now parts.asks c.in_ok-made.made
+    (by_bytes c.release-parts.result.1.asks.entries) session now parts.asks c.in_ok-made.made
     (by_bytes c.turn_by_name.new.asks.entries) c.in_ok-made.ensures.turned in
     let settled = c.in_ok-session.ensures.session
     ∙ ap (λ (x : Session). settled_session x) (c.in_ok-play.ensures.session ∙ made.session) in
@@ -211,7 +215,7 @@ returns-clause-turned g c =
     let session = c.begin.ensures.same ∙ parts.same in
     let now = c.moment-now.ensures ∙ ap (λ (x : Session). x.moment) parts.same in
     let made = made_here u s c.begin.result c.moment-now.result
-    (by_bytes c.release-parts.result.1.entries) session now parts.asks c.in_ok-made.made
+    (by_bytes c.release-parts.result.1.asks.entries) session now parts.asks c.in_ok-made.made
     (by_bytes c.turn_by_name.new.asks.entries) c.in_ok-made.ensures.turned in
     let settled = c.in_ok-session.ensures.session
     ∙ ap (λ (x : Session). settled_session x) (c.in_ok-play.ensures.session ∙ made.session) in
@@ -233,7 +237,7 @@ returns-clause-quiet g c quiet =
     let session = c.begin.ensures.same ∙ parts.same in
     let now = c.moment-now.ensures ∙ ap (λ (x : Session). x.moment) parts.same in
     let made = made_here u s c.begin.result c.moment-now.result
-    (by_bytes c.release-parts.result.1.entries) session now parts.asks c.in_ok-made.made
+    (by_bytes c.release-parts.result.1.asks.entries) session now parts.asks c.in_ok-made.made
     (by_bytes c.turn_by_name.new.asks.entries) c.in_ok-made.ensures.turned in
     let settled = c.in_ok-session.ensures.session
     ∙ ap (λ (x : Session). settled_session x) (c.in_ok-play.ensures.session ∙ made.session) in

@@ -5,7 +5,6 @@ use Rattle.rx_store.proofs.Crashes.{answered, same_stop}
 use Rattle.rx_store.proofs.Stops.{ok_cause}
 use Rattle.rx_world.specs.Made.{IsMadeWorld}
 use Rattle.rx_world.specs.Sound.{IsSoundWorld}
-use Rattle.rx_value.specs.Named.{by_bytes}
 use Rattle.rx_engine.specs.Engine.{IsAt, asks_in, session_of, standing_of}
 use Rattle.rx_engine.specs.Marks.{AreMarked}
 use Rattle.rx_engine.specs.Remembered.{AreRemembered}
@@ -34,11 +33,11 @@ new-sound-requires-clause-sound g c =
 
 pub new-sound-requires-clause-remembered : goal.new-sound-requires-clause-remembered
 new-sound-requires-clause-remembered g c =
-    subst (AreRemembered c.new-session.result.world) (sym (ap by_bytes c.new-asks.ensures.empty)) tt
+    subst (AreRemembered c.new-session.result.world) (sym (c.new-remembered.ensures.asks)) tt
 
 pub new-sound-requires-clause-marked : goal.new-sound-requires-clause-marked
 new-sound-requires-clause-marked g c =
-    subst (AreMarked c.new-session.result.world) (sym c.new-marks.ensures) (none_marked _)
+    subst (AreMarked c.new-session.result.world) (sym c.new-remembered.ensures.marks) (none_marked _)
 
 pub returns-clause-opened : goal.returns-clause-opened
 unfolding session_of asks_in standing_of opened
@@ -49,7 +48,7 @@ returns-clause-opened g c told bodies w lawful kinds heard =
     (c.in_ok-journal.ensures.opened told bodies w lawful)
     ∙ ap (λ known. session_on known (next_epoch w)) c.in_ok-known.ensures)
     (ap (λ (x : SessionWithAsks). x.asks) c.new-sound.ensures
-    ∙ ap by_bytes c.new-asks.ensures.empty)
+    ∙ c.new-remembered.ensures.asks)
 
 pub returns-clause-begun : goal.returns-clause-begun
 unfolding session_of asks_in standing_of opened
@@ -60,7 +59,7 @@ returns-clause-begun g c =
           (ap (λ (x : SessionWithAsks). x.session) c.new-sound.ensures ∙ c.new-session.ensures
           ∙ ap (session_on c.in_ok-known.known.items) begun.1
           ∙ ap (λ known. session_on known (next_epoch begun.0)) c.in_ok-known.ensures) (ap (λ (x : SessionWithAsks). x.asks) c.new-sound.ensures
-          ∙ ap by_bytes c.new-asks.ensures.empty),
+          ∙ c.new-remembered.ensures.asks),
     )
 
 pub returns-clause-safe : goal.returns-clause-safe

@@ -13,7 +13,6 @@ use Rattle.rx_world.specs.Step.{step}
 use Rattle.rx_engine.proofs.Keeping.{made_then}
 use Rattle.rx_world.specs.World.{World}
 use Rattle.rx_engine.specs.Engine.{IsAt, asks_in, session_of}
-use Rattle.rx_value.specs.Named.{by_bytes}
 use Rattle.rx_engine.specs.Marks.{AreMarked}
 use Rattle.rx_engine.specs.Remembered.{AreRemembered}
 use Rattle.rx_engine.specs.SoundSession.{SessionWithAsks}
@@ -115,16 +114,16 @@ new-requires-clause-sound g c =
 pub new-requires-clause-remembered : goal.new-requires-clause-remembered
 new-requires-clause-remembered g c =
     subst (AreRemembered c.in_ok-session.session.world) (sym
-    (ap by_bytes c.new-asks.ensures.empty)) tt
+    (c.new-remembered.ensures.asks)) tt
 
 pub new-requires-clause-marked : goal.new-requires-clause-marked
 new-requires-clause-marked g c =
-    subst (AreMarked c.in_ok-session.session.world) (sym c.new-marks.ensures) (none_marked _)
+    subst (AreMarked c.in_ok-session.session.world) (sym c.new-remembered.ensures.marks) (none_marked _)
 
 pub returns-clause-asks : goal.returns-clause-asks
 unfolding session_of asks_in
 returns-clause-asks g c =
-    ap (λ (x : SessionWithAsks). x.asks) c.new.ensures ∙ ap by_bytes c.new-asks.ensures.empty
+    ap (λ (x : SessionWithAsks). x.asks) c.new.ensures ∙ c.new-remembered.ensures.asks
 
 pub returns-clause-session : goal.returns-clause-session
 unfolding session_of asks_in

@@ -25,7 +25,7 @@ stage-requires g c =
     let parts = c.release-parts.ensures in
     subst (λ (s : Session). ComeSoundly s.world (said ∷ []))
     (sym (c.begin.ensures.same ∙ parts.same)) (
-      record { lawful = c.requires.may.0; ordered = c.requires.may.1 },
+      record { lawful = c.requires.may.0; ordered = c.requires.may.1; no_migration = c.requires.may.2 },
       sound_then (write said) c.args.self.session.session c.requires.may c.requires.apart
           parts.made parts.sound,
       tt,
@@ -123,7 +123,7 @@ unfolding session_of
 new-requires-clause-marked g c =
     let doing = write (content c.args.entry) in
     let s = c.args.self.session.session in
-    let marks = c.release-parts.result.2 in
+    let marks = c.release-parts.result.1.marks in
     let parts = c.release-parts.ensures in
     let then = c.in_ok-session.ensures.session
     ∙ ap (λ (x : Session). settled_session x) (c.in_ok-play.ensures.session

@@ -2,6 +2,7 @@ use Rattle.std.proofs.Common.{◌≡◌, ◌∙◌, ℕ, List, Option, Some, IfS
 use Rattle.rx_value.specs.Named.{by_bytes, put_named}
 use Rattle.rx_value.proofs.Named.{by_bytes-insert_entry}
 use Rattle.rx_value.proofs.Outcomes.{not_none}
+use Rattle.rx_session.specs.Placed.{world_of}
 use Rattle.rx_world.specs.World.{World}
 use Rattle.rx_engine.specs.Marks.{AreMarked, AreMarkedBut, IsLastWrite, IsMarked}
 use Rattle.rx_engine.proofs.Marking.{marked_last, marked_put}
@@ -10,7 +11,7 @@ use Rattle.rx_engine.proofs.marks.Marks.set.Goals.{then-none, else-none}
 
 pub returns : goal.returns
 returns c =
-    let w : World = c.args.session.now.world in
+    let w : World = world_of c.args.world.now in
     let name = c.args.name.now in
     let es = c.self.inside.by_name.entries in
     let mark = c.if-none.mark in
