@@ -85,7 +85,7 @@ for (const { name, after, script, out } of examples()) {
     const count = `{"do":"count","in":"${into ?? named}","query":{}}\n`;
     const [here, there] = [copied, native].map((it) => spawnSync(program, ['run', it], { input: count, encoding: 'utf8' }).stdout);
     same(here, there, 'the native program on it');
-    same(/^\{"count":[1-9]/.test(here), true, here);
+    same(/^\{"count":\d/.test(here), true, here);
     await page.close();
   });
 }
