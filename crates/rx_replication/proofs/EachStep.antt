@@ -1,5 +1,5 @@
 -- Each step keeps what is kept.
-use Rattle.std.proofs.Common.{◌≡◌, ◌≢◌, ℕ, ◌+◌, ◌≤◌, true, false, cond, List, [], ◌∷◌, map, Option, Some, None, refl, sym, ap, ◌∙◌, inl, inr, subst, arith, eqb-true, slice_get}
+use Rattle.std.proofs.Common.{◌≡◌, ◌≢◌, ℕ, ◌+◌, ◌≤◌, true, false, cond, List, [], ◌∷◌, map, take, Option, Some, None, refl, sym, ap, ◌∙◌, inl, inr, subst, arith, eqb-true, slice_get}
 use Rattle.std.proofs.Math.ListN.{length-map}
 use Rattle.std.proofs.lemmas.Bool.{and_parts}
 use Rattle.rx_value.specs.Named.{named}
@@ -26,14 +26,15 @@ use Rattle.rx_replication.specs.Master.{writes, body_of, master_then, reply_with
 use Rattle.rx_replication.specs.Member.{Member}
 use Rattle.rx_replication.specs.Request.{push_or_pull, IsCurrent}
 use Rattle.rx_replication.specs.Sound.{IsSoundSide, Reach}
-use Rattle.rx_replication.specs.Steps.{System, OpenRequest, MadeReply, Step, system_after, with_fork, with_master, request_of, with_request, with_reply, handled_in, with_taking, taken_in, arrived_in, is_awaited, IsLawfulStep}
-use Rattle.rx_replication.specs.Steps.Step.{CommitFork, CommitMaster, Ask, Handle, Arrive, Restart}
+use Rattle.rx_replication.specs.Steps.{System, OpenRequest, MadeReply, Step, system_after, with_fork, with_master, request_of, with_request, with_reply, handled_in, with_taking, taken_in, arrived_in, is_awaited, migrated, IsLawfulStep}
+use Rattle.rx_replication.specs.Steps.Step.{CommitFork, CommitMaster, Ask, Handle, Arrive, Restart, Migrate}
 use Rattle.rx_replication.specs.Taking.{Resolve, KeepsKey, taking, real_state, resolutions, pushed_place, differences}
 use Rattle.rx_replication.specs.Write.{write}
+use Rattle.rx_replication.proofs.Changed.{changed-by_key, changed_side}
 use Rattle.rx_replication.proofs.Commits.{Wrote, write_wrote}
 use Rattle.rx_replication.proofs.Handled.{RowsApart, Agree, push_answered, push_told, push_fits, pull_answered, pull_agrees, pull_quiet, pull_fits}
 use Rattle.rx_replication.proofs.Kept.{IsFrom, IsAsked, Tells, IsGood, IsPast, IsKept}
-use Rattle.rx_replication.proofs.Lists.{from_slice_get}
+use Rattle.rx_replication.proofs.Lists.{from_slice_get, from_slice_take}
 use Rattle.rx_replication.proofs.Sides.{side_after, answered_after}
 use Rattle.rx_replication.proofs.Taken.{pushed, rows_of, rows_apart, push_fork_side, push_master_side, pull_fork_side, pull_master_side, current_push, current_pull, none_pending-known}
 
@@ -156,6 +157,26 @@ kept_restart w k = record {
   differ = k.differ;
   past = λ q m. let p = (k.past q m).epochs in
       record { epochs = omega arith; counts = λ e. absurd (omega arith) };
+  linked = k.linked;
+  asked = λ o e. not_none e;
+  good = λ o e. not_none e;
+}
+
+-- ---- a migration
+
+pub kept_migrated : (w : System) (change : State → State) → ((s : State) → (change s).key ≡ s.key)
+    → IsKept w → IsKept (migrated change w)
+kept_migrated w change keeps k = record {
+  sound = record {
+    fork_side =
+        changed_side change keeps w.fork.documents w.known w.up k.sound.fork_side;
+    master_side =
+        changed_side change keeps w.master.documents w.known w.down k.sound.master_side;
+  };
+  fork_keys = changed-by_key change keeps w.fork.documents k.fork_keys;
+  master_keys = changed-by_key change keeps w.master.documents k.master_keys;
+  differ = k.differ;
+  past = k.past;
   linked = k.linked;
   asked = λ o e. not_none e;
   good = λ o e. not_none e;
@@ -429,9 +450,10 @@ module _ (resolve : Resolve) (law : KeepsKey resolve) (w : System) (k : IsKept w
   kept_after (CommitMaster ss now) l = kept_master_by ss now (write w.master ss now) refl
   kept_after (Ask batch) l = kept_made w batch l k
   kept_after (Handle which now) l =
-      kept_handled w (slice_get w.requests which) now k
-      (λ q e. from_slice_get w.requests which q e)
+      kept_handled w (slice_get (take w.since w.requests) which) now k
+      (λ q e. from_slice_take w.since w.requests which q e)
   kept_after (Arrive which now) l =
       kept_arrived w.waiting (slice_get w.replies which) now refl
       (λ r e. from_slice_get w.replies which r e)
   kept_after Restart l = kept_restart w k
+  kept_after (Migrate change) l = kept_migrated w change l k

@@ -13,7 +13,7 @@ use Rattle.rx_replication.specs.Known.{pending}
 use Rattle.rx_replication.specs.Master.{body_of}
 use Rattle.rx_replication.specs.Request.{ask_of}
 use Rattle.rx_replication.specs.Steps.{System, run, start}
-use Rattle.rx_replication.specs.Steps.Step.{CommitFork, CommitMaster, Ask, Handle, Arrive}
+use Rattle.rx_replication.specs.Steps.Step.{CommitFork, CommitMaster, Ask, Handle, Arrive, Migrate}
 use Rattle.rx_replication.specs.Taking.{Resolve, resolutions}
 use Rattle.rx_replication.specs.Write.{state_at}
 
@@ -121,6 +121,39 @@ module _ (schema : Shape) (resolve : Resolve) where
     few = omega arith;
     taken = refl;
   }
+
+  -- ---- Migrations
+
+  without_fields : State → State
+  without_fields s = record s { fields = [] }
+
+  -- a push that wasn't handled before a migration isn't handled after it
+  passed_by : System
+  passed_by =
+      run resolve
+      (CommitFork (with_number 1 ∷ []) 5 ∷ Ask 10 ∷ Migrate without_fields ∷ Handle 0 6 ∷ []) before
+
+  unhandled : passed_by.replies ≡ []
+  unfolding passed_by before with_number key
+  unhandled = refl
+
+  -- the changed state is pushed in its place
+  pushed_changed : ask_of passed_by.fork.documents passed_by.known passed_by.down 10
+      ≡ Push (record { assumed = None; new = without_fields (with_number 1) } ∷ [])
+  unfolding passed_by before without_fields with_number key
+  pushed_changed = refl
+
+  -- the fork pulls a state and writes it without fields, and then all states lose theirs
+  caught_up : System
+  caught_up =
+      run resolve
+      (CommitMaster (with_number 1 ∷ []) 1 ∷ Ask 10 ∷ Handle 0 2 ∷ Arrive 0 3
+      ∷ CommitFork (without_fields (with_number 1) ∷ []) 4 ∷ Migrate without_fields ∷ []) before
+
+  -- what was pending is so no longer, though it stayed as it was and no reply came
+  made_known : pending caught_up.fork.documents caught_up.known ≡ []
+  unfolding caught_up before without_fields with_number key
+  made_known = refl
 
 -- ---- A conflict that the fork wins
 

@@ -6,6 +6,7 @@ pub mod Pages
 pub mod Sides
 pub mod Handled
 pub mod Taken
+pub mod Changed
 pub mod Kept
 pub mod EachStep
 pub mod Runs

@@ -74,6 +74,10 @@ module _ {A : Type 0} where
   from_slice_get (y ∷ ys) zero x h = inl (sym (some_same h))
   from_slice_get (y ∷ ys) (suc i) x h = inr (from_slice_get ys i x h)
 
+  pub from_slice_take : (n : ℕ) (xs : List A) (i : ℕ) (x : A)
+      → slice_get (take n xs) i ≡ Some x → Member x xs
+  from_slice_take n xs i x h = from_take n xs x (from_slice_get (take n xs) i x h)
+
   module _ {B : Type 0} where
     pub to_map : (f : A → B) (xs : List A) (x : A) → Member x xs → Member (f x) (map f xs)
     to_map f [] x h = h

@@ -1,5 +1,5 @@
 -- No state is invented.
-use Rattle.std.proofs.Common.{◌≡◌, ℕ, Bool, true, false, cond, List, [], ◌∷◌, Option, Some, None, refl, sym, ap, ◌∙◌, ◌⊎◌, inl, inr, subst, slice_get}
+use Rattle.std.proofs.Common.{◌≡◌, ℕ, Bool, true, false, cond, List, [], ◌∷◌, take, Option, Some, None, refl, sym, ap, ◌∙◌, ◌⊎◌, inl, inr, subst, slice_get}
 use Rattle.rx_value.specs.Named.{named}
 use Rattle.rx_value.specs.declared.state.State.{State}
 use Rattle.rx_value.proofs.Outcomes.{some_same, not_none}
@@ -14,20 +14,22 @@ use Rattle.rx_wire.specs.declared.message.Body.{Body}
 use Rattle.rx_wire.specs.declared.message.Body.TheVariants.{Conflicts, Docs}
 use Rattle.rx_wire.specs.declared.message.PushRow.{PushRow}
 use Rattle.rx_wire.specs.declared.message.Request.{Request}
+use Rattle.rx_replication.specs.Changed.{changed_document, changed_documents, changed_known}
 use Rattle.rx_replication.specs.Known.{KnownStates, with_learnt}
 use Rattle.rx_replication.specs.Master.{writes, body_of, master_then}
 use Rattle.rx_replication.specs.Member.{Member}
 use Rattle.rx_replication.specs.Request.{push_row, push_or_pull, ask_of}
 use Rattle.rx_replication.specs.Steps.{System, OpenRequest, MadeReply, Step, system_after, with_fork, with_master, with_reply, handled_in, with_taking, taken_in, arrived_in, is_awaited, run, start, AreLawfulSteps}
-use Rattle.rx_replication.specs.Steps.Step.{CommitFork, CommitMaster, Ask, Handle, Arrive, Restart}
+use Rattle.rx_replication.specs.Steps.Step.{CommitFork, CommitMaster, Ask, Handle, Arrive, Restart, Migrate}
 use Rattle.rx_replication.specs.Taking.{Resolve, KeepsKey, Taking, taking, conflict_at, real_or, real_state}
 use Rattle.rx_replication.specs.Throughout.{AllPass, DocumentsPass, KnownPass, RowPasses, AskPasses, BodyPasses, SystemPasses, StepPasses, StepsPass, KeepsPassing, HoldsThroughout}
 use Rattle.rx_replication.specs.Write.{write, AreByKey}
+use Rattle.rx_replication.proofs.Changed.{named_was}
 use Rattle.rx_replication.proofs.Commits.{IsAmong, IsOld, IsNew, IsNewState, Wrote, write_wrote, learn_at}
 use Rattle.rx_replication.proofs.EachStep.{kept_after}
 use Rattle.rx_replication.proofs.Handled.{conflict-among, conflict_held, from_conflicts, from_writes, states_of}
 use Rattle.rx_replication.proofs.Kept.{IsKept}
-use Rattle.rx_replication.proofs.Lists.{from_map, from_slice_get}
+use Rattle.rx_replication.proofs.Lists.{from_map, from_slice_get, from_slice_take}
 use Rattle.rx_replication.proofs.Pages.{page, page_held, stands_above, since-page}
 use Rattle.rx_replication.proofs.Runs.{kept_start}
 use Rattle.rx_replication.proofs.Taken.{pushed, rows_of, pushed_held, real_state-key, from_resolutions, from_differences}
@@ -57,6 +59,23 @@ module _ (test : State → Bool) where
   pub learnt_pass : (known : KnownStates) (ss : List State) → KnownPass test known
       → AllPass test ss → KnownPass test (with_learnt known ss)
   learnt_pass known ss pass all k s at = learnt_by known ss pass all k s at (learn_at known ss k)
+
+  -- ---- a change
+
+  module _ (change : State → State) (all : (s : State) → test s ≡ true → test (change s) ≡ true)
+    where
+      changed_pass : (es : Documents) → DocumentsPass test es
+          → DocumentsPass test (changed_documents change es)
+      changed_pass es pass k d at =
+          let was = named_was (changed_document change) es k d at in
+          ap (λ (z : Stored). test z.state) (sym was.made)
+          ∙ all was.x.state (pass k was.x was.there)
+
+      changed_known_pass : (known : KnownStates) → KnownPass test known
+          → KnownPass test (changed_known change known)
+      changed_known_pass known pass k s at =
+          let was = named_was change known k s at in
+          ap test (sym was.made) ∙ all was.x (pass k was.x was.there)
 
   -- ---- what is asked
 
@@ -253,7 +272,8 @@ module _ (test : State → Bool) where
         replies = s.replies;
       }
       passes_after (Handle which now) all =
-          handled_by (slice_get w.requests which) now (λ q e. from_slice_get w.requests which q e)
+          handled_by (slice_get (take w.since w.requests) which) now
+          (λ q e. from_slice_take w.since w.requests which q e)
       passes_after (Arrive which now) all =
           arrived_by w.waiting (slice_get w.replies which) now refl
           (λ r e. from_slice_get w.replies which r e)
@@ -261,6 +281,13 @@ module _ (test : State → Bool) where
         fork = s.fork;
         master = s.master;
         known = s.known;
+        requests = s.requests;
+        replies = s.replies;
+      }
+      passes_after (Migrate change) all = record {
+        fork = changed_pass change all w.fork.documents s.fork;
+        master = changed_pass change all w.master.documents s.master;
+        known = changed_known_pass change all w.known s.known;
         requests = s.requests;
         replies = s.replies;
       }

@@ -1,5 +1,5 @@
 -- No update is lost.
-use Rattle.std.proofs.Common.{◌≡◌, ℕ, true, false, cond, not, List, map, Option, Some, None, option_map, refl, sym, ap, ◌∙◌, ◌⊎◌, inl, inr, subst, true≢false, slice_get}
+use Rattle.std.proofs.Common.{◌≡◌, ℕ, true, false, cond, not, List, map, take, Option, Some, None, option_map, refl, sym, ap, ◌∙◌, ◌⊎◌, inl, inr, subst, true≢false, slice_get}
 use Rattle.rx_value.specs.Equal.{state_eq}
 use Rattle.rx_value.specs.Named.{named}
 use Rattle.rx_value.specs.declared.state.State.{State}
@@ -14,16 +14,18 @@ use Rattle.rx_wire.specs.declared.message.Body.{Body}
 use Rattle.rx_wire.specs.declared.message.Body.TheVariants.{Conflicts, Docs}
 use Rattle.rx_wire.specs.declared.message.PushRow.{PushRow}
 use Rattle.rx_wire.specs.declared.message.Request.{Request}
-use Rattle.rx_replication.specs.Interleaving.{LosesNoUpdate, ArrivesFromOneWith, IsPendingUntilHeld}
+use Rattle.rx_replication.specs.Changed.{changed_document, changed_documents, changed_known}
+use Rattle.rx_replication.specs.Interleaving.{LosesNoUpdate, ArrivesFromOneWith, MigratesToKnown, IsPendingUntilHeld}
 use Rattle.rx_replication.specs.Known.{KnownStates, with_learnt, is_state, is_pending}
 use Rattle.rx_replication.specs.Master.{master_then}
 use Rattle.rx_replication.specs.Member.{Member}
 use Rattle.rx_replication.specs.Request.{push_row, IsCurrent}
 use Rattle.rx_replication.specs.Steps.{System, OpenRequest, MadeReply, Step, system_after, with_fork, with_master, with_reply, handled_in, with_taking, taken_in, arrived_in, is_awaited}
-use Rattle.rx_replication.specs.Steps.Step.{CommitFork, CommitMaster, Ask, Handle, Arrive, Restart}
+use Rattle.rx_replication.specs.Steps.Step.{CommitFork, CommitMaster, Ask, Handle, Arrive, Restart, Migrate}
 use Rattle.rx_replication.specs.Taking.{Resolve, KeepsKey, Taking, taking, conflict_at, real_or, real_state, resolutions, pushed_place}
 use Rattle.rx_replication.specs.Updates.{IsResolvedBy, KeepsPending}
 use Rattle.rx_replication.specs.Write.{write, state_at, AreByKey}
+use Rattle.rx_replication.proofs.Changed.{named-map, named_was}
 use Rattle.rx_replication.proofs.Commits.{IsAmong, IsOld, IsNew, IsNewState, Wrote, write_wrote, learn_at, key_at}
 use Rattle.rx_replication.proofs.EachStep.{due}
 use Rattle.rx_replication.proofs.Handled.{conflict-among}
@@ -259,24 +261,50 @@ module _ (resolve : Resolve) (law : KeepsKey resolve) (w : System) (k : IsKept w
     had_handled None now settled = no_less w.known d e same pending settled
     had_handled (Some q) now settled = had_reply q (master_then w.master q.ask now) settled
 
-    had : (s : Step) → is_pending (system_after resolve w s).known e ≡ false
-        → ArrivesFromOneWith w s key d.state
-    had (CommitFork ss now) settled = had_fork (write w.fork ss now) settled
-    had (CommitMaster ss now) settled = had_master (write w.master ss now) settled
-    had (Ask batch) settled = no_less w.known d e same pending settled
-    had (Handle which now) settled = had_handled (slice_get w.requests which) now settled
-    had (Arrive which now) settled =
+    -- the migration made the state and the known one equal
+    had_migrated : (change : State → State)
+        → named (changed_documents change w.fork.documents) key ≡ Some e
+        → is_pending (changed_known change w.known) e ≡ false
+        → MigratesToKnown w (Migrate change) key d.state
+    had_migrated change after settled =
+        let is_key : e.state.key ≡ key =
+        ap (λ (s : State). s.key) same ∙ key_at w.fork.documents key d k.fork_keys at in
+        let was = named_was change w.known key e.state
+        (ap (named (changed_known change w.known)) (sym is_key)
+        ∙ known_is (named (changed_known change w.known) e.state.key) e.state settled) in
+        let is : changed_document change d ≡ e =
+        some_same (ap (option_map (changed_document change)) (sym at)
+        ∙ sym (named-map (changed_document change) w.fork.documents key) ∙ after) in
+        record {
+          change = change;
+          migrates = refl;
+          known = was.x;
+          was = was.there;
+          equal = was.made ∙ ap (λ (z : Stored). z.state) (sym is);
+        }
+
+    had : (s : Step) → named (system_after resolve w s).fork.documents key ≡ Some e
+        → is_pending (system_after resolve w s).known e ≡ false
+        → ArrivesFromOneWith w s key d.state ⊎ MigratesToKnown w s key d.state
+    had (CommitFork ss now) after settled = had_fork (write w.fork ss now) settled
+    had (CommitMaster ss now) after settled = had_master (write w.master ss now) settled
+    had (Ask batch) after settled = no_less w.known d e same pending settled
+    had (Handle which now) after settled =
+        had_handled (slice_get (take w.since w.requests) which) now settled
+    had (Arrive which now) after settled =
         let x = had_arrived w.waiting (slice_get w.replies which) now refl
         (λ r f. from_slice_get w.replies which r f) settled in
-        record {
+        inl (record {
           which = which;
           now = now;
           arrives = refl;
           reply = x.0;
           comes = x.1;
           had = x.2;
-        }
-    had Restart settled = no_less w.known d e same pending settled
+        })
+    had Restart after settled = no_less w.known d e same pending settled
+    had (Migrate change) after settled = inr (had_migrated change after settled)
 
   pub kept_pending : IsPendingUntilHeld resolve w
-  kept_pending s key d e at pending at' same settled = had key d e at pending same s settled
+  kept_pending s key d e at pending after same settled =
+      had key d e at pending same s after settled

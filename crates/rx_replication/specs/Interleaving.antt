@@ -1,5 +1,5 @@
 -- What holds after every list of steps.
-use Rattle.std.specs.Prelude.{◌≡◌, ◌≢◌, ℕ, ◌<◌, true, false, List, [], ◌∷◌, length, Option, Some, None, slice_get}
+use Rattle.std.specs.Prelude.{◌≡◌, ◌≢◌, ◌⊎◌, ℕ, ◌<◌, true, false, List, [], ◌∷◌, length, Option, Some, None, slice_get}
 use Rattle.rx_value.specs.Named.{named}
 use Rattle.rx_value.specs.declared.state.State.{State}
 use Rattle.rx_document.specs.declared.place.Place.{Place}
@@ -14,7 +14,7 @@ use Rattle.rx_replication.specs.Known.{is_pending}
 use Rattle.rx_replication.specs.Member.{Member}
 use Rattle.rx_replication.specs.Sound.{IsSound}
 use Rattle.rx_replication.specs.Steps.{System, Step, OpenRequest, MadeReply, system_after, run, start, AreLawfulSteps}
-use Rattle.rx_replication.specs.Steps.Step.{Arrive}
+use Rattle.rx_replication.specs.Steps.Step.{Arrive, Migrate}
 use Rattle.rx_replication.specs.Taking.{Resolve, KeepsKey}
 use Rattle.rx_replication.specs.Updates.{KeepsPending}
 use Rattle.rx_replication.specs.Write.{AreByKey, state_at}
@@ -101,10 +101,19 @@ pub record ArrivesFromOneWith (w : System) (s : Step) (key : List ℕ) (state : 
   pub comes : slice_get w.replies which ≡ Some reply
   pub had : state_at reply.master.documents key ≡ Some state
 
--- where a pending document keeps its state and is no longer pending, the master had that state
+-- a migration makes that state of the key and the known one equal
+pub record MigratesToKnown (w : System) (s : Step) (key : List ℕ) (state : State) : Type 0 where
+  pub change : State → State
+  pub migrates : s ≡ Migrate change
+  pub known : State
+  pub was : named w.known key ≡ Some known
+  pub equal : change known ≡ change state
+
+-- where a pending document keeps its state and is no longer pending, the master had that state, or
+-- a migration made it and the known one equal
 abbrev pub IsPendingUntilHeld : Resolve → System → Type 0
 IsPendingUntilHeld resolve w =
     (s : Step) (key : List ℕ) (d e : Stored) → named w.fork.documents key ≡ Some d
     → is_pending w.known d ≡ true → named (system_after resolve w s).fork.documents key ≡ Some e
     → e.state ≡ d.state → is_pending (system_after resolve w s).known e ≡ false
-    → ArrivesFromOneWith w s key d.state
+    → ArrivesFromOneWith w s key d.state ⊎ MigratesToKnown w s key d.state

@@ -8,6 +8,7 @@ pub mod Updates
 pub mod Sound
 pub mod Answered
 pub mod Fitting
+pub mod Changed
 pub mod Steps
 pub mod Exchange
 pub mod Left

@@ -1,11 +1,12 @@
 -- A fork, its master and the link between them, and all that may happen.
-use Rattle.std.specs.Prelude.{ℕ, ◌+◌, ◌≤◌, Bool, ◌&&◌, ◌==◌, List, [], ◌∷◌, Option, Some, None, slice_get, if◌then◌else◌}
+use Rattle.std.specs.Prelude.{◌≡◌, ℕ, suc, ◌+◌, ◌≤◌, Bool, ◌&&◌, ◌==◌, List, [], ◌∷◌, take, Option, Some, None, slice_get, if◌then◌else◌}
 use Rattle.rx_value.specs.declared.state.State.{State}
 use Rattle.rx_document.specs.declared.place.Place.{Place}
 use Rattle.rx_collection.specs.Held.{Held}
 use Rattle.rx_collection.specs.Time.{last_lwt}
 use Rattle.rx_wire.specs.declared.message.Reply.{Reply}
 use Rattle.rx_wire.specs.declared.message.Request.{Request}
+use Rattle.rx_replication.specs.Changed.{changed_collection, changed_known}
 use Rattle.rx_replication.specs.Known.{KnownStates, with_learnt}
 use Rattle.rx_replication.specs.Master.{body_of, master_then, reply_with}
 use Rattle.rx_replication.specs.Request.{ask_of}
@@ -23,7 +24,7 @@ pub record OpenRequest : Type 0 where
   pub lwt : ℕ
 
 -- the fork and the master, what the fork knows, and all requests and replies ever made, the newest
--- first
+-- first; `since` counts the requests made since the last migration
 pub record System : Type 0 where
   pub fork : Held
   pub master : Held
@@ -33,11 +34,13 @@ pub record System : Type 0 where
   pub epoch : ℕ
   pub n : ℕ
   pub requests : List Request
+  pub since : ℕ
   pub replies : List MadeReply
   pub waiting : Option OpenRequest
 
--- What may happen: a commit; a request made; any request ever made is handled; any reply ever made
--- arrives; a restart. `which` counts from the newest.
+-- What may happen: a commit; a request made; any request made since the last migration is handled;
+-- any reply ever made arrives; a restart; a migration, which changes every state. `which` counts
+-- from the newest.
 pub data Step : Type 0 where
   CommitFork : (states : List State) → (now : ℕ) → Step
   CommitMaster : (states : List State) → (now : ℕ) → Step
@@ -45,6 +48,7 @@ pub data Step : Type 0 where
   Handle : (which : ℕ) → (now : ℕ) → Step
   Arrive : (which : ℕ) → (now : ℕ) → Step
   Restart : Step
+  Migrate : (change : State → State) → Step
 
 -- ---- commits: one that finds no write time changes nothing
 
@@ -69,6 +73,7 @@ abbrev pub with_request : System → Request → System
 with_request w q = record w {
   n = w.n + 1;
   requests = q ∷ w.requests;
+  since = suc w.since;
   waiting = Some (record { request = q; lwt = last_lwt w.fork.documents });
 }
 
@@ -115,6 +120,17 @@ arrived_in resolve w (Some o) (Some r) now =
     then taken_in w (taking resolve w.fork.documents w.up w.down o.request.ask r.reply.body) now
     else w
 
+-- ---- a migration: no request is open after it, and none that was made before is handled
+
+abbrev pub migrated : (State → State) → System → System
+migrated change w = record w {
+  fork = changed_collection change w.fork;
+  master = changed_collection change w.master;
+  known = changed_known change w.known;
+  since = 0;
+  waiting = None;
+}
+
 -- ---- all
 
 -- what a step makes of the system
@@ -122,10 +138,12 @@ abbrev pub system_after : Resolve → System → Step → System
 system_after resolve w (CommitFork states now) = with_fork w (write w.fork states now)
 system_after resolve w (CommitMaster states now) = with_master w (write w.master states now)
 system_after resolve w (Ask batch) = with_request w (request_of w batch)
-system_after resolve w (Handle which now) = handled_in w (slice_get w.requests which) now
+system_after resolve w (Handle which now) =
+    handled_in w (slice_get (take w.since w.requests) which) now
 system_after resolve w (Arrive which now) =
     arrived_in resolve w w.waiting (slice_get w.replies which) now
 system_after resolve w Restart = record w { epoch = w.epoch + 1; n = 0; waiting = None }
+system_after resolve w (Migrate change) = migrated change w
 
 -- one step after another
 abbrev pub run : Resolve → List Step → System → System
@@ -143,11 +161,12 @@ start fork master epoch = record {
   epoch = epoch;
   n = 0;
   requests = [];
+  since = 0;
   replies = [];
   waiting = None;
 }
 
--- a batch has one document at least
+-- a batch has one document at least, and a change keeps keys
 abbrev pub IsLawfulStep : Step → Type 0
 IsLawfulStep (Ask batch) = 1 ≤ batch
 IsLawfulStep (CommitFork states now) = Unit {0}
@@ -155,6 +174,7 @@ IsLawfulStep (CommitMaster states now) = Unit {0}
 IsLawfulStep (Handle which now) = Unit {0}
 IsLawfulStep (Arrive which now) = Unit {0}
 IsLawfulStep Restart = Unit {0}
+IsLawfulStep (Migrate change) = (s : State) → (change s).key ≡ s.key
 
 abbrev pub AreLawfulSteps : List Step → Type 0
 AreLawfulSteps [] = Unit {0}

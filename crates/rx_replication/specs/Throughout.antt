@@ -14,7 +14,7 @@ use Rattle.rx_wire.specs.declared.message.Request.{Request}
 use Rattle.rx_replication.specs.Known.{KnownStates}
 use Rattle.rx_replication.specs.Member.{Member}
 use Rattle.rx_replication.specs.Steps.{System, MadeReply, Step, run, start, AreLawfulSteps}
-use Rattle.rx_replication.specs.Steps.Step.{CommitFork, CommitMaster, Ask, Handle, Arrive, Restart}
+use Rattle.rx_replication.specs.Steps.Step.{CommitFork, CommitMaster, Ask, Handle, Arrive, Restart, Migrate}
 use Rattle.rx_replication.specs.Taking.{Resolve, KeepsKey}
 use Rattle.rx_replication.specs.Write.{AreByKey}
 
@@ -50,7 +50,7 @@ pub record SystemPasses (test : State → Bool) (w : System) : Type 0 where
   pub requests : (q : Request) → Member q w.requests → AskPasses test q.ask
   pub replies : (r : MadeReply) → Member r w.replies → BodyPasses test r.reply.body
 
--- each state that is committed passes
+-- each state that is committed passes, and a change of one that passes does so too
 abbrev pub StepPasses : (State → Bool) → Step → Type 0
 StepPasses test (CommitFork states now) = AllPass test states
 StepPasses test (CommitMaster states now) = AllPass test states
@@ -58,6 +58,7 @@ StepPasses test (Ask batch) = Unit {0}
 StepPasses test (Handle which now) = Unit {0}
 StepPasses test (Arrive which now) = Unit {0}
 StepPasses test Restart = Unit {0}
+StepPasses test (Migrate change) = (s : State) → test s ≡ true → test (change s) ≡ true
 
 abbrev pub StepsPass : (State → Bool) → List Step → Type 0
 StepsPass test [] = Unit {0}
@@ -69,8 +70,8 @@ KeepsPassing test resolve =
     (real new : State) → real.key ≡ new.key → test real ≡ true → test new ≡ true
     → test (resolve real new) ≡ true
 
--- for every test that the handler keeps, such as validity: where the states in the beginning and
--- all that are committed pass, all pass always
+-- for every test that the handler and each migration keep, such as validity: where the states in
+-- the beginning and all that are committed pass, all pass always
 abbrev pub HoldsThroughout : Type 0
 HoldsThroughout =
     (test : State → Bool) (resolve : Resolve) → KeepsKey resolve → KeepsPassing test resolve

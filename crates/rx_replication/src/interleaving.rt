@@ -2,8 +2,9 @@ ghost use Rattle.rx_replication.specs.Interleaving.{Always, IsSoundSystem, HasNu
 ghost use Rattle.rx_replication.specs.Throughout.{HoldsThroughout};
 
 /// States what holds over every list of steps, for every handler, from every fork and master where
-/// nothing is known yet, and does nothing. A step is a commit, a request made, any request ever
-/// made handled, any reply ever made arriving, each as often as may be, or a restart.
+/// nothing is known yet, and does nothing. A step is a commit, a request made, any request made
+/// since the last migration handled, any reply ever made arriving, each as often as may be, a
+/// restart, or a migration.
 pub fn every_interleaving()
     // Each moment is sound.
     ensures sound { Always IsSoundSystem }
@@ -16,8 +17,10 @@ pub fn every_interleaving()
     ensures quiet { Always IsQuietThen }
     // A taking changes no pending document but by the handler's answer on its conflict.
     ensures no_lost_update { Always LosesNoUpdate }
-    // What a fork wrote stays pending until the master had it, or it was resolved.
+    // What a fork wrote stays pending until the master had it, it was resolved, or a migration made
+    // both equal.
     ensures pending_until_held { Always IsPendingUntilHeld }
-    // No state is invented: what a handler keeps, as validity, holds of all states always.
+    // No state is invented: what a handler and each migration keep, as validity, holds of all
+    // states always.
     ensures throughout { HoldsThroughout }
 {}
