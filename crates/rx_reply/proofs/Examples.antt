@@ -13,13 +13,14 @@ use Rattle.rx_script.specs.declared.fault.LineFault.TheVariants as line
 use Rattle.rx_update.specs.declared.fault.UpdateFault.TheVariants as update
 use Rattle.rx_table.specs.declared.action.Action.TheVariants.{InsertFirst, InsertAtSortPositionRemoveLast, RunFullQueryAgain}
 use Rattle.rx_table.specs.Counts.{no_counts, counted}
-use Rattle.rx_reply.specs.Answer.{collection, insert, bulk, get, find, count, unobserve, explain, replicate, turn, changes, tick, restart, digest, refused}
+use Rattle.rx_reply.specs.Answer.{collection, insert, migrate, bulk, get, find, count, unobserve, explain, replicate, turn, changes, tick, restart, digest, refused}
 use Rattle.rx_reply.specs.Emission.{emission_line}
 use Rattle.rx_reply.specs.Explain.{named_actions}
 use Rattle.rx_reply.specs.Reply.{answer_lines}
 use Rattle.rx_reply.specs.declared.refusal.Cause.TheVariants as cause
 use Rattle.rx_reply.specs.declared.refusal.DocumentFault.TheVariants.{Fields, Invalid, Key, Conflict}
-use Rattle.rx_reply.specs.declared.refusal.Refusal.TheVariants.{Line, NoCollection, Schema, Document, NoDocument, Query, NoReplication, NoHandler, Chain, Twice, Update}
+use Rattle.rx_reply.specs.declared.refusal.MigrationCause.TheVariants as migration
+use Rattle.rx_reply.specs.declared.refusal.Refusal.TheVariants.{Line, NoCollection, Schema, Document, NoDocument, Query, NoReplication, NoHandler, Chain, Twice, Migration, Observed, Remote, Update}
 use Rattle.rx_reply.specs.declared.turn.Exchanged.TheVariants.{Pushed, Pulled, PushLost, PullLost}
 use Rattle.rx_reply.specs.declared.turn.Lost.TheVariants.{LoseReply, Stale}
 use Rattle.rx_reply.specs.declared.turn.TurnEnd.TheVariants.{Quiet, Lost}
@@ -52,6 +53,11 @@ inserted_together : answer_lines 3 (bulk (codes "1-c" ∷ codes "2-c" ∷ []))
     ≡ ended (codes "{\"line\":3,\"ok\":\"bulk\",\"revs\":[\"1-c\",\"2-c\"]}")
 unfolding serde_json_on_literals digits
 inserted_together = refl
+
+migrated_together : answer_lines 6 (migrate (codes "m" ∷ codes "f" ∷ []))
+    ≡ ended (codes "{\"collections\":[\"m\",\"f\"],\"line\":6,\"ok\":\"migrate\"}")
+unfolding serde_json_on_literals digits
+migrated_together = refl
 
 document_got : answer_lines 4 (get document)
     ≡ ended (codes
@@ -222,6 +228,22 @@ key_twice : answer_lines 12 (refused (Twice 3))
     ≡ ended (codes "{\"code\":25,\"line\":12,\"refused\":\"twice\",\"row\":3}")
 unfolding serde_json_on_literals digits
 key_twice = refl
+
+no_migration : answer_lines 6 (refused (Migration migration.Invalid (codes "m")))
+    ≡ ended (codes
+    "{\"cause\":\"invalid\",\"code\":28,\"line\":6,\"name\":\"m\",\"refused\":\"migration\"}")
+unfolding serde_json_on_literals digits
+no_migration = refl
+
+still_observed : answer_lines 6 (refused (Observed (codes "q")))
+    ≡ ended (codes "{\"code\":29,\"line\":6,\"name\":\"q\",\"refused\":\"observed\"}")
+unfolding serde_json_on_literals digits
+still_observed = refl
+
+with_a_master_elsewhere : answer_lines 6 (refused Remote)
+    ≡ ended (codes "{\"code\":30,\"line\":6,\"refused\":\"remote\"}")
+unfolding serde_json_on_literals digits
+with_a_master_elsewhere = refl
 
 no_replication : answer_lines 13 (refused NoReplication)
     ≡ ended (codes "{\"code\":18,\"line\":13,\"refused\":\"no_replication\"}")

@@ -2,20 +2,22 @@
 use Rattle.std.specs.Prelude.{ℕ, List, map, Bool, Option}
 use Rattle.std.specs.Borrow.{Bor}
 use Rattle.rx_value.specs.Fields.{Pairs}
+use Rattle.rx_value.specs.Form.{texts}
 use Rattle.rx_value.specs.declared.state.State.{State}
 use Rattle.rx_document.specs.declared.place.Place.{Place}
 use Rattle.rx_document.specs.declared.stored.Stored.{Stored}
 use Rattle.rx_table.specs.declared.counts.Counts.{Counts}
 use Rattle.rx_reply.specs.declared.refusal.Refusal.{Refusal}
 use Rattle.rx_reply.specs.declared.reply.Reply.{Reply}
-use Rattle.rx_reply.specs.declared.reply.Reply.TheVariants.{Collection, Insert, Upsert, Patch, Update, Remove, Hook, Bulk, Get, Find, Count, Observe, Unobserve, Explain, Replicate, Turn, Changes, Tick, Restart, Digest, Refused}
+use Rattle.rx_reply.specs.declared.reply.Reply.TheVariants.{Collection, Insert, Upsert, Patch, Update, Remove, Hook, Migrate, Bulk, Get, Find, Count, Observe, Unobserve, Explain, Replicate, Turn, Changes, Tick, Restart, Digest, Refused}
 use Rattle.rx_reply.specs.declared.turn.Exchanged.{Exchanged}
 use Rattle.rx_reply.specs.declared.turn.TurnEnd.{TurnEnd}
 
--- a collection is there, new or not; a document is written; a hook is attached; documents are written, read, found,
--- counted; a query is observed, no more observed, explained; a replication begins; a turn made
--- these exchanges and ended so; states are listed up to a place; the clock is set; an epoch begins;
--- states are counted and have that digest; or the line is refused
+-- a collection is there, new or not; a document is written; a hook is attached; collections went to
+-- another schema; documents are written, read, found, counted; a query is observed, no more
+-- observed, explained; a replication begins; a turn made these exchanges and ended so; states are
+-- listed up to a place; the clock is set; an epoch begins; states are counted and have that digest;
+-- or the line is refused
 pub data Answer : Type 0 where
   collection : Bool → Answer
   insert : List ℕ → Answer
@@ -24,6 +26,7 @@ pub data Answer : Type 0 where
   update : List ℕ → Answer
   remove : List ℕ → Answer
   hook : Answer
+  migrate : List (List ℕ) → Answer
   bulk : List (List ℕ) → Answer
   get : Stored → Answer
   find : List Pairs → Answer
@@ -47,7 +50,7 @@ rows_of = map (λ d. d.now.state.fields)
 abbrev pub states_of : List (Bor Stored) → List State
 states_of = map (λ d. d.now.state)
 
--- the answer of a reply, which lends documents and counts
+-- the answer of a reply, which lends documents, names and counts
 abbrev pub answer_of : Reply → Answer
 answer_of (Collection new) = collection new
 answer_of (Insert rev) = insert rev
@@ -56,6 +59,7 @@ answer_of (Patch rev) = patch rev
 answer_of (Update rev) = update rev
 answer_of (Remove rev) = remove rev
 answer_of Hook = hook
+answer_of (Migrate collections) = migrate (texts collections.items)
 answer_of (Bulk revs) = bulk revs.items
 answer_of (Get doc) = get doc.now
 answer_of (Find rows) = find (rows_of rows.items)

@@ -20,8 +20,10 @@ use Rattle.rx_reply.specs.declared.refusal.Cause.{Cause}
 use Rattle.rx_reply.specs.declared.refusal.Cause.TheVariants as cause
 use Rattle.rx_reply.specs.declared.refusal.DocumentFault.{DocumentFault}
 use Rattle.rx_reply.specs.declared.refusal.DocumentFault.TheVariants.{Fields, Invalid, Key, Conflict}
+use Rattle.rx_reply.specs.declared.refusal.MigrationCause.{MigrationCause}
+use Rattle.rx_reply.specs.declared.refusal.MigrationCause.TheVariants as migration
 use Rattle.rx_reply.specs.declared.refusal.Refusal.{Refusal}
-use Rattle.rx_reply.specs.declared.refusal.Refusal.TheVariants.{Line, Exists, NoCollection, Schema, SchemaDiffers, Document, NoDocument, Query, NoQuery, NoReplication, NoHandler, Chain, Clock, TooMany, Twice, Update, Vetoed, NoHook}
+use Rattle.rx_reply.specs.declared.refusal.Refusal.TheVariants.{Line, Exists, NoCollection, Schema, SchemaDiffers, Document, NoDocument, Query, NoQuery, NoReplication, NoHandler, Chain, Clock, TooMany, Twice, Migration, Observed, Remote, Update, Vetoed, NoHook}
 
 -- its code and its word, and what else there is to say
 pub record Form : Type 0 where
@@ -142,6 +144,12 @@ cause_word cause.Kind = codes "kind"
 cause_word cause.Bounds = codes "bounds"
 cause_word cause.Length = codes "length"
 
+-- of a collection that can't go to a schema
+abbrev pub migration_word : MigrationCause → List ℕ
+migration_word migration.Version = codes "version"
+migration_word migration.Primary = codes "primary"
+migration_word migration.Invalid = codes "invalid"
+
 -- of a single document
 abbrev pub document_form : DocumentFault → Form
 document_form (Fields fault) = caused_form 13 (codes "invalid") (fields_reason fault)
@@ -166,6 +174,10 @@ form_of Chain = plain_form 21 (codes "chain")
 form_of Clock = plain_form 22 (codes "clock")
 form_of TooMany = plain_form 23 (codes "too_many")
 form_of (Twice row) = record (plain_form 25 (codes "twice")) { row = Some row }
+form_of (Migration cause name) =
+    caused_form 28 (codes "migration") (migration_word cause, Some name)
+form_of (Observed name) = named_form 29 (codes "observed") name
+form_of Remote = plain_form 30 (codes "remote")
 form_of (Update fault) = caused_form 32 (codes "update") (update_reason fault)
 form_of (Vetoed hook row) = record (named_form 33 (codes "vetoed") hook) { row = row }
 form_of NoHook = plain_form 34 (codes "no_hook")

@@ -4,7 +4,7 @@ use Rattle.serde_json.specs.Data.{Data, boolean, string, object, Members, no_mem
 use Rattle.rx_value.specs.State.{state_data}
 use Rattle.rx_value.specs.Writing.{fields_data}
 use Rattle.rx_document.specs.Revision.{revision_text}
-use Rattle.rx_reply.specs.Answer.{Answer, collection, insert, upsert, patch, update, remove, hook, bulk, get, find, count, observe, unobserve, explain, replicate, turn, changes, tick, restart, digest, refused}
+use Rattle.rx_reply.specs.Answer.{Answer, collection, insert, upsert, patch, update, remove, hook, migrate, bulk, get, find, count, observe, unobserve, explain, replicate, turn, changes, tick, restart, digest, refused}
 use Rattle.rx_reply.specs.Explain.{explain_data}
 use Rattle.rx_reply.specs.Form.{form_of, form_data}
 use Rattle.rx_reply.specs.Turn.{end_word, exchange_lines}
@@ -42,6 +42,9 @@ answer_data line (patch rev) = written_data line (codes "patch") rev
 answer_data line (update rev) = written_data line (codes "update") rev
 answer_data line (remove rev) = written_data line (codes "remove") rev
 answer_data line hook = line_object line (ok_members (codes "hook") no_members)
+answer_data line (migrate collections) = object
+    (member (codes "collections") (list_data string collections)
+    (member (codes "line") (number_data line) (ok_members (codes "migrate") no_members)))
 answer_data line (bulk revs) =
     line_object line (ok_members (codes "bulk")
     (member (codes "revs") (list_data string revs) no_members))

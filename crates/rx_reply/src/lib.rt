@@ -12,7 +12,7 @@ mod turn;
 mod writing;
 
 pub use emission::emission_line;
-pub use refusal::{Cause, DocumentFault, Refusal};
+pub use refusal::{Cause, DocumentFault, MigrationCause, Refusal};
 pub use reply::Reply;
 pub use turn::{Exchanged, Lost, TurnEnd};
 pub use writing::{

@@ -1,5 +1,5 @@
 ghost use Rattle.std.specs.Prelude.{◌≡◌};
-ghost use Rattle.rx_reply.specs.Form.{form_seen, reason_seen, form_of, document_form, line_form, schema_reason, selector_reason, query_reason, fields_reason, update_reason, cause_word};
+ghost use Rattle.rx_reply.specs.Form.{form_seen, reason_seen, form_of, document_form, line_form, schema_reason, selector_reason, query_reason, fields_reason, update_reason, cause_word, migration_word};
 
 use crate::form::{Form, Reason};
 use rx_query::QueryFault;
@@ -42,6 +42,17 @@ pub enum Refusal {
     Twice {
         row: u64,
     },
+    /// The collection and all that local replications join to it can't go to that schema.
+    Migration {
+        cause: MigrationCause,
+        name: RxText,
+    },
+    /// The query of that name observes one of those collections.
+    Observed {
+        name: RxText,
+    },
+    /// One of those collections follows a master elsewhere.
+    Remote,
     /// It is no update, or can't be made of the document.
     Update(UpdateFault),
     /// A hook vetoes it. Of several documents it is the one of that row.
@@ -76,6 +87,14 @@ pub enum Cause {
     Length,
 }
 
+/// Why a collection can't go to a schema.
+#[derive(Debug, Drop, Clone, Copy)]
+pub enum MigrationCause {
+    Version,
+    Primary,
+    Invalid,
+}
+
 impl Refusal {
     pub(crate) fn form(&self) -> Form<'_>
         ensures { form_seen result ≡ form_of self.now }
@@ -102,6 +121,11 @@ impl Refusal {
                 row: Some(*row),
                 ..Form::plain(25, "twice")
             },
+            Refusal::Migration { cause, name } => {
+                Form::caused(28, "migration", (cause.word(), Some(name.as_str())))
+            }
+            Refusal::Observed { name } => Form::named(29, "observed", name),
+            Refusal::Remote => Form::plain(30, "remote"),
             Refusal::Update(fault) => Form::caused(32, "update", update_reason(fault)),
             Refusal::Vetoed { hook, row } => Form {
                 row: *row,
@@ -140,6 +164,18 @@ impl Cause {
             Cause::Kind => "kind",
             Cause::Bounds => "bounds",
             Cause::Length => "length",
+        }
+    }
+}
+
+impl MigrationCause {
+    fn word(&self) -> &'static str
+        ensures { result.now ≡ migration_word self.now }
+    {
+        match self {
+            MigrationCause::Version => "version",
+            MigrationCause::Primary => "primary",
+            MigrationCause::Invalid => "invalid",
         }
     }
 }

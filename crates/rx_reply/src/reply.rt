@@ -2,6 +2,7 @@ ghost use Rattle.std.specs.Prelude.{◌≡◌, ◌++◌, IfOk, OnOk, string_byte
 ghost use Rattle.json.specs.Tree.{json_tokens};
 ghost use Rattle.serde_json.specs.Data.{no_members};
 ghost use Rattle.serde_json.specs.Written.{outline};
+ghost use Rattle.rx_value.specs.Form.{texts};
 ghost use Rattle.rx_reply.specs.Answer as answer;
 ghost use Rattle.rx_reply.specs.Answer.{answer_of, rows_of, states_of};
 ghost use Rattle.rx_reply.specs.Reply.{line_object, ok_members, written_data, turn_data, answer_data, lines_before, answer_lines, is_refusal};
@@ -10,7 +11,8 @@ use crate::explain::put_explain;
 use crate::refusal::Refusal;
 use crate::turn::{Exchanged, TurnEnd, exchange_lines};
 use crate::writing::{
-    finish_line, line_after, put_maybe_place, put_number, put_rows, put_states, put_text, put_texts,
+    finish_line, line_after, put_maybe_place, put_names, put_number, put_rows, put_states,
+    put_text, put_texts,
 };
 use json::Writer;
 use rx_document::{Place, Stored};
@@ -45,6 +47,10 @@ pub enum Reply<'a> {
     },
     /// A hook stands before writes from now on.
     Hook,
+    /// The collections that went to the schema.
+    Migrate {
+        collections: Vec<&'a RxText>,
+    },
     /// The revisions in the order of the documents.
     Bulk {
         revs: Vec<RxText>,
@@ -130,6 +136,7 @@ impl Reply<'_> {
             Reply::Update { rev } => put_written(writer, number, "update", rev),
             Reply::Remove { rev } => put_written(writer, number, "remove", rev),
             Reply::Hook => put_plain(writer, number, "hook"),
+            Reply::Migrate { collections } => put_migrate(writer, number, collections.as_slice()),
             Reply::Bulk { revs } => put_bulk(writer, number, revs.as_slice()),
             Reply::Get { doc } => put_get(alloc, writer, number, doc),
             Reply::Find { rows } => put_find(writer, number, rows.as_slice()),
@@ -182,6 +189,20 @@ fn put_written(writer: &mut Writer, number: u64, ok: &str, rev: &RxText) -> Resu
     put_number(writer, "line", number)?;
     put_text(writer, "ok", ok)?;
     put_text(writer, "rev", rev.as_str())?;
+    writer.end_object()
+}
+
+fn put_migrate(writer: &mut Writer, number: u64, collections: &[&RxText]) -> Result<(), AllocError>
+    ensures tokens { OnOk result (writer.new.tokens
+        ≡ writer.old.tokens
+        ++ json_tokens (outline (answer_data number (answer.migrate (texts collections.now))))) }
+    ensures before { writer.new.before ≡ writer.old.before }
+{
+    writer.begin_object()?;
+    writer.key("collections")?;
+    put_names(writer, collections)?;
+    put_number(writer, "line", number)?;
+    put_text(writer, "ok", "migrate")?;
     writer.end_object()
 }
 

@@ -5,6 +5,7 @@ ghost use Rattle.json.specs.Token.{key};
 ghost use Rattle.json.specs.Tree.{json_tokens};
 ghost use Rattle.serde_json.specs.Data.{Data, string};
 ghost use Rattle.serde_json.specs.Written.{outline};
+ghost use Rattle.rx_value.specs.Form.{texts};
 ghost use Rattle.rx_value.specs.State.{state_data};
 ghost use Rattle.rx_value.specs.Writing.{fields_data};
 ghost use Rattle.rx_reply.specs.Answer.{rows_of, states_of};
@@ -121,6 +122,19 @@ pub(crate) fn put_texts(writer: &mut Writer, texts: &[RxText]) -> Result<(), All
     writer.begin_array()?;
     for text in texts {
         writer.string(text.as_str())?;
+    }
+    writer.end_array()
+}
+
+// Names that are lent.
+pub(crate) fn put_names(writer: &mut Writer, names: &[&RxText]) -> Result<(), AllocError>
+    ensures tokens { OnOk result (writer.new.tokens
+        ≡ writer.old.tokens ++ json_tokens (outline (list_data string (texts names.now)))) }
+    ensures before { writer.new.before ≡ writer.old.before }
+{
+    writer.begin_array()?;
+    for name in names {
+        writer.string(name.as_str())?;
     }
     writer.end_array()
 }

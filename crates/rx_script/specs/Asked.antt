@@ -5,6 +5,7 @@ use Rattle.serde_json.specs.Data.{Data}
 use Rattle.serde_json.specs.View.{view}
 use Rattle.rx_value.specs.Name.{is_name}
 use Rattle.rx_value.specs.Value.{largest}
+use Rattle.rx_migrate.specs.declared.step.Step.{Step}
 use Rattle.rx_update.specs.declared.attached.When.{When}
 use Rattle.rx_script.specs.Link.{IsHappening}
 use Rattle.rx_script.specs.Member.{is_object}
@@ -24,6 +25,7 @@ pub data Asked : Type 0 where
   Update : (coll key : List ℕ) (update : Data) (rev : Option (List ℕ)) → Asked
   Remove : (coll key : List ℕ) (rev : Option (List ℕ)) → Asked
   Hook : (coll : List ℕ) (when : When) (hook field : List ℕ) → Asked
+  Migrate : (coll : List ℕ) (schema : Data) (steps : List Step) → Asked
   Get : (coll key : List ℕ) → Asked
   Find : (coll : List ℕ) (query : Data) → Asked
   Count : (coll : List ℕ) (query : Data) → Asked
@@ -47,6 +49,7 @@ asked (line.Patch coll key set rev) = Patch coll key (view set) rev
 asked (line.Update coll key update rev) = Update coll key (view update) rev
 asked (line.Remove coll key rev) = Remove coll key rev
 asked (line.Hook coll when hook field) = Hook coll when hook field
+asked (line.Migrate coll schema steps) = Migrate coll (view schema) steps
 asked (line.Get coll key) = Get coll key
 asked (line.Find coll query) = Find coll (view query)
 asked (line.Count coll query) = Count coll (view query)
@@ -83,6 +86,7 @@ IsLawful (Patch coll key set rev) = (is_name coll ≡ true) × (is_object set �
 IsLawful (Update coll key update rev) = (is_name coll ≡ true) × (is_object update ≡ true)
 IsLawful (Remove coll key rev) = is_name coll ≡ true
 IsLawful (Hook coll when hook field) = is_name coll ≡ true
+IsLawful (Migrate coll schema steps) = is_name coll ≡ true
 IsLawful (Get coll key) = is_name coll ≡ true
 IsLawful (Find coll query) = is_name coll ≡ true
 IsLawful (Count coll query) = is_name coll ≡ true

@@ -5,9 +5,9 @@ use Rattle.serde_json.specs.Data.{Data}
 use Rattle.serde_json.specs.Read.{read}
 use Rattle.rx_value.specs.Due.{◌>>◌, demand, or_fault}
 use Rattle.rx_value.specs.Named.{named}
-use Rattle.rx_script.specs.Asked.{Asked, max_batch, max_budget, usual_budget, Collection, Insert, Bulk, Upsert, Patch, Update, Remove, Hook, Get, Find, Count, Observe, Unobserve, Explain, Replicate, Turn, Changes, Tick, Restart, Digest}
+use Rattle.rx_script.specs.Asked.{Asked, max_batch, max_budget, usual_budget, Collection, Insert, Bulk, Upsert, Patch, Update, Remove, Hook, Migrate, Get, Find, Count, Observe, Unobserve, Explain, Replicate, Turn, Changes, Tick, Restart, Digest}
 use Rattle.rx_script.specs.Link.{maybe_link}
-use Rattle.rx_script.specs.Member.{has_needed, has_form, is_object, json_at, items_of, a_text, maybe_text, an_object, objects, a_moment, maybe_whole, a_name, a_count, a_when}
+use Rattle.rx_script.specs.Member.{has_needed, has_form, is_object, json_at, items_of, a_text, maybe_text, an_object, objects, a_moment, maybe_whole, a_name, a_count, a_when, some_steps}
 use Rattle.rx_script.specs.Since.{maybe_since}
 use Rattle.rx_script.specs.Target.{target_member, a_target, a_target_name}
 use Rattle.rx_script.specs.declared.fault.LineFault.{LineFault}
@@ -78,6 +78,13 @@ hook_of d =
     a_text (codes "hook") d >> λ hook. a_text (codes "field") d >> λ field.
     a_name (codes "in") coll >> λ _.
     Ok (Hook coll when hook field)
+
+abbrev pub migrate_of : Data → Result Asked LineFault
+migrate_of d =
+    has_form (codes "do" ∷ codes "in" ∷ codes "schema" ∷ codes "steps" ∷ []) [] d >> λ _.
+    a_text (codes "in") d >> λ coll. some_steps (codes "steps") d >> λ steps.
+    a_name (codes "in") coll >> λ _.
+    Ok (Migrate coll (json_at (codes "schema") d) steps)
 
 abbrev pub get_of : Data → Result Asked LineFault
 get_of d =
@@ -162,6 +169,7 @@ forms =
     (codes "collection", form.Collection) ∷ (codes "insert", form.Insert)
     ∷ (codes "bulk", form.Bulk) ∷ (codes "upsert", form.Upsert) ∷ (codes "patch", form.Patch)
     ∷ (codes "update", form.Update) ∷ (codes "remove", form.Remove) ∷ (codes "hook", form.Hook)
+    ∷ (codes "migrate", form.Migrate)
     ∷ (codes "get", form.Get) ∷ (codes "find", form.Find) ∷ (codes "count", form.Count)
     ∷ (codes "observe", form.Observe)
     ∷ (codes "unobserve", form.Unobserve) ∷ (codes "explain", form.Explain)
@@ -179,6 +187,7 @@ asked_as form.Patch d = patch_of d
 asked_as form.Update d = update_of d
 asked_as form.Remove d = remove_of d
 asked_as form.Hook d = hook_of d
+asked_as form.Migrate d = migrate_of d
 asked_as form.Get d = get_of d
 asked_as form.Find d = query_of d >> λ m. Ok (Find m.0 m.1)
 asked_as form.Count d = query_of d >> λ m. Ok (Count m.0 m.1)

@@ -3,11 +3,13 @@ use Rattle.std.specs.Prelude.{⊤, ℕ, List, [], ◌∷◌, codes, ◌&&◌, �
 use Rattle.std.specs.List.{list_all}
 use Rattle.serde_json.specs.Data.{Data, null, Items, no_items, item}
 use Rattle.serde_json.specs.Find.{get, as_array, as_object}
-use Rattle.rx_value.specs.Due.{◌>>◌, ◌>>=◌, demand, or_fault, unless}
+use Rattle.rx_value.specs.Due.{◌>>◌, ◌>>=◌, demand, lifted, or_fault, unless}
 use Rattle.rx_value.specs.Form.{missing, unexpected, text_at, whole_at, whole_within}
 use Rattle.rx_value.specs.Name.{is_name}
 use Rattle.rx_value.specs.Named.{named}
 use Rattle.rx_value.specs.Value.{largest}
+use Rattle.rx_migrate.specs.Reading.{steps_of}
+use Rattle.rx_migrate.specs.declared.step.Step.{Step}
 use Rattle.rx_update.specs.declared.attached.When.{When}
 use Rattle.rx_update.specs.declared.attached.When.TheVariants as when
 use Rattle.rx_script.specs.declared.fault.LineFault.{LineFault}
@@ -82,6 +84,10 @@ when_of word = word >>= named whens
 
 abbrev pub a_when : List ℕ → Data → Result When LineFault
 a_when name d = or_fault (fault.WrongType name) (when_of (text_at name d))
+
+-- the steps of a migration
+abbrev pub some_steps : List ℕ → Data → Result (List Step) LineFault
+some_steps name d = lifted (λ _. fault.WrongType name) (steps_of (json_at name d))
 
 -- ---- the text of a member is a name
 

@@ -4,7 +4,7 @@ ghost use Rattle.serde_json.specs.View.{view};
 ghost use Rattle.rx_value.specs.Due.{Due, DueBy};
 ghost use Rattle.rx_value.specs.Name.{is_name};
 ghost use Rattle.rx_script.specs.Asked.{asked, IsLawful};
-ghost use Rattle.rx_script.specs.Line.{collection_of, document_of, bulk_of, changed_of, patch_of, update_of, remove_of, hook_of, get_of, query_of, observe_of, name_of, replicate_of, turn_of, changes_of, tick_of, restart_of, digest_of, asked_as, form_of};
+ghost use Rattle.rx_script.specs.Line.{collection_of, document_of, bulk_of, changed_of, patch_of, update_of, remove_of, hook_of, migrate_of, get_of, query_of, observe_of, name_of, replicate_of, turn_of, changes_of, tick_of, restart_of, digest_of, asked_as, form_of};
 ghost use Rattle.rx_script.specs.Member.{is_object, json_at};
 ghost use Rattle.rx_script.specs.declared.fault.LineFault.TheVariants.{Memory};
 
@@ -14,7 +14,8 @@ use crate::line::{Line, MAX_BATCH, MAX_BUDGET, USUAL_BUDGET};
 use crate::link::read_maybe_link;
 use crate::member::{
     check_form, check_maybe_whole, check_name, check_needed, check_object, check_objects,
-    read_count, read_maybe_text, read_moment, read_text, read_when, take_items, take_json,
+    read_count, read_maybe_text, read_moment, read_steps, read_text, read_when, take_items,
+    take_json,
 };
 use crate::since::read_maybe_since;
 use crate::target::{check_target, read_target, target_member};
@@ -65,6 +66,7 @@ fn read_as(alloc: Global, form: Form, json: Json) -> Result<Line, LineFault>
         Form::Update => read_update(alloc, json),
         Form::Remove => read_remove(alloc, json),
         Form::Hook => read_hook(alloc, json),
+        Form::Migrate => read_migrate(alloc, json),
         Form::Get => read_get(alloc, json),
         Form::Find => {
             let (coll, query) = read_query(alloc, json)?;
@@ -196,6 +198,22 @@ fn read_hook(alloc: Global, json: Json) -> Result<Line, LineFault>
         when,
         hook,
         field,
+    })
+}
+
+fn read_migrate(alloc: Global, mut json: Json) -> Result<Line, LineFault>
+    ensures exact { DueBy Memory asked result (migrate_of (view json)) }
+    ensures lawful { IfOk result (λ line. IsLawful (asked line)) }
+{
+    check_form(alloc, &json, &["do", "in", "schema", "steps"], &[])?;
+    let coll = read_text(alloc, &json, "in")?;
+    let steps = read_steps(alloc, &json, "steps")?;
+    check_name(alloc, "in", &coll)?;
+    let schema = take_json(&mut json, "schema");
+    Ok(Line::Migrate {
+        coll,
+        schema,
+        steps,
     })
 }
 

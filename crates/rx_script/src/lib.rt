@@ -9,7 +9,10 @@
 //! | `bulk` | `in`, `docs` |
 //! | `upsert` | `in`, `doc` |
 //! | `patch` | `in`, `key`, `set`, and maybe `rev` |
+//! | `update` | `in`, `key`, `update`, and maybe `rev` |
 //! | `remove` | `in`, `key`, and maybe `rev` |
+//! | `hook` | `in`, `when`, `hook`, `field` |
+//! | `migrate` | `in`, `schema`, `steps` |
 //! | `get` | `in`, `key` |
 //! | `find` | `in`, `query` |
 //! | `count` | `in`, `query` |
@@ -23,14 +26,15 @@
 //! | `restart` | |
 //! | `digest` | `in` |
 //!
-//! `in`, `name`, `fork` and `master` are names, `key`, `rev`, `handler` and `field` are texts,
-//! `doc` and `set` are objects, `docs` is a list of objects, `at` is a whole number from 0 to
-//! 2^53 - 1, and `schema` and `query` are any JSON. `since` is an object of exactly the text `id`
-//! and a number `lwt` such as `at`. `port` is a whole number from 1 to 65,535, and stands only
-//! where `master` doesn't. `batch` and `budget` are whole numbers, 100 and 1,000 where they are
-//! missing. `link` is a list of what happens to the exchanges of a turn, each one of the texts
-//! `ok`, `lose_request`, `lose_reply`, `twice` and `stale`, or an object of exactly the member
-//! `late`, a whole number from 1 to 16.
+//! `in`, `name`, `fork` and `master` are names, `key`, `rev`, `hook`, `handler` and `field` are
+//! texts, `doc`, `set` and `update` are objects, `docs` is a list of objects, `when` is one of the
+//! texts `insert`, `save` and `remove`, `steps` is a list of at most 64 steps of a migration, `at`
+//! is a whole number from 0 to 2^53 - 1, and `schema` and `query` are any JSON. `since` is an
+//! object of exactly the text `id` and a number `lwt` such as `at`. `port` is a whole number from 1
+//! to 65,535, and stands only where `master` doesn't. `batch` and `budget` are whole numbers, 100
+//! and 1,000 where they are missing. `link` is a list of what happens to the exchanges of a turn,
+//! each one of the texts `ok`, `lose_request`, `lose_reply`, `twice` and `stale`, or an object of
+//! exactly the member `late`, a whole number from 1 to 16.
 //!
 //! The first fault counts: the line's length, its JSON, that it is an object; then `do`; then
 //! whether a member is missing, in the order of the table, where `master` is one unless `port` is

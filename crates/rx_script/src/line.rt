@@ -10,6 +10,7 @@ use crate::forms::read_form;
 use crate::happening::Happening;
 use crate::since::Since;
 use crate::target::Target;
+use rx_migrate::Steps;
 use rx_update::When;
 use rx_value::RxText;
 use serde_json::Value as Json;
@@ -27,8 +28,8 @@ pub const MAX_BUDGET: u32 = 100_000;
 /// As many as a turn may make where no number is given.
 pub const USUAL_BUDGET: u32 = 1_000;
 
-/// What a line asks. Names are read; schemas, documents, updates and queries are left as the
-/// JSON that they are, since only the session can judge them. `coll` is the member `in`.
+/// What a line asks. Names and steps are read; schemas, documents, updates and queries are left as
+/// the JSON that they are, since only the session can judge them. `coll` is the member `in`.
 #[derive(Drop)]
 pub enum Line {
     Collection {
@@ -69,6 +70,11 @@ pub enum Line {
         when: When,
         hook: RxText,
         field: RxText,
+    },
+    Migrate {
+        coll: RxText,
+        schema: Json,
+        steps: Steps,
     },
     Get {
         coll: RxText,

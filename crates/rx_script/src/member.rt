@@ -6,10 +6,11 @@ ghost use Rattle.rx_value.specs.Due.{Due};
 ghost use Rattle.rx_value.specs.Form.{texts};
 ghost use Rattle.rx_value.specs.Name.{is_name};
 ghost use Rattle.rx_value.specs.Value.{largest};
-ghost use Rattle.rx_script.specs.Member.{has_needed, has_form, is_object, a_text, maybe_text, an_object, objects, a_moment, maybe_whole, a_count, a_name, a_when, when_of, json_at, items_of, are_objects};
+ghost use Rattle.rx_script.specs.Member.{has_needed, has_form, is_object, a_text, maybe_text, an_object, objects, a_moment, maybe_whole, a_count, a_name, a_when, when_of, some_steps, json_at, items_of, are_objects};
 ghost use Rattle.rx_script.specs.declared.fault.LineFault.TheVariants.{Memory};
 
 use crate::fault::LineFault;
+use rx_migrate::{Steps, StepsFault};
 use rx_update::When;
 use rx_value::{
     LARGEST, RxText, first_missing, first_unexpected, is_name, text_at, whole_at, whole_within,
@@ -158,6 +159,20 @@ fn when_by_word(word: Option<&str>) -> Option<When>
         "save" => Some(When::Save),
         "remove" => Some(When::Remove),
         _ => None,
+    }
+}
+
+// The steps of a migration.
+pub(crate) fn read_steps(alloc: Global, json: &Json, name: &str) -> Result<Steps, LineFault>
+    ensures { Due Memory result (some_steps name.now (view json.now)) }
+{
+    let Some(member) = json.get(name) else {
+        return Err(LineFault::WrongType(RxText::new(alloc, name)?));
+    };
+    match Steps::read(alloc, member) {
+        Ok(steps) => Ok(steps),
+        Err(StepsFault::NotSteps) => Err(LineFault::WrongType(RxText::new(alloc, name)?)),
+        Err(StepsFault::Memory) => Err(LineFault::Memory),
     }
 }
 
