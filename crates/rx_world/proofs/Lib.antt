@@ -25,3 +25,4 @@ pub mod Copied
 pub mod Copies
 pub mod Passing
 pub mod Regrouped
+pub mod Fitting

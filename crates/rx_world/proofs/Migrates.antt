@@ -1,5 +1,5 @@
 -- A migration leaves a world of which all holds that holds of made ones.
-use Rattle.std.proofs.Common.{◌≡◌, ℕ, ◌&&◌, ◌||◌, not, Bool, true, false, true≢false, cond, List, [], ◌∷◌, map, Option, Some, None, refl, sym, ap, ◌∙◌, subst}
+use Rattle.std.proofs.Common.{◌≡◌, ℕ, ◌&&◌, ◌||◌, not, Bool, true, false, true≢false, cond, List, [], ◌∷◌, Option, Some, None, refl, sym, ap, ◌∙◌, subst}
 use Rattle.std.proofs.lemmas.Bool.{and_parts}
 use Rattle.std.proofs.lemmas.Slice.Eq.{bytes_eq-Decides}
 use Rattle.std.specs.List.{AllByRecursion, IsDistinct, list_all}
@@ -18,8 +18,7 @@ use Rattle.rx_document.specs.Documents.{Documents}
 use Rattle.rx_document.specs.declared.stored.Stored.{Stored}
 use Rattle.rx_collection.specs.Held.{Held}
 use Rattle.rx_collection.specs.Lawful.{IsHeldAt, IsLawful}
-use Rattle.rx_collection.specs.Migrated.{CarryAfter, documents_after, migrated_collection, state_after, stored_after}
-use Rattle.rx_meta.specs.Side.{AreKnownByKey}
+use Rattle.rx_collection.specs.Migrated.{CarryAfter, documents_after, migrated_collection, state_after}
 use Rattle.rx_migrate.specs.Migrated.{migrated}
 use Rattle.rx_migrate.specs.declared.step.Step.{Step}
 use Rattle.rx_collection.proofs.Migrated.{key_after}
@@ -34,7 +33,7 @@ use Rattle.rx_world.specs.Chain.{Forks, fork_before, forest_of, local_forks}
 use Rattle.rx_world.specs.Lawful.{IsLawfulAt}
 use Rattle.rx_world.specs.Linked.{HasMaster, IsLinked, forks_of}
 use Rattle.rx_world.specs.Made.{IsMadeWorld}
-use Rattle.rx_world.specs.Migrating.{is_in_group, migrated_replication, migrated_collections, migrated_replications, migrate_step, state_migrates, documents_migrate, is_local, replication_migrates, collections_migrate, replications_migrate, is_next_schema, group_migrates, may_migrate}
+use Rattle.rx_world.specs.Migrating.{is_in_group, migrated_replication, migrated_collections, migrated_replications, state_migrates, documents_migrate, is_local, replication_migrates, collections_migrate, replications_migrate, is_next_schema, group_migrates, may_migrate}
 use Rattle.rx_world.specs.MigrationLaws.{MigrationKeepsMade, MigrationMigrates}
 use Rattle.rx_world.specs.Names.{AreNames}
 use Rattle.rx_world.specs.Schema.{schema_in}

@@ -7,22 +7,6 @@ use Rattle.rx_collection.specs.Held.{Held}
 use Rattle.rx_world.specs.Holders.{AreWhole}
 
 module _ {X : Type 0} (test : X → Bool) where
-  -- one passed
-  pub turn_passed : (s t : List X) (x : X) (all : Bool) → s ≡ x ∷ t → test x ≡ true
-      → list_all test s ≡ all → list_all test t ≡ all
-  turn_passed s t x all at here is =
-      sym (ap (list_all test) at ∙ ap (λ b. b && list_all test t) here) ∙ is
-
-  -- one failed
-  pub turn_failed : (s t : List X) (x : X) (all : Bool) → s ≡ x ∷ t → test x ≡ false
-      → list_all test s ≡ all → false ≡ all
-  turn_failed s t x all at here is =
-      sym (ap (list_all test) at ∙ ap (λ b. b && list_all test t) here) ∙ is
-
-  -- none is left
-  pub turn_last : (s : List X) (all : Bool) → s ≡ [] → list_all test s ≡ all → true ≡ all
-  turn_last s all at is = sym (ap (list_all test) at) ∙ is
-
   -- the things of pairs
   pub values_pass : {K : Type 0} (es : List (K × X))
       → list_all test (values_of es) ≡ list_all (λ e. test e.1) es

@@ -148,7 +148,7 @@ length_set (y ∷ xs) zero x = refl
 length_set (y ∷ xs) (suc i) x = ap suc (length_set xs i x)
 
 -- what stands at a place within
-entry_at : {X : Type 0} (xs : List X) (i : ℕ) → i < length xs → (x : X) × (slice_get xs i ≡ Some x)
+pub entry_at : {X : Type 0} (xs : List X) (i : ℕ) → i < length xs → (x : X) × (slice_get xs i ≡ Some x)
 entry_at [] i within = absurd (omega arith)
 entry_at (x ∷ xs) zero within = (x, refl)
 entry_at (x ∷ xs) (suc i) within = entry_at xs i (omega arith)
@@ -213,17 +213,6 @@ next_turn steps name old rs rs' i within so_far written =
       forest = ap (λ (xs : Replications). forest_of xs) is ∙ forest_set G steps rs i e.0 e.1 ∙ so_far.forest;
       same = ap (λ (xs : Replications). length xs) is ∙ length_set rs i (migrated_entry G steps e.0) ∙ so_far.same;
     }
-
--- after the last one all are
-pub last_turn : (steps : List Step) (name : List ℕ) (old rs : Replications) (i : ℕ) → i ≡ length rs
-    → AreTurned steps name old rs i → rs ≡ migrated_replications (is_in_group old name) steps old
-last_turn steps name old rs i at so_far =
-    sym (ap (λ n. take n rs ++ map (migrated_entry (is_in_group old name) steps) (drop n rs)) at ∙ all_taken rs)
-    ∙ so_far.turned
-  where
-    all_taken : (xs : Replications) → take (length xs) xs ++ map (migrated_entry (is_in_group old name) steps) (drop (length xs) xs) ≡ xs
-    all_taken [] = refl
-    all_taken (x ∷ xs) = ap (λ l. x ∷ l) (all_taken xs)
 
 -- names of holders and of their collections
 pub keys_held : {H : Type 0} (held : H → Held) (es : List (String Global × H))

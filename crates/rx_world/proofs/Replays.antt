@@ -36,13 +36,3 @@ replay-append xs ys = replay_from-append (Some empty) xs ys
 -- a legal record makes its step
 pub stepped-legal : (c : Content) (w : World) → legal c w ≡ true → step_where_legal c w ≡ Some (step c w)
 stepped-legal c w is = ap (λ b. cond b (Some (step c w)) None) is
-
--- one body more
-pub replay-more : (bodies : List (List ℕ)) (body : List ℕ) (c : Content) (w : World)
-    → replay bodies ≡ Some w → record_of body ≡ Ok c → legal c w ≡ true
-    → replay (bodies ++ body ∷ []) ≡ Some (step c w)
-replay-more bodies body c w at is fits =
-    replay-append bodies (body ∷ []) ∙ ap (λ o. replay_from o (body ∷ [])) at
-    ∙ replay_from-first w body [] ∙ ap (λ r. replay_from (after_body r w) []) is
-    ∙ ap (λ o. replay_from o []) (stepped-legal c w fits)
-    ∙ replay_from-nothing (Some (step c w))

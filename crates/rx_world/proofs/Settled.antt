@@ -3,10 +3,8 @@ use Rattle.std.proofs.Common.{◌≡◌, ℕ, Bool, true, false, cond, List, [],
 use Rattle.std.proofs.lemmas.Slice.Eq.{bytes_eq-Decides}
 use Rattle.std.specs.List.{AllByRecursion}
 use Rattle.std.specs.Map.{values_of}
-use Rattle.std.specs.Option.{unwrap_or}
 use Rattle.std.specs.Str.{bytes_eq}
 use Rattle.rx_value.specs.Named.{named}
-use Rattle.rx_value.specs.declared.state.State.{State}
 use Rattle.rx_value.proofs.Outcomes.{not_none, some_same}
 use Rattle.rx_schema.specs.declared.shape.Shape.{Shape}
 use Rattle.rx_document.specs.Documents.{Documents}
@@ -15,16 +13,15 @@ use Rattle.rx_document.specs.declared.stored.Stored.{Stored}
 use Rattle.rx_collection.specs.Held.{Held}
 use Rattle.rx_collection.specs.Migrated.{documents_after, migrated_collection, state_after, stored_after}
 use Rattle.rx_collection.specs.Since.{place_of}
-use Rattle.rx_migrate.specs.Migrated.{migrated}
 use Rattle.rx_migrate.specs.declared.step.Step.{Step}
 use Rattle.rx_collection.proofs.Migrated.{key_after}
 use Rattle.rx_meta.specs.Migrated.{known_after}
 use Rattle.rx_record.specs.declared.record.MasterName.{MasterName}
 use Rattle.rx_record.specs.declared.record.MasterName.TheVariants.{Local, Port}
 use Rattle.rx_replication.specs.Known.{KnownStates}
-use Rattle.rx_replication.specs.Sound.{AreKnownUpTo, HoldKnown, IsSound, IsSoundSide, Reach}
+use Rattle.rx_replication.specs.Sound.{IsSound, IsSoundSide, Reach}
 use Rattle.rx_replication.specs.Write.{is_up_to}
-use Rattle.rx_world.specs.Migrating.{is_in_group, migrated_replication, migrated_collections, migrated_replications, migrate_step}
+use Rattle.rx_world.specs.Migrating.{is_in_group, migrated_replication, migrated_collections, migrated_replications}
 use Rattle.rx_world.specs.MigrationLaws.{MigrationKeepsSound}
 use Rattle.rx_world.specs.Sound.{IsSoundIn, IsSoundWith, IsSoundWorld}
 use Rattle.rx_world.specs.World.{Collections, Replications}
@@ -86,9 +83,34 @@ module _ (steps : List Step) where
         ap (λ q. is_up_to p (Some q)) (place_after r.1) ∙ r.3,
       )
 
+  -- the replication of a name after it
+  pub replication_named : (G : List ℕ → Bool) (rs : Replications) (k : List ℕ)
+      → named (migrated_replications G steps rs) k
+      ≡ option_map (λ r. cond (G r.fork) (migrated_replication steps r) r) (named rs k)
+  replication_named G [] k = refl
+  replication_named G (e ∷ rs) k =
+      elim (G e.1.fork) as (λ b. G e.1.fork ≡ b
+      → named (cond b (e.0, migrated_replication steps e.1) e ∷ migrated_replications G steps rs) k
+      ≡ option_map (λ r. cond (G r.fork) (migrated_replication steps r) r) (cond (bytes_eq k e.0) (Some e.1) (named rs k))) [
+        | true ↦ (λ is. here (migrated_replication steps e.1)
+            (sym (ap (λ b. cond b (migrated_replication steps e.1) e.1) is)) (replication_named G rs k))
+        | false ↦ (λ is. here e.1 (sym (ap (λ b. cond b (migrated_replication steps e.1) e.1) is))
+            (replication_named G rs k))
+      ] refl
+    where
+      here : (x : Replication) → x ≡ cond (G e.1.fork) (migrated_replication steps e.1) e.1
+          → named (migrated_replications G steps rs) k
+          ≡ option_map (λ r. cond (G r.fork) (migrated_replication steps r) r) (named rs k)
+          → cond (bytes_eq k e.0) (Some x) (named (migrated_replications G steps rs) k)
+          ≡ option_map (λ r. cond (G r.fork) (migrated_replication steps r) r) (cond (bytes_eq k e.0) (Some e.1) (named rs k))
+      here x is later =
+          elim (bytes_eq k e.0) as (λ d. cond d (Some x) (named (migrated_replications G steps rs) k)
+          ≡ option_map (λ r. cond (G r.fork) (migrated_replication steps r) r) (cond d (Some e.1) (named rs k)))
+          [ true ↦ ap (λ (y : Replication). Some y) is | false ↦ later ]
+
   module _ (s : Shape) (G : List ℕ → Bool) where
-    -- what a name names after it, if anything
-    group_named : (cs : Collections) (k : List ℕ)
+    -- the collection of a name after it
+    pub group_named : (cs : Collections) (k : List ℕ)
         → named (migrated_collections G s steps cs) k
         ≡ option_map (λ c. cond (G k) (migrated_collection s steps c) c) (named cs k)
     group_named [] k = refl

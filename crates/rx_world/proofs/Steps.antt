@@ -13,7 +13,7 @@ use Rattle.rx_collection.specs.Commit.{AreNext}
 use Rattle.rx_collection.specs.Held.{Held}
 use Rattle.rx_collection.proofs.Named.{at_name}
 use Rattle.rx_document.specs.declared.place.Place.{Place}
-use Rattle.rx_record.specs.Content.{Content, collection, rows, exchange, epoch, migration}
+use Rattle.rx_record.specs.Content.{collection, rows, exchange, epoch}
 use Rattle.rx_record.specs.Writable.{IsOrdered, KeysRise}
 use Rattle.rx_record.specs.declared.record.RowOut.{RowOut}
 use Rattle.rx_world.specs.Lawful.{IsLawfulAt, IsLawfulWorld}

@@ -137,16 +137,6 @@ found_here fork (Local k) es n x is =
     [ true ↦ (λ h. h) | false ↦ (λ no. not_none no) ] is
 found_here fork (Port port) es n x is = not_none is
 
--- and where it doesn't, those behind it do
-pub found_later : (fork : List ℕ) (m : MasterName) (es : Forks) (n : List ℕ)
-    → master_of bytes_eq (fork_before fork m []) n ≡ None
-    → master_of bytes_eq (fork_before fork m es) n ≡ master_of bytes_eq es n
-found_later fork (Local k) es n none =
-    elim (bytes_eq n fork)
-    as (λ b. cond b (Some k) None ≡ None → cond b (Some k) (master_of bytes_eq es n) ≡ master_of bytes_eq es n)
-    [ true ↦ (λ no. not_none (sym no)) | false ↦ (λ h. refl) ] none
-found_later fork (Port port) es n none = refl
-
 -- ---- a legal record that is no migration leaves a forest
 
 -- one more that may follow its master

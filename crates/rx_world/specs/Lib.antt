@@ -18,3 +18,4 @@ pub mod Holders
 pub mod Edit
 pub mod Sound
 pub mod MigrationLaws
+pub mod Migration

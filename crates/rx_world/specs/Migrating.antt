@@ -75,16 +75,28 @@ abbrev pub replication_migrates : Shape → List Step → Replication → Bool
 replication_migrates schema steps r =
     is_local r.master && list_all (λ e. state_migrates schema steps e.1) r.side.known
 
--- the schema is of the next version and has the same primary key, which no step names
+-- the schema is of the next version
+abbrev pub is_next_version : Shape → Shape → Bool
+is_next_version schema old = schema.version == old.version + 1
+
+-- it has the same primary key, which no step names
+abbrev pub keeps_primary : Shape → List Step → Shape → Bool
+keeps_primary schema steps old =
+    bytes_eq schema.primary old.primary && not (is_named old.primary steps)
+
+-- it may come after another one
 abbrev pub is_next_schema : Shape → List Step → Shape → Bool
-is_next_schema schema steps old =
-    schema.version == old.version + 1 && bytes_eq schema.primary old.primary
-    && not (is_named old.primary steps)
+is_next_schema schema steps old = is_next_version schema old && keeps_primary schema steps old
+
+-- a collection isn't of the group, or it migrates
+abbrev pub collection_migrates : (List ℕ → Bool) → Shape → List Step → List ℕ × Held → Bool
+collection_migrates in_group schema steps e =
+    not (in_group e.0) || documents_migrate schema steps e.1
 
 -- each collection of the group migrates
 abbrev pub collections_migrate : (List ℕ → Bool) → Shape → List Step → Collections → Bool
 collections_migrate in_group schema steps cs =
-    list_all (λ e. not (in_group e.0) || documents_migrate schema steps e.1) cs
+    list_all (collection_migrates in_group schema steps) cs
 
 -- each replication of it does
 abbrev pub replications_migrate : (List ℕ → Bool) → Shape → List Step → Replications → Bool

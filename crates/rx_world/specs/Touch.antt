@@ -49,7 +49,12 @@ touch (migration name text steps) w =
     remade_where (is_in_group w.replications name) steps (schema_in text)
 touch other w = no_collection
 
--- the record is no migration, so that documents keep their states
+-- the record is one of a migration
+abbrev pub IsMigration : Content → Type 0
+IsMigration (migration name text steps) = Unit {0}
+IsMigration other = ⊥
+
+-- it is none, so that documents keep their states
 abbrev pub IsNoMigration : Content → Type 0
 IsNoMigration (migration name text steps) = ⊥
 IsNoMigration other = Unit {0}

@@ -24,7 +24,7 @@ mod soundness;
 mod world;
 
 pub use copying::{MOST_COPIED_EPOCH, copy};
-pub use fault::{ApplyFault, StepFault};
+pub use fault::{ApplyFault, MigrateFault, StepFault};
 pub use holders::with_holders;
 pub use migrating::migration_laws;
 pub use parts::{MAX_COLLECTIONS, MAX_REPLICATIONS};

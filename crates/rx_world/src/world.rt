@@ -4,6 +4,7 @@ ghost use Rattle.std.specs.Fn.{FnOnceTakesAtMut};
 ghost use Rattle.std.specs.List.{AllByRecursion, IsDistinct};
 ghost use Rattle.std.specs.Option.{ForSome};
 ghost use Rattle.std.specs.Str.{bytes_eq};
+ghost use Rattle.rx_value.specs.Due.{DueBy};
 ghost use Rattle.rx_value.specs.Named.{named};
 ghost use Rattle.rx_collection.specs.Lawful.{IsLawful};
 ghost use Rattle.rx_record.specs.Shown.{content, content_in};
@@ -15,19 +16,21 @@ ghost use Rattle.rx_world.specs.Holders.{After, IsWhole, holders_in, world_in};
 ghost use Rattle.rx_world.specs.Lawful.{IsLawfulWorld};
 ghost use Rattle.rx_world.specs.Linked.{IsLinked};
 ghost use Rattle.rx_world.specs.Made.{IsMadeWorld};
-ghost use Rattle.rx_world.specs.Migrating.{may_migrate};
+ghost use Rattle.rx_world.specs.Migrating.{is_in_group, may_migrate};
+ghost use Rattle.rx_world.specs.Migration.{migration_of};
 ghost use Rattle.rx_world.specs.Sound.{IsSoundWorld};
 ghost use Rattle.rx_world.specs.Step.{IsValidState, step, legal};
-ghost use Rattle.rx_world.specs.Touch.{IsNoMigration, touch};
+ghost use Rattle.rx_world.specs.Touch.{IsMigration, IsNoMigration, touch};
 ghost use Rattle.rx_world.specs.Valid.{AreValid, AreDistinct};
 ghost use Rattle.rx_world.specs.World.{empty};
+ghost use Rattle.rx_world.specs.declared.fault.MigrateFault.TheVariants.{Memory};
 
 use crate::chain;
 use crate::change::change;
-use crate::fault::{ApplyFault, StepFault};
+use crate::fault::{ApplyFault, MigrateFault, StepFault};
 use crate::following::follow_same;
 use crate::legality::{is_legal, is_legal_view};
-use crate::migrating::may_migrate;
+use crate::migrating::{check_group, may_migrate};
 use crate::names::{edit, find, find_at};
 use crate::parts::Parts;
 use crate::replication::Replication;
@@ -39,7 +42,8 @@ use indexmap::IndexMap;
 use rx_collection::{Collection, Holder};
 use rx_migrate::Steps;
 use rx_record::{MasterName, Record, RecordView};
-use rx_value::State;
+use rx_schema::Schema;
+use rx_value::{RxText, State};
 use std::alloc::{AllocError, Global};
 use std::marker::Model;
 
@@ -163,6 +167,42 @@ impl<H: Holder + Drop> World<H> {
             ≡ may_migrate name.now text.now steps.now (world_in H.held self.now)) }
     {
         may_migrate(&self.parts, alloc, name, text, steps)
+    }
+
+    /// The record that takes the collection of that name, with all that local replications join to
+    /// it, to a schema by those steps; or the first reason why they can't go there. Nothing is
+    /// changed: the record is to be kept, and then applied.
+    pub fn migrate(
+        &self,
+        alloc: Global,
+        name: &str,
+        schema: &Schema,
+        steps: Steps,
+    ) -> Result<Record, MigrateFault>
+        requires held { IsSome (named (world_in H.held self.now).collections name.now) }
+        ensures exact { ForSome (named (world_in H.held self.now).collections name.now)
+            (λ c. DueBy Memory content result
+            (migration_of name.now schema.now steps c (world_in H.held self.now))) }
+        ensures legal { IfOk result (λ entry. legal (content entry) (world_in H.held self.now)
+            ≡ true) }
+        ensures migrates { IfOk result (λ entry. IsMigration (content entry)) }
+    {
+        let holder = self.holder(name).unwrap();
+        check_group(&self.parts, alloc, holder.collection(), schema, &steps)?;
+        Ok(Record::Migration {
+            name: RxText::new(alloc, name)?,
+            schema: schema.canonical().copy(alloc)?,
+            steps,
+        })
+    }
+
+    /// Whether local replications join two collections, over any number of them; each is joined to
+    /// itself.
+    pub fn is_in_group(&self, name: &str, other: &str) -> bool
+        ensures { result
+            ≡ is_in_group (world_in H.held self.now).replications name.now other.now }
+    {
+        chain::is_in_group(&self.parts.replications, name, other)
     }
 
     /// The record of a view, where it may come next. One of several rows is tested first, from its

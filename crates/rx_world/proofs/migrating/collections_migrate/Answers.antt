@@ -1,24 +1,21 @@
-use Rattle.std.proofs.Common.{◌≡◌, ◌∙◌, ◌||◌, not, List, ℕ}
-use Rattle.std.specs.Map.{values_of}
-use Rattle.rx_value.specs.Named.{by_bytes}
-use Rattle.rx_collection.specs.Held.{Held}
-use Rattle.rx_world.specs.Migrating.{documents_migrate, is_in_group}
-use Rattle.rx_world.proofs.Alike.{unbroken_all}
-use Rattle.rx_world.proofs.Passing.{holders_pass}
+use Rattle.std.proofs.Common.{◌∙◌, not, sym, ap}
+use Rattle.rx_value.specs.Named.{by_bytes, by_name}
+use Rattle.rx_world.specs.Migrating.{collection_migrates, is_in_group}
+use Rattle.rx_world.proofs.Fitting.{all_unless}
 use Rattle.rx_world.proofs.migrating.collections_migrate.Goals as goal
 
-pub loop-holder-init : goal.loop-holder-init
-loop-holder-init g c =
-    let held = g.H.Holder.held in
-    let broken = g.H.Holder.is_broken in
-    let es = c.args.holders.now.entries in
+pub returns-then-is_some : goal.returns-then-is_some
+returns-then-is_some g c =
     let in_group = is_in_group (by_bytes c.args.replications.now.entries) c.args.name.now in
-    let at : c.into_iter-holder-iterator.result ≡ values_of es =
-    c.into_iter-holder-iterator.ensures.into_iter_gives ∙ c.values-holder-items.ensures.rest in
-    rw at (
-      holders_pass held broken (λ (n : List ℕ) (x : Held). not (in_group n)
-          || documents_migrate c.args.schema.now c.args.steps.now x) es c.requires.whole,
-      unbroken_all held broken es c.requires.whole,
-      tt,
-      tt,
-    )
+    let told = c.in_ok-invalid_collection in
+    sym (all_unless (collection_migrates in_group c.args.schema.now c.args.steps.now)
+    (by_name g.H.Holder.held c.args.holders.now.entries) told.field-0 told.ensures
+    ∙ ap not (sym c.is_some.ensures ∙ c.if-is_some.true))
+
+pub returns : goal.returns
+returns g c =
+    let in_group = is_in_group (by_bytes c.args.replications.now.entries) c.args.name.now in
+    let told = c.in_ok-invalid_collection in
+    sym (all_unless (collection_migrates in_group c.args.schema.now c.args.steps.now)
+    (by_name g.H.Holder.held c.args.holders.now.entries) told.field-0 told.ensures
+    ∙ ap not (sym c.is_some.ensures ∙ c.if-is_some.false))

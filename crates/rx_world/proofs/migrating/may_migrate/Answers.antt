@@ -1,26 +1,12 @@
-use Rattle.std.proofs.Common.{◌≡◌, ◌∙◌, ◌&&◌, Bool, true, false, List, ℕ, Option, Some, IfOk, ap, sym, subst, rules}
-use Rattle.std.specs.Option.{option_map_or}
+use Rattle.std.proofs.Common.{◌≡◌, ◌∙◌, Bool, true, false, Some, IfOk, ap, sym, subst, rules}
 use Rattle.rx_value.specs.Named.{named}
-use Rattle.rx_migrate.specs.declared.step.Step.{Step}
 use Rattle.rx_schema.specs.declared.shape.Shape.{Shape}
 use Rattle.rx_collection.specs.Held.{Held}
 use Rattle.rx_world.specs.Holders.{holders_of, world_in}
-use Rattle.rx_world.specs.Migrating.{group_migrates, is_next_schema, may_migrate}
+use Rattle.rx_world.specs.Migrating.{is_next_schema}
 use Rattle.rx_world.specs.Schema.{schema_in}
-use Rattle.rx_world.specs.World.{World}
+use Rattle.rx_world.proofs.Fitting.{may_as}
 use Rattle.rx_world.proofs.migrating.may_migrate.Goals as goal
-
--- where the collection is held and the text is a schema's
-may_as : (name text : List ℕ) (steps : List Step) (w : World) (c : Held) (s : Shape) (b : Bool)
-    → named w.collections name ≡ Some c → schema_in text ≡ Some s → is_next_schema s steps c.schema ≡ b
-    → may_migrate name text steps w ≡ (b && group_migrates name s steps w)
-may_as name text steps w c s b held read next =
-    ap (λ (o : Option Held). option_map_or (λ c. option_map_or
-    (λ schema. is_next_schema schema steps c.schema && group_migrates name schema steps w)
-    (schema_in text) false) o false) held
-    ∙ ap (λ (o : Option Shape). option_map_or
-    (λ schema. is_next_schema schema steps c.schema && group_migrates name schema steps w) o false) read
-    ∙ ap (λ b. b && group_migrates name s steps w) next
 
 pub returns-then-not-is_next_schema : goal.returns-then-not-is_next_schema
 returns-then-not-is_next_schema g c =
