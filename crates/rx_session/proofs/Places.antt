@@ -246,6 +246,35 @@ pub any-queries_of : (name : List ℕ) (ls : Lives) (ps : List QueryPlace) → A
     ≡ list_any (λ p. bytes_eq name p.name) ps
 any-queries_of name ls ps placed = any_all name ls ps (placed_found ls ps placed)
 
+-- ---- the first query of a group
+
+-- one query that is found, and the others
+first_found : (G : List ℕ → Bool) (p : QueryPlace) (o : Option Watched) (os : List Observed)
+    (rest : Option QueryPlace) → IsSome o
+    → option_map (λ x. x.name) (find (λ x. G x.coll) os) ≡ option_map (λ q. q.name) rest
+    → option_map (λ x. x.name) (find (λ x. G x.coll) (with_found p o os))
+    ≡ option_map (λ q. q.name) (cond (G p.coll) (Some p) rest)
+first_found G p None os rest there is = cc
+first_found G p (Some w) os rest there is =
+    elim (G p.coll) as (λ b. option_map (λ (x : Observed). x.name)
+    (cond b (Some (record { name = p.name; coll = p.coll; watched = w })) (find (λ x. G x.coll) os))
+    ≡ option_map (λ (q : QueryPlace). q.name) (cond b (Some p) rest)) [ true ↦ refl | false ↦ is ]
+
+-- the same of queries that are found
+first_all : (G : List ℕ → Bool) (ls : Lives) (ps : List QueryPlace) → AreFound ls ps
+    → option_map (λ x. x.name) (find (λ x. G x.coll) (queries_of ls ps))
+    ≡ option_map (λ q. q.name) (find (λ q. G q.coll) ps)
+first_all G ls [] found = refl
+first_all G ls (p ∷ ps) found =
+    first_found G p (watched_at ls p) (queries_of ls ps) (find (λ q. G q.coll) ps) found.0
+    (first_all G ls ps found.1)
+
+-- it is that of the first place there
+pub first-queries_of : (G : List ℕ → Bool) (ls : Lives) (ps : List QueryPlace) → ArePlaced ls ps
+    → option_map (λ x. x.name) (find (λ x. G x.coll) (queries_of ls ps))
+    ≡ option_map (λ q. q.name) (find (λ q. G q.coll) ps)
+first-queries_of G ls ps placed = first_all G ls ps (placed_found ls ps placed)
+
 -- ---- the query of a name
 
 -- the query of a place

@@ -14,18 +14,19 @@ use Rattle.rx_observe.specs.Rows.{emissions_due}
 use Rattle.rx_update.specs.Attached.{Hooking}
 use Rattle.rx_world.specs.Holders.{Holders, holders_in}
 use Rattle.rx_world.specs.Step.{step, legal}
-use Rattle.rx_world.specs.Touch.{IsNoMigration, Touch, no_collection, new_collection, new_rows, remade, touch}
+use Rattle.rx_world.specs.Touch.{Touch, no_collection, new_collection, new_rows, remade, touch}
 use Rattle.rx_world.specs.Valid.{AreDistinct}
 use Rattle.rx_world.specs.World.{World}
 use Rattle.rx_world.proofs.Looked.{all_change_named, all_put_named}
 use Rattle.rx_world.proofs.Valid.{distinct_step}
 use Rattle.rx_session.specs.Applied.{IsAfter, coll_written, with_written}
-use Rattle.rx_session.specs.Doing.{session_after, query_after, write}
+use Rattle.rx_session.specs.Doing.{session_after, query_after, write, IsUnobserved}
 use Rattle.rx_session.specs.Emissions.{emission_due, emissions, settled_query, settled_session}
 use Rattle.rx_session.specs.Placed.{Lives, ArePlaced, IsListed, IsQuiet, queries_of, world_of}
 use Rattle.rx_session.specs.Playing.{AreQuietUnless, coll_to_note, due_in_all, add_written, settled_each}
 use Rattle.rx_session.specs.declared.query_place.QueryPlace.{QueryPlace}
 use Rattle.rx_session.proofs.Places.{colls, distinct_in, world_colls}
+use Rattle.rx_session.proofs.Remade.{remade_each}
 use Rattle.rx_session.proofs.Settling.{same_world, session_of}
 use Rattle.rx_session.proofs.Several.{colls_each, placed_each, queries_each, quiet_each, taken_is_due}
 use Rattle.rx_session.proofs.Writing.{IsUnheld, queries_after, legal_unheld, placed_after}
@@ -62,17 +63,17 @@ now_noted coll written none =
     ] refl none
 
 -- a record leaves all quiet but the collections that were written, with its own
-quiet_noted : (w : World) (t : Touch) (written : List (List ℕ)) (ls new : Lives) → IsUnheld w t
-    → IsAfter t ls new → AreQuietUnless written ls → AreQuietUnless (add_written (coll_written t) written) new
-quiet_noted w no_collection written ls new unheld session_after quiet =
+quiet_noted : (w : World) (ps : List QueryPlace) (t : Touch) (written : List (List ℕ)) (ls new : Lives)
+    → IsUnheld w ps t → IsAfter t ls new → AreQuietUnless written ls → AreQuietUnless (add_written (coll_written t) written) new
+quiet_noted w ps no_collection written ls new unheld session_after quiet =
     subst (AreQuietUnless written) (sym session_after) quiet
-quiet_noted w (new_collection name schema) written ls new unheld session_after quiet =
+quiet_noted w ps (new_collection name schema) written ls new unheld session_after quiet =
     subst (AreQuietUnless written) (sym session_after.2)
     (all_put_named (λ n (l : Observing).
     list_any (bytes_eq n) written ≡ false → emissions_due l.collection l.queries ≡ []) ls name
     session_after.0
     (λ none. ap (λ (l : Observing). emissions_due l.collection l.queries) session_after.1) quiet)
-quiet_noted w (new_rows name lwt rows) written ls new unheld session_after quiet =
+quiet_noted w ps (new_rows name lwt rows) written ls new unheld session_after quiet =
     let now : List (List ℕ) = add_written (Some name) written in
     let P = λ (n : List ℕ) (l : Observing).
     (list_any (bytes_eq n) now ≡ false → emissions_due l.collection l.queries ≡ []) in
@@ -82,7 +83,12 @@ quiet_noted w (new_rows name lwt rows) written ls new unheld session_after quiet
     subst (AreQuietUnless now) (sym session_after)
     (all_change_named P ls name (with_written lwt rows)
     (λ l at was none. absurd (true≢false (now_noted name written none))) each)
-quiet_noted w (remade in_group schema steps) written ls new unheld session_after quiet = absurd unheld
+quiet_noted w ps (remade in_group schema steps) written ls new unheld session_after quiet =
+    remade_each in_group schema steps
+    (λ n (l : Observing). list_any (bytes_eq n) written ≡ false
+    → emissions_due l.collection l.queries ≡ [])
+    (λ name c l is made none. ap (λ (x : Observing). emissions_due x.collection x.queries) made)
+    ls new quiet session_after
 
 -- nothing is to be emitted of a collection without queries
 none_due_of : (c : Held) (qs : Queries) → keys_of qs ≡ [] → emissions_due c qs ≡ []
@@ -112,18 +118,21 @@ pub record IsPlayed (content : Content) (old new : Holders Observing) (ps : List
   pub distinct : AreDistinct (world_of old)
   pub quiet : AreQuietUnless written (holders_in old)
   pub allowed : legal content (world_of old) ≡ true
-  pub other : IsNoMigration content
+  pub apart : IsUnobserved (touch content (world_of old)) (queries_of (holders_in old) ps)
   pub stepped : world_of new ≡ step content (world_of old)
   pub applied : IsAfter (touch content (world_of old)) (holders_in old) (holders_in new)
 
 module _ (content : Content) (old new : Holders Observing) (moment : ℕ) (hooks : Hooking) (ps : List QueryPlace)
     (written : List (List ℕ)) (so : IsPlayed content old new ps written) where
+  unheld : IsUnheld (world_of old) ps (touch content (world_of old))
+  unheld = legal_unheld content (world_of old) (holders_in old) ps so.placed so.allowed so.apart
+
   -- all are in their places
   pub played_placed : ArePlaced (holders_in new) ps
   played_placed =
       placed_after (touch content (world_of old)) (world_of old) (holders_in old)
       (holders_in new) ps
-      (world_colls old) so.placed (legal_unheld content (world_of old) so.allowed so.other) so.applied
+      (world_colls old) so.placed unheld so.applied
 
   -- the queries have followed the record
   followed : queries_of (holders_in new) ps
@@ -132,7 +141,7 @@ module _ (content : Content) (old new : Holders Observing) (moment : ℕ) (hooks
   followed =
       queries_after (touch content (world_of old)) (world_of old) (holders_in old)
       (holders_in new) ps
-      (world_colls old) so.placed (legal_unheld content (world_of old) so.allowed so.other) so.applied
+      (world_colls old) so.placed unheld so.applied
 
   pub played_distinct : AreDistinct (world_of new)
   played_distinct =
@@ -144,8 +153,8 @@ module _ (content : Content) (old new : Holders Observing) (moment : ℕ) (hooks
   played_quiet =
       let t = touch content (world_of old) in
       quiet_to_note ps t written (holders_in new) played_placed
-      (quiet_noted (world_of old) t written (holders_in old) (holders_in new)
-      (legal_unheld content (world_of old) so.allowed so.other) so.applied so.quiet)
+      (quiet_noted (world_of old) ps t written (holders_in old) (holders_in new)
+      unheld so.applied so.quiet)
 
   pub played_session : session_of new moment hooks ps
       ≡ session_after (write content) (session_of old moment hooks ps)

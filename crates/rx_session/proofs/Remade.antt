@@ -1,6 +1,15 @@
--- Collections after a record, made in one way and so in another.
-use Rattle.std.proofs.Common.{◌≡◌, ℕ, Bool, false, List, [], ◌∷◌, Result, Ok, Err, IfOk, ap}
+-- Collections after a record: made in one way they are so in another, and what a migration makes
+-- anew has no queries.
+use Rattle.std.proofs.Common.{◌≡◌, ◌≢◌, ℕ, Bool, true, false, true≢false, cond, List, [], ◌∷◌, map, Option, Some, Result, Ok, Err, IfOk, is_some, refl, sym, ap, ◌∙◌, subst}
+use Rattle.std.proofs.lemmas.Slice.Eq.{bytes_eq-Decides}
+use Rattle.std.specs.Prelude.{filter, option_and_then, IsSome}
+use Rattle.std.specs.List.{AllByRecursion}
+use Rattle.std.specs.Map.{keys_of}
+use Rattle.std.specs.Str.{bytes_eq}
+use Rattle.rx_value.specs.Named.{named}
+use Rattle.rx_value.proofs.Lists.{all_weaker}
 use Rattle.rx_collection.specs.Held.{Held}
+use Rattle.rx_collection.specs.Migrated.{migrated_collection}
 use Rattle.rx_migrate.specs.declared.step.Step.{Step}
 use Rattle.rx_observe.specs.Observing.{Observing, put_all}
 use Rattle.rx_schema.specs.declared.shape.Shape.{Shape}
@@ -25,6 +34,44 @@ remade_so M made in_group schema steps (e ∷ es) (f ∷ fs) after = (
 )
 remade_so M made in_group schema steps [] (f ∷ fs) after = absurd after
 remade_so M made in_group schema steps (e ∷ es) [] after = absurd after
+
+module _ (in_group : List ℕ → Bool) (schema : Shape) (steps : List Step) where
+  abbrev Remade : Lives → Lives → Type 0
+  Remade old new =
+      AreRemade (λ (l : Observing). l.collection) IsMadeFor in_group schema steps old new
+
+  -- one outside of the group stays
+  pub remade_stays : (old new : Lives) (k : List ℕ) → in_group k ≡ false → Remade old new
+      → named new k ≡ named old k
+  remade_stays [] [] k out after = refl
+  remade_stays (e ∷ es) (f ∷ fs) k out after =
+      ap (λ n. cond (bytes_eq k n) (Some f.1) (named fs k)) after.0.called
+      ∙ ap (cond (bytes_eq k e.0) (Some f.1)) (remade_stays es fs k out after.1)
+      ∙ elim (bytes_eq k e.0) as (λ b. bytes_eq k e.0 ≡ b
+      → cond b (Some f.1) (named es k) ≡ cond b (Some e.1) (named es k)) [
+        | true ↦ (λ is. ap (λ x. Some x)
+            (after.0.stays (ap in_group (sym ((bytes_eq-Decides k e.0).0 is)) ∙ out)))
+        | false ↦ (λ is. refl)
+      ] refl
+  remade_stays [] (f ∷ fs) k out after = absurd after
+  remade_stays (e ∷ es) [] k out after = absurd after
+
+  -- what holds of all, and of one without queries at each name of the group, holds of all then
+  pub remade_each : (P : List ℕ → Observing → Type 0)
+      → ((name : List ℕ) (c : Held) (l : Observing) → in_group name ≡ true → IsMadeFor c l → P name l)
+      → (old new : Lives) → AllByRecursion (λ e. P e.0 e.1) old → Remade old new
+      → AllByRecursion (λ e. P e.0 e.1) new
+  remade_each P fresh [] [] all after = tt
+  remade_each P fresh (e ∷ es) (f ∷ fs) all after = (
+    subst (λ n. P n f.1) (sym after.0.called)
+        (elim (in_group e.0) as (λ b. in_group e.0 ≡ b → P e.0 f.1) [
+          | true ↦ (λ is. fresh e.0 (migrated_collection schema steps e.1.collection) f.1 is (after.0.made is))
+          | false ↦ (λ is. subst (P e.0) (sym (after.0.stays is)) all.0)
+        ] refl),
+    remade_each P fresh es fs all.1 after.1,
+  )
+  remade_each P fresh [] (f ∷ fs) all after = absurd after
+  remade_each P fresh (e ∷ es) [] all after = absurd after
 
 -- after any record
 pub after_so : (M : Held → Observing → Type 0) → ((c : Held) (l : Observing) → M c l → IsMadeFor c l)

@@ -9,7 +9,7 @@ use Rattle.std.specs.Option.{option_map_or}
 use Rattle.std.specs.Str.{bytes_eq}
 use Rattle.rx_value.specs.Named.{named, change_named, put_named}
 use Rattle.rx_value.proofs.Outcomes.{none_is, none_mapped}
-use Rattle.rx_value.proofs.Lists.{all_weaker}
+use Rattle.rx_value.proofs.Lists.{all_both, all_weaker}
 use Rattle.rx_value.proofs.Bytes.{bytes_itself, bytes_apart}
 use Rattle.rx_collection.specs.Held.{Held}
 use Rattle.rx_record.specs.Content.{Content, collection, rows, replication, exchange, migration}
@@ -17,50 +17,96 @@ use Rattle.rx_record.specs.declared.record.RowOut.{RowOut}
 use Rattle.rx_observe.specs.Observing.{Observing, watch_after}
 use Rattle.rx_observe.specs.Rows.{emissions_due}
 use Rattle.rx_observe.specs.Watched.{Watched}
+use Rattle.rx_world.specs.Migrating.{is_in_group}
 use Rattle.rx_world.specs.Schema.{schema_in}
 use Rattle.rx_world.specs.Step.{legal, stored_rows}
-use Rattle.rx_world.specs.Touch.{IsNoMigration, Touch, no_collection, new_collection, new_rows, remade, new_where, fork_rows, touch}
+use Rattle.rx_world.specs.Touch.{IsNoMigration, Touch, no_collection, new_collection, new_rows, remade, remade_where, new_where, fork_rows, touch}
 use Rattle.rx_world.specs.World.{World}
 use Rattle.rx_world.specs.declared.replication.Replication.{Replication}
 use Rattle.rx_world.proofs.Looked.{all_change_named, all_put_named, named-change_other, named-change_same, named-put_other}
 use Rattle.rx_session.specs.Applied.{IsAfter, coll_written, with_written}
-use Rattle.rx_session.specs.Doing.{query_after, watch_in}
-use Rattle.rx_session.specs.Placed.{Lives, ArePlaced, AreQuietBut, IsQuiet, names_in, queries_of, watched_at}
+use Rattle.rx_session.specs.Doing.{query_after, watch_in, IsUnobserved}
+use Rattle.rx_session.specs.Placed.{Lives, ArePlaced, AreQuietBut, IsQuiet, names_in, queries_of, watched_at, with_found}
 use Rattle.rx_session.specs.Session.{Observed, with_watched}
 use Rattle.rx_session.specs.declared.query_place.QueryPlace.{QueryPlace}
-use Rattle.rx_session.proofs.Places.{all_of, colls, keys-map, map_same, named-colls, named-map, observed_at, placed_changed, queries_become, queries_stay, query_at}
+use Rattle.rx_session.proofs.Places.{AreFound, all_of, colls, keys-map, map_same, named-colls, named-map, observed_at, placed_changed, placed_found, queries_become, queries_stay, query_at}
+use Rattle.rx_session.proofs.Remade.{remade_each, remade_stays}
 
 -- ---- a new collection
 
--- the name of what a record makes isn't held, and it makes none anew
-abbrev pub IsUnheld : World → Touch → Type 0
-IsUnheld w no_collection = Unit {0}
-IsUnheld w (new_collection name schema) = named w.collections name ≡ None
-IsUnheld w (new_rows name lwt written) = Unit {0}
-IsUnheld w (remade in_group schema steps) = ⊥
+-- the name of what a record makes isn't held, and no place is in what it makes anew
+abbrev pub IsUnheld : World → List QueryPlace → Touch → Type 0
+IsUnheld w ps no_collection = Unit {0}
+IsUnheld w ps (new_collection name schema) = named w.collections name ≡ None
+IsUnheld w ps (new_rows name lwt written) = Unit {0}
+IsUnheld w ps (remade in_group schema steps) = AllByRecursion (λ p. in_group p.coll ≡ false) ps
 
 -- the fork of an exchange is no new collection
-fork_unheld : (w : World) (lwt : ℕ) (written : List RowOut) (o : Option Replication)
-    → IsUnheld w (option_map_or (fork_rows lwt written) o no_collection)
-fork_unheld w lwt written None = tt
-fork_unheld w lwt [] (Some r) = tt
-fork_unheld w lwt (row ∷ written) (Some r) = tt
+fork_unheld : (w : World) (ps : List QueryPlace) (lwt : ℕ) (written : List RowOut) (o : Option Replication)
+    → IsUnheld w ps (option_map_or (fork_rows lwt written) o no_collection)
+fork_unheld w ps lwt written None = tt
+fork_unheld w ps lwt [] (Some r) = tt
+fork_unheld w ps lwt (row ∷ written) (Some r) = tt
 
--- so it is with a legal one that is no migration
-pub legal_unheld : (content : Content) (w : World) → legal content w ≡ true → IsNoMigration content
-    → IsUnheld w (touch content w)
-legal_unheld (collection name schema) w allowed other =
+fork_none_anew : (lwt : ℕ) (written : List RowOut) (queries : List Observed) (o : Option Replication)
+    → IsUnobserved (option_map_or (fork_rows lwt written) o no_collection) queries
+fork_none_anew lwt written queries None = tt
+fork_none_anew lwt [] queries (Some r) = tt
+fork_none_anew lwt (row ∷ written) queries (Some r) = tt
+
+-- a query that is found is in the collection of its place
+found_apart : (in_group : List ℕ → Bool) (p : QueryPlace) (o : Option Watched) (os : List Observed)
+    → IsSome o → AllByRecursion (λ x. in_group x.coll ≡ false) (with_found p o os)
+    → (in_group p.coll ≡ false) × AllByRecursion (λ x. in_group x.coll ≡ false) os
+found_apart in_group p None os is all = cc
+found_apart in_group p (Some w) os is all = all
+
+-- where no query is in a group, no place is
+places_apart : (in_group : List ℕ → Bool) (ls : Lives) (ps : List QueryPlace) → AreFound ls ps
+    → AllByRecursion (λ x. in_group x.coll ≡ false) (queries_of ls ps)
+    → AllByRecursion (λ p. in_group p.coll ≡ false) ps
+places_apart in_group ls [] found all = tt
+places_apart in_group ls (p ∷ ps) found all =
+    let both = found_apart in_group p (watched_at ls p) (queries_of ls ps) found.0 all in
+    (both.0, places_apart in_group ls ps found.1 both.1)
+
+-- so it is with a legal one, where no query is observed in what it makes anew
+pub legal_unheld : (content : Content) (w : World) (ls : Lives) (ps : List QueryPlace)
+    → ArePlaced ls ps → legal content w ≡ true → IsUnobserved (touch content w) (queries_of ls ps)
+    → IsUnheld w ps (touch content w)
+legal_unheld (collection name schema) w ls ps placed allowed apart =
     let is = (and_parts _ _ (and_parts _ _ (and_parts _ _ allowed).0).0).1 in
-    elim (schema_in schema) as (λ o. IsUnheld w (new_where name o)) [
+    elim (schema_in schema) as (λ o. IsUnheld w ps (new_where name o)) [
       | None ↦ tt
       | Some s ↦ none_is (named w.collections name) is
     ]
-legal_unheld (rows name lwt written) w allowed other = tt
-legal_unheld (replication name fork master handler field) w allowed other = tt
-legal_unheld (exchange name lwt written known up down) w allowed other =
-    fork_unheld w lwt written (named w.replications name)
-legal_unheld (migration name text steps) w allowed other = absurd other
-legal_unheld entry w allowed other = tt
+legal_unheld (rows name lwt written) w ls ps placed allowed apart = tt
+legal_unheld (replication name fork master handler field) w ls ps placed allowed apart = tt
+legal_unheld (exchange name lwt written known up down) w ls ps placed allowed apart =
+    fork_unheld w ps lwt written (named w.replications name)
+legal_unheld (migration name text steps) w ls ps placed allowed apart =
+    let G = is_in_group w.replications name in
+    (elim (schema_in text) as (λ o. IsUnobserved (remade_where G steps o) (queries_of ls ps)
+    → IsUnheld w ps (remade_where G steps o)) [
+      | None ↦ (λ all. tt)
+      | Some s ↦ (λ all. places_apart G ls ps (placed_found ls ps placed) all)
+    ]) apart
+legal_unheld entry w ls ps placed allowed apart = tt
+
+-- a record that is no migration makes none anew
+pub none_anew : (content : Content) (w : World) (queries : List Observed) → IsNoMigration content
+    → IsUnobserved (touch content w) queries
+none_anew (collection name schema) w queries other =
+    elim (schema_in schema) as (λ o. IsUnobserved (new_where name o) queries) [
+      | None ↦ tt
+      | Some s ↦ tt
+    ]
+none_anew (rows name lwt written) w queries other = tt
+none_anew (replication name fork master handler field) w queries other = tt
+none_anew (exchange name lwt written known up down) w queries other =
+    fork_none_anew lwt written queries (named w.replications name)
+none_anew (migration name text steps) w queries other = absurd other
+none_anew entry w queries other = tt
 
 -- so no collection with queries has it
 free_name : (name : List ℕ) (w : World) (ls : Lives) → w.collections ≡ colls ls
@@ -215,7 +261,7 @@ module _ (w : World) (ls : Lives) (same : w.collections ≡ colls ls) (lwt : ℕ
 
 -- each query follows it
 pub queries_after : (t : Touch) (w : World) (ls new : Lives) (ps : List QueryPlace)
-    → w.collections ≡ colls ls → ArePlaced ls ps → IsUnheld w t → IsAfter t ls new
+    → w.collections ≡ colls ls → ArePlaced ls ps → IsUnheld w ps t → IsAfter t ls new
     → queries_of new ps ≡ map (query_after w t) (queries_of ls ps)
 queries_after no_collection w ls new ps same placed unheld after =
     ap (λ ls. queries_of ls ps) after
@@ -229,11 +275,16 @@ queries_after (new_rows name lwt written) w ls new ps same placed unheld after =
     ∙ queries_become (query_after w (new_rows name lwt written)) ls
     (change_named ls name (with_written lwt written)) ps
     (all_of _ (after_at w ls same lwt written name) ps)
-queries_after (remade in_group schema steps) w ls new ps same placed unheld after = absurd unheld
+queries_after (remade in_group schema steps) w ls new ps same placed unheld after =
+    queries_stay ls new ps (all_weaker (λ p. in_group p.coll ≡ false)
+    (λ p. watched_at new p ≡ watched_at ls p)
+    (λ p out. ap (option_and_then (λ (x : Observing). named x.queries p.name))
+    (remade_stays in_group schema steps ls new p.coll out after)) ps unheld)
+    ∙ sym (map_same (query_after w (remade in_group schema steps)) (λ o. refl) (queries_of ls ps))
 
 -- all stays in its places
 pub placed_after : (t : Touch) (w : World) (ls new : Lives) (ps : List QueryPlace)
-    → w.collections ≡ colls ls → ArePlaced ls ps → IsUnheld w t → IsAfter t ls new
+    → w.collections ≡ colls ls → ArePlaced ls ps → IsUnheld w ps t → IsAfter t ls new
     → ArePlaced new ps
 placed_after no_collection w ls new ps same placed unheld after =
     subst (λ ls. ArePlaced ls ps) (sym after) placed
@@ -246,4 +297,15 @@ placed_after (new_rows name lwt written) w ls new ps same placed unheld after =
     (placed_changed (with_written lwt written)
     (λ l. keys-map (watch_after l.collection (stored_rows l.collection.name lwt written)) l.queries)
     ls name ps placed)
-placed_after (remade in_group schema steps) w ls new ps same placed unheld after = absurd unheld
+placed_after (remade in_group schema steps) w ls new ps same placed unheld after = record {
+  distinct = placed.distinct;
+  held = all_weaker (λ p. IsSome (named ls p.coll) × (in_group p.coll ≡ false))
+      (λ p. IsSome (named new p.coll))
+      (λ p at. ap is_some (remade_stays in_group schema steps ls new p.coll at.1 after) ∙ at.0) ps
+      (all_both _ _ ps placed.held unheld);
+  listed = remade_each in_group schema steps (λ n (l : Observing). keys_of l.queries ≡ names_in n ps)
+      (λ name c l is made. ap (λ (x : Observing). keys_of x.queries) made
+      ∙ sym (none_in name ps (all_weaker (λ p. in_group p.coll ≡ false) (λ p. p.coll ≢ name)
+      (λ p out at. true≢false (sym is ∙ ap in_group (sym at) ∙ out)) ps unheld)))
+      ls new placed.listed after;
+}

@@ -1,28 +1,32 @@
 -- What a line does to a session.
 use Rattle.std.specs.Prelude.{⊤, ◌≡◌, ℕ, ◌+◌, List, [], ◌∷◌, ◌++◌, map, filter, Bool, true, false, not, Option, Some, None, if◌then◌else◌}
+use Rattle.std.specs.List.{AllByRecursion}
 use Rattle.std.specs.Str.{bytes_eq}
 use Rattle.rx_value.specs.Named.{named}
 use Rattle.rx_query.specs.QuerySpec.{QuerySpec}
 use Rattle.rx_collection.specs.Held.{Held}
-use Rattle.rx_record.specs.Content.{Content, epoch}
+use Rattle.rx_record.specs.Content.{Content, epoch, migration}
 use Rattle.rx_record.specs.Writable.{IsOrdered}
 use Rattle.rx_record.specs.declared.record.RowOut.{RowOut}
 use Rattle.rx_observe.specs.Observing.{watch_after, new_watch, cooled}
 use Rattle.rx_observe.specs.Watched.{Watched}
 use Rattle.rx_update.specs.Attached.{Hooking}
 use Rattle.rx_update.specs.declared.attached.Attached.{Attached}
+use Rattle.rx_world.specs.Migrating.{is_in_group}
 use Rattle.rx_world.specs.Step.{step, legal, stored_rows}
-use Rattle.rx_world.specs.Touch.{IsNoMigration, Touch, no_collection, new_collection, new_rows, remade, touch}
+use Rattle.rx_world.specs.Touch.{IsMigration, IsNoMigration, Touch, no_collection, new_collection, new_rows, remade, touch}
 use Rattle.rx_world.specs.World.{World}
 use Rattle.rx_session.specs.Emissions.{documents_at}
 use Rattle.rx_session.specs.Session.{Observed, Session, is_observed, with_watched}
 
--- nothing is changed, the clock is set, a record is written, a query is observed under a name in a
--- collection, a query is observed no more, a hook is attached, or the journal is opened again in that epoch
+-- nothing is changed, the clock is set, a record is written, the record of a migration is, a query
+-- is observed under a name in a collection, a query is observed no more, a hook is attached, or the
+-- journal is opened again in that epoch
 pub data Doing : Type 0 where
   nothing : Doing
   set_clock : ℕ → Doing
   write : Content → Doing
+  migrate : Content → Doing
   watch : List ℕ → List ℕ → QuerySpec → Doing
   unwatch : List ℕ → Doing
   attach : Attached → Doing
@@ -54,15 +58,30 @@ new_query w name coll q = record {
 abbrev pub with_attached : Attached → Hooking → Hooking
 with_attached one hooks = record hooks { attached = hooks.attached ++ one ∷ [] }
 
+-- with a record more, which the queries have followed
+abbrev pub with_record : Content → Session → Session
+with_record content s = record s {
+  world = step content s.world;
+  queries = map (query_after s.world (touch content s.world)) s.queries;
+}
+
+-- the hooks after a record: a migration drops those of its group
+abbrev pub hooks_after : Content → World → Hooking → Hooking
+hooks_after (migration name text steps) w hooks = record hooks {
+  attached = filter (λ one. not (is_in_group w.replications name one.coll)) hooks.attached;
+}
+hooks_after other w hooks = hooks
+
+-- without those that a record drops
+abbrev pub without_hooks : Content → Session → Session
+without_hooks content s = record s { hooks = hooks_after content s.world s.hooks }
+
 -- the session after what a line does
 abbrev pub session_after : Doing → Session → Session
 session_after nothing s = s
 session_after (set_clock at) s = record s { moment = at }
-session_after (write content) s =
-    record s {
-      world = step content s.world;
-      queries = map (query_after s.world (touch content s.world)) s.queries;
-    }
+session_after (write content) s = with_record content s
+session_after (migrate content) s = with_record content (without_hooks content s)
 session_after (watch name coll q) s =
     record s { queries = s.queries ++ new_query s.world name coll q ∷ [] }
 session_after (unwatch name) s =
@@ -78,10 +97,19 @@ abbrev pub has_key : List ℕ → Option Held → Bool
 has_key primary None = false
 has_key primary (Some c) = bytes_eq primary c.schema.primary
 
--- a record is legal, in order and no migration; a query's name is free, and its collection has its
--- primary key; an epoch is the next one
+-- no query is observed in a collection that is made anew
+abbrev pub IsUnobserved : Touch → List Observed → Type 0
+IsUnobserved (remade in_group schema steps) queries =
+    AllByRecursion (λ o. in_group o.coll ≡ false) queries
+IsUnobserved other queries = Unit {0}
+
+-- a record is legal, in order and no migration; that of a migration is legal, and nothing is observed
+-- in its group; a query's name is free, and its collection has its primary key; an epoch is the next
+-- one
 abbrev pub MayDo : Doing → Session → Type 0
 MayDo (write c) s = (legal c s.world ≡ true) × IsOrdered c × IsNoMigration c
+MayDo (migrate c) s =
+    (legal c s.world ≡ true) × IsMigration c × IsUnobserved (touch c s.world) s.queries
 MayDo (watch name coll q) s =
     (is_observed name s ≡ false) × (has_key q.primary (named s.world.collections coll) ≡ true)
 MayDo (restart number) s = number ≡ s.world.epoch + 1

@@ -1,6 +1,6 @@
 -- What there is between two lines.
 use Rattle.std.specs.Prelude.{ℕ, List, map, Bool, Option, option_map}
-use Rattle.std.specs.List.{list_any}
+use Rattle.std.specs.List.{find, list_any}
 use Rattle.std.specs.Str.{bytes_eq}
 use Rattle.rx_value.specs.Named.{named}
 use Rattle.rx_table.specs.declared.counts.Counts.{Counts}
@@ -28,6 +28,10 @@ pub record Session : Type 0 where
 -- a query of that name is observed
 abbrev pub is_observed : List ℕ → Session → Bool
 is_observed name s = list_any (λ o. bytes_eq name o.name) s.queries
+
+-- the name of the first query in a collection of a group
+abbrev pub first_observed : (List ℕ → Bool) → List Observed → Option (List ℕ)
+first_observed in_group os = option_map (λ o. o.name) (find (λ o. in_group o.coll) os)
 
 -- observed queries by their names
 abbrev pub by_query : List Observed → List (List ℕ × Observed)

@@ -1,14 +1,15 @@
 // A session in the midst of a line.
-ghost use Rattle.std.specs.Prelude.{◌≡◌, ◌++◌, true, IfOk, OnOk};
+ghost use Rattle.std.specs.Prelude.{◌≡◌, ◌++◌, true, filter, not, IfOk, OnOk};
 ghost use Rattle.std.specs.List.{list_any};
 ghost use Rattle.std.specs.Str.{bytes_eq};
 ghost use Rattle.rx_record.specs.Shown.{content};
 ghost use Rattle.rx_record.specs.Writable.{IsOrdered};
 ghost use Rattle.rx_world.specs.Holders.{holders_in};
+ghost use Rattle.rx_world.specs.Migrating.{is_in_group};
 ghost use Rattle.rx_world.specs.Step.{legal};
-ghost use Rattle.rx_world.specs.Touch.{IsNoMigration, touch};
+ghost use Rattle.rx_world.specs.Touch.{touch};
 ghost use Rattle.rx_session.specs.Doing as doing;
-ghost use Rattle.rx_session.specs.Doing.{session_after};
+ghost use Rattle.rx_session.specs.Doing.{session_after, without_hooks, IsUnobserved};
 ghost use Rattle.rx_session.specs.Emissions.{emissions, settled_session, IsSettled};
 ghost use Rattle.rx_session.specs.Placed.{world_of};
 ghost use Rattle.rx_session.specs.Playing.{coll_to_note, due_each, due_in_all, emission_of, in_places, add_written, settled_each, without_emission};
@@ -20,7 +21,7 @@ use crate::session::Session;
 use rx_diagram::Diagram;
 use rx_observe::{Emission, Live};
 use rx_record::Record;
-use rx_update::Attachments;
+use rx_update::{Attached, Attachments};
 use rx_value::RxText;
 use rx_world::World;
 use std::alloc::{AllocError, Global};
@@ -56,6 +57,29 @@ impl Model for Playing {
 }
 
 impl Session {
+    /// The same session without the hooks that a record drops: a migration, those of its group.
+    pub fn without_hooks(self, entry: &Record) -> Session
+        ensures { result ≡ without_hooks (content entry.now) self }
+    {
+        let Session {
+            world,
+            moment,
+            mut hooks,
+            places,
+            diagram,
+        } = self;
+        if let Record::Migration { name, .. } = entry {
+            drop_hooks(&mut hooks.attached, &world, name.as_str());
+        }
+        Session {
+            world,
+            moment,
+            hooks,
+            places,
+            diagram,
+        }
+    }
+
     /// The same session, of which a line is to write records.
     pub fn begin(self, alloc: Global) -> Playing
         ensures same { result ≡ self }
@@ -84,7 +108,7 @@ impl Playing {
     pub fn write(self, alloc: Global, entry: Record) -> Result<Playing, AllocError>
         requires legal { legal (content entry) self.world ≡ true }
         requires ordered { IsOrdered (content entry) }
-        requires no_migration { IsNoMigration (content entry) }
+        requires unobserved { IsUnobserved (touch (content entry) self.world) self.queries }
         ensures { IfOk result (λ p. p ≡ session_after (doing.write (content entry)) self) }
     {
         let Playing {
@@ -131,6 +155,13 @@ impl Playing {
         };
         Ok((session, due))
     }
+}
+
+fn drop_hooks(attached: &mut Vec<Attached>, world: &World<Live>, name: &str)
+    ensures { attached.new.items ≡ filter (λ one. not (is_in_group
+        (world_of world.now).replications name.now one.coll)) attached.old.items }
+{
+    attached.retain(|one| !world.is_in_group(name, one.coll.as_str()));
 }
 
 // The collection whose documents a record writes, where any query is observed.

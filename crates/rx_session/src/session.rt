@@ -1,6 +1,6 @@
 ghost use Rattle.std.specs.Prelude.{◌≡◌, ◌<◌, [], true, false, Some, None, length, map, option_map, IfSome, IfOk, IsErrOf};
 ghost use Rattle.std.specs.Bool.{Decides};
-ghost use Rattle.std.specs.List.{AllByRecursion, IsDistinct};
+ghost use Rattle.std.specs.List.{AllByRecursion, IsDistinct, find};
 ghost use Rattle.std.specs.Str.{bytes_eq};
 ghost use Rattle.rx_value.specs.Named.{named};
 ghost use Rattle.rx_collection.specs.Lawful.{IsLawful};
@@ -10,11 +10,12 @@ ghost use Rattle.rx_update.specs.Shown.{hooking_of};
 ghost use Rattle.rx_world.specs.Commit.{commit_to};
 ghost use Rattle.rx_world.specs.Holders.{holders_in};
 ghost use Rattle.rx_world.specs.Lawful.{IsLawfulWorld};
+ghost use Rattle.rx_world.specs.Migrating.{is_in_group};
 ghost use Rattle.rx_world.specs.Step.{IsValidState, legal};
 ghost use Rattle.rx_world.specs.Touch.{IsNoMigration};
 ghost use Rattle.rx_world.specs.Valid.{AreDistinct, AreValid};
 ghost use Rattle.rx_session.specs.Placed.{AreUnwatched, place_named, world_of};
-ghost use Rattle.rx_session.specs.Session.{is_observed, counts_of};
+ghost use Rattle.rx_session.specs.Session.{is_observed, counts_of, first_observed};
 
 use crate::query_place::QueryPlace;
 use rx_collection::Collection;
@@ -182,6 +183,17 @@ impl Session {
         find_place(self.places.as_slice(), name).is_some()
     }
 
+    /// The name of the first query that is observed in a collection of the group of that name.
+    pub fn first_observed(&self, name: &str) -> Option<&RxText>
+        ensures { option_map (λ n. n.now) result
+            ≡ first_observed (is_in_group self.now.world.replications name.now) self.now.queries }
+    {
+        match find_joined(&self.world, self.places.as_slice(), name) {
+            Some(place) => Some(&place.name),
+            None => None,
+        }
+    }
+
     /// What the query of that name saw, if it is observed.
     pub fn counts(&self, name: &RxText) -> Option<&Counts>
         ensures { option_map (λ c. c.now) result ≡ counts_of name.now self.now }
@@ -190,6 +202,23 @@ impl Session {
         let live = self.world.holder(place.coll.as_str())?;
         Some(live.observed(name.as_str())?.counts())
     }
+}
+
+// The first place in a collection of the group of that name.
+fn find_joined<'a>(
+    world: &World<Live>,
+    places: &'a [QueryPlace],
+    name: &str,
+) -> Option<&'a QueryPlace>
+    ensures { option_map (λ p. p.now) result
+        ≡ find (λ p. is_in_group (world_of world.now).replications name.now p.coll) places.now }
+{
+    for place in places {
+        if world.is_in_group(name, place.coll.as_str()) {
+            return Some(place);
+        }
+    }
+    None
 }
 
 /// The place of the query of that name.

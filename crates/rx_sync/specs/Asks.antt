@@ -35,6 +35,10 @@ abbrev pub with_request : Request → Asks → Asks
 with_request q a =
     record { n = next_number a; requests = take most_remembered (q ∷ a.requests) }
 
+-- none is remembered any more, and the numbers go on
+abbrev pub forgotten : Asks → Asks
+forgotten a = record { n = a.n; requests = [] }
+
 -- the one that was made so many requests before the newest, where it is still remembered
 abbrev pub earlier : ℕ → Asks → Option Request
 earlier j a = slice_get a.requests j

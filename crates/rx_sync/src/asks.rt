@@ -1,5 +1,5 @@
 ghost use Rattle.std.specs.Prelude.{◌≡◌, ◌≤◌, OnOk, option_map};
-ghost use Rattle.rx_sync.specs.Asks.{no_asks, with_request, earlier, next_number};
+ghost use Rattle.rx_sync.specs.Asks.{forgotten, no_asks, with_request, earlier, next_number};
 
 use rx_value::LARGEST;
 use rx_wire::Request;
@@ -51,6 +51,13 @@ impl Asks {
         self.made.insert(0, request)?;
         self.made.truncate(REMEMBERED);
         Ok(())
+    }
+
+    /// Forgets the requests that were made. The numbers go on.
+    pub fn forget(&mut self)
+        ensures { self.new ≡ forgotten self.old }
+    {
+        self.made.clear();
     }
 
     /// The request that was made so many requests before the newest, where it is still remembered.

@@ -4,7 +4,7 @@ use Rattle.rx_update.specs.Shown.{hooking_of}
 use Rattle.rx_world.specs.Holders.{holders_in}
 use Rattle.rx_world.specs.Step.{legal}
 use Rattle.rx_world.specs.Touch.{touch}
-use Rattle.rx_session.specs.Doing.{session_after, write}
+use Rattle.rx_session.specs.Doing.{session_after, write, IsUnobserved}
 use Rattle.rx_session.specs.Placed.{world_of}
 use Rattle.rx_session.specs.Playing.{AreQuietUnless, coll_to_note, add_written}
 use Rattle.rx_session.specs.Session.{Session}
@@ -24,7 +24,9 @@ done c = record {
   allowed =
       subst (λ (s : Session). legal (content c.args.entry) s.world ≡ true) (sym c.self.view_is)
       c.requires.legal;
-  other = c.requires.no_migration;
+  apart =
+      subst (λ (s : Session). IsUnobserved (touch (content c.args.entry) s.world) s.queries)
+      (sym c.self.view_is) c.requires.unobserved;
   stepped = c.in_ok-world.ensures.world;
   applied = c.in_ok-world.ensures.lives;
 }
