@@ -119,13 +119,13 @@ module _ (e next : Engine) (due : List Emission) where
       }
 
 -- what is done within a session leaves what is remembered of requests
-asks_stay : (x : Done) (asks : List (List ℕ × Asks)) → asks_kept (done_by x) asks ≡ asks
-asks_stay done.Nothing asks = refl
-asks_stay (done.SetClock at) asks = refl
-asks_stay (done.Write entry) asks = refl
-asks_stay (done.Watch w) asks = refl
-asks_stay (done.Unwatch name) asks = refl
-asks_stay (done.Attach name) asks = refl
+asks_stay : (x : Done) (w : World) (asks : List (List ℕ × Asks)) → asks_kept (done_by x) w asks ≡ asks
+asks_stay done.Nothing w asks = refl
+asks_stay (done.SetClock at) w asks = refl
+asks_stay (done.Write entry) w asks = refl
+asks_stay (done.Watch query) w asks = refl
+asks_stay (done.Unwatch name) w asks = refl
+asks_stay (done.Attach name) w asks = refl
 
 -- ---- a line was answered
 
@@ -141,8 +141,8 @@ answers_changed p x is e next due did o text emitted refused ended =
     record {
       session = did.session
           ∙ ap (λ (d : Doing). settled_session (session_after d (session_of e))) (sym same);
-      asks = did.asks ∙ sym (asks_stay x (asks_in e))
-          ∙ ap (λ (d : Doing). asks_kept d (asks_in e)) (sym same);
+      asks = did.asks ∙ sym (asks_stay x (session_of e).world (asks_in e))
+          ∙ ap (λ (d : Doing). asks_kept d (session_of e).world (asks_in e)) (sym same);
       text = text ∙ ap (λ (es : List Emission). string_bytes p.text ++ lines_of es) emits;
       emitted = emitted ∙ ap (λ (es : List Emission). length es) emits;
       refused = refused;

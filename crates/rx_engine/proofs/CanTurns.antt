@@ -8,7 +8,7 @@ use Rattle.rx_handler.specs.Handlers.{Kinds}
 use Rattle.rx_handler.specs.declared.kind.HandlerKind.{HandlerKind}
 use Rattle.rx_record.specs.declared.record.MasterName.{MasterName}
 use Rattle.rx_record.specs.declared.record.MasterName.TheVariants.{Local, Port}
-use Rattle.rx_script.specs.Asked.{Asked, Collection, Insert, Bulk, Upsert, Patch, Update, Remove, Hook, Get, Find, Count, Observe, Unobserve, Explain, Replicate, Turn, Changes, Tick, Restart, Digest}
+use Rattle.rx_script.specs.Asked.{Asked, Collection, Insert, Bulk, Upsert, Patch, Update, Remove, Hook, Migrate, Get, Find, Count, Observe, Unobserve, Explain, Replicate, Turn, Changes, Tick, Restart, Digest}
 use Rattle.rx_script.specs.Line.{line_of}
 use Rattle.rx_script.specs.declared.fault.LineFault.{LineFault}
 use Rattle.rx_script.specs.declared.happening.Happening.{Happening}
@@ -132,6 +132,7 @@ can_ask kinds (Patch coll key set rev) s u is = absurd (no_outcome _ u is)
 can_ask kinds (Update coll key update rev) s u is = absurd (no_outcome _ u is)
 can_ask kinds (Remove coll key rev) s u is = absurd (no_outcome _ u is)
 can_ask kinds (Hook coll when hook field) s u is = absurd (no_outcome _ u is)
+can_ask kinds (Migrate coll schema steps) s u is = absurd (no_outcome _ u is)
 can_ask kinds (Get coll key) s u is = absurd (no_outcome _ u is)
 can_ask kinds (Find coll query) s u is = absurd (no_outcome _ u is)
 can_ask kinds (Count coll query) s u is = absurd (no_outcome _ u is)
@@ -155,6 +156,7 @@ call_ask kinds (Patch coll key set rev) s c is = absurd (no_call _ c is)
 call_ask kinds (Update coll key update rev) s c is = absurd (no_call _ c is)
 call_ask kinds (Remove coll key rev) s c is = absurd (no_call _ c is)
 call_ask kinds (Hook coll when hook field) s c is = absurd (no_call _ c is)
+call_ask kinds (Migrate coll schema steps) s c is = absurd (no_call _ c is)
 call_ask kinds (Get coll key) s c is = absurd (no_call _ c is)
 call_ask kinds (Find coll query) s c is = absurd (no_call _ c is)
 call_ask kinds (Count coll query) s c is = absurd (no_call _ c is)

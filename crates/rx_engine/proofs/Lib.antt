@@ -26,3 +26,5 @@ pub mod Hearing
 pub mod Staging
 pub mod Committing
 pub mod Ahead
+pub mod Forgetting
+pub mod Grouped

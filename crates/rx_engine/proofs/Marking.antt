@@ -14,7 +14,7 @@ use Rattle.rx_collection.proofs.Last.{within_last}
 use Rattle.rx_record.specs.Content.{Content, collection, rows, replication, exchange, epoch, migration}
 use Rattle.rx_record.specs.declared.record.RowOut.{RowOut}
 use Rattle.rx_session.specs.Doing as doing
-use Rattle.rx_session.specs.Doing.{Doing, nothing, set_clock, write, watch, unwatch, attach, restart, MayDo}
+use Rattle.rx_session.specs.Doing.{Doing, nothing, set_clock, write, migrate, watch, unwatch, attach, restart, MayDo}
 use Rattle.rx_session.specs.Session.{Session}
 use Rattle.rx_sync.specs.Asking.{pending_in}
 use Rattle.rx_sync.specs.Exchange.{world_after}
@@ -32,6 +32,7 @@ use Rattle.rx_world.proofs.Links.{held_other}
 use Rattle.rx_world.proofs.Looked.{named-change_other, named-change_same, named-put_other}
 use Rattle.rx_world.proofs.Steps.{collection_new, epoch_legal, exchange_goes, fork_rows_taken, rows_go}
 use Rattle.rx_world.proofs.Turns.{takes_parts}
+use Rattle.rx_engine.proofs.Keeping.{IsInSession}
 use Rattle.rx_engine.specs.Marks.{AreMarked, AreMarkedBut, IsLastWrite, IsMarked}
 use Rattle.rx_engine.specs.Shown.{WritesNoExchange}
 
@@ -233,18 +234,19 @@ marked_put w marks but mark others here name lwt at =
       | inr other ↦ others name lwt other (sym (named-put_other marks but name mark other) ∙ at)
     ]
 
--- after what a line does, but a turn
-pub marked_doing : (d : Doing) (s : Session) (marks : List (List ℕ × Option ℕ)) → MayDo d s
-    → WritesNoExchange d → AreMarked s.world marks → AreMarked (doing.session_after d s).world marks
-marked_doing nothing s marks may plain all = all
-marked_doing (set_clock at) s marks may plain all = all
-marked_doing (write c) s marks may plain all = λ name lwt at.
+-- after what a line does within a session, but a turn
+pub marked_doing : (d : Doing) (s : Session) (marks : List (List ℕ × Option ℕ)) → IsInSession d
+    → MayDo d s → WritesNoExchange d → AreMarked s.world marks → AreMarked (doing.session_after d s).world marks
+marked_doing nothing s marks inside may plain all = all
+marked_doing (set_clock at) s marks inside may plain all = all
+marked_doing (write c) s marks inside may plain all = λ name lwt at.
     marked_after (c ∷ []) s.world name lwt (record { lawful = may.0; ordered = may.1; no_migration = may.2 }, tt)
     (plain_apart name c plain, tt) (all name lwt at)
-marked_doing (watch name coll q) s marks may plain all = all
-marked_doing (unwatch name) s marks may plain all = all
-marked_doing (attach one) s marks may plain all = all
-marked_doing (restart number) s marks may plain all = λ name lwt at.
+marked_doing (migrate c) s marks inside may plain all = absurd inside
+marked_doing (watch name coll q) s marks inside may plain all = all
+marked_doing (unwatch name) s marks inside may plain all = all
+marked_doing (attach one) s marks inside may plain all = all
+marked_doing (restart number) s marks inside may plain all = λ name lwt at.
     marked_after (epoch number ∷ []) s.world name lwt (
       record {
         lawful = ap (λ n. legal (epoch n) s.world) may ∙ epoch_legal s.world;

@@ -134,7 +134,7 @@ module _ (number : ℕ) (line : List ℕ) (s : Standing) (o : Outcome) (p : Prin
   -- the engine and the output are those of its meaning
   pub answers_so : (r : Result (Engine × Output) Stop)
       → IfOk r (λ x. session_of x.0 ≡ settled_session (session_after (doing_of p.doing) s.session))
-      → IfOk r (λ x. asks_in x.0 ≡ asks_kept (doing_of p.doing) s.asks)
+      → IfOk r (λ x. asks_in x.0 ≡ asks_kept (doing_of p.doing) s.session.world s.asks)
       → IfOk r (λ x. string_bytes x.1.text
       ≡ string_bytes p.text ++ lines_of (emissions (session_after (doing_of p.doing) s.session)))
       → IfOk r
@@ -148,7 +148,7 @@ module _ (number : ℕ) (line : List ℕ) (s : Standing) (o : Outcome) (p : Prin
         next = standing_same s.kinds s.heard _ _ _ _
             (session
             ∙ ap (λ (d : Doing). settled_session (session_after d s.session)) printed.doing)
-            (asks ∙ ap (λ (d : Doing). asks_kept d s.asks) printed.doing);
+            (asks ∙ ap (λ (d : Doing). asks_kept d s.session.world s.asks) printed.doing);
         reply = text
             ∙ ap (λ (t : List ℕ). t
             ++ lines_of (emissions (session_after (doing_of p.doing) s.session)))
@@ -163,7 +163,7 @@ module _ (number : ℕ) (line : List ℕ) (s : Standing) (o : Outcome) (p : Prin
   pub left_so : (r : Result (Engine × Output) Stop)
       → IfOk r (λ x. (session_of x.0 ≡ s.session) × (string_bytes x.1.text ≡ string_bytes p.text)
       × (x.1.emissions ≡ 0))
-      → IfOk r (λ x. asks_in x.0 ≡ asks_kept (doing_of p.doing) s.asks)
+      → IfOk r (λ x. asks_in x.0 ≡ asks_kept (doing_of p.doing) s.session.world s.asks)
       → IfOk r (λ x. x.1.end ≡ None) → o.doing ≡ nothing
       → IfOk r (λ x. LeavesAll number line s x.0 x.1)
   unfolding meaning standing_of
@@ -173,7 +173,7 @@ module _ (number : ℕ) (line : List ℕ) (s : Standing) (o : Outcome) (p : Prin
     is = is;
     records = ap (λ (m : Meaning). m.records) same_meaning ∙ ap (λ (d : Doing). records_of d) idle;
     next = standing_same s.kinds s.heard _ _ _ _ left.0
-        (asks ∙ ap (λ (d : Doing). asks_kept d s.asks) (printed.doing ∙ idle));
+        (asks ∙ ap (λ (d : Doing). asks_kept d s.session.world s.asks) (printed.doing ∙ idle));
     reply = left.1 ∙ printed.text;
     emissions = left.2;
     ended = end;

@@ -1,7 +1,7 @@
 -- What no line does but the one that is asked for it.
 use Rattle.std.proofs.Common.{◌≡◌, ◌⊎◌, inl, inr, ℕ, length, not, nat_lt, is_none, List, ◌∷◌, [], map, Bool, true, false, true≢false, Option, Some, None, option_map, Result, Ok, Err, refl, sym, ◌∙◌, ap, subst}
 use Rattle.serde_json.specs.Data.{Data}
-use Rattle.rx_value.specs.Due.{◌>>◌, demand, lifted, or_fault}
+use Rattle.rx_value.specs.Due.{◌>>◌, demand, lifted, or_fault, unless}
 use Rattle.rx_value.specs.Named.{named}
 use Rattle.rx_value.specs.declared.state.State.{State}
 use Rattle.rx_schema.specs.Reading.{schema_of}
@@ -17,17 +17,20 @@ use Rattle.rx_record.specs.declared.record.MasterName.TheVariants.{Local, Port}
 use Rattle.rx_record.specs.declared.record.RowOut.{RowOut}
 use Rattle.rx_handler.specs.Handlers.{Kinds}
 use Rattle.rx_query.specs.QuerySpec.{QuerySpec as Query}
-use Rattle.rx_reply.specs.Answer.{Answer, refused, insert, upsert, patch, update, remove, hook as hooked, get, find, count, observe, unobserve, explain, replicate, tick, digest}
+use Rattle.rx_reply.specs.Answer.{Answer, refused, insert, upsert, patch, update, remove, hook as hooked, migrate as migrated, get, find, count, observe, unobserve, explain, replicate, tick, digest}
 use Rattle.rx_reply.specs.declared.refusal.Refusal.{Refusal}
 use Rattle.rx_reply.specs.declared.refusal.Refusal.TheVariants.{Chain, Clock, Exists, NoHandler, NoHook, NoQuery, SchemaDiffers, TooMany}
 use Rattle.rx_reply.specs.Reply.{is_refusal}
-use Rattle.rx_script.specs.Asked.{Asked, Collection, Insert, Bulk, Upsert, Patch, Update, Remove, Hook, Get, Find, Count, Observe, Unobserve, Explain, Replicate, Turn, Changes, Tick, Restart, Digest}
+use Rattle.rx_script.specs.Asked.{Asked, Collection, Insert, Bulk, Upsert, Patch, Update, Remove, Hook, Migrate, Get, Find, Count, Observe, Unobserve, Explain, Replicate, Turn, Changes, Tick, Restart, Digest}
 use Rattle.rx_script.specs.Line.{line_of}
 use Rattle.rx_script.specs.declared.fault.LineFault.{LineFault}
 use Rattle.rx_script.specs.declared.happening.Happening.{Happening}
-use Rattle.rx_session.specs.Doing.{Doing, nothing, restart, attach, set_clock, unwatch, watch, write}
-use Rattle.rx_session.specs.Session.{Session, counts_of, is_observed}
+use Rattle.rx_session.specs.Doing.{Doing, nothing, restart, attach, migrate, set_clock, unwatch, watch, write}
+use Rattle.rx_session.specs.Session.{Session, counts_of, first_observed, is_observed}
+use Rattle.rx_migrate.specs.declared.step.Step.{Step}
 use Rattle.rx_world.specs.Chain.{may_follow}
+use Rattle.rx_world.specs.Migrating.{is_in_group}
+use Rattle.rx_world.specs.Migration.{migration_of}
 use Rattle.rx_world.specs.World.{World, max_replications}
 use Rattle.rx_world.specs.Commit.{commit_to, out_of}
 use Rattle.rx_world.proofs.Sounds.{IsNoExchange}
@@ -40,6 +43,7 @@ use Rattle.rx_engine.specs.Listing.{changes_answer, place_named}
 use Rattle.rx_update.specs.declared.attached.When.{When}
 use Rattle.rx_update.specs.declared.kind.HookKind.{HookKind}
 use Rattle.rx_engine.specs.Hooking.{hook_line, hooks_in, max_hooks, takes}
+use Rattle.rx_engine.specs.Migrate.{migrate_line, names_of_group, of_migration, of_observed}
 use Rattle.rx_engine.specs.Outcome.{Outcome, answer_alone, collection_at, write_outcome}
 use Rattle.rx_engine.specs.Replicate.{has_handler, has_schema, master_at, master_of, replicate_line}
 use Rattle.rx_engine.specs.Turning.{turned_at}
@@ -199,6 +203,36 @@ module _ (coll : List ℕ) (when : When) (hook field : List ℕ) (s : Session) w
       (demand (nat_lt (length (hooks_in coll s.hooks.attached)) max_hooks) (Refused TooMany))
       (λ _. Ok (attaches kind)) (λ _. just (attaches kind) refl refl tt))))
 
+-- a group is migrated, once all that it needs was seen
+module _ (coll : List ℕ) (schema : Data) (steps : List Step) (s : Session) where
+  abbrev migrates : Content → Outcome
+  migrates content = record {
+    doing = migrate content;
+    answer = migrated (names_of_group (is_in_group s.world.replications coll) s.world.collections);
+  }
+
+  -- unless a query is observed
+  unless_plain : (o : Option (List ℕ)) (content : Content)
+      → ArePlain (unless of_observed o (Ok (migrates content)))
+  unless_plain None content = just (migrates content) refl refl tt
+  unless_plain (Some name) content = none _
+
+  abbrev planned : Held → Shape → Result Outcome Fault
+  planned c shape =
+      lifted (of_migration coll) (migration_of coll shape steps c s.world) >> λ content.
+      unless of_observed (first_observed (is_in_group s.world.replications coll) s.queries)
+      (Ok (migrates content))
+
+  migrated_plain : ArePlain (migrate_line coll schema steps s)
+  migrated_plain =
+      after (collection_at coll s)
+      (λ c. lifted of_schema (schema_of schema) >> λ shape. planned c shape)
+      (λ c. after (lifted of_schema (schema_of schema)) (λ shape. planned c shape)
+      (λ shape. after (lifted (of_migration coll) (migration_of coll shape steps c s.world))
+      (λ content. unless of_observed (first_observed (is_in_group s.world.replications coll) s.queries)
+      (Ok (migrates content)))
+      (λ content. unless_plain (first_observed (is_in_group s.world.replications coll) s.queries) content)))
+
 -- a replication begins, once all that it needs was seen
 module _ (kinds : Kinds) (name fork : List ℕ) (master : MasterName) (handler : List ℕ)
     (field : Option (List ℕ)) (s : Session) where
@@ -265,6 +299,7 @@ plain_but kinds (Update coll key d rev) s =
 plain_but kinds (Remove coll key rev) s =
     inr (one_state coll remove (λ c. remove_state c s.hooks.attached key rev) s (λ rev. refl))
 plain_but kinds (Hook coll when hook field) s = inr (hooked_plain coll when hook field s)
+plain_but kinds (Migrate coll schema steps) s = inr (migrated_plain coll schema steps s)
 plain_but kinds (Get coll key) s =
     inr (told coll (λ c. document_at c key) (λ c d. get d) s (λ c d. refl))
 plain_but kinds (Find coll query) s =
@@ -361,6 +396,7 @@ answered_is kinds (Patch coll key set rev) s o is = does_is _ o is
 answered_is kinds (Update coll key d rev) s o is = does_is _ o is
 answered_is kinds (Remove coll key rev) s o is = does_is _ o is
 answered_is kinds (Hook coll when hook field) s o is = does_is _ o is
+answered_is kinds (Migrate coll schema steps) s o is = does_is _ o is
 answered_is kinds (Get coll key) s o is = does_is _ o is
 answered_is kinds (Find coll query) s o is = does_is _ o is
 answered_is kinds (Count coll query) s o is = does_is _ o is

@@ -12,7 +12,7 @@ use Rattle.rx_sync.specs.Asks.{Asks, AsksAreLawful, no_asks}
 use Rattle.rx_sync.specs.Exchange.{world_after}
 use Rattle.rx_sync.specs.Laws.{MayComeInTurn, RemembersLawful}
 use Rattle.rx_session.specs.Doing as doing
-use Rattle.rx_session.specs.Doing.{Doing, nothing, set_clock, write, watch, unwatch, attach, restart, MayDo}
+use Rattle.rx_session.specs.Doing.{Doing, nothing, set_clock, write, migrate, watch, unwatch, attach, restart, MayDo}
 use Rattle.rx_session.specs.Session.{Session}
 use Rattle.rx_world.proofs.Looked.{all_put_named}
 use Rattle.rx_world.proofs.Steps.{epoch_legal}
@@ -21,6 +21,7 @@ use Rattle.rx_world.specs.World.{World}
 use Rattle.rx_world.specs.declared.replication.Replication.{Replication}
 use Rattle.rx_engine.specs.Remembered.{AreRemembered, IsRemembered}
 use Rattle.rx_engine.specs.Standing.{asks_of}
+use Rattle.rx_engine.proofs.Keeping.{IsInSession}
 
 -- after records that may come, of one replication
 still_remembered : (cs : List Content) (w : World) (name : List ℕ) (a : Asks) → MayComeInTurn w cs
@@ -83,17 +84,18 @@ remembered_put w asks name a r fork at held lawful all =
       lawful = lawful r at fork held;
     }) all
 
--- after what a line does
-pub remembered_doing : (d : Doing) (s : Session) (asks : List (List ℕ × Asks)) → MayDo d s
+-- after what a line does within a session
+pub remembered_doing : (d : Doing) (s : Session) (asks : List (List ℕ × Asks)) → IsInSession d → MayDo d s
     → AreRemembered s.world asks → AreRemembered (doing.session_after d s).world asks
-remembered_doing nothing s asks may all = all
-remembered_doing (set_clock at) s asks may all = all
-remembered_doing (write c) s asks may all =
+remembered_doing nothing s asks inside may all = all
+remembered_doing (set_clock at) s asks inside may all = all
+remembered_doing (write c) s asks inside may all =
     remembered_after (c ∷ []) s.world asks (record { lawful = may.0; ordered = may.1; no_migration = may.2 }, tt) all
-remembered_doing (watch name coll q) s asks may all = all
-remembered_doing (unwatch name) s asks may all = all
-remembered_doing (attach one) s asks may all = all
-remembered_doing (restart number) s asks may all =
+remembered_doing (migrate c) s asks inside may all = absurd inside
+remembered_doing (watch name coll q) s asks inside may all = all
+remembered_doing (unwatch name) s asks inside may all = all
+remembered_doing (attach one) s asks inside may all = all
+remembered_doing (restart number) s asks inside may all =
     remembered_after (epoch number ∷ []) s.world asks (
       record {
         lawful = ap (λ n. legal (epoch n) s.world) may

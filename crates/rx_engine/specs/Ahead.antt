@@ -76,7 +76,7 @@ StagesDoing d e (changed.Alone next) = IsLeft e next
 -- what was printed was done, and answered
 pub record AnswersAhead (p : Printed) (e next : Engine) (o : Output) : Type 0 where
   pub session : session_of next ≡ settled_session (session_after (doing_of p.doing) (session_of e))
-  pub asks : asks_in next ≡ asks_kept (doing_of p.doing) (asks_in e)
+  pub asks : asks_in next ≡ asks_kept (doing_of p.doing) (session_of e).world (asks_in e)
   pub text : string_bytes o.text ≡ string_bytes p.text
       ++ lines_of (emissions (session_after (doing_of p.doing) (session_of e)))
   pub emitted : o.emissions ≡ length (emissions (session_after (doing_of p.doing) (session_of e)))

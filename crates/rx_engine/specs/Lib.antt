@@ -9,6 +9,7 @@ pub mod Listing
 pub mod Replicate
 pub mod Turning
 pub mod Calling
+pub mod Migrate
 pub mod Lines
 pub mod Meaning
 pub mod Shown

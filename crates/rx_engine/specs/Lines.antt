@@ -6,7 +6,7 @@ use Rattle.rx_reply.specs.Answer.{tick, restart, refused}
 use Rattle.rx_record.specs.declared.record.MasterName.{MasterName}
 use Rattle.rx_record.specs.declared.record.MasterName.TheVariants as master
 use Rattle.rx_reply.specs.declared.refusal.Refusal.TheVariants.{Clock, Line, NoReplication}
-use Rattle.rx_script.specs.Asked.{Asked, Collection, Insert, Bulk, Upsert, Patch, Update, Remove, Hook, Get, Find, Count, Observe, Unobserve, Explain, Replicate, Turn, Changes, Tick, Restart, Digest}
+use Rattle.rx_script.specs.Asked.{Asked, Collection, Insert, Bulk, Upsert, Patch, Update, Remove, Hook, Migrate, Get, Find, Count, Observe, Unobserve, Explain, Replicate, Turn, Changes, Tick, Restart, Digest}
 use Rattle.rx_script.specs.Line.{line_of}
 use Rattle.rx_script.specs.declared.fault.LineFault.TheVariants.{Unexpected}
 use Rattle.rx_script.specs.declared.happening.Happening.{Happening}
@@ -19,6 +19,7 @@ use Rattle.rx_engine.specs.Outcome.{Outcome, answer_alone}
 use Rattle.rx_engine.specs.Queries.{get_line, find_line, count_line, observe_line, unobserve_line, explain_line}
 use Rattle.rx_engine.specs.Writes.{collection_line, insert_line, upsert_line, patch_line, update_line, remove_line, bulk_line}
 use Rattle.rx_engine.specs.Hooking.{hook_line}
+use Rattle.rx_engine.specs.Migrate.{migrate_line}
 use Rattle.rx_engine.specs.Replicate.{master_of, replicate_line}
 use Rattle.rx_engine.specs.Standing.{Standing}
 use Rattle.rx_engine.specs.Turning.{Turn as ToTurn, turn_here, turned_at}
@@ -45,6 +46,7 @@ asked_outcome kinds (Upsert coll doc) s = upsert_line coll doc s
 asked_outcome kinds (Patch coll key set rev) s = patch_line coll key set rev s
 asked_outcome kinds (Update coll key update rev) s = update_line coll key update rev s
 asked_outcome kinds (Remove coll key rev) s = remove_line coll key rev s
+asked_outcome kinds (Migrate coll schema steps) s = migrate_line coll schema steps s
 asked_outcome kinds (Hook coll when hook field) s = hook_line coll when hook field s
 asked_outcome kinds (Get coll key) s = get_line coll key s
 asked_outcome kinds (Find coll query) s = find_line coll query s

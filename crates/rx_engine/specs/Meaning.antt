@@ -8,15 +8,16 @@ use Rattle.rx_reply.specs.Answer.{turn}
 use Rattle.rx_reply.specs.Emission.{emission_line, rows_fields}
 use Rattle.rx_reply.specs.Reply.{answer_lines, is_refusal}
 use Rattle.rx_reply.specs.declared.turn.TurnEnd.{TurnEnd}
-use Rattle.rx_session.specs.Doing.{Doing, write, restart, session_after}
+use Rattle.rx_session.specs.Doing.{Doing, write, migrate, restart, session_after}
 use Rattle.rx_session.specs.Emissions.{emissions, settled_session}
 use Rattle.rx_sync.specs.Asks.{Asks}
 use Rattle.rx_sync.specs.Turn.{Turned}
 use Rattle.rx_engine.specs.Calling.{called, to_hear}
 use Rattle.rx_engine.specs.Lines.{Task, answered, turns, calls, task}
 use Rattle.rx_engine.specs.Outcome.{Outcome}
-use Rattle.rx_engine.specs.Standing.{Standing}
+use Rattle.rx_engine.specs.Standing.{Standing, asks_after}
 use Rattle.rx_engine.specs.Turning.{turned, written}
+use Rattle.rx_world.specs.World.{World}
 
 -- the records, the reply with the emissions after it, how many these are, whether the line is
 -- refused, how its turn ended, if it made one, and how things stand then
@@ -35,6 +36,7 @@ bodies_of cs = map content_bytes cs
 -- the records of what a line does
 abbrev pub records_of : Doing → List Content
 records_of (write content) = content ∷ []
+records_of (migrate content) = content ∷ []
 records_of (restart number) = epoch number ∷ []
 records_of _ = []
 
@@ -43,9 +45,10 @@ abbrev pub lines_of : List Emission → List ℕ
 lines_of es = flat_map (λ e. emission_line e.name (rows_fields e.rows)) es
 
 -- what is remembered of requests: nothing, once the journal is opened again
-abbrev pub asks_kept : Doing → List (List ℕ × Asks) → List (List ℕ × Asks)
-asks_kept (restart number) asks = []
-asks_kept other asks = asks
+abbrev pub asks_kept : Doing → World → List (List ℕ × Asks) → List (List ℕ × Asks)
+asks_kept (migrate content) w asks = asks_after content w asks
+asks_kept (restart number) w asks = []
+asks_kept other w asks = asks
 
 -- of an outcome
 abbrev pub meaning_of : ℕ → Outcome → Standing → Meaning
@@ -57,7 +60,7 @@ meaning_of number o s = record {
   ended = None;
   next = record s {
     session = settled_session (session_after o.doing s.session);
-    asks = asks_kept o.doing s.asks;
+    asks = asks_kept o.doing s.session.world s.asks;
   };
 }
 

@@ -1,7 +1,8 @@
 -- What a line does, as the code has it.
 use Rattle.std.specs.Prelude.{⊤, ◌≤◌}
 use Rattle.rx_reply.specs.Answer.{answer_of}
-use Rattle.rx_session.specs.Doing.{Doing, write, restart, MayDo}
+use Rattle.rx_record.specs.Shown.{content}
+use Rattle.rx_session.specs.Doing.{Doing, write, migrate, restart, MayDo}
 use Rattle.rx_session.specs.Session.{Session}
 use Rattle.rx_session.specs.Shown.{done_by}
 use Rattle.rx_engine.specs.Calling.{Call}
@@ -15,10 +16,11 @@ use Rattle.rx_engine.specs.declared.outcome.Task.{Task as ToDo}
 use Rattle.rx_engine.specs.declared.outcome.Task.TheVariants.{Answered, Turns, Calls}
 use Rattle.rx_engine.specs.declared.remote.Call.{Call as ToCall}
 use Rattle.rx_engine.specs.declared.turning.Turn.{Turn as Made}
-use Rattle.rx_engine.specs.declared.outcome.LineDoing.TheVariants.{InSession, Restart}
+use Rattle.rx_engine.specs.declared.outcome.LineDoing.TheVariants.{InSession, Migrate, Restart}
 
 abbrev pub doing_of : LineDoing → Doing
 doing_of (InSession doing) = done_by doing
+doing_of (Migrate entry) = migrate (content entry)
 doing_of (Restart number) = restart number
 
 abbrev pub outcome_of : Planned → Outcome

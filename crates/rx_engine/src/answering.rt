@@ -41,7 +41,7 @@ impl Engine {
         ensures session { IfOk result (λ p. session_of p.0
             ≡ settled_session (session_after (doing_of printed.doing) (session_of self))) }
         ensures asks { IfOk result (λ p. asks_in p.0
-            ≡ asks_kept (doing_of printed.doing) (asks_in self)) }
+            ≡ asks_kept (doing_of printed.doing) (session_of self).world (asks_in self)) }
         ensures text { IfOk result (λ p. string_bytes p.1.text ≡ string_bytes printed.text
             ++ lines_of (emissions (session_after (doing_of printed.doing) (session_of self)))) }
         ensures emitted { IfOk result (λ p. p.1.emissions

@@ -11,6 +11,7 @@ ghost use Rattle.rx_writes.specs.declared.fault.Fault.TheVariants.{Memory};
 
 use crate::hooking::hook_line;
 use crate::listing::{changes_line, digest_line};
+use crate::migrate::migrate_line;
 use crate::outcome::{LineDoing, Outcome, Task};
 use crate::queries::{
     answer_alone, count_line, explain_line, find_line, get_line, observe_line, unobserve_line,
@@ -126,6 +127,11 @@ fn plan_line<'a>(
             hook,
             field,
         } => hook_line(alloc, session, coll, when, hook, field),
+        Line::Migrate {
+            coll,
+            schema,
+            steps,
+        } => migrate_line(alloc, session, &coll, &schema, steps),
         Line::Get { coll, key } => get_line(alloc, session, &coll, &key),
         Line::Find { coll, query } => find_line(alloc, session, &coll, &query),
         Line::Count { coll, query } => count_line(alloc, session, &coll, &query),

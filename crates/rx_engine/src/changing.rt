@@ -4,12 +4,13 @@ ghost use Rattle.rx_handler.specs.Shown.{kinds_of};
 ghost use Rattle.rx_outside.specs.declared.stop.Stop.TheVariants as Stop;
 ghost use Rattle.rx_record.specs.Shown.{content};
 ghost use Rattle.rx_reply.specs.declared.turn.TurnEnd.TheVariants.{Quiet};
-ghost use Rattle.rx_session.specs.Doing.{nothing, restart, write, session_after, MayDo};
+ghost use Rattle.rx_session.specs.Doing.{migrate, nothing, restart, write, session_after, MayDo};
 ghost use Rattle.rx_session.specs.Emissions.{emissions, settled_session};
 ghost use Rattle.rx_session.specs.Shown.{done_by};
 ghost use Rattle.rx_sync.specs.Laws.{IsLevel};
 ghost use Rattle.rx_engine.specs.Meaning.{asks_kept, records_of};
 ghost use Rattle.rx_engine.specs.Shown.{doing_of, turn_of, WritesNoExchange};
+ghost use Rattle.rx_engine.specs.Standing.{asks_after};
 ghost use Rattle.rx_engine.specs.Turning.{CanTurn, turned};
 
 use crate::engine::Engine;
@@ -57,7 +58,8 @@ impl Engine {
             ≡ settled_session (session_after (doing_of doing) (session_of self))) }
         ensures emissions { IfOk result (λ p. p.1.items
             ≡ emissions (session_after (doing_of doing) (session_of self))) }
-        ensures asks { IfOk result (λ p. asks_in p.0 ≡ asks_kept (doing_of doing) (asks_in self)) }
+        ensures asks { IfOk result (λ p. asks_in p.0
+            ≡ asks_kept (doing_of doing) (session_of self).world (asks_in self)) }
         ensures commits { Commits D.Disk disk.old disk.new self (records_of (doing_of doing))
             (λ p. p.0) result }
         ensures idle_disk { doing_of doing ≡ nothing → disk.new ≡ disk.old }
@@ -68,6 +70,7 @@ impl Engine {
     {
         match doing {
             LineDoing::InSession(doing) => self.change_session(alloc, disk, doing),
+            LineDoing::Migrate(entry) => self.migrate(alloc, disk, entry),
             LineDoing::Restart(epoch) => { Ok((self.reopen(alloc, disk, epoch)?, Vec::new(alloc))) }
         }
     }
@@ -132,6 +135,56 @@ impl Engine {
             past: None,
         };
         let staged = play.stage(alloc, entry)?;
+        let play = staged.commit(disk)?;
+        let Play {
+            journal,
+            playing,
+            ..
+        } = play;
+        let (session, emissions) = playing.settle(alloc)?;
+        let engine = Engine {
+            journal,
+            session: SoundSession::new(session, remembered),
+            diagram,
+        };
+        Ok((engine, emissions))
+    }
+
+    // The engine after the record of a migration, which is on the disk. What was remembered of the
+    // requests of its group is forgotten, and its hooks are dropped.
+    fn migrate<D: Disk>(
+        self,
+        alloc: Global,
+        disk: &mut D,
+        entry: Record,
+    ) -> Result<(Engine, Vec<Emission>), Stop>
+        requires at { D.tells → (bodies : List (List ℕ)) × IsAt D.Disk disk.old self bodies }
+        requires may { MayDo (migrate (content entry)) (session_of self) }
+        ensures session { IfOk result (λ p. session_of p.0
+            ≡ settled_session (session_after (migrate (content entry)) (session_of self))) }
+        ensures emissions { IfOk result (λ p. p.1.items
+            ≡ emissions (session_after (migrate (content entry)) (session_of self))) }
+        ensures asks { IfOk result (λ p. asks_in p.0
+            ≡ asks_after (content entry) (session_of self).world (asks_in self)) }
+        ensures commits { Commits D.Disk disk.old disk.new self (content entry ∷ []) (λ p. p.0)
+            result }
+        ensures not_journal { IsErrOf result Stop.NotJournal → ⊥ }
+    {
+        let Engine {
+            journal,
+            session,
+            diagram,
+        } = self;
+        let parts = session.release();
+        let (session, remembered) = parts;
+        let remembered = remembered.migrated(alloc, session.world(), &entry);
+        let session = session.without_hooks(&entry);
+        let play = Play {
+            journal,
+            playing: session.begin(alloc),
+            past: None,
+        };
+        let staged = play.stage_record(alloc, entry)?;
         let play = staged.commit(disk)?;
         let Play {
             journal,

@@ -29,8 +29,8 @@ use std::alloc::{AllocError, Global};
 pub enum Staged {
     /// It is played, and its record, where it has one, waits for the commit.
     Played(Engine, Output),
-    /// It has to be played by itself, since it may need the disk or a dial in its midst, or since
-    /// its record has no room. Nothing of it is done.
+    /// It has to be played by itself, since it may need the disk or a dial in its midst, since it
+    /// migrates a group, or since its record has no room. Nothing of it is done.
     Alone(Engine),
 }
 
@@ -114,6 +114,7 @@ impl Engine {
         } = printed;
         let doing = match doing {
             LineDoing::InSession(doing) => doing,
+            LineDoing::Migrate(_) => return Ok(Staged::Alone(self)),
             LineDoing::Restart(_) => return Ok(Staged::Alone(self)),
         };
         match self.stage_doing(alloc, doing)? {

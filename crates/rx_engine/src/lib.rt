@@ -17,6 +17,7 @@ mod listing;
 mod lives;
 mod lookup;
 mod marks;
+mod migrate;
 mod opening;
 mod outcome;
 mod output;

@@ -1,12 +1,15 @@
 use crate::remote::Call;
 use crate::turning::Turn;
+use rx_record::Record;
 use rx_reply::Reply;
 use rx_session::Doing;
 
-/// What a line does: something to the session, or it opens the journal again, in that epoch.
+/// What a line does: something to the session, or the record of a migration is written, or it opens
+/// the journal again, in that epoch.
 #[derive(Drop)]
 pub(crate) enum LineDoing {
     InSession(Doing),
+    Migrate(Record),
     Restart(u64),
 }
 

@@ -5,10 +5,12 @@ ghost use Rattle.rx_journal.specs.declared.journal.Journal.{Journal as Begun};
 ghost use Rattle.rx_record.specs.Content.{Content};
 ghost use Rattle.rx_record.specs.Shown.{content};
 ghost use Rattle.rx_record.specs.Writable.{IsOrdered};
+ghost use Rattle.rx_session.specs.Doing.{IsUnobserved};
 ghost use Rattle.rx_sync.specs.Laws.{ComeSoundly};
 ghost use Rattle.rx_sync.specs.Shown.{record_in};
 ghost use Rattle.rx_world.specs.Sound.{IsSoundWorld};
 ghost use Rattle.rx_world.specs.Step.{step, legal};
+ghost use Rattle.rx_world.specs.Touch.{touch};
 ghost use Rattle.rx_world.specs.World.{World};
 ghost use Rattle.rx_engine.specs.Play.{CommitsStaged, Follows, IsAfter};
 
@@ -40,6 +42,18 @@ impl Play {
     /// The same after a record more.
     pub(crate) fn stage(self, alloc: Global, entry: Record) -> Result<Play, AllocError>
         requires { ComeSoundly self.playing.world (content entry ∷ []) }
+        ensures { IfOk result (Follows self (content entry ∷ [])) }
+    {
+        self.stage_record(alloc, entry)
+    }
+
+    /// The same after one that may be a migration, where no query is observed in its group.
+    pub(crate) fn stage_record(self, alloc: Global, entry: Record) -> Result<Play, AllocError>
+        requires legal { legal (content entry) self.playing.world ≡ true }
+        requires ordered { IsOrdered (content entry) }
+        requires sound { IsSoundWorld (step (content entry) self.playing.world) }
+        requires unobserved { IsUnobserved (touch (content entry) self.playing.world)
+            self.playing.queries }
         ensures { IfOk result (Follows self (content entry ∷ [])) }
     {
         let Play {

@@ -4,7 +4,7 @@ use Rattle.rx_handler.specs.Handlers.{Kinds}
 use Rattle.rx_handler.specs.Shown.{kinds_of}
 use Rattle.rx_script.specs.Asked.{asked}
 use Rattle.rx_script.specs.declared.line.Line.{Line}
-use Rattle.rx_script.specs.declared.line.Line.TheVariants.{Collection, Insert, Bulk, Upsert, Patch, Update, Remove, Hook, Get, Find, Count, Observe, Unobserve, Explain, Replicate, Turn, Changes, Tick, Restart, Digest}
+use Rattle.rx_script.specs.declared.line.Line.TheVariants.{Collection, Insert, Bulk, Upsert, Patch, Update, Remove, Hook, Migrate, Get, Find, Count, Observe, Unobserve, Explain, Replicate, Turn, Changes, Tick, Restart, Digest}
 use Rattle.rx_session.specs.Session.{Session}
 use Rattle.rx_engine.specs.Lines.{Task, answered, asked_outcome, asked_task}
 use Rattle.rx_engine.specs.Outcome.{Outcome}
@@ -26,6 +26,7 @@ no_turn kinds (Patch coll key set rev) s other = refl
 no_turn kinds (Update coll key update rev) s other = refl
 no_turn kinds (Remove coll key rev) s other = refl
 no_turn kinds (Hook coll when hook field) s other = refl
+no_turn kinds (Migrate coll schema steps) s other = refl
 no_turn kinds (Get coll key) s other = refl
 no_turn kinds (Find coll query) s other = refl
 no_turn kinds (Count coll query) s other = refl

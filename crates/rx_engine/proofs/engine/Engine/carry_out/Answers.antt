@@ -7,6 +7,10 @@ pub returns-in-InSession-clause-commits : goal.returns-in-InSession-clause-commi
 returns-in-InSession-clause-commits g c =
     rw c.in-InSession.is c.change_session.ensures.commits
 
+pub returns-in-Migrate-clause-commits : goal.returns-in-Migrate-clause-commits
+returns-in-Migrate-clause-commits g c =
+    rw c.in-Migrate.is c.migrate.ensures.commits
+
 pub returns-in_err-reopen-in-Restart-clause-commits :
     goal.returns-in_err-reopen-in-Restart-clause-commits
 returns-in_err-reopen-in-Restart-clause-commits g c =

@@ -9,7 +9,7 @@ use Rattle.rx_engine.specs.Engine.{asks_in, session_of}
 use Rattle.rx_engine.specs.Marks.{AreMarked}
 use Rattle.rx_engine.specs.Remembered.{AreRemembered}
 use Rattle.rx_engine.specs.SoundSession.{SessionWithAsks}
-use Rattle.rx_engine.proofs.Keeping.{made_then, sound_then}
+use Rattle.rx_engine.proofs.Keeping.{in_session, made_then, sound_then}
 use Rattle.rx_engine.proofs.Marking.{marked_doing}
 use Rattle.rx_engine.proofs.Remembering.{remembered_doing}
 use Rattle.rx_engine.proofs.engine.Engine.change.Goals as goal
@@ -53,7 +53,7 @@ new-requires-clause-remembered c =
     ∙ ap (λ (x : Session). settled_session (session_after doing x)) parts.same in
     subst (AreRemembered c.in_ok-session.session.world) (sym parts.asks)
     (subst (λ (x : Session). AreRemembered x.world asks) (sym then)
-    (remembered_doing doing s asks c.requires.may parts.remembered))
+    (remembered_doing doing s asks (in_session c.args.doing) c.requires.may parts.remembered))
 
 pub new-requires-clause-marked : goal.new-requires-clause-marked
 unfolding session_of
@@ -65,7 +65,7 @@ new-requires-clause-marked c =
     let then = c.in_ok-session.ensures.session
     ∙ ap (λ (x : Session). settled_session (session_after doing x)) parts.same in
     subst (λ (x : Session). AreMarked x.world marks) (sym then)
-    (marked_doing doing s marks c.requires.may c.requires.apart parts.marked)
+    (marked_doing doing s marks (in_session c.args.doing) c.requires.may c.requires.apart parts.marked)
 
 pub returns-clause-session : goal.returns-clause-session
 unfolding session_of

@@ -4,6 +4,9 @@ use Rattle.rx_engine.specs.Meaning.{lines_of}
 use Rattle.rx_engine.proofs.Ahead.{answers_changed, left_as_it_is}
 use Rattle.rx_engine.proofs.engine.Engine.stage_printed.Goals as goal
 
+pub returns-in-Migrate : goal.returns-in-Migrate
+returns-in-Migrate c = left_as_it_is c.args.self
+
 pub returns-in-Restart : goal.returns-in-Restart
 returns-in-Restart c = left_as_it_is c.args.self
 

@@ -116,7 +116,7 @@ new-requires-clause-remembered g c =
     (c.begin.ensures.same ∙ parts.same)) in
     subst (AreRemembered c.in_ok-session.session.world) (sym parts.asks)
     (subst (λ (x : Session). AreRemembered x.world asks) (sym then)
-    (remembered_doing doing s asks c.requires.may parts.remembered))
+    (remembered_doing doing s asks tt c.requires.may parts.remembered))
 
 pub new-requires-clause-marked : goal.new-requires-clause-marked
 unfolding session_of
@@ -130,7 +130,7 @@ new-requires-clause-marked g c =
     ∙ c.in_ok-staged.ensures.session ∙ ap (λ (x : Session). session_after doing x)
     (c.begin.ensures.same ∙ parts.same)) in
     subst (λ (x : Session). AreMarked x.world marks) (sym then)
-    (marked_doing doing s marks c.requires.may c.requires.apart parts.marked)
+    (marked_doing doing s marks tt c.requires.may c.requires.apart parts.marked)
 
 pub returns-clause-session : goal.returns-clause-session
 unfolding session_of
