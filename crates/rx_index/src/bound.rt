@@ -56,7 +56,8 @@ impl Bound {
         self.after
     }
 
-    pub(crate) fn name(&self) -> &Name
+    /// Its bytes, as the index keeps them: they stand in the order of the positions.
+    pub fn name(&self) -> &Name
         ensures name { result.now ≡ packed self.now }
         ensures lawful { AreLawful self.now.values }
     {

@@ -11,6 +11,3 @@ pub use bound::{Bound, bound_laws};
 pub use filled::Filling;
 pub use index::Index;
 pub use range::{Entry, Range};
-
-#[cfg(test)]
-mod tests;

@@ -9,8 +9,6 @@ mod pairs;
 mod rows;
 mod run;
 mod slots;
-#[cfg(test)]
-mod tests;
 
 pub use chunk::Chunk;
 pub use name::Name;

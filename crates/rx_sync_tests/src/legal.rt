@@ -111,6 +111,51 @@ const CASES: &str = r#"
 * migration g counted
 - migration m counted
 
+== one migration behind another
+= 1
++ collection m
++ rows m 1 1:a=5
++ migration m next scale:n:2
+* migration m second
+- migration m same
+- migration m next
+- migration m counted
+
+== a group goes over any number of replications, by the name of any of its collections
+= 1
++ collection m
++ collection f
++ collection g
++ replication r f m
++ replication s g f
++ rows g 1 1:a=5
+* migration m next
+* migration g next
+* migration m counted drop:n
+- migration m counted
+- migration f counted
+
+== what was left behind may not follow, and what goes together may
+= 1
++ collection m
++ collection f
++ collection g
++ migration m next
+* replication r g f
+- replication r f m
+- replication r m f
+
+== what is known later is of the new schema
+= 1
++ collection m
++ rows m 1 1:a
++ collection f
++ rows f 1 1:a
++ replication r f m
++ migration f counted
+* known r a#7
+- known r a=7
+
 == the records of a copy have no place in the first version
 = 1
 + collection m
@@ -218,7 +263,7 @@ fn a_record_may_come_next_as_the_journal_has_it(rt: HostRuntime) -> Result<(), F
     for case in CASES.split("\n== ").skip(1) {
         tried = tried.saturating_add(try_case(rt.alloc(), case)?);
     }
-    assert_eq!(&rt; tried, 93);
+    assert_eq!(&rt; tried, 107);
     Ok(())
 }
 

@@ -13,8 +13,8 @@ const LINES: [(&str, &str); 3] = [
     ("I(m,b,2)", "insert 1-m"),
 ];
 
-// How many calls of the disk a run of these lines makes that are read together.
-fn calls_of(alloc: Global, lines: &[(&str, &str)]) -> Result<u64, Fail> {
+/// How many calls of the disk a run of these lines makes that are read together.
+pub fn calls_of(alloc: Global, lines: &[(&str, &str)]) -> Result<u64, Fail> {
     for call in 1..CALLS {
         if play_together(alloc, lines, call)?.status == 0 {
             return Ok(call.saturating_sub(1));

@@ -40,13 +40,21 @@ mod listed;
 #[cfg(test)]
 mod many;
 #[cfg(test)]
+mod migrated;
+#[cfg(test)]
 mod migrating;
+#[cfg(test)]
+mod migration_records;
+#[cfg(test)]
+mod migration_stops;
 #[cfg(test)]
 mod pages;
 #[cfg(test)]
 mod planned;
 #[cfg(test)]
 mod played;
+#[cfg(test)]
+mod positions;
 #[cfg(test)]
 mod prefixes;
 #[cfg(test)]
@@ -65,6 +73,8 @@ mod reporting;
 mod revisions;
 #[cfg(test)]
 mod run;
+#[cfg(test)]
+mod runs;
 #[cfg(test)]
 mod schemas;
 #[cfg(test)]

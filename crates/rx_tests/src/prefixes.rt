@@ -6,13 +6,13 @@ use crate::stops::play_failing;
 use std::alloc::{AllocError, Global};
 use std::test::Fail;
 
-// Where its gates stand: before each of seven records, and behind the last. The header has 8 bytes, and
-// a record a gate, a length of 4 and a body: an epoch's has 9, a collection's 164, the replication's
-// 33, the insert's 62 and the exchange's 117.
-const GATES: [usize; 8] = [8, 22, 191, 360, 398, 465, 587, 601];
+// Where its gates stand: before each of eight records, and behind the last. The header has 8 bytes,
+// and a record a gate, a length of 4 and a body: an epoch's has 9, a collection's 164, the
+// replication's 33, the insert's 62, the exchange's 117 and the migration's 176.
+const GATES: [usize; 9] = [8, 22, 191, 360, 398, 465, 587, 601, 782];
 
 // The epoch behind each of the gates.
-const EPOCHS: [u64; 8] = [0, 1, 1, 1, 1, 1, 1, 2];
+const EPOCHS: [u64; 9] = [0, 1, 1, 1, 1, 1, 1, 2, 2];
 
 // The last byte of what is left: what it was, or each kind of a closed gate.
 const LASTS: [Option<u8>; 4] = [None, Some(0), Some(2), Some(255)];
@@ -30,8 +30,8 @@ fn check_all(alloc: Global, bytes: &[u8]) -> Result<(), Fail> {
     for length in 0..=bytes.len() {
         legal = legal.saturating_add(check_reports(alloc, bytes, length)?);
     }
-    // Up to 9 bytes with each last one; six gates that three bytes close, and the last, closed before.
-    if bytes.len() == 602 && legal == 40 + 18 + 4 {
+    // Up to 9 bytes with each last one; seven gates that three bytes close, and the closed one.
+    if bytes.len() == 783 && legal == 40 + 21 + 4 {
         return Ok(());
     }
     Err(Fail::new(format_args!("{legal} legal, of {} bytes", bytes.len())))

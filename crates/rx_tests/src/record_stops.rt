@@ -7,7 +7,7 @@ use std::alloc::{AllocError, Global};
 use std::test::Fail;
 
 /// Lines of which each appends one record, behind that of the first epoch.
-pub const LINES: [(&str, &str); 6] = [
+pub const LINES: [(&str, &str); 7] = [
     ("C(m)", "made"),
     ("C(f)", "made"),
     (
@@ -24,15 +24,20 @@ pub const LINES: [(&str, &str); 6] = [
         r#"{"do":"restart"}"#,
         r#"{"epoch":2,"line":L,"ok":"restart"}"#,
     ),
+    (
+        r#"{"do":"migrate","in":"m","schema":{"version":1,"primaryKey":"id","type":"object","properties":{"id":{"type":"string","maxLength":20},"n":{"type":"integer"}},"required":["id"]},"steps":[{"scale":"n","by":10}]}"#,
+        r#"{"collections":["m","f"],"line":L,"ok":"migrate"}"#,
+    ),
 ];
 
 // A kind of record, and how many of the lines are played for it to be the last.
-const KINDS: [(&str, usize); 5] = [
+const KINDS: [(&str, usize); 6] = [
     ("collection", 1),
     ("replication", 3),
     ("documents", 4),
     ("exchange", 5),
     ("epoch", 6),
+    ("migration", 7),
 ];
 
 /// The calls of an append, counted back from the last, and whether its gate may be found open after a

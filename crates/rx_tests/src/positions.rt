@@ -1,4 +1,4 @@
-use crate::bound::Bound;
+use rx_index::Bound;
 use rx_value::{RxText, Value};
 use std::alloc::Global;
 use std::test::Fail;

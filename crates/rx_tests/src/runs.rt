@@ -1,4 +1,4 @@
-use super::*;
+use rx_runs::{Name, Run, Slots};
 use std::alloc::Global;
 use std::collections::BTreeMap;
 use std::test::Fail;
