@@ -32,7 +32,7 @@ def program():
 # What is shared with the tests runs the same program.
 os.environ["RX"] = program()
 sys.path.insert(0, os.path.join(HERE, "..", "tests"))
-from shared import SCHEMA, SEED, Server, Talk, collection, compact, hash_of  # noqa: E402, F401
+from shared import SCHEMA, SEED, Server, Talk, collection, compact, hash_of, peak_of  # noqa: E402, F401
 
 
 def sqlite():

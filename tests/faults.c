@@ -1,18 +1,20 @@
 // Preloaded by faults.py: refuses one call of the system, and counts them. RX_FAULT is `KIND N`: the
 // N-th allocation or all from it on (`alloc`, `allocs`), or the N-th call of a file or a socket failing
-// (`call`) or moving one byte (`short`). Without it nothing is refused. At the end both counts are
-// written to the file that RX_COUNTS names.
+// (`call`), moving one byte (`short`), or moving half of its bytes before the program is killed within it
+// (`kill`). Without it nothing is refused. At the end both counts are written to the file that RX_COUNTS
+// names.
 #define _GNU_SOURCE
 #include <dlfcn.h>
 #include <errno.h>
 #include <poll.h>
+#include <signal.h>
 #include <stdio.h>
 #include <stdlib.h>
 #include <string.h>
 #include <sys/socket.h>
 #include <unistd.h>
 
-enum kind { NONE, ALLOC, ALLOCS, CALL, SHORT };
+enum kind { NONE, ALLOC, ALLOCS, CALL, SHORT, KILL };
 
 static enum kind kind;
 static long target, allocs, calls;
@@ -25,7 +27,7 @@ static void know(void) {
     char word[8];
     if (!fault || sscanf(fault, "%7s %ld", word, &target) != 2) return;
     kind = !strcmp(word, "alloc") ? ALLOC : !strcmp(word, "allocs") ? ALLOCS
-        : !strcmp(word, "call") ? CALL : SHORT;
+        : !strcmp(word, "call") ? CALL : !strcmp(word, "short") ? SHORT : KILL;
 }
 
 extern void *__libc_malloc(size_t), *__libc_calloc(size_t, size_t);
@@ -49,19 +51,29 @@ int posix_memalign(void **p, size_t a, size_t n) {
     return refused() || !(*p = __libc_memalign(a, n)) ? ENOMEM : 0;
 }
 
-static int failed(void) {
+// What moves bytes is killed once half of them are moved, all else before it does anything.
+static int failed(int moves) {
     know();
     calls++;
+    if (kind == KILL && calls == target && !moves) raise(SIGKILL);
     if (kind != CALL || calls != target) return 0;
     errno = EIO;
     return 1;
 }
 
-static size_t most(size_t n) { return kind == SHORT && calls == target && n ? 1 : n; }
+static size_t most(size_t n) {
+    if (calls != target || !n) return n;
+    return kind == SHORT ? 1 : kind == KILL ? n / 2 : n;
+}
+
+static ssize_t moved(ssize_t n) {
+    if (kind == KILL && calls == target) raise(SIGKILL);
+    return n;
+}
 
 #define NEXT(f) ((__typeof__(&f))dlsym(RTLD_NEXT, #f))
 #define MOVES(f, params, before, after) \
-    ssize_t f params { return failed() ? -1 : NEXT(f) (before, most(n) after); }
+    ssize_t f params { return failed(1) ? -1 : moved(NEXT(f) (before, most(n) after)); }
 #define COMMA ,
 MOVES(read, (int d, void *b, size_t n), d COMMA b, )
 MOVES(write, (int d, const void *b, size_t n), d COMMA b, )
@@ -71,19 +83,19 @@ MOVES(pread64, (int d, void *b, size_t n, off_t o), d COMMA b, COMMA o)
 MOVES(pwrite64, (int d, const void *b, size_t n, off_t o), d COMMA b, COMMA o)
 MOVES(recv, (int d, void *b, size_t n, int f), d COMMA b, COMMA f)
 MOVES(send, (int d, const void *b, size_t n, int f), d COMMA b, COMMA f)
-int fsync(int d) { return failed() ? -1 : NEXT(fsync)(d); }
-int fdatasync(int d) { return failed() ? -1 : NEXT(fdatasync)(d); }
-int socket(int f, int t, int p) { return failed() ? -1 : NEXT(socket)(f, t, p); }
-int connect(int d, const struct sockaddr *a, socklen_t n) { return failed() ? -1 : NEXT(connect)(d, a, n); }
-int poll(struct pollfd *f, nfds_t n, int t) { return failed() ? -1 : NEXT(poll)(f, n, t); }
+int fsync(int d) { return failed(0) ? -1 : NEXT(fsync)(d); }
+int fdatasync(int d) { return failed(0) ? -1 : NEXT(fdatasync)(d); }
+int socket(int f, int t, int p) { return failed(0) ? -1 : NEXT(socket)(f, t, p); }
+int connect(int d, const struct sockaddr *a, socklen_t n) { return failed(0) ? -1 : NEXT(connect)(d, a, n); }
+int poll(struct pollfd *f, nfds_t n, int t) { return failed(0) ? -1 : NEXT(poll)(f, n, t); }
 int setsockopt(int d, int l, int o, const void *v, socklen_t n) {
-    return failed() ? -1 : NEXT(setsockopt)(d, l, o, v, n);
+    return failed(0) ? -1 : NEXT(setsockopt)(d, l, o, v, n);
 }
 int getsockopt(int d, int l, int o, void *v, socklen_t *n) {
-    return failed() ? -1 : NEXT(getsockopt)(d, l, o, v, n);
+    return failed(0) ? -1 : NEXT(getsockopt)(d, l, o, v, n);
 }
 int accept4(int d, struct sockaddr *a, socklen_t *n, int f) {
-    return failed() ? -1 : NEXT(accept4)(d, a, n, f);
+    return failed(0) ? -1 : NEXT(accept4)(d, a, n, f);
 }
 
 __attribute__((destructor)) static void tell(void) {

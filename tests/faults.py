@@ -1,12 +1,14 @@
 #!/usr/bin/env python3
 """Each allocation and each call of a file or a socket of the built program refused in turn.
 
-It plays every script of examples/, a trial, a report, a served connection with pulls and pushes, and
-turns with a served master. At each fault the status is the one that the fault may cause, what was written
-is a front of the whole output and then the stop line, the journal opens, and it holds what was answered.
-A socket that fails loses a turn with a served master at most, and after any fault the next turn brings
-both sides together. A call that moves one byte where more were asked for changes nothing. examples/apart,
-which takes two processes at once, isn't played here: the turns with a served master stand for it.
+It plays every script of examples/, a migration by itself, a trial, a report, a served connection with
+pulls and pushes, and turns with a served master. At each fault the status is the one that the fault may
+cause, what was written is a front of the whole output and then the stop line, the journal opens, and it
+holds what was answered. A socket that fails loses a turn with a served master at most, and after any fault
+the next turn brings both sides together. A call that moves one byte where more were asked for changes
+nothing. Where no other process is met the program is also killed within each call, with half of its bytes
+moved. examples/apart, which takes two processes at once, isn't played here: the turns with a served master
+stand for it.
 """
 import collections
 import json
@@ -14,15 +16,18 @@ import os
 import subprocess
 import tempfile
 
-from shared import (HERE, Server, Wrong, add, answers, ask, checked, collection, command, compact, content, digest,
-                    examples, free_port, insert, insist, main, pull, push, run, text)
+from shared import (HERE, SCHEMA, Server, Wrong, add, answers, ask, checked, collection, command, compact, content,
+                    digest, examples, free_port, insert, insist, main, pull, push, run, text)
 
-KINDS = {"alloc": {6}, "allocs": {6}, "call": {3, 4, 5}, "short": set()}
+KILLED = -9
+KINDS = {"alloc": {6}, "allocs": {6}, "call": {3, 4, 5}, "short": set(), "kill": {KILLED}}
 LIMIT = 7_200
 
 
 class Play:
     """A command over a journal of its own, in a folder of its own."""
+
+    KINDS = tuple(KINDS)
 
     def __init__(self, word, *more, script=b"", before=b""):
         self.word, self.more, self.script, self.before = word, more, script, before
@@ -40,12 +45,12 @@ class Play:
         return command(self.word, self.journal(folder), *self.more, script=self.script, env=env)
 
     def front_of(self, whole, written):
-        """What was written before the stop line, which is a front of the whole."""
+        """What was written before the stop line, which is a front of the whole, as far as its lines are."""
         lines = written.splitlines(keepends=True)
         if lines and lines[-1].startswith((b'{"stop":', b'{"limit":')):
             written = b"".join(lines[:-1])
         insist(whole.startswith(written), f"written is {written[-100:]}")
-        return written
+        return written[:written.rfind(b"\n") + 1]
 
     def compare(self, folder, written, whole):
         """The journal has a front of the records of the whole play, and those of all answered lines."""
@@ -71,6 +76,7 @@ class Served(Play):
     """A served connection: two pushes and two pulls, and what each was answered."""
 
     LINES = [push(1, ["a", "b"]), pull(2), push(3, ["c"]), pull(4)]
+    KINDS = ("alloc", "allocs", "call", "short")
 
     def __init__(self):
         super().__init__("serve", before=text([collection()]))
@@ -107,6 +113,7 @@ class Served(Play):
 class Dialled(Play):
     """Two turns with a served master, of which a failing socket may lose one."""
 
+    KINDS = ("alloc", "allocs", "call", "short")
     # Far ahead of the clock, so that what a server writes has the same times in each play.
     MASTER = [collection(), compact({"do": "tick", "at": 9_000_000_000_000}), *map(insert, "ab")]
 
@@ -176,6 +183,7 @@ def try_faults(play, kind, folder, env, whole, count):
         at = f"{kind} {number} of {count}: "
         insist(ended == status or ended in KINDS[kind], f"{at}status {ended}")
         insist(kind != "short" or ended == status, f"{at}status {ended}")
+        insist(kind != "kill" or ended == KILLED, f"{at}status {ended}")
         insist(kind == "call" or ended != status or came == written, f"{at}another output: {came[-100:]}")
         try:
             play.compare(folder, play.front_of(written, came), records_due)
@@ -197,12 +205,34 @@ def try_play(play, folder):
     allocs, calls = map(int, content(counts).split())
     whole = status, written, records(os.path.join(folder, "journal"))
     return "; ".join(try_faults(play, kind, folder, env, whole, allocs if kind.startswith("alloc") else calls)
-                     for kind in KINDS)
+                     for kind in play.KINDS)
+
+
+def group():
+    """A master and two forks, one of the other, each with an edit of its own."""
+    sides = {"f": "m", "g": "f"}
+    yield from (collection(name) for name in "mfg")
+    for fork, master in sides.items():
+        yield compact({"do": "replicate", "name": fork, "fork": fork, "master": master, "handler": "join"})
+    yield compact({"do": "bulk", "in": "m", "docs": [{"id": key, "n": 1} for key in "abc"]})
+    yield from (compact({"do": "turn", "name": fork}) for fork in sides)
+    for side, key in zip("mfg", "abc"):
+        yield compact({"do": "patch", "in": side, "key": key, "set": {"n": 2}})
+
+
+def migration():
+    """The line that takes the group to its next schema, and what tells that it did."""
+    properties = {"id": SCHEMA["properties"]["id"], "v": {"type": "integer"}, "t": {"type": "string"}}
+    schema = {**SCHEMA, "version": 1, "properties": properties}
+    steps = [{"rename": "n", "to": "v"}, {"scale": "v", "by": 7}, {"set": "t", "value": "new"}]
+    yield compact({"do": "migrate", "in": "f", "schema": schema, "steps": steps})
+    yield from (compact({"do": "find", "in": side, "query": {"selector": {"v": 14}}}) for side in "mfg")
 
 
 def plays():
     for name, script, before, _ in examples():
         yield f"examples, {name}", Play("run", script=script, before=before)
+    yield "a migration", Play("run", script=text(migration()), before=text(group()))
     yield "a trial", Play("trial", "7", "40")
     yield "a report", Play("check", before=text([collection(), *map(insert, "abc")]))
     yield "a served connection", Served()

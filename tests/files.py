@@ -13,8 +13,9 @@ import subprocess
 import tempfile
 import time
 
-from shared import (RX, SECONDS, SEED, Skipped, Talk, all_there, answers, case, collection, compact, content,
-                    held, insert, inserts, insist, main, room, run, text)
+from model import Rules
+from shared import (RX, SCHEMA, SECONDS, SEED, Skipped, Talk, all_there, answers, case, collection, compact, content,
+                    held, insert, inserts, insist, main, room, run, same, text)
 
 DISK = {"stop": "disk"}
 
@@ -259,6 +260,177 @@ def no_journal(folder):
     return "7, and it stays as it was"
 
 
+# ---- the records of migrations, byte by byte as docs/JOURNAL.md has them
+
+def number(value, size=4):
+    return value.to_bytes(size, "big", signed=value < 0)
+
+
+def packed(it):
+    return number(len(it.encode())) + it.encode()
+
+
+def packed_value(it):
+    if isinstance(it, bool):
+        return b"\0" + bytes([it])
+    return b"\2" + packed(it) if isinstance(it, str) else b"\1" + number(it, 8)
+
+
+def packed_state(state):
+    names = sorted(state)
+    return packed(state["id"]) + b"\0" + number(len(names)) + b"".join(
+        packed(name) + packed_value(state[name]) for name in names)
+
+
+def commit(name, docs):
+    """The first write of a collection."""
+    rows = (number(1, 8) + packed_state(it) for it in sorted(docs, key=lambda it: it["id"]))
+    return b"\2" + packed(name) + number(1, 8) + number(len(docs)) + b"".join(rows)
+
+
+def made(name, schema):
+    return b"\1" + packed(name) + packed(Rules(schema).text)
+
+
+def rename(field, to):
+    return b"\0" + packed(field) + packed(to)
+
+
+def fill(field, value):
+    return b"\1" + packed(field) + packed_value(value)
+
+
+def drop(field):
+    return b"\2" + packed(field)
+
+
+def scale(field, by):
+    return b"\3" + packed(field) + number(by, 2)
+
+
+def migration(steps, schema=None, name="c", text=None, count=None):
+    """The record that takes a collection, c, to its next schema."""
+    text = Rules(schema or NEXT).text if text is None else text
+    count = len(steps) if count is None else count
+    return b"\6" + packed(name) + packed(text) + number(count) + b"".join(steps)
+
+
+def written(path, *bodies):
+    """Writes a journal of these records, and answers its bytes."""
+    content = b"RXJOURN1" + b"".join(b"\1" + number(len(it)) + it for it in bodies) + b"\0"
+    with open(path, "wb") as file:
+        file.write(content)
+    return content
+
+
+NEXT = {**SCHEMA, "version": 1, "properties": {**SCHEMA["properties"], "t": {"type": "string"}}}
+LETTERS = ["", "9", "_", "a-b", "a b", "\u00e9", "$a", "a" * 65]
+
+
+def steps_that_name(field):
+    return [rename(field, "n"), rename("n", field), fill(field, "x"), drop(field), scale(field, 1)]
+
+
+def legal_migrations():
+    """What the two documents of a collection are after it."""
+    a, b = {"id": "a", "n": 3}, {"id": "b"}
+    yield migration([]), [a, b]
+    yield migration([fill("t", "x")]), [{**a, "t": "x"}, {**b, "t": "x"}]
+    yield migration([scale("n", 1_000), drop("z")]), [{**a, "n": 3_000}, b]
+    yield migration([rename("n", "n"), rename("z", "n")]), [a, b]
+    yield migration([drop("n"), fill("n", -7)]), [{**a, "n": -7}, {**b, "n": -7}]
+    yield migration([scale("n", 2)] * 5 + [fill("a" * 64, True), drop("a" * 64)]), [{**a, "n": 96}, b]
+    yield migration([drop("t")] * 64), [a, b]
+
+
+def illegal_migrations():
+    yield "65 steps", migration([drop("t")] * 65)
+    yield "one step less than it says", migration([drop("t")], count=2)
+    yield "one step more", migration([drop("t")] * 2, count=1)
+    yield "a byte behind it", migration([drop("t")]) + b"\0"
+    yield "a step of no kind", migration([b"\4" + packed("t")])
+    yield "nothing times n", migration([scale("n", 0)])
+    yield "1,001 times n", migration([scale("n", 1_001)])
+    yield "a flag of 2", migration([fill("t", False)[:-1] + b"\2"])
+    yield "a value of no kind", migration([b"\1" + packed("t") + b"\3"])
+    yield "a number out of range", migration([fill("n", 2**53)])
+    for field in LETTERS:
+        yield from ((f"a field {field!r}", migration([step])) for step in steps_that_name(field))
+    yield from (("a step of the key", migration([step])) for step in steps_that_name("id"))
+    yield "a product out of range", migration([scale("n", 1_000)] * 6)
+    yield "a text in a number", migration([drop("n"), fill("n", "x")])
+    yield "a field that isn't there any more", migration([rename("n", "z")])
+    yield "the version that is held", migration([], SCHEMA)
+    yield "two versions on", migration([], {**NEXT, "version": 2})
+    properties = {**NEXT["properties"], "t": SCHEMA["properties"]["id"]}
+    other = {**NEXT, "primaryKey": "t", "properties": properties}
+    yield "another primary key", migration([fill("t", "x")], other)
+    yield "a required field", migration([], {**NEXT, "required": ["t"]})
+    yield "a collection that isn't there", migration([], name="d")
+    yield "no canonical text", migration([], text=compact(NEXT))
+    yield "no schema", migration([], text="{}")
+
+
+@case("migrations that a file has and no line would write")
+def migrations_in_a_file(folder):
+    """Those that are legal are opened, and what they made is there. With another one it is no journal, and
+    stays as it is."""
+    documents = commit("c", [{"id": "a", "n": 3}, {"id": "b"}])
+    legal, refused = [*legal_migrations()], [*illegal_migrations()]
+    found = compact({"do": "find", "in": "c", "query": {}})
+    for place, (record, rows) in enumerate(legal):
+        journal = os.path.join(folder, f"legal{place}")
+        written(journal, made("c", SCHEMA), documents, record)
+        get = compact({"do": "get", "in": "c", "key": "a"})
+        status, replies = run(journal, [collection("c", NEXT), found, get])
+        same((status, replies[0]["new"], replies[1]["rows"]), (0, False, rows), f"legal {place}")
+        same((replies[2]["lwt"], replies[2]["rev"]), (1, "1-c"), f"legal {place}, a")
+    for what, record in refused:
+        journal = os.path.join(folder, "journal")
+        before = written(journal, made("c", SCHEMA), documents, record)
+        same(run(journal, [found]), (7, [{"stop": "not_journal"}]), what)
+        insist(content(journal) == before, f"{what}: it was changed")
+    return f"{len(legal)} are opened, and {len(refused)} refused with 7"
+
+
+@case("a migration in a file, of a fork and its master")
+def migrations_of_a_group_in_a_file(folder):
+    """Both go, with what the fork knows. Where a state that it knows can't, or its master is at a port, it is
+    no journal."""
+    state = {"id": "a", "n": 3}
+    sides = [made("m", SCHEMA), made("f", SCHEMA), commit("m", [state])]
+    place = b"\1" + number(1, 8) + packed("a")
+    local = b"\3" + packed("r") + packed("f") + b"\0" + packed("m") + packed("join") + b"\0"
+    remote = b"\3" + packed("r") + packed("f") + b"\1" + number(4_001, 2) + packed("join") + b"\0"
+    pulled = (b"\4" + packed("r") + number(1, 8) + number(1) + number(1, 8) + packed_state(state)
+              + number(1) + packed_state(state) + b"\0" + place)
+    rest = number(2, 8) + number(1) + number(2, 8) + packed_state({"id": "a", "n": 9_000})
+    edited = [b"\2" + packed(side) + rest for side in "mf"]
+    journal = os.path.join(folder, "journal")
+
+    written(journal, *sides, local, pulled, migration([scale("n", 10)], name="f"))
+    lines = [collection(side, NEXT) for side in "mf"]
+    lines += [compact({"do": "get", "in": side, "key": "a"}) for side in "mf"]
+    status, replies = run(journal, [*lines, compact({"do": "turn", "name": "r"})])
+    same((status, [it["doc"] for it in replies[2:4]]), (0, [{"id": "a", "n": 30}] * 2), "both sides")
+    quiet = [{"exchange": 1, "place": {"id": "a", "lwt": 1}, "rows": [], "sent": "pull"},
+             {"end": "quiet", "exchanges": 1, "line": 5, "ok": "turn"}]
+    same(replies[4:], quiet, "a turn")
+
+    at_least = {**NEXT, "properties": {**NEXT["properties"], "n": {"type": "integer", "minimum": 100}}}
+    cases = {
+        "a state that the fork knows": [*sides, local, pulled, *edited, migration([], at_least, name="m")],
+        "a master at a port": [*sides, remote, migration([], name="f")],
+    }
+    for what, bodies in cases.items():
+        before = written(journal, *bodies)
+        same(run(journal, []), (7, [{"stop": "not_journal"}]), what)
+        insist(content(journal) == before, f"{what}: it was changed")
+        written(journal, *bodies[:-1])
+        same(run(journal, [])[0], 0, f"{what}, without the migration")
+    return "both sides and what the fork knows go, or none"
+
+
 @case("a cap on memory")
 def little_memory(folder):
     """Caps on the address space, from where an empty script runs to where this one does."""
@@ -394,6 +566,68 @@ def killed_in_a_turn(folder):
         wrong = {key: (there.get(key), n) for key, n in kept.items() if there.get(key) != n}
         insist(there.keys() == kept.keys() and not wrong, f"found and due: {wrong}")
     return f"{rounds} times, {cut} before the turn's answer: the next is quiet, and no update is lost"
+
+
+FIELDS = "nv"
+
+
+def at_version(version):
+    """A schema whose number has one name or the other."""
+    properties = {"id": SCHEMA["properties"]["id"], FIELDS[version % 2]: {"type": "integer"}}
+    return {**SCHEMA, "version": version, "properties": properties}
+
+
+def migrate(into, version):
+    """The line that takes a collection there from the version before."""
+    return compact({"do": "migrate", "in": into, "schema": at_version(version),
+                    "steps": [{"rename": FIELDS[(version + 1) % 2], "to": FIELDS[version % 2]}]})
+
+
+def held_version(journal, version, count):
+    """Which of two versions a fork and its master have, both the same one, with all documents of that."""
+    lines = [collection(side, at_version(one)) for one in (version, version + 1) for side in "mf"]
+    _, replies = run(journal, [*lines, *(compact({"do": "find", "in": side, "query": {}}) for side in "mf")])
+    has = ["ok" in it for it in replies[:4]]
+    insist(has in ([True, True, False, False], [False, False, True, True]), f"at {version}: {replies[:4]}")
+    version += has[2]
+    rows = [row for reply in replies[4:] for row in reply["rows"]]
+    insist(len(rows) == 2 * count, f"at {version}: {len(rows)} documents")
+    insist(all(row.keys() == {"id", FIELDS[version % 2]} for row in rows), f"at {version}: other fields")
+    return version
+
+
+@case("kill -9 in a migration")
+def killed_in_a_migration(folder):
+    """SIGKILL while a fork and its master migrate. Both have the schema of before, or the next one with all of
+    their documents, which they have where the line was answered."""
+    journal, count, rounds, cut = os.path.join(folder, "journal"), 1_000, 40, 0
+    docs = [{"id": f"k{key}", "n": key % 100} for key in range(count)]
+    begin = [collection(side) for side in "mf"]
+    begin.append(compact({"do": "replicate", "name": "r", "fork": "f", "master": "m", "handler": "join"}))
+    begin.append(compact({"do": "bulk", "in": "m", "docs": docs}))
+    status, _ = run(journal, [*begin, compact({"do": "turn", "name": "r"})])
+    insist(status == 0, f"the first run ended with {status}")
+    # How long one takes that isn't killed.
+    talk, moments, version = Talk(journal), random.Random(SEED), 1
+    insist(talk.ask(compact({"do": "tick", "at": 0})), "the journal doesn't open")
+    begun = time.monotonic()
+    insist("ok" in talk.ask(migrate("m", version)), "the first migration")
+    longest = time.monotonic() - begun
+    insist(talk.end() == 0, "the run of the first migration")
+    for round_ in range(rounds):
+        talk = Talk(journal)
+        insist(talk.ask(compact({"do": "tick", "at": 0})), f"round {round_}: the journal doesn't open")
+        talk.send([migrate(moments.choice("mf"), version + 1)])
+        time.sleep(moments.uniform(0, 1.5 * longest))
+        replies = answers(talk.kill())
+        insist(not replies or "ok" in replies[0], f"round {round_}: {replies}")
+        now = held_version(journal, version, count)
+        insist(now > version or not replies, f"round {round_}: what was answered is lost")
+        version, cut = now, cut + (not replies)
+    _, replies = run(journal, [compact({"do": "turn", "name": "r"})])
+    quiet = {"end": "quiet", "exchanges": 1, "line": 1, "ok": "turn"}
+    insist(replies[-1] == quiet, f"the last turn: {replies}")
+    return f"{rounds} times, {cut} before the answer: {version} migrations stand, each of both sides"
 
 
 if __name__ == "__main__":

@@ -81,11 +81,11 @@ class Fork(Model):
     """What a run is answered whose collection f is the fork of a master at a port, which is a peer."""
 
     def __init__(self, how, peer):
-        super().__init__(how)
-        self.peer, self.sides["m"] = peer, Collection("m")
+        super().__init__()
+        self.how, self.peer, self.sides["m"] = how, peer, Collection("m")
 
     def replicate(self, _line, _out):
-        self.replication = Elsewhere(self.sides["f"], self.sides["m"], self.how)
+        self.replications["r"] = Elsewhere(self.sides["f"], self.sides["m"], self.how)
         return {}
 
     def turn(self, line, out):
@@ -105,7 +105,7 @@ class Fork(Model):
         return {"end": end or "more", "exchanges": number}
 
     def exchange(self, wire, batch):
-        fork = self.replication
+        fork = self.replications["r"]
         request, numbers = fork.ask(batch), (self.epoch, len(fork.asked))
         due, line = fork.request_line(request, self.epoch), self.peer.hear(wire)
         insist(line == due, f"request: found {line}, due {due}")
@@ -280,7 +280,7 @@ class Round:
 
     def end(self):
         insist(self.run.end() in (0, 1), f"the run ended with {self.run.child.returncode}")
-        side, pending = self.fork.sides["f"], len(self.fork.replication.pending())
+        side, pending = self.fork.sides["f"], len(self.fork.replications["r"].pending())
         texts = checked(self.journal)
         insist((texts[0]["count"], texts[0]["digest"]) == (len(side.docs), side.digest()), f"a report: {texts}")
         due = {"fork": "f", "pending": pending, "port": self.peer.port(), "replication": "r"}

@@ -1,11 +1,20 @@
-"""A model of docs/SCRIPT.md, written apart from the program, as far as two collections m and f and
-the replication r between them go: what each line is answered."""
+"""A model of docs/SCRIPT.md, written apart from the program, as far as collections go that are written,
+migrated, observed by one and the same query, and replicated in one journal: what each line is answered."""
 import hashlib
 import json
+import os
+import re
+import sys
+
+# How a schema is read is told by the server's own reader.
+sys.path.append(os.path.join(os.path.dirname(os.path.abspath(__file__)), "..", "server"))
+from schema import Schema, SchemaFault  # noqa: E402
 
 MAX_TIME = 2**53 - 1
 QUERY = {"selector": {"n": {"$gte": 1}}, "sort": [{"n": "desc"}], "limit": 3}
 START = (0, b"")
+FIELD_NAME = re.compile(r"[A-Za-z][A-Za-z0-9_]{0,63}")
+MOST_STEPS, MOST_BY, MOST_HOOKS = 64, 1_000, 16
 
 
 class Clock(Exception):
@@ -91,12 +100,6 @@ def after_hook(hook, field, state):
     return {**state, field: held + 1} if is_number(held) and is_number(held + 1) else state
 
 
-def invalid_field(state):
-    """The first field by name that isn't of the kind that the schema says."""
-    kinds = {"b": bool, "n": int, "t": str}
-    return next((it for it in sorted(kinds) if it in state and type(state[it]) is not kinds[it]), None)
-
-
 def updated(update, fields):
     """The fields after an update that has no fault."""
     changed = {name: made(operator, fields.get(name), operand)
@@ -104,11 +107,92 @@ def updated(update, fields):
     return {name: value for name, value in {**fields, **changed}.items() if value is not None}
 
 
+# ---- schemas, and what takes documents from one to the next
+
+class Rules:
+    """A schema that is held, or raises SchemaFault: its text, and which fields are valid by it."""
+
+    def __init__(self, schema):
+        self.text = Schema(schema).text
+        read = json.loads(self.text)
+        self.version, self.key, self.required = read["version"], read["primaryKey"], read["required"]
+        self.properties = read["properties"]
+
+    def kind(self, name):
+        """The type of a property, None where there is none of that name."""
+        return self.properties[name]["type"] if name in self.properties else None
+
+    def fault(self, state):
+        """The cause of refusal 13 and the name in question, or None. A state may have `_deleted`."""
+        names = sorted((name for name in state if name != "_deleted"), key=str.encode)
+        absent = [name for name in self.required if name not in state]
+        unknown = [name for name in names if name not in self.properties]
+        if absent or unknown:
+            return ("missing", absent[0]) if absent else ("unknown", unknown[0])
+        causes = ((self.cause(name, state[name]), name) for name in names)
+        return next((it for it in causes if it[0]), None)
+
+    def cause(self, name, value):
+        """Why a property doesn't take a value, or None."""
+        it = self.properties[name]
+        if type(value) is not {"boolean": bool, "integer": int, "string": str}[it["type"]]:
+            return "kind"
+        if it["type"] == "integer":
+            least, most = it.get("minimum", value), it.get("maximum", value)
+            return None if least <= value <= most and value % it.get("multipleOf", 1) == 0 else "bounds"
+        if it["type"] == "string" and not (name == self.key) <= len(value) <= it["maxLength"]:
+            return "length"
+        return None
+
+
+def is_name(it):
+    return isinstance(it, str) and FIELD_NAME.fullmatch(it) is not None
+
+
+STEPS = [
+    {"rename": is_name, "to": is_name},
+    {"set": is_name, "value": is_value},
+    {"drop": is_name},
+    {"scale": is_name, "by": lambda it: is_number(it) and 1 <= it <= MOST_BY},
+]
+
+
+def is_step(step):
+    return isinstance(step, dict) and any(
+        form.keys() == step.keys() and all(test(step[name]) for name, test in form.items()) for form in STEPS)
+
+
+def are_steps(steps):
+    return isinstance(steps, list) and len(steps) <= MOST_STEPS and all(map(is_step, steps))
+
+
+def names_of(step):
+    """The fields that a step names."""
+    return [step[name] for name in ("rename", "to", "set", "drop", "scale") if name in step]
+
+
+def migrated(steps, state):
+    """A state after the steps, None where a product is out of range."""
+    state = dict(state)
+    for step in steps:
+        if "rename" in step and step["rename"] in state:
+            state[step["to"]] = state.pop(step["rename"])
+        elif "set" in step:
+            state.setdefault(step["set"], step["value"])
+        elif "drop" in step:
+            state.pop(step["drop"], None)
+        elif "scale" in step and is_number(state.get(step["scale"])):
+            state[step["scale"]] *= step["by"]
+            if not is_number(state[step["scale"]]):
+                return None
+    return state
+
+
 class Collection:
     """Documents by key: a height, a write time and a state."""
 
-    def __init__(self, name):
-        self.name, self.docs, self.last = name, {}, 0
+    def __init__(self, name, rules=None):
+        self.name, self.rules, self.docs, self.last = name, rules, {}, 0
 
     def state(self, key):
         return self.docs[key][2] if key in self.docs else None
@@ -133,6 +217,14 @@ class Collection:
     def place(self, key):
         return self.docs[key][1], key.encode()
 
+    def states(self):
+        return [state for _, _, state in self.docs.values()]
+
+    def migrate(self, rules, steps):
+        """The schema and the states become others; heights and write times stay."""
+        self.rules = rules
+        self.docs = {key: (*of, migrated(steps, state)) for key, (*of, state) in self.docs.items()}
+
     def page(self, since, most):
         """The keys of the first documents above a place, by their places."""
         return sorted((key for key in self.docs if self.place(key) > since), key=self.place)[:most]
@@ -143,11 +235,21 @@ class Collection:
 
 
 class Replication:
-    """What a fork knows of its master, and the requests since the journal was opened."""
+    """What a fork knows of its master, and the requests since the journal was opened or the fork migrated.
+    A master elsewhere is None."""
 
     def __init__(self, fork, master, how):
         self.fork, self.master, self.how = fork, master, how
         self.known, self.down, self.asked = {}, START, []
+
+    def migrate(self, steps):
+        self.known = {key: migrated(steps, state) for key, state in self.known.items()}
+        self.asked = []
+
+    def has_handler(self):
+        """`greater` may have lost its field by a migration."""
+        rules = self.fork.rules
+        return self.how["handler"] != "greater" or not rules or rules.kind(self.how["field"]) == "integer"
 
     def pending(self):
         docs = self.fork.page(START, len(self.fork.docs))
@@ -223,60 +325,131 @@ class Replication:
 class Model:
     """What a run answers, line after line."""
 
-    def __init__(self, how):
-        self.how, self.sides, self.replication, self.epoch = how, {}, None, 0
+    def __init__(self):
+        self.sides, self.replications, self.epoch = {}, {}, 0
 
     def open(self):
         """A run begins."""
-        self.moment, self.observed, self.number, self.hooks = 0, False, 0, []
+        self.moment, self.watched, self.number, self.hooks = 0, {}, 0, []
         self.reopen()
 
     def reopen(self):
         self.epoch += 1
-        if self.replication:
-            self.replication.asked = []
+        for replication in self.replications.values():
+            replication.asked = []
 
-    def is_known(self, key):
-        """Whether the fork's state is the master's, as far as the fork knows."""
-        return self.replication.known.get(key) == self.sides["f"].state(key)
+    def is_known(self, key, name="r"):
+        """Whether a fork's state is its master's, as far as the fork knows."""
+        replication = self.replications[name]
+        return replication.known.get(key) == replication.fork.state(key)
 
-    def result(self):
-        fork = self.sides["f"]
-        rows = [state for key in fork.docs if fork.live(key) for state in [fork.state(key)]
-                if state.get("n", 0) >= 1]
+    def group(self, name):
+        """The collections that local replications join to one, in the order of making."""
+        pairs = [{it.fork.name, it.master.name} for it in self.replications.values() if it.master]
+        group = {name}
+        while more := set().union(*(pair for pair in pairs if pair & group)) - group:
+            group |= more
+        return [it for it in self.sides if it in group]
+
+    def result(self, side):
+        rows = [state for key in side.docs if side.live(key) for state in [side.state(key)]
+                if is_number(state.get("n")) and state["n"] >= 1]
         rows.sort(key=lambda state: (-state["n"], state["id"].encode()))
         return [{k: v for k, v in state.items() if k != "_deleted"} for state in rows[:3]]
 
     def play(self, line):
         """The lines that a line is answered by."""
         self.number += 1
-        before, out = self.emitted if self.observed else None, []
+        before, out = {name: rows for name, (_, rows) in self.watched.items()}, []
         reply = getattr(self, line["do"])(line, out)
         refused = {"line": self.number, **reply} if "refused" in reply else None
         out.append(refused or {"line": self.number, "ok": line["do"], **reply})
-        if self.observed:
-            self.emitted = self.result()
-            if self.emitted != before:
-                out.append({"emit": "q", "rows": self.emitted})
+        for name, (side, _) in self.watched.items():
+            rows = self.result(self.sides[side])
+            self.watched[name] = side, rows
+            if rows != before.get(name):
+                out.append({"emit": name, "rows": rows})
         return [printed(it) for it in out]
 
     def collection(self, line, _out):
-        new = line["name"] not in self.sides
-        if new:
-            self.sides[line["name"]] = Collection(line["name"])
-        return {"new": new}
+        rules = Rules(line["schema"]) if "schema" in line else None
+        held = self.sides.get(line["name"])
+        if held and rules and held.rules.text != rules.text:
+            return {"code": 12, "refused": "schema_differs"}
+        if not held:
+            self.sides[line["name"]] = Collection(line["name"], rules)
+        return {"new": not held}
 
-    def replicate(self, _line, _out):
-        self.replication = Replication(self.sides["f"], self.sides["m"], self.how)
+    def replicate(self, line, _out):
+        how = {it: line[it] for it in ("handler", "field") if it in line}
+        fork, master = self.sides[line["fork"]], self.sides[line["master"]] if "master" in line else None
+        self.replications[line["name"]] = Replication(fork, master, how)
         return {}
 
-    def observe(self, _line, _out):
-        self.observed, self.emitted = True, None
+    def observe(self, line, _out):
+        """The query is QUERY, which sorts by n."""
+        if line["name"] in self.watched:
+            return {"code": 9, "refused": "exists"}
+        rules = self.sides[line["in"]].rules
+        if rules and "n" not in rules.properties:
+            return {"cause": "field", "code": 16, "name": "n", "refused": "query"}
+        self.watched[line["name"]] = line["in"], None
         return {}
+
+    def unobserve(self, line, _out):
+        return {} if self.watched.pop(line["name"], None) else {"code": 17, "refused": "no_query"}
 
     def hook(self, line, _out):
+        kind = self.sides[line["in"]].rules.kind(line["field"])
+        if kind != ("boolean" if line["hook"] == "lock" else "integer"):
+            return {"code": 34, "refused": "no_hook"}
+        if len([it for it in self.hooks if it[0] == line["in"]]) == MOST_HOOKS:
+            return {"code": 23, "refused": "too_many"}
         self.hooks.append((line["in"], line["when"], line["hook"], line["field"]))
         return {}
+
+    def migrate(self, line, _out):
+        name, steps = line["in"], line["steps"]
+        if not are_steps(steps):
+            return {"code": 7, "name": "steps", "refused": "wrong_type"}
+        if name not in self.sides:
+            return {"code": 10, "name": name, "refused": "no_collection"}
+        try:
+            rules = Rules(line["schema"])
+        except SchemaFault as fault:
+            said = {"name": fault.name} if fault.name else {}
+            return {"cause": fault.cause, "code": 11, "refused": "schema", **said}
+        group = self.group(name)
+        joined = {it: each for it, each in self.replications.items() if each.fork.name in group}
+        if refused := self.migration_fault(name, rules, steps, group, joined):
+            return refused
+        for it in group:
+            self.sides[it].migrate(rules, steps)
+        for replication in joined.values():
+            replication.migrate(steps)
+        self.hooks = [it for it in self.hooks if it[0] not in group]
+        return {"collections": group}
+
+    def migration_fault(self, name, rules, steps, group, joined):
+        """Why a group can't go to a schema, or None."""
+        def faulty(states):
+            after = (migrated(steps, state) for state in states)
+            return any(state is None or rules.fault(state) for state in after)
+
+        held = self.sides[name].rules
+        told = {"code": 28, "name": name, "refused": "migration"}
+        if rules.version != held.version + 1:
+            return {**told, "cause": "version"}
+        if rules.key != held.key or any(held.key in names_of(step) for step in steps):
+            return {**told, "cause": "primary"}
+        states = [*((it, self.sides[it].states()) for it in group),
+                  *((it, each.known.values()) for it, each in joined.items())]
+        if (invalid := next((it for it, each in states if faulty(each)), None)) is not None:
+            return {**told, "cause": "invalid", "name": invalid}
+        if not all(it.master for it in joined.values()):
+            return {"code": 30, "refused": "remote"}
+        watching = [it for it, (side, _) in self.watched.items() if side in group]
+        return {"code": 29, "name": watching[0], "refused": "observed"} if watching else None
 
     def write(self, side, state, when="save", taken=None):
         """A write after its hooks, refused where the key is taken by a revision."""
@@ -284,8 +457,8 @@ class Model:
             state = after_hook(hook, field, state)
             if state is None:
                 return {"code": 33, "name": hook, "refused": "vetoed"}
-        if bad := invalid_field(state):
-            return {"cause": "kind", "code": 13, "name": bad, "refused": "invalid"}
+        if (rules := self.sides[side].rules) and (fault := rules.fault(state)):
+            return {"cause": fault[0], "code": 13, "name": fault[1], "refused": "invalid"}
         if taken:
             return {"code": 14, "refused": "conflict", "rev": taken}
         state = {**state, "_deleted": when == "remove"}
@@ -332,8 +505,11 @@ class Model:
         return {"epoch": self.epoch}
 
     def turn(self, line, out):
+        replication = self.replications[line["name"]]
+        if not replication.has_handler():
+            return {"code": 19, "refused": "no_handler"}
         asked = line.get("batch", 100), line.get("budget", 1_000), line.get("link", [])
-        lines, end = self.replication.turn(*asked, self.moment)
+        lines, end = replication.turn(*asked, self.moment)
         out += lines
         return {"end": end, "exchanges": len(lines)}
 

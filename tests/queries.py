@@ -106,7 +106,7 @@ class Asked(Model):
     """The model of a collection that is asked queries, and of its windows."""
 
     def __init__(self):
-        super().__init__({})
+        super().__init__()
         self.queries, self.emitted = {}, {}
         self.open()
 

@@ -11,9 +11,9 @@ import socket
 import time
 from concurrent.futures import ThreadPoolExecutor
 
-from shared import (HANG_SECONDS, HASH, LONGEST, SECONDS, SEED, Server, Talk, all_there, answers, ask,
+from shared import (HANG_SECONDS, HASH, LONGEST, SCHEMA, SECONDS, SEED, Server, Talk, all_there, answers, ask,
                     case, collection, command, compact, digest, free_port, held, insist, main, peak_of, pull,
-                    push, reset, room, run, said, said_line, text, told)
+                    push, reset, room, run, said, said_line, same, text, told)
 
 
 # A byte comes so often, and a message has a minute; what the test waits besides is the machine's.
@@ -390,6 +390,55 @@ def turn_with_limits(folder, port, master, fork):
         return 0, 8
     server.kill()
     return status, None
+
+
+NEXT = {**SCHEMA, "version": 1, "properties": {"id": SCHEMA["properties"]["id"], "v": {"type": "integer"}}}
+STEPS = [{"rename": "n", "to": "v"}]
+
+
+def migrate(into):
+    return compact({"do": "migrate", "in": into, "schema": NEXT, "steps": STEPS})
+
+
+def fork_of(name, port, schema=None):
+    """The lines that make a fork of the master at a port, and the replication of its name."""
+    replicate = {"do": "replicate", "name": name, "fork": name, "port": port, "handler": "fork_wins"}
+    return [collection(name, schema), compact(replicate)]
+
+
+def turn_of(name):
+    return compact({"do": "turn", "name": name})
+
+
+@case("a served collection that migrates")
+def served_and_migrated(folder):
+    """Each turn of a fork of before is lost by `reply`, and what it wrote stays in it. A new collection of the next
+    version goes on: it is of no use before."""
+    fork, master, port = os.path.join(folder, "fork"), os.path.join(folder, "journal"), free_port()
+    server = Server(folder, 3, ["a", "b"], port=port)
+    server.wait()
+    status, replies = run(fork, [*fork_of("f", port), turn_of("f")])
+    same((status, replies[-1]["end"]), (0, "quiet"), "the first turn")
+    edit = compact({"do": "patch", "in": "f", "key": "a", "set": {"n": 5}})
+    status, replies = run(fork, [edit, turn_of("f"), *fork_of("g", port, NEXT), turn_of("g"), migrate("f")])
+    same([status, replies[3]["end"]], [1, "quiet"], "the second turn")
+    lost = {"exchange": 1, "lost": "reply", "sent": "pull"}
+    same(replies[6], lost, "a fork ahead of its master")
+    same(replies[8], {"code": 30, "line": 6, "refused": "remote"}, "a fork of a master at a port")
+    ends = [told(1, "peer", 1), told(2, "peer", 2), told(3, "request", 0)]
+    same(server.end(), (0, ends), "what was served")
+
+    same(run(master, [migrate("c")]), (0, [{"collections": ["c"], "line": 1, "ok": "migrate"}]), "the master")
+    server = Server(folder, 3, port=port).wait()
+    edit = compact({"do": "patch", "in": "f", "key": "b", "set": {"n": 7}})
+    status, replies = run(fork, [edit, turn_of("f"), turn_of("f"), turn_of("g")])
+    same(replies[1::2][:2], [{**lost, "rows": ["b"], "sent": "push"}] * 2, "turns of the fork of before")
+    same([it["end"] for it in replies if "end" in it], ["lost", "lost", "quiet"], "how the turns end")
+    same(server.end(), (0, [told(1, "request", 0), told(2, "request", 0), told(3, "peer", 1)]), "what was served")
+    find = [compact({"do": "find", "in": side, "query": {}}) for side in "fg"]
+    rows = [it["rows"] for it in run(fork, find)[1]]
+    same(rows, [[{"id": "a", "n": 5}, {"id": "b", "n": 7}], [{"id": "a", "v": 5}, {"id": "b", "v": 1}]], "both forks")
+    return "the fork of before loses its turns by `reply`, and keeps its edit; one of the next version goes on"
 
 
 @case("an output that goes away")

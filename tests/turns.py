@@ -2,44 +2,52 @@
 """Random turns of a fork and its master over the built program, beside a model of docs/SCRIPT.md.
 
 For each of eight seeds a script of 4,000 lines over two collections and a replication between them:
-writes on both sides with hooks before some, the moment, restarts, and turns of any batch and budget over a
-link that loses, repeats and delays; in four runs, one after another on the same journal. The seeds take
-the handlers in turn. Three things are tried of what the program answers:
+writes on both sides with hooks before some, the moment, restarts, migrations of both, of which some are
+refused, and turns of any batch and budget over a link that loses, repeats and delays; in four runs, one
+after another on the same journal. The seeds take the handlers in turn. Three things are tried of what the
+program answers:
 
-- it is the model's answer, byte for byte: replies, exchanges, emissions, and after each turn all
-  states of both sides in the order of their places;
-- a turn that ends quiet leaves one digest on both sides;
+- it is the model's answer, byte for byte: replies, exchanges, emissions, and after each turn and each
+  migration all states of both sides in the order of their places;
+- a turn that ends quiet leaves one digest on both sides, and so does a migration behind it;
 - no acknowledged write of the fork is gone: before a pull goes over its key, and before a turn ends
   quiet, a push of it was answered, or the fork wrote the key again, or it was no edit, since the
-  master had that state as far as the fork knew.
+  master had that state as far as the fork knew, or a migration made it one that the fork knew. What
+  counts behind a migration is what its steps made of the write.
+
+Then a master and three forks, one of them a fork of a fork, that migrate with edits pending on each.
 """
 import json
 import os
 import random
 from collections import Counter
+from typing import NamedTuple
 
-from model import MAX_TIME, QUERY, Model
-from shared import HANDLERS, Wrong, add, command, compact, insist, main, text
+from model import MAX_TIME, QUERY, Model, migrated
+from shared import HANDLERS, Wrong, add, case, command, compact, insist, main, same, text
 
 SEEDS = range(1, 9)
 LINES = 4_000
 RUNS = 4
 KEYS = [f"k{n}" for n in range(20)]
-SCHEMA = {
-    "version": 0, "primaryKey": "id", "type": "object", "required": ["id"],
-    "properties": {
-        "id": {"type": "string", "maxLength": 20},
-        "b": {"type": "boolean"}, "n": {"type": "integer"}, "t": {"type": "string"},
-    },
-}
+# A field has one kind in all schemas, and another one of its kind that it may become.
+KINDS = {"b": "boolean", "d": "boolean", "n": "integer", "v": "integer", "t": "string", "u": "string"}
+OTHER = {"b": "d", "d": "b", "n": "v", "v": "n", "t": "u", "u": "t"}
+VALUES = {"boolean": [None, False, True], "integer": [None, 0, 1, 2], "string": [None, "", "x"]}
+KEY = {"id": {"type": "string", "maxLength": 20}}
+HOME = {**KEY, **{name: {"type": KINDS[name]} for name in "bnt"}}
+SCHEMA = {"version": 0, "primaryKey": "id", "type": "object", "required": ["id"], "properties": HOME}
 
 
-# ---- scripts
+# ---- scripts: what comes next goes by the schema that the model holds, which plays each line before
 
-def fields(numbers):
-    """Few values, so that documents come back to what they were."""
-    there = {"b": numbers.choice([None, False, True]), "n": numbers.choice([None, 0, 1, 2]),
-             "t": numbers.choice([None, "", "x"])}
+def fields(numbers, rules):
+    """Few values, so that documents come back to what they were, and seldom less than is required."""
+    there = {}
+    for name, it in rules.properties.items():
+        if name != "id":
+            is_due = name in rules.required and numbers.random() < 0.9
+            there[name] = numbers.choice(VALUES[it["type"]][is_due:])
     return {name: value for name, value in there.items() if value is not None}
 
 
@@ -79,12 +87,12 @@ def hooks_at_random(numbers):
             for side in "mf" for when, hook, field in HOOKS if numbers.random() < 0.25]
 
 
-def line_at_random(numbers):
+def line_at_random(numbers, rules):
     into, key, draw = numbers.choice("ffm"), numbers.choice(KEYS), numbers.randrange(64)
     if draw < 30:
-        return {"do": "upsert", "in": into, "doc": {"id": key, **fields(numbers)}}
+        return {"do": "upsert", "in": into, "doc": {"id": key, **fields(numbers, rules)}}
     if draw < 33:
-        return {"do": "insert", "in": into, "doc": {"id": key, **fields(numbers)}}
+        return {"do": "insert", "in": into, "doc": {"id": key, **fields(numbers, rules)}}
     if draw < 41:
         return {"do": "remove", "in": into, "key": key}
     if draw < 44:
@@ -95,7 +103,116 @@ def line_at_random(numbers):
         return {"do": "tick", "at": numbers.randrange(3_000)}
     if draw < 51:
         return {"do": "restart"}
+    if draw < 53:
+        return {"do": "upsert", "in": "p", "doc": {"id": key, "n": numbers.randrange(3)}}
     return turn(numbers)
+
+
+# Each changes the steps of a migration, and the properties and required names that they lead to.
+
+def drop(numbers, steps, properties, required):
+    if names := [*properties.keys() - KEY.keys()]:
+        name = numbers.choice(sorted(names))
+        steps.append({"drop": name})
+        del properties[name]
+        required.discard(name)
+
+
+def rename(numbers, steps, properties, required):
+    """The other field may be there, and goes then."""
+    if names := [*properties.keys() - KEY.keys()]:
+        name = numbers.choice(sorted(names))
+        steps.append({"rename": name, "to": OTHER[name]})
+        properties[OTHER[name]] = properties.pop(name)
+        if name in required:
+            required.remove(name)
+            required.add(OTHER[name])
+
+
+def scale(numbers, steps, _properties, _required):
+    steps.append({"scale": numbers.choice("nnnvt"), "by": numbers.choice([1, 2, 3, 1_000])})
+
+
+def fill(numbers, steps, properties, required):
+    name = numbers.choice([*KINDS])
+    steps.append({"set": name, "value": numbers.choice(VALUES[KINDS[name]][1:])})
+    properties.setdefault(name, {"type": KINDS[name]})
+    if numbers.random() < 0.3:
+        required.add(name)
+
+
+def bound(numbers, _steps, properties, required):
+    """Whether the documents fit isn't asked."""
+    if names := [*properties.keys() - KEY.keys()]:
+        name = numbers.choice(sorted(names))
+        bounds = {"boolean": {}, "integer": {"minimum": -5, "maximum": numbers.choice([1, 2, 9_000])},
+                  "string": {"maxLength": numbers.choice([1, 5])}}
+        properties[name] = {"type": KINDS[name], **bounds[KINDS[name]]}
+        if numbers.random() < 0.2:
+            required.add(name)
+
+
+def go_home(_numbers, steps, properties, required):
+    steps += [{"drop": name} for name in sorted(properties.keys() - HOME.keys())]
+    properties.clear()
+    properties.update(HOME)
+    required.intersection_update(KEY)
+
+
+def migration(numbers, rules, side, changes):
+    """To the next version of the schema."""
+    steps, properties, required = [], dict(rules.properties), {*rules.required}
+    for change in changes:
+        change(numbers, steps, properties, required)
+    schema = {**SCHEMA, "version": rules.version + 1, "properties": properties, "required": sorted(required)}
+    return {"do": "migrate", "in": side, "schema": schema, "steps": steps}
+
+
+NO_STEPS = [
+    {}, "drop", [[]], [{}], [{"drop": "9"}], [{"drop": "n", "by": 1}], [{"drop": ["n"]}], [{"rename": "n"}],
+    [{"rename": "n", "to": "_v"}], [{"set": "n"}], [{"set": "n", "value": None}], [{"set": "n", "value": 1.0}],
+    [{"set": "n", "value": MAX_TIME + 1}], [{"scale": "n", "by": 0}], [{"scale": "n", "by": 1_001}],
+    [{"scale": "n", "by": True}], [{"scale": "n"}], [{"add": "n"}], [{"drop": "n"}] * 65,
+]
+OF_THE_KEY = [{"drop": "id"}, {"rename": "t", "to": "id"}, {"rename": "id", "to": "t"},
+              {"set": "id", "value": "x"}, {"scale": "id", "by": 1}]
+
+
+def spoilt(numbers, line):
+    """The same with something in it that may be refused."""
+    schema, steps = line["schema"], line["steps"]
+    version, properties = schema["version"], schema["properties"]
+    edits = [
+        {"steps": numbers.choice(NO_STEPS)},
+        {"steps": [*steps, *[{"drop": "u"}] * (64 - len(steps))]},
+        {"steps": [*steps, numbers.choice(OF_THE_KEY)]},
+        {"in": "z"},
+        {"in": "p", "schema": {**SCHEMA, "version": numbers.choice([0, 1])}},
+        {"schema": {**schema, "version": version + numbers.choice([-1, 1])}},
+        {"schema": {**schema, "primaryKey": "t", "properties": {**properties, "t": KEY["id"]}}},
+        {"schema": {**schema, "primaryKey": "w"}},
+        {"schema": {**schema, "properties": {**properties, "n": {"type": "list"}}}},
+        {"schema": {name: it for name, it in schema.items() if name != "type"}},
+        {"schema": {**schema, "properties": KEY, "required": ["id"]}},
+    ]
+    return {**line, **numbers.choice(edits)}
+
+
+CHANGES = [drop, rename, scale, scale, fill, fill, bound]
+OBSERVE = {"do": "observe", "name": "q", "in": "f", "query": QUERY}
+UNOBSERVE = {"do": "unobserve", "name": "q"}
+
+
+def migrating(numbers, rules):
+    """A migration with the lines around it: where the query isn't ended it is refused at the latest by that.
+    Hooks go with it, and others come."""
+    changes = [go_home] if numbers.random() < 0.4 else numbers.choices(CHANGES, k=numbers.randint(1, 3))
+    line = migration(numbers, rules, numbers.choice("mf"), changes)
+    if numbers.random() < 0.3:
+        line = spoilt(numbers, line)
+    if numbers.random() < 0.2:
+        return [line]
+    return [UNOBSERVE, line, *both_sides(), OBSERVE, *hooks_at_random(numbers)]
 
 
 def both_sides():
@@ -118,22 +235,39 @@ def at_the_end_of_time(first, second):
     ]
 
 
-def scripts(numbers, how):
-    """The scripts of the runs, one after another, each with a turn without a fault at its end."""
-    begin = [{"do": "collection", "name": name, "schema": SCHEMA} for name in ("m", "f")]
-    begin.append({"do": "replicate", "name": "r", "fork": "f", "master": "m", **how})
-    for run in range(RUNS):
-        lines = [*begin, {"do": "observe", "name": "q", "in": "f", "query": QUERY}]
-        lines += hooks_at_random(numbers)
-        begin = []
-        for _ in range(LINES // RUNS):
-            lines.append(line_at_random(numbers))
-            if lines[-1]["do"] == "turn":
-                lines += both_sides()
-        lines += [{"do": "turn", "name": "r", "budget": 100_000}, *both_sides()]
-        if run == RUNS - 1:
-            lines += [*at_the_end_of_time(*numbers.choice(["mf", "fm"])), *both_sides()]
-        yield lines
+SIDES = [*({"do": "collection", "name": name, "schema": SCHEMA} for name in "mf"),
+         {"do": "replicate", "name": "r", "fork": "f", "master": "m"}]
+# A fork of a port at which nobody is. It can't migrate, and what is observed of it, and its hooks, stay while
+# the others do.
+ELSEWHERE = [{"do": "collection", "name": "p", "schema": SCHEMA},
+             {"do": "replicate", "name": "s", "fork": "p", "port": 1, "handler": "join"}]
+APART = [{**OBSERVE, "name": "o", "in": "p"},
+         {"do": "hook", "in": "p", "when": "save", "hook": "count", "field": "n"}]
+
+
+def script(numbers, how, model, run):
+    """One run, with a turn without a fault at its end, between collections of the first fields."""
+    def rules():
+        return model.sides["f"].rules
+
+    if run == 0:
+        sides = [{**it, **how} if it["do"] == "replicate" else it for it in SIDES]
+        yield from numbers.choice([[*sides, *ELSEWHERE], [*ELSEWHERE, *sides]])
+    yield from [*APART, OBSERVE, *hooks_at_random(numbers)]
+    for _ in range(LINES // RUNS):
+        if numbers.random() < 0.03:
+            yield from migrating(numbers, rules())
+            continue
+        line = line_at_random(numbers, rules())
+        yield line
+        if line["do"] == "turn":
+            yield from both_sides()
+    yield from [UNOBSERVE, migration(numbers, rules(), "m", [go_home]), OBSERVE]
+    yield from [{"do": "turn", "name": "r", "budget": 100_000}, *both_sides()]
+    if run == RUNS - 1:
+        yield from [*at_the_end_of_time(*numbers.choice(["mf", "fm"])), *both_sides()]
+        # It takes no write time.
+        yield from [UNOBSERVE, migration(numbers, rules(), "f", [scale]), *both_sides()]
 
 
 # ---- what is tried
@@ -144,14 +278,18 @@ class Audit:
     def __init__(self):
         self.unsent, self.digests = set(), None
         self.exchanges = self.conflicts = 0
-        self.ends = Counter()
+        self.ends, self.migrations = Counter(), Counter()
 
-    def follow(self, line, replies, is_known):
-        """The replies to a line. The last tells whether the fork knows its own state of a key."""
+    def follow(self, line, replies, known):
+        """The replies to a line, and the keys of which the fork knows its own state behind it."""
+        if line["do"] not in ("changes", "digest", "turn", "migrate"):
+            self.digests = None
         for reply in map(json.loads, replies):
-            if "rev" in reply and "ok" in reply and line["in"] == "f":
+            if line["do"] == "migrate":
+                self.migration(reply, known)
+            elif "rev" in reply and "ok" in reply and line["in"] == "f":
                 key = line.get("key") or line["doc"]["id"]
-                (self.unsent.discard if is_known(key) else self.unsent.add)(key)
+                (self.unsent.discard if key in known else self.unsent.add)(key)
             elif "exchange" in reply:
                 self.exchange(reply)
             elif "end" in reply:
@@ -172,11 +310,32 @@ class Audit:
         elif self.unsent & rows:
             raise Wrong(f"a pull went over what the fork wrote at {sorted(self.unsent & rows)}")
 
+    def migration(self, reply, known):
+        self.migrations[reply.get("cause") or reply.get("refused") or "made"] += 1
+        if "ok" in reply:
+            self.unsent -= known
+            self.digests = None if self.digests is None else set()
+
     def end(self, reply):
         self.digests = set() if reply["end"] == "quiet" else None
         self.ends[reply["end"]] += 1
         if reply["end"] == "quiet" and self.unsent:
             raise Wrong(f"a quiet turn left what the fork wrote at {sorted(self.unsent)}")
+
+
+class Played(NamedTuple):
+    """A line, what it is due to be answered, and the keys of which the fork knows its own state behind it."""
+    line: dict
+    due: list
+    known: set
+
+
+def played(model, lines):
+    """The lines of a run, which the model plays one by one before the next is made."""
+    for line in lines:
+        due = model.play(line)
+        keys = model.sides["f"].docs if "r" in model.replications else ()
+        yield Played(line, due, {key for key in keys if model.is_known(key)})
 
 
 def answers(journal, lines):
@@ -186,36 +345,98 @@ def answers(journal, lines):
     return written.decode().splitlines()
 
 
-def play(model, audit, lines, found):
+def compare(run, found, follow):
     """Compares what a run answered, line by line of its script."""
     place = 0
-    for number, line in enumerate(lines, 1):
-        due = model.play(line)
+    for number, (line, due, known) in enumerate(run, 1):
         seen = found[place:place + len(due)]
         place += len(due)
         if seen != due:
             pair = next(((a, b) for a, b in zip(seen, due) if a != b), (seen[-1:], due[-1:]))
             raise Wrong(f"line {number}, {compact(line)}: found {pair[0]}, due {pair[1]}")
-        if line["do"] not in ("changes", "digest", "turn"):
-            audit.digests = None
-        audit.follow(line, seen, model.is_known)
+        follow(line, seen, known)
     if found[place:]:
         raise Wrong(f"nothing is due for {found[place]}")
 
 
 def try_seed(seed, how, folder):
-    numbers, model, audit = random.Random(seed), Model(how), Audit()
-    for lines in scripts(numbers, how):
+    numbers, model, audit = random.Random(seed), Model(), Audit()
+    for number in range(RUNS):
         model.open()
-        play(model, audit, lines, answers(os.path.join(folder, "journal"), lines))
-    ends = ", ".join(f"{count:,} {end}" for end, count in sorted(audit.ends.items()))
-    return f"{audit.exchanges:,} exchanges, {audit.conflicts:,} conflicts; turns: {ends}"
+        run = [*played(model, script(numbers, how, model, number))]
+        compare(run, answers(os.path.join(folder, "journal"), [it.line for it in run]), audit.follow)
+    ends, migrations = (", ".join(f"{count:,} {end}" for end, count in sorted(of.items()))
+                        for of in (audit.ends, audit.migrations))
+    return (f"{audit.exchanges:,} exchanges, {audit.conflicts:,} conflicts; turns: {ends}; "
+            f"migrations: {migrations}")
 
 
 for number in SEEDS:
     handler = HANDLERS[number % len(HANDLERS)]
     add(f"seed {number}, {handler['handler']}",
         lambda folder, seed=number, how=handler: try_seed(seed, how, folder), seconds=900, in_memory=True)
+
+
+# ---- a group
+
+FORKS = {"f": "m", "g": "m", "h": "f"}
+NEXT = {**SCHEMA, "version": 1, "required": ["b", "id"],
+        "properties": {**KEY, "b": HOME["b"], "v": HOME["n"], "u": {"type": "string", "maxLength": 9}}}
+STEPS = [{"rename": "n", "to": "v"}, {"scale": "v", "by": 10}, {"rename": "t", "to": "u"},
+         {"set": "b", "value": True}]
+
+
+def group_lines(numbers):
+    """Each fork pulls what all share, edits a document of these, removes one and has one of its own. Then the
+    group migrates, and two turns of each replication, from the leaves and back, bring all together. No handler
+    goes by a field, which the steps might take."""
+    turns = [{"do": "turn", "name": f"{fork}-{master}"} for fork, master in FORKS.items()]
+    yield from ({"do": "collection", "name": name, "schema": SCHEMA} for name in "mfgh")
+    for fork, master in FORKS.items():
+        how = numbers.choice(["master_wins", "fork_wins", "join"])
+        yield {"do": "replicate", "name": f"{fork}-{master}", "fork": fork, "master": master, "handler": how}
+    shared = [f"{what}-{side}" for side in "mfgh" for what in ("edited", "removed")]
+    yield from ({"do": "upsert", "in": "m", "doc": {"id": key, "n": 1, "t": "m"}} for key in shared)
+    yield from turns
+    for side in "mfgh":
+        yield {"do": "patch", "in": side, "key": f"edited-{side}", "set": {"n": 2, "t": side}}
+        yield {"do": "remove", "in": side, "key": f"removed-{side}"}
+        yield {"do": "insert", "in": side, "doc": {"id": f"of-{side}", "n": 3}}
+    yield {"do": "migrate", "in": numbers.choice("mfgh"), "schema": NEXT, "steps": STEPS}
+    yield from [*turns[::-1], *turns]
+    yield from ({"do": "changes", "in": side} for side in "mfgh")
+    yield from ({"do": "digest", "in": side} for side in "mfgh")
+
+
+def state(key, number, word=None, deleted=False):
+    """As a write left it, before the steps."""
+    return {"_deleted": deleted, "id": key, "n": number, **({"t": word} if word else {})}
+
+
+@case("a group of a master and three forks")
+def a_group_of_forks(folder):
+    """What each side wrote before the migration is on all sides in the end, as the steps made it."""
+    due = [it for side in "mfgh" for it in (state(f"edited-{side}", 2, side), state(f"of-{side}", 3),
+                                            state(f"removed-{side}", 1, "m", True))]
+    due = sorted((migrated(STEPS, it) for it in due), key=compact)
+    for seed in range(10):
+        model, journal = Model(), os.path.join(folder, f"journal{seed}")
+        model.open()
+        run, replies = [], []
+        for line in group_lines(random.Random(seed)):
+            run.append(Played(line, model.play(line), set()))
+        compare(run, answers(journal, [it.line for it in run]),
+                lambda line, seen, _known: replies.append((line, json.loads(seen[-1]))))
+        ends = [reply["end"] for line, reply in replies if line["do"] == "turn"]
+        same(ends, ["quiet"] * 9, f"seed {seed}: the turns")
+        migrations = [reply for line, reply in replies if line["do"] == "migrate"]
+        same([it.get("collections") for it in migrations], [[*"mfgh"]], f"seed {seed}: the group")
+        for reply in (reply for line, reply in replies if line["do"] == "changes"):
+            same(sorted(reply["docs"], key=compact), due, f"seed {seed}: the documents")
+        digests = {reply["digest"] for line, reply in replies if line["do"] == "digest"}
+        same(len(digests), 1, f"seed {seed}: the digests")
+    return f"{seed + 1} times all {len(due)} documents are on all sides, as the steps made them"
+
 
 if __name__ == "__main__":
     main()

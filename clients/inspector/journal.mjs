@@ -44,7 +44,22 @@ function record(read, told) {
     replication.down = read.option(() => read.place());
   } else if (kind === 5) {
     told.epoch = read.number();
+  } else if (kind === 6) {
+    const group = groupOf(read.text(), told.replications), schema = JSON.parse(read.text());
+    for (const name of group) told.collections.get(name).schema = schema;
   }
+}
+
+// A collection, and all that local replications join to it, over any number of them.
+function groupOf(name, replications) {
+  const group = new Set([name]);
+  for (let size = 0; size < group.size;) {
+    size = group.size;
+    for (const { fork, master } of replications.values()) {
+      if (master && (group.has(fork) || group.has(master))) group.add(fork).add(master);
+    }
+  }
+  return group;
 }
 
 class Reader {

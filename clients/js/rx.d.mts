@@ -260,6 +260,26 @@ export interface Update<T = Document> {
   $unset?: { readonly [K in keyof T]?: unknown };
 }
 
+/**
+ * One step of a migration: a field's value goes to another field, over what that had; a field gets a value where it
+ * is missing; a field goes; or a field is multiplied, by 1 to 1,000, where it is a number. None names the primary key.
+ */
+export type Step =
+  | { readonly rename: string; readonly to: string }
+  | { readonly set: string; readonly value: Scalar }
+  | { readonly drop: string }
+  | { readonly scale: string; readonly by: number };
+
+export interface CollectionOptions {
+  /** They stand before its writes as long as the journal is open here and it doesn't migrate. */
+  readonly hooks?: readonly Hook[];
+  /**
+   * It migrates by them where the schema that is held is of the version before the given one, and opens where it is
+   * the given one.
+   */
+  readonly steps?: readonly Step[];
+}
+
 export interface Collection<T = Document> {
   readonly name: string;
   /** Whether it was made just now; undefined where no schema was given. */
@@ -282,7 +302,12 @@ export interface Collection<T = Document> {
 export interface Database {
   /** Resolves once the program has ended, with why: its `stop` is `closed` after `close()`. */
   readonly stopped: Promise<Stopped>;
-  collection<T = Document>(name: string, schema?: Schema, options?: { hooks?: readonly Hook[] }): Promise<Collection<T>>;
+  collection<T = Document>(name: string, schema?: Schema, options?: CollectionOptions): Promise<Collection<T>>;
+  /**
+   * Takes a collection, with all that local replications join to it over any number of them, to the next version of
+   * its schema, and answers their names. Observed queries of theirs are to be left by all before. Their hooks go.
+   */
+  migrate(collection: string, schema: Schema, steps: readonly Step[]): Promise<string[]>;
   replicate(replication: Replication): Promise<void>;
   turn(name: string, options?: TurnOptions): Promise<Turn>;
   /** Keeps a fork in sync until it is closed. Of a replication that is followed it answers the same again. */

@@ -103,17 +103,51 @@ class Database {
 
   /**
    * The collection of this name, made where it isn't there. Without a schema nothing is asked. The hooks stand
-   * before its writes, in their order, as long as the journal is open here.
+   * before its writes, in their order, as long as the journal is open here and it doesn't migrate.
+   *
+   * With `steps` it migrates where the schema that is held is of the version before, and opens where it is this
+   * one; another version is refused as `migration`. What is said of `migrate` holds then. Nothing else should be
+   * written to it before this resolves.
    */
-  async collection(name, schema, { hooks = [] } = {}) {
-    const reply = schema && (await this.call({ do: 'collection', name, schema }));
+  async collection(name, schema, { hooks = [], steps } = {}) {
+    const isNew = schema ? await this.#hold(name, schema, steps) : undefined;
     if (schema) this.#schemas.set(name, schema);
-    const collection = new Collection(this, name, reply?.new);
+    const collection = new Collection(this, name, isNew);
     if (!this.#hooked.has(name)) {
       if (hooks.length) this.#hooked.add(name);
       await Promise.all(hooks.map(({ when, hook, field }) => collection.hook(when, hook, field)));
     }
     return collection;
+  }
+
+  // Whether the collection was made just now.
+  async #hold(name, schema, steps) {
+    try {
+      return (await this.call({ do: 'collection', name, schema })).new;
+    } catch (fault) {
+      if (fault.word !== 'schema_differs' || !steps) throw fault;
+    }
+    try {
+      await this.migrate(name, schema, steps);
+    } catch (fault) {
+      // It may have gone there meanwhile, with another collection.
+      if (fault.cause !== 'version' || !(await this.#isHeld(name, schema))) throw fault;
+    }
+    return false;
+  }
+
+  #isHeld(name, schema) {
+    return this.call({ do: 'collection', name, schema }).then(() => true, () => false);
+  }
+
+  /**
+   * Takes a collection, with all that local replications join to it over any number of them, to the next version
+   * of its schema by steps, and answers their names. All of them go, with what is still to be pushed, or none.
+   * Queries of theirs that are observed have to be left by all before, or it is refused as `observed`. Their hooks
+   * are gone behind it, and are to be given anew.
+   */
+  async migrate(collection, schema, steps) {
+    return (await this.call({ do: 'migrate', in: collection, schema, steps })).collections;
   }
 
   /** Makes a collection the fork of a master: of another collection, or of one that is served at a port. */
@@ -301,9 +335,18 @@ class Database {
     this.#unanswered -= length;
     if (this.#unanswered <= room) for (const it of this.#drained.splice(0)) it.resolve();
     if (reply.ok === 'turn') reply.each = this.#exchanges.splice(0);
+    if (reply.ok === 'migrate') this.#migrated(reply.collections, membersOf(request).schema);
     if (this.#followed.size && writes.has(reply.ok)) this.#tellFollowed(reply, membersOf(request));
     if ('refused' in reply) reject(this.#refusal(reply, request));
     else resolve(reply);
+  }
+
+  // What was kept of the collections is of the schema before.
+  #migrated(collections, schema) {
+    for (const name of collections) {
+      this.#schemas.set(name, schema);
+      this.#hooked.delete(name);
+    }
   }
 
   // Of a write those hear whose fork or master it is, and all of which the client wasn't told.
@@ -870,6 +913,9 @@ function detail({ refused, cause, name, rev, row }, request, schema) {
       return out(most && `there are at most ${most} ${things[request.do]}`, request.name ?? request.in, most);
     case 'key': return out('the primary key is missing or no text, or would become another', key);
     case 'twice': return out(`the key ${show(key)} stands there twice`, key);
+    case 'migration': return ofMigration(cause, name, request.schema);
+    case 'observed': return out(`the query ${name} is observed, and is to be left by all before`, name);
+    case 'remote': return out('a fork of a master elsewhere would go with it');
     case 'update': return ofUpdate(cause, name, request.update);
     case 'vetoed': return out(`the hook ${name} vetoes it`, key);
     case 'no_hook': return out(`no hook ${request.hook} with the field ${request.field}`, request.hook);
@@ -943,6 +989,19 @@ function ofUpdate(cause, name, update) {
     case 'key': return out('is the primary key, which stays');
     case 'kind': return out('is no number that $inc could add to', update.$inc[name]);
     case 'range': return out('would be out of range, beyond 2^53 - 1', update.$inc[name]);
+    default: return {};
+  }
+}
+
+function ofMigration(cause, name, schema) {
+  const out = (words, value) => ({ value, said: words });
+  switch (cause) {
+    case 'version':
+      return out(`version ${show(schema?.version)} isn't the one behind that which ${name} has`, schema?.version);
+    case 'primary':
+      return out(`${name} would have another primary key, or a step names it`, schema?.primaryKey);
+    case 'invalid':
+      return out(`a state of ${name}, a collection or what a replication knows, isn't valid after the steps`);
     default: return {};
   }
 }

@@ -17,6 +17,15 @@ async function fault(call) {
   throw new Error('it was not refused');
 }
 
+// What comes behind the schema, and how.
+const next = {
+  ...schema,
+  version: 1,
+  properties: { id: schema.properties.id, v: { type: 'integer' }, on: { type: 'boolean' } },
+  required: ['id', 'on'],
+};
+const steps = [{ rename: 'n', to: 'v' }, { scale: 'v', by: 10 }, { set: 'on', value: true }];
+
 export const behaviours = {
   async 'refusals by code, word, cause, subject, revision and row'({ open, transport }) {
     const db = await open(transport());
@@ -414,6 +423,72 @@ export const behaviours = {
       same((await fault(() => c.hook('save', 'count', 'id'))).word, 'no_hook', 'a field that it does not take');
       await db.close();
     }
+  },
+
+  async 'a master and its fork migrate with what is pending, once nobody observes them'({ open, transport }) {
+    const db = await open(transport());
+    const master = await db.collection('m', schema), fork = await db.collection('f', schema);
+    await db.replicate({ name: 'r', fork: 'f', master: 'm', handler: 'fork_wins' });
+    await master.bulk([{ id: 'a', n: 1 }, { id: 'b' }]);
+    await db.turn('r');
+    await fork.patch('a', { n: 2 });
+
+    const query = fork.observe({}, 'q');
+    const heard = [];
+    const subscription = query.subscribe((rows) => heard.push(rows.length));
+    await subscription.begun;
+    const told = ({ code, word, cause, subject, value }) => [code, word, cause ?? null, subject ?? null, value ?? null];
+    const refused = async (...of) => told(await fault(() => db.migrate(...of)));
+    same(await refused('m', next, steps), [29, 'observed', null, 'q', 'q'], 'observed');
+    subscription.unsubscribe();
+    same(await refused('z', next, steps), [10, 'no_collection', null, 'z', 'z'], 'no collection');
+    same(await refused('m', { ...next, version: 2 }, steps), [28, 'migration', 'version', 'm', 2], 'two versions on');
+    same(await refused('f', next, [{ drop: 'id' }]), [28, 'migration', 'primary', 'f', 'id'], 'the key');
+    same(await refused('f', next, steps.slice(0, 2)), [28, 'migration', 'invalid', 'm', null], 'a required field');
+    const [code, word, , subject] = await refused('m', next, [{ scale: 'n', by: 1001 }]);
+    same([code, word, subject], [7, 'wrong_type', 'steps'], 'a factor');
+    same((await fork.get('a')).doc, { id: 'a', n: 2 }, 'nothing changed');
+
+    same(await db.migrate('f', next, steps), ['m', 'f'], 'both went');
+    same(await fork.get('a'), { doc: { id: 'a', on: true, v: 20 }, lwt: 2, rev: '2-f' }, 'the edit');
+    same(await fork.find({ selector: { v: { $exists: false } } }), [{ id: 'b', on: true }], 'a missing field');
+    same((await db.turn('r')).each.map((it) => `${it.sent} ${it.rows}`), ['push a', 'pull a'], 'it is pushed');
+    same((await master.get('a')).doc, { id: 'a', on: true, v: 20 }, 'the master');
+    const unknown = await fault(() => fork.insert({ id: 'c', n: 1, on: true }));
+    same([unknown.cause, unknown.subject], ['unknown', 'n'], 'the schema');
+    await new Promise((go) => query.subscribe((rows) => { heard.push(rows.length); go(); }));
+    same(heard, [2, 2], 'observed again');
+
+    const away = await db.collection('p', schema);
+    await db.replicate({ name: 's', fork: away.name, port: 1, handler: 'join' });
+    same(await refused('p', next, steps), [30, 'remote', null, null, null], 'a master elsewhere');
+    await db.close();
+  },
+
+  async 'a collection with steps migrates from the version before, and opens at its own'({ open, transport }) {
+    const at = transport(), count = (field) => ({ hooks: [{ when: 'save', hook: 'count', field }] });
+    const db = await open(at);
+    const c = await db.collection('c', schema, { ...count('n'), steps });
+    same(c.isNew, true, 'made');
+    await c.insert({ id: 'a', n: 1 });
+    same((await fault(() => db.collection('c', next))).word, 'schema_differs', 'without steps');
+    // Both ask at once, and one of them finds that it has gone.
+    const both = [count('v'), count('v')].map((hooks) => db.collection('c', next, { ...hooks, steps }));
+    same((await Promise.all(both)).map((it) => it.isNew), [false, false], 'migrated');
+    await c.patch('a', { on: false });
+    same((await c.get('a')).doc, { id: 'a', on: false, v: 11 }, 'a hook of before is gone, and the new one is there once');
+    same((await db.collection('c', next, { steps })).isNew, false, 'there already');
+    for (const version of [0, 3]) {
+      const { word, cause, message } = await fault(() => db.collection('c', { ...next, version }, { steps: [] }));
+      same([word, cause, message.includes(`version ${version}`)], ['migration', 'version', true], message);
+    }
+    await db.close();
+
+    const later = { ...next, version: 2, properties: { ...next.properties, t: { type: 'string' } }, required: ['id'] };
+    const again = await open(at);
+    const d = await again.collection('c', later, { steps: [{ set: 't', value: 'new' }] });
+    same(await d.find(), [{ id: 'a', on: false, t: 'new', v: 11 }], 'the next one, in a later run');
+    await again.close();
   },
 
   async 'write times are the clock, and the caller may tick'({ open, transport }) {

@@ -16,6 +16,7 @@ async function play(db, text, observed) {
   const collection = line.in && (await db.collection(line.in));
   switch (line.do) {
     case 'collection': return db.collection(line.name, line.schema);
+    case 'migrate': return db.migrate(line.in, line.schema, line.steps);
     case 'insert': return collection.insert(line.doc);
     case 'bulk': return collection.bulk(line.docs);
     case 'upsert': return collection.upsert(line.doc);
@@ -34,7 +35,7 @@ async function play(db, text, observed) {
     case 'replicate': return db.replicate(line);
     case 'turn': return db.turn(line.name, line);
     case 'observe': {
-      const heard = [];
+      const heard = observed.get(line.name)?.heard ?? []; // of a name that was observed before it goes on
       const first = new Promise((go, fail) => {
         const next = (rows) => { heard.push(rows); go(); };
         observed.set(line.name, { heard, subscription: collection.observe(line.query, line.name).subscribe(next, fail) });

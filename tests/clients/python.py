@@ -25,6 +25,14 @@ from rx.lines import Lines  # noqa: E402
 
 os.environ["RX"] = RX
 NUMBERS = itertools.count(1)
+# What comes behind the schema, and how.
+NEXT = {
+    **SCHEMA,
+    "version": 1,
+    "properties": {"id": SCHEMA["properties"]["id"], "v": {"type": "integer"}, "on": {"type": "boolean"}},
+    "required": ["id", "on"],
+}
+STEPS = [{"rename": "n", "to": "v"}, {"scale": "v", "by": 10}, {"set": "on", "value": True}]
 
 
 def new_journal(folder):
@@ -75,6 +83,8 @@ def play(db, text, observed):
         return db.line(text)
     line = json.loads(text)
     do, into = line.pop("do"), line.pop("in", None)
+    if do == "migrate":
+        return db.migrate(into, **line)
     if into is None:
         if do == "unobserve":
             return observed.pop(line["name"]).close()
@@ -301,6 +311,83 @@ def hooks_are_attached_at_each_opening_and_once_in_it(folder):
             c.patch("a", {})
             same(c.get("a").doc, {"id": "a", "n": n})
             same(fault(c.hook, "save", "count", "id").word, "no_hook")
+
+
+@case()
+def a_master_and_its_fork_migrate_with_what_is_pending(folder):
+    with rx.open(new_journal(folder), clock=None) as db:
+        master, fork = db.collection("m", SCHEMA), db.collection("f", SCHEMA)
+        db.replicate("r", "f", "m", handler="fork_wins")
+        master.bulk([{"id": "a", "n": 1}, {"id": "b"}])
+        db.turn("r")
+        fork.patch("a", {"n": 2})
+
+        def refused(*of):
+            it = fault(db.migrate, *of)
+            return it.code, it.word, it.cause, it.subject, it.value
+
+        with fork.observe(name="q"):
+            same(refused("m", NEXT, STEPS), (29, "observed", None, "q", "q"))
+        same(refused("z", NEXT, STEPS), (10, "no_collection", None, "z", "z"))
+        same(refused("m", {**NEXT, "version": 2}, STEPS), (28, "migration", "version", "m", 2))
+        same(refused("f", NEXT, [{"drop": "id"}]), (28, "migration", "primary", "f", "id"))
+        same(refused("f", NEXT, STEPS[:2]), (28, "migration", "invalid", "m", None))
+        by = [{"scale": "n", "by": 1001}]
+        same(refused("m", NEXT, by), (7, "wrong_type", None, "steps", by))
+        same(fork.get("a").doc, {"id": "a", "n": 2}, "nothing changed")
+
+        same(db.migrate("f", NEXT, iter(STEPS)), ["m", "f"])
+        same(fork.get("a"), ({"id": "a", "on": True, "v": 20}, 2, "2-f"))
+        same([(it["sent"], it["rows"]) for it in db.turn("r").each], [("push", ["a"]), ("pull", ["a"])])
+        same(master.get("a").doc, {"id": "a", "on": True, "v": 20})
+        # Of the schema that was given by the migration a refusal tells the limits.
+        same("integer" in str(fault(fork.patch, "a", {"v": "x"})), True)
+        same(fault(fork.insert, {"id": "c", "n": 1, "on": True}).cause, "unknown")
+
+        db.collection("p", SCHEMA)
+        db.replicate("s", "p", port=1, handler="join")
+        same(refused("p", NEXT, STEPS), (30, "remote", None, None, None))
+
+
+@case()
+def a_collection_with_steps_migrates_from_the_version_before(folder):
+    path = new_journal(folder)
+    with rx.open(path) as db:
+        c = db.collection("c", SCHEMA, [("save", "count", "n")], steps=STEPS)
+        same(c.new, True)
+        c.insert({"id": "a", "n": 1})
+        same(fault(db.collection, "c", NEXT).word, "schema_differs", "without steps")
+        for _ in range(2):
+            same(db.collection("c", NEXT, [("save", "count", "v")], steps=STEPS).new, False)
+        c.patch("a", {"on": False})
+        same(c.get("a").doc, {"id": "a", "on": False, "v": 11}, "a hook of before is gone")
+        for version in (0, 3):
+            refused = fault(db.collection, "c", {**NEXT, "version": version}, steps=[])
+            same((refused.word, refused.cause), ("migration", "version"))
+            same(f"version {version}" in str(refused), True, str(refused))
+    later = {**NEXT, "version": 2, "properties": {**NEXT["properties"], "t": {"type": "string"}}}
+    with rx.open(path) as db:
+        same(db.collection("c", later, steps=[{"set": "t", "value": "x"}]).find()[0]["t"], "x")
+
+
+@case()
+def a_collection_with_steps_with_asyncio(folder):
+    """Of a fork and its master both ask at once, and one of them finds that it has gone."""
+
+    async def run():
+        path = new_journal(folder)
+        async with rx.open_async(path) as db:
+            sides = [await db.collection(name, SCHEMA) for name in "mf"]
+            await db.replicate("r", "f", "m", handler="join")
+            await sides[0].insert({"id": "a", "n": 1})
+            await db.turn("r")
+            both = await asyncio.gather(*(db.collection(name, NEXT, steps=STEPS) for name in "mf"))
+            same([it.new for it in both], [False, False])
+            same([(await it.get("a")).doc for it in both], [{"id": "a", "on": True, "v": 10}] * 2)
+            same((await async_fault(db.migrate("f", NEXT, STEPS))).cause, "version")
+            same((await async_fault(db.collection("m", SCHEMA, steps=[]))).cause, "version")
+
+    asyncio.run(run())
 
 
 @case()

@@ -311,6 +311,34 @@ def collections_schemas_and_the_report(folder):
 
 
 @case()
+def a_migration_is_typed_as_a_line_and_seen_at_once_and_later(folder):
+    """The fork of a collection goes with it, and what is no more of them stays."""
+    todos(folder, MILK)
+    properties = {name: it for name, it in TODOS["properties"].items() if name != "rank"}
+    schema = {**TODOS, "version": 1, "properties": {**properties, "order": {"type": "integer"}}, "indexes": []}
+    steps = [{"rename": "rank", "to": "order"}, {"scale": "order", "by": 10}]
+    replicate = {"do": "replicate", "name": "r", "fork": "phone", "master": "todos", "handler": "join"}
+    migrate = json.dumps({"do": "migrate", "in": "phone", "schema": schema, "steps": steps})
+    out = shown(
+        folder,
+        f"collection phone {json.dumps(TODOS)}",
+        f"collection other {json.dumps(SCHEMA)}",
+        json.dumps(replicate),
+        migrate,
+        ".schema",
+        "todos order=20",
+    )
+    again = shown(folder, 'insert phone {"id": "a", "title": "A", "order": 3}', "todos", ".schema")
+    lines = [f"{name}: version {it}, primary key id" for name, it in (("todos", 1), ("phone", 1), ("other", 0))]
+    for line in ('{"collections": ["todos", "phone"]}', *lines, "milk  false     20  Buy milk"):
+        same(line in out, True, f"{line} in {out}")
+    for line in ("1-phone", *lines, "milk  false     20  Buy milk"):
+        same(line in again, True, f"{line} in {again}")
+    status, _, faults = piped(folder, 'insert phone {"id": "b", "title": "B", "order": "x"}')
+    same((status, "the schema says integer" in faults), (1, True), faults)
+
+
+@case()
 def what_is_watched_follows_each_statement(folder):
     todos(folder, MILK)
     same(

@@ -66,6 +66,12 @@ await todos.patch('a', { rank: 3, title: undefined });
 await todos.update('a', { $inc: { rank: 1 }, $set: { title: 'B' }, $unset: { done: '' } }, '1-todos');
 await db.replicate({ name: 'sync', fork: 'todos', port: 4001, handler: 'greater', field: 'rank' });
 
+// Steps in a variable of their own, or where they are given.
+const steps = [{ rename: 'rank', to: 'order' }, { scale: 'order', by: 10 }, { drop: 'note' }, { set: 'a', value: 1 }];
+const went: string[] = await db.migrate('todos', schema, steps);
+await db.collection<Todo>('todos', constant, { steps, hooks: [{ when: 'save', hook: 'lock', field: 'done' }] });
+await db.collection('any', schema, { steps: [{ set: 'title', value: 'none' }] as const });
+
 const following = db.follow('sync', { every: 500, budget: 10 });
 following.subscribe(({ state, pending, lost }) => console.log(state === 'in sync', pending + 1, lost ?? ''));
 for await (const { state } of following) if (state === 'offline') following.now();
@@ -87,6 +93,10 @@ plain.observe().subscribe((rows) => { rows.push(rows[0]); });
 await todos.update('a', { $inc: { title: 1 } });
 // @ts-expect-error
 await db.collection('none', { version: 0 });
+// @ts-expect-error
+await db.migrate('todos', schema, [{ rename: 'rank' }]);
+// @ts-expect-error
+await db.migrate('todos', schema, [{ set: 'rank', value: null }]);
 
 db.stopped.then(({ stop, limit }) => console.log(stop, limit));
 await db.drained();

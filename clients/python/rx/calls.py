@@ -180,6 +180,12 @@ def hook(into: str, when: str, hook: str, field: str) -> Call[None]:
     return _call(lambda reply: None, "hook", into=into, when=when, hook=hook, field=field)
 
 
+def migrate(into: str, schema: Object, steps: Iterable[Object]) -> Call[list[str]]:
+    return _call(
+        lambda reply: list(reply["collections"]), "migrate", into=into, schema=schema, steps=list(steps)
+    )
+
+
 def get(into: str, key: str) -> Call[Stored]:
     return _call(lambda reply: Stored(reply["doc"], reply["lwt"], reply["rev"]), "get", into=into, key=key)
 

@@ -86,17 +86,62 @@ class Database:
     def __exit__(self, *_: object) -> None:
         self.close()
 
-    def collection(self, name: str, schema: Object | None = None, hooks: Iterable[Hook] = ()) -> Collection:
+    def collection(
+        self,
+        name: str,
+        schema: Object | None = None,
+        hooks: Iterable[Hook] = (),
+        *,
+        steps: Iterable[Object] | None = None,
+    ) -> Collection:
         """The collection of this name, made where it isn't there. Without a schema nothing is asked.
 
         The hooks, each its `when`, its name and its field, stand before its writes, in their order, as long as
-        the journal is open here.
+        the journal is open here and it doesn't migrate.
+
+        With `steps` it migrates where the schema that is held is of the version before, and opens where it is
+        this one; another version is refused as `migration`. What is said of `migrate` holds then. Nothing else
+        should write to it before this returns.
         """
-        new = None if schema is None else self.ask(calls.collection(name, schema))
+        new = None if schema is None else self._hold(name, schema, steps)
         collection = Collection(self, name, new)
         for hook in self._lines.hooks_of(name, hooks):
             collection.hook(*hook)
         return collection
+
+    def _hold(self, name: str, schema: Object, steps: Iterable[Object] | None) -> bool:
+        """Whether the collection was made just now."""
+        held = calls.collection(name, schema)
+        try:
+            return self.ask(held)
+        except Refused as refused:
+            if refused.word != "schema_differs" or steps is None:
+                raise
+        try:
+            self.migrate(name, schema, steps)
+        except Refused as refused:
+            # It may have gone there meanwhile, with another collection.
+            if refused.cause != "version" or not self._is_taken(held):
+                raise
+        return False
+
+    def _is_taken(self, call: Call[Any]) -> bool:
+        try:
+            self.ask(call)
+        except Refused:
+            return False
+        return True
+
+    def migrate(self, collection: str, schema: Object, steps: Iterable[Object]) -> list[str]:
+        """Takes a collection, with all that local replications join to it over any number of them, to the next
+        version of its schema by steps, and answers their names. All of them go, with what is still to be
+        pushed, or none.
+
+        A step is `{"rename": field, "to": field}`, `{"set": field, "value": value}` where it is missing,
+        `{"drop": field}` or `{"scale": field, "by": number}`. Queries of theirs that are observed have to be
+        closed before, or it is refused as `observed`. Their hooks are gone behind it, and are to be given anew.
+        """
+        return self.ask(calls.migrate(collection, schema, steps))
 
     def replicate(
         self,

@@ -10,7 +10,9 @@ from .calls import Json
 
 HEADER = b"RXJOURN1"
 OPEN_GATE = 1
-COLLECTION, REPLICATION = 1, 3
+COLLECTION, REPLICATION, MIGRATION = 1, 3, 6
+NAMING = (COLLECTION, REPLICATION, MIGRATION)
+LOCAL = 0
 
 
 @dataclass
@@ -20,6 +22,7 @@ class Names:
     path: str
     schemas: dict[str, Json] = field(default_factory=dict)
     replications: list[str] = field(default_factory=list)
+    _joined: list[set[str]] = field(default_factory=list)
     _at: int = len(HEADER)
 
     def read(self) -> Names:
@@ -35,20 +38,34 @@ class Names:
         while at + 6 <= end and records[at] == OPEN_GATE:
             body = at + 5
             at = body + int.from_bytes(records[at + 1 : body], "big")
-            kind = records[body]
-            if kind == COLLECTION:
-                name, schema = _texts(records[body + 1 : at])
-                self.schemas[name] = json.loads(schema)
-            elif kind == REPLICATION:
-                self.replications.append(_texts(records[body + 1 : at])[0])
+            if records[body] in NAMING:
+                self._take(records[body], records[body + 1 : at])
         self._at = at
 
+    def _take(self, kind: int, part: bytes) -> None:
+        """These bodies begin with a name and a schema, or with a name, a fork and its master."""
+        name, at = _text(part, 0)
+        text, at = _text(part, at)
+        if kind == COLLECTION:
+            self.schemas[name] = json.loads(text)
+        elif kind == MIGRATION:
+            self.schemas.update({it: json.loads(text) for it in self._group(name)})
+        else:
+            self.replications.append(name)
+            if part[at] == LOCAL:
+                self._joined.append({text, _text(part, at + 1)[0]})
 
-def _texts(part: bytes) -> tuple[str, str]:
-    """The two texts that a body begins with, each behind its length."""
-    texts, at = [], 0
-    for _ in range(2):
-        start = at + 4
-        at = start + int.from_bytes(part[at:start], "big")
-        texts.append(part[start:at].decode())
-    return texts[0], texts[1]
+    def _group(self, name: str) -> set[str]:
+        """A collection and all that local replications join to it, over any number of them."""
+        group, more = {name}, {name}
+        while more:
+            more = set[str]().union(*(pair for pair in self._joined if pair & group)) - group
+            group |= more
+        return group
+
+
+def _text(part: bytes, at: int) -> tuple[str, int]:
+    """The text at a place, behind its length, and where it ends."""
+    start = at + 4
+    end = start + int.from_bytes(part[at:start], "big")
+    return part[start:end].decode(), end

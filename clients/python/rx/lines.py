@@ -154,6 +154,10 @@ class Lines:
             elif it["ok"] == "collection":
                 made = json.loads(line)
                 self._schemas[made["name"]] = made["schema"]
+            elif it["ok"] == "migrate":
+                schema = json.loads(line)["schema"]
+                self._schemas.update((name, schema) for name in it["collections"])
+                self._hooked.difference_update(it["collections"])
             if self.followed.by_name and it["ok"] in WRITES:
                 self.followed.hear(line, it, self._schemas)
             answer(it, None)

@@ -33,6 +33,7 @@ KINDS = {
     "whole number": ("batch", "budget"),
     "place, an object of `id` and `lwt`": ("since",),
     "list of happenings": ("link",),
+    "list of at most 64 steps": ("steps",),
 }
 
 
@@ -250,6 +251,19 @@ def query(it: Told) -> Refusal:
     return Refusal(causes.get(it.cause, it.cause), it.name or None, 32 if it.cause == "depth" else None)
 
 
+def migration(it: Told) -> Refusal:
+    held = it.line.get("schema")
+    given = held if isinstance(held, dict) else {}
+    if it.cause == "version":
+        words = f"version {shown(given.get('version'))} isn't the one behind that which {it.name} has"
+        return Refusal(words, given.get("version"))
+    if it.cause == "primary":
+        words = f"{it.name} would have another primary key, or a step names it"
+        return Refusal(words, given.get("primaryKey"))
+    words = f"a state of {it.name}, a collection or what a replication knows, isn't valid after the steps"
+    return Refusal(words)
+
+
 def update(it: Told) -> Refusal:
     added = it.under("$inc")
     value = added.get(it.name) if isinstance(added, dict) else None
@@ -320,6 +334,9 @@ BY_WORD: dict[str, Callable[[Told], Refusal]] = {
     "too_many": too_many,
     "key": lambda it: Refusal("the primary key is missing or no text, or would be another"),
     "twice": lambda it: Refusal(f"the key {shown(it.key())} stands twice", it.key()),
+    "migration": migration,
+    "observed": lambda it: Refusal(f"the query {it.name} is observed, and is to be closed before", it.name),
+    "remote": lambda it: Refusal("a fork of a master elsewhere would go with it"),
     "update": update,
     "vetoed": lambda it: Refusal(f"the hook {it.name} vetoes it", it.key()),
     "no_hook": lambda it: Refusal(

@@ -53,14 +53,43 @@ class AsyncDatabase:
         await self.close()
 
     async def collection(
-        self, name: str, schema: Object | None = None, hooks: Iterable[Hook] = ()
+        self,
+        name: str,
+        schema: Object | None = None,
+        hooks: Iterable[Hook] = (),
+        *,
+        steps: Iterable[Object] | None = None,
     ) -> AsyncCollection:
         self._insist_on_open()
-        new = None if schema is None else await self.ask(calls.collection(name, schema))
+        new = None if schema is None else await self._hold(name, schema, steps)
         collection = AsyncCollection(self, name, new)
         for hook in self._lines.hooks_of(name, hooks):
             await collection.hook(*hook)
         return collection
+
+    async def _hold(self, name: str, schema: Object, steps: Iterable[Object] | None) -> bool:
+        held = calls.collection(name, schema)
+        try:
+            return await self.ask(held)
+        except Refused as refused:
+            if refused.word != "schema_differs" or steps is None:
+                raise
+        try:
+            await self.migrate(name, schema, steps)
+        except Refused as refused:
+            if refused.cause != "version" or not await self._is_taken(held):
+                raise
+        return False
+
+    async def _is_taken(self, call: Call[Any]) -> bool:
+        try:
+            await self.ask(call)
+        except Refused:
+            return False
+        return True
+
+    async def migrate(self, collection: str, schema: Object, steps: Iterable[Object]) -> list[str]:
+        return await self.ask(calls.migrate(collection, schema, steps))
 
     async def replicate(
         self,

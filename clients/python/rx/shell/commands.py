@@ -46,14 +46,14 @@ class Shell:
         self.names = Names(db.journal)
         self.watched: dict[int, tuple[str, str, Observed]] = {}
         self.refused = False
-        self._known: set[str] = set()
+        self._known: dict[str, Json] = {}
         self.read_names()
 
     def read_names(self) -> None:
-        """What was made since. With its schema a collection's refusals say the limit that was wrong."""
+        """What was made or migrated since. With a schema its refusals say the limit that was wrong."""
         for name, schema in self.names.read().schemas.items():
-            if name not in self._known:
-                self._known.add(name)
+            if self._known.get(name) != schema:
+                self._known[name] = schema
                 self.db.collection(name, schema)
 
     def do(self, text: str, where: str = "") -> None:
