@@ -26,3 +26,4 @@ pub mod Copies
 pub mod Passing
 pub mod Regrouped
 pub mod Fitting
+pub mod Grown

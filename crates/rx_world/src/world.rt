@@ -16,7 +16,7 @@ ghost use Rattle.rx_world.specs.Holders.{After, IsWhole, holders_in, world_in};
 ghost use Rattle.rx_world.specs.Lawful.{IsLawfulWorld};
 ghost use Rattle.rx_world.specs.Linked.{IsLinked};
 ghost use Rattle.rx_world.specs.Made.{IsMadeWorld};
-ghost use Rattle.rx_world.specs.Migrating.{is_in_group, may_migrate};
+ghost use Rattle.rx_world.specs.Migrating.{is_in_group};
 ghost use Rattle.rx_world.specs.Migration.{migration_of};
 ghost use Rattle.rx_world.specs.Sound.{IsSoundWorld};
 ghost use Rattle.rx_world.specs.Step.{IsValidState, step, legal};
@@ -30,7 +30,7 @@ use crate::change::change;
 use crate::fault::{ApplyFault, MigrateFault, StepFault};
 use crate::following::follow_same;
 use crate::legality::{is_legal, is_legal_view};
-use crate::migrating::{check_group, may_migrate};
+use crate::migrating::check_group;
 use crate::names::{edit, find, find_at};
 use crate::parts::Parts;
 use crate::replication::Replication;
@@ -153,22 +153,6 @@ impl<H: Holder + Drop> World<H> {
         is_legal_view(&self.parts, alloc, view)
     }
 
-    /// Whether the collection of that name, with all that local replications join to it, may go to
-    /// the schema of that text by those steps. Each of their states is taken through the steps for
-    /// the test, and so is each state that their replications know.
-    pub fn may_migrate(
-        &self,
-        alloc: Global,
-        name: &str,
-        text: &str,
-        steps: &Steps,
-    ) -> Result<bool, AllocError>
-        ensures { IfOk result (λ b. b
-            ≡ may_migrate name.now text.now steps.now (world_in H.held self.now)) }
-    {
-        may_migrate(&self.parts, alloc, name, text, steps)
-    }
-
     /// The record that takes the collection of that name, with all that local replications join to
     /// it, to a schema by those steps; or the first reason why they can't go there. Nothing is
     /// changed: the record is to be kept, and then applied.
@@ -276,6 +260,7 @@ impl<H: Holder + Drop> World<H> {
             (holders_in world)) }
         ensures distinct { IfOk result (λ world. AreDistinct (world_in H.held world)) }
         ensures made { IfOk result (λ world. IsMadeWorld (world_in H.held world)) }
+        ensures before { IsMadeWorld (world_in H.held self) }
     {
         let mut parts = self.parts;
         change(&mut parts, alloc, entry, make)?;
