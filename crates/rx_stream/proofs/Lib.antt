@@ -1,0 +1,5 @@
+pub mod Examples
+pub mod Places
+pub mod Following
+pub mod Good
+pub mod Ends
