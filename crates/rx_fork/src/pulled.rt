@@ -8,7 +8,7 @@ ghost use Rattle.rx_wire.specs.declared.message.Body.TheVariants.{Docs};
 ghost use Rattle.rx_replication.specs.Known.{is_state};
 ghost use Rattle.rx_replication.specs.Taking.{Resolve, differences};
 ghost use Rattle.rx_replication.specs.Write.{state_at};
-ghost use Rattle.rx_fork.specs.Accept.{answered};
+ghost use Rattle.rx_fork.specs.Accept.{answered, page_plan};
 ghost use Rattle.rx_fork.specs.declared.fault.AcceptFault.TheVariants.{Memory};
 
 use crate::accept::ExchangePlan;
@@ -22,6 +22,28 @@ use rx_value::{RxList, State};
 use std::alloc::{AllocError, Global};
 
 impl Fork<'_> {
+    /// What a page of the master's states, which leads to a place, comes to.
+    pub fn page_plan(
+        &self,
+        alloc: Global,
+        collection: &Collection,
+        states: &[State],
+        to: Option<&Place>,
+    ) -> Result<ExchangePlan, AllocError>
+        requires { IsDistinct bytes_eq (map (λ s. s.key) states.now) }
+        ensures exact { IfOk result (λ plan. plan ≡ page_plan collection.now.documents
+            self.now.meta.now states.now (option_map (λ p. p.now) to.entry)) }
+        // No two of the rows have one key.
+        ensures apart { IfOk result (λ plan. IsDistinct bytes_eq (map (λ s. s.key) plan.rows)) }
+    {
+        Ok(ExchangePlan {
+            rows: differences(alloc, collection, states)?,
+            known: in_order(alloc, copies(alloc, states)?)?,
+            up: copy_of_place(alloc, self.meta.up())?,
+            down: copy_of_place(alloc, to)?,
+        })
+    }
+
     // What the answer to a pull comes to.
     pub(crate) fn pulled(
         &self,
@@ -42,12 +64,7 @@ impl Fork<'_> {
         if !is_fit(self.meta.down(), states, to) {
             return Err(AcceptFault::BadReply(states.len()));
         }
-        Ok(ExchangePlan {
-            rows: differences(alloc, collection, states)?,
-            known: in_order(alloc, copies(alloc, states)?)?,
-            up: copy_of_place(alloc, self.meta.up())?,
-            down: copy_of_place(alloc, to)?,
-        })
+        Ok(self.page_plan(alloc, collection, states, to)?)
     }
 }
 
