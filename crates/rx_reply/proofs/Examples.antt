@@ -1,5 +1,5 @@
 -- Lines of output, as a reader sees them.
-use Rattle.std.proofs.Common.{◌≡◌, ℕ, pos, true, List, [], ◌∷◌, ◌++◌, None, Some, refl}
+use Rattle.std.proofs.Common.{◌≡◌, ℕ, pos, true, false, List, [], ◌∷◌, ◌++◌, None, Some, refl}
 use Rattle.std.specs.Fmt.{digits}
 use Rattle.std.specs.Prelude.{codes}
 use Rattle.serde_json.proofs.OnLiterals.{serde_json_on_literals}
@@ -13,14 +13,17 @@ use Rattle.rx_script.specs.declared.fault.LineFault.TheVariants as line
 use Rattle.rx_update.specs.declared.fault.UpdateFault.TheVariants as update
 use Rattle.rx_table.specs.declared.action.Action.TheVariants.{InsertFirst, InsertAtSortPositionRemoveLast, RunFullQueryAgain}
 use Rattle.rx_table.specs.Counts.{no_counts, counted}
-use Rattle.rx_reply.specs.Answer.{collection, insert, migrate, bulk, get, find, count, unobserve, explain, replicate, turn, changes, tick, restart, digest, refused}
+use Rattle.rx_reply.specs.Answer.{collection, insert, migrate, bulk, get, find, count, unobserve, explain, replicate, turn, stream, deliver, unstream, changes, tick, restart, digest, refused}
 use Rattle.rx_reply.specs.Emission.{emission_line}
 use Rattle.rx_reply.specs.Explain.{named_actions}
 use Rattle.rx_reply.specs.Reply.{answer_lines}
+use Rattle.rx_reply.specs.declared.given.Given.{Given}
+use Rattle.rx_reply.specs.declared.given.Took.{Took}
+use Rattle.rx_reply.specs.declared.given.Took.TheVariants as took
 use Rattle.rx_reply.specs.declared.refusal.Cause.TheVariants as cause
 use Rattle.rx_reply.specs.declared.refusal.DocumentFault.TheVariants.{Fields, Invalid, Key, Conflict}
 use Rattle.rx_reply.specs.declared.refusal.MigrationCause.TheVariants as migration
-use Rattle.rx_reply.specs.declared.refusal.Refusal.TheVariants.{Line, NoCollection, Schema, Document, NoDocument, Query, NoReplication, NoHandler, Chain, Twice, Migration, Observed, Remote, Update}
+use Rattle.rx_reply.specs.declared.refusal.Refusal.TheVariants.{Line, NoCollection, Schema, Document, NoDocument, Query, NoReplication, NoHandler, Chain, Twice, Migration, Observed, Remote, NoStream, Update}
 use Rattle.rx_reply.specs.declared.turn.Exchanged.TheVariants.{Pushed, Pulled, PushLost, PullLost}
 use Rattle.rx_reply.specs.declared.turn.Lost.TheVariants.{LoseReply, Stale}
 use Rattle.rx_reply.specs.declared.turn.TurnEnd.TheVariants.{Quiet, Lost}
@@ -130,6 +133,52 @@ stale_reply : answer_lines 9 (turn (PullLost Stale ∷ []) Lost)
     ++ ended (codes "{\"end\":\"lost\",\"exchanges\":1,\"line\":9,\"ok\":\"turn\"}")
 unfolding serde_json_on_literals digits
 stale_reply = refl
+
+stream_opened : answer_lines 5 stream ≡ ended (codes "{\"line\":5,\"ok\":\"stream\"}")
+unfolding serde_json_on_literals digits
+stream_opened = refl
+
+-- what came of the event of that number, whose only row has that key
+abbrev event : ℕ → List ℕ → Took → Given
+event number key took = record { event = number; rows = key ∷ []; took = took }
+
+event_lost : answer_lines 8
+    (deliver (event 1 (codes "a") took.Lost ∷ event 2 (codes "b") took.Gap ∷ []) false true)
+    ≡ ended (codes "{\"event\":1,\"rows\":[\"a\"],\"took\":\"lost\"}")
+    ++ ended (codes "{\"event\":2,\"rows\":[\"b\"],\"took\":\"gap\"}")
+    ++ ended (codes "{\"level\":false,\"line\":8,\"ok\":\"deliver\",\"resync\":true}")
+unfolding serde_json_on_literals digits
+event_lost = refl
+
+event_given_twice : answer_lines 8
+    (deliver
+    (event 1 (codes "a") took.Taken ∷ event 1 (codes "a") took.Old
+    ∷ event 2 (codes "b") took.Taken ∷ []) true false)
+    ≡ ended (codes "{\"event\":1,\"rows\":[\"a\"],\"took\":\"taken\"}")
+    ++ ended (codes "{\"event\":1,\"rows\":[\"a\"],\"took\":\"old\"}")
+    ++ ended (codes "{\"event\":2,\"rows\":[\"b\"],\"took\":\"taken\"}")
+    ++ ended (codes "{\"level\":true,\"line\":8,\"ok\":\"deliver\",\"resync\":false}")
+unfolding serde_json_on_literals digits
+event_given_twice = refl
+
+event_put_off : answer_lines 9 (deliver
+    (record { event = 1; rows = codes "a" ∷ codes "b" ∷ []; took = took.Later }
+    ∷ event 2 (codes "c") took.Pending ∷ event 3 (codes "d") took.Clock ∷ []) false true)
+    ≡ ended (codes "{\"event\":1,\"rows\":[\"a\",\"b\"],\"took\":\"later\"}")
+    ++ ended (codes "{\"event\":2,\"rows\":[\"c\"],\"took\":\"pending\"}")
+    ++ ended (codes "{\"event\":3,\"rows\":[\"d\"],\"took\":\"clock\"}")
+    ++ ended (codes "{\"level\":false,\"line\":9,\"ok\":\"deliver\",\"resync\":true}")
+unfolding serde_json_on_literals digits
+event_put_off = refl
+
+nothing_queued : answer_lines 10 (deliver [] true false)
+    ≡ ended (codes "{\"level\":true,\"line\":10,\"ok\":\"deliver\",\"resync\":false}")
+unfolding serde_json_on_literals digits
+nothing_queued = refl
+
+stream_closed : answer_lines 11 unstream ≡ ended (codes "{\"line\":11,\"ok\":\"unstream\"}")
+unfolding serde_json_on_literals digits
+stream_closed = refl
 
 changes_listed : answer_lines 3 (changes (document.state ∷ []) (Some (record {
   lwt = 42;
@@ -244,6 +293,11 @@ with_a_master_elsewhere : answer_lines 6 (refused Remote)
     ≡ ended (codes "{\"code\":30,\"line\":6,\"refused\":\"remote\"}")
 unfolding serde_json_on_literals digits
 with_a_master_elsewhere = refl
+
+no_stream : answer_lines 6 (refused NoStream)
+    ≡ ended (codes "{\"code\":31,\"line\":6,\"refused\":\"no_stream\"}")
+unfolding serde_json_on_literals digits
+no_stream = refl
 
 no_replication : answer_lines 13 (refused NoReplication)
     ≡ ended (codes "{\"code\":18,\"line\":13,\"refused\":\"no_replication\"}")

@@ -23,7 +23,7 @@ use Rattle.rx_reply.specs.declared.refusal.DocumentFault.TheVariants.{Fields, In
 use Rattle.rx_reply.specs.declared.refusal.MigrationCause.{MigrationCause}
 use Rattle.rx_reply.specs.declared.refusal.MigrationCause.TheVariants as migration
 use Rattle.rx_reply.specs.declared.refusal.Refusal.{Refusal}
-use Rattle.rx_reply.specs.declared.refusal.Refusal.TheVariants.{Line, Exists, NoCollection, Schema, SchemaDiffers, Document, NoDocument, Query, NoQuery, NoReplication, NoHandler, Chain, Clock, TooMany, Twice, Migration, Observed, Remote, Update, Vetoed, NoHook}
+use Rattle.rx_reply.specs.declared.refusal.Refusal.TheVariants.{Line, Exists, NoCollection, Schema, SchemaDiffers, Document, NoDocument, Query, NoQuery, NoReplication, NoHandler, Chain, Clock, TooMany, Twice, Migration, Observed, Remote, NoStream, Update, Vetoed, NoHook}
 
 -- its code and its word, and what else there is to say
 pub record Form : Type 0 where
@@ -178,6 +178,7 @@ form_of (Migration cause name) =
     caused_form 28 (codes "migration") (migration_word cause, Some name)
 form_of (Observed name) = named_form 29 (codes "observed") name
 form_of Remote = plain_form 30 (codes "remote")
+form_of NoStream = plain_form 31 (codes "no_stream")
 form_of (Update fault) = caused_form 32 (codes "update") (update_reason fault)
 form_of (Vetoed hook row) = record (named_form 33 (codes "vetoed") hook) { row = row }
 form_of NoHook = plain_form 34 (codes "no_hook")

@@ -6,12 +6,14 @@
 mod emission;
 mod explain;
 mod form;
+mod given;
 mod refusal;
 mod reply;
 mod turn;
 mod writing;
 
 pub use emission::emission_line;
+pub use given::{Given, Took};
 pub use refusal::{Cause, DocumentFault, MigrationCause, Refusal};
 pub use reply::Reply;
 pub use turn::{Exchanged, Lost, TurnEnd};

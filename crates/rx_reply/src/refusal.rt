@@ -53,6 +53,8 @@ pub enum Refusal {
     },
     /// One of those collections follows a master elsewhere.
     Remote,
+    /// The replication has no open stream.
+    NoStream,
     /// It is no update, or can't be made of the document.
     Update(UpdateFault),
     /// A hook vetoes it. Of several documents it is the one of that row.
@@ -126,6 +128,7 @@ impl Refusal {
             }
             Refusal::Observed { name } => Form::named(29, "observed", name),
             Refusal::Remote => Form::plain(30, "remote"),
+            Refusal::NoStream => Form::plain(31, "no_stream"),
             Refusal::Update(fault) => Form::caused(32, "update", update_reason(fault)),
             Refusal::Vetoed { hook, row } => Form {
                 row: *row,

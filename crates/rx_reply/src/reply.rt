@@ -5,9 +5,10 @@ ghost use Rattle.serde_json.specs.Written.{outline};
 ghost use Rattle.rx_value.specs.Form.{texts};
 ghost use Rattle.rx_reply.specs.Answer as answer;
 ghost use Rattle.rx_reply.specs.Answer.{answer_of, rows_of, states_of};
-ghost use Rattle.rx_reply.specs.Reply.{line_object, ok_members, written_data, turn_data, answer_data, lines_before, answer_lines, is_refusal};
+ghost use Rattle.rx_reply.specs.Reply.{line_object, ok_members, written_data, turn_data, deliver_data, answer_data, lines_before, answer_lines, is_refusal};
 
 use crate::explain::put_explain;
+use crate::given::{Given, given_lines};
 use crate::refusal::Refusal;
 use crate::turn::{Exchanged, TurnEnd, exchange_lines};
 use crate::writing::{
@@ -78,6 +79,17 @@ pub enum Reply<'a> {
         exchanges: RxList<Exchanged>,
         end: TurnEnd,
     },
+    /// A stream is opened.
+    Stream,
+    /// What came of the queued events, whether the fork is level with its master, and whether it
+    /// is to pull, as there is what no event can bring it.
+    Deliver {
+        given: RxList<Given>,
+        level: bool,
+        resync: bool,
+    },
+    /// The stream is closed.
+    Unstream,
     /// The documents above a place in the order of writing, and the place that they go up to: the
     /// last one's, or the one asked from.
     Changes {
@@ -105,7 +117,7 @@ impl Reply<'_> {
     }
 
     /// The lines of output that answer the line of that number: one, and before it one for each
-    /// exchange of a turn.
+    /// exchange of a turn, or for each giving of an event.
     pub fn lines(&self, alloc: Global, number: u64) -> Result<String, AllocError>
         ensures { IfOk result (λ t. string_bytes t ≡ answer_lines number (answer_of self.now)) }
     {
@@ -119,6 +131,7 @@ impl Reply<'_> {
     {
         match self {
             Reply::Turn { exchanges, .. } => exchange_lines(alloc, exchanges.as_slice()),
+            Reply::Deliver { given, .. } => given_lines(alloc, given.as_slice()),
             _ => String::with_capacity(alloc, ROOM),
         }
     }
@@ -146,6 +159,9 @@ impl Reply<'_> {
             Reply::Explain { counts } => put_explain(writer, number, counts),
             Reply::Replicate => put_plain(writer, number, "replicate"),
             Reply::Turn { exchanges, end } => put_turn(writer, number, exchanges.len(), *end),
+            Reply::Stream => put_plain(writer, number, "stream"),
+            Reply::Deliver { level, resync, .. } => put_deliver(writer, number, *level, *resync),
+            Reply::Unstream => put_plain(writer, number, "unstream"),
             Reply::Changes { docs, place } => put_changes(writer, number, docs.as_slice(), place),
             Reply::Tick => put_plain(writer, number, "tick"),
             Reply::Restart { epoch } => put_restart(writer, number, *epoch),
@@ -276,6 +292,26 @@ fn put_turn(
     put_number(writer, "exchanges", exchanges as u64)?;
     put_number(writer, "line", number)?;
     put_text(writer, "ok", "turn")?;
+    writer.end_object()
+}
+
+fn put_deliver(
+    writer: &mut Writer,
+    number: u64,
+    level: bool,
+    resync: bool,
+) -> Result<(), AllocError>
+    ensures tokens { OnOk result (writer.new.tokens ≡ writer.old.tokens
+        ++ json_tokens (outline (deliver_data number level resync))) }
+    ensures before { writer.new.before ≡ writer.old.before }
+{
+    writer.begin_object()?;
+    writer.key("level")?;
+    writer.boolean(level)?;
+    put_number(writer, "line", number)?;
+    put_text(writer, "ok", "deliver")?;
+    writer.key("resync")?;
+    writer.boolean(resync)?;
     writer.end_object()
 }
 

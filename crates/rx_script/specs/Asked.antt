@@ -10,6 +10,7 @@ use Rattle.rx_update.specs.declared.attached.When.{When}
 use Rattle.rx_script.specs.Link.{IsHappening}
 use Rattle.rx_script.specs.Member.{is_object}
 use Rattle.rx_script.specs.Target.{IsTarget}
+use Rattle.rx_script.specs.declared.delivery.Delivery.{Delivery}
 use Rattle.rx_script.specs.declared.happening.Happening.{Happening}
 use Rattle.rx_script.specs.declared.line.Line.{Line}
 use Rattle.rx_script.specs.declared.line.Line.TheVariants as line
@@ -35,6 +36,9 @@ pub data Asked : Type 0 where
   Replicate : (name fork : List ℕ) (master : Target) (handler : List ℕ) (field : Option (List ℕ))
       → Asked
   Turn : (name : List ℕ) (batch budget : ℕ) (link : Option (List Happening)) → Asked
+  Stream : (name : List ℕ) → Asked
+  Deliver : (name : List ℕ) (link : Option (List Delivery)) → Asked
+  Unstream : (name : List ℕ) → Asked
   Changes : (coll : List ℕ) (since : Option Since) (batch : ℕ) → Asked
   Tick : (at : ℕ) → Asked
   Restart : Asked
@@ -58,6 +62,9 @@ asked (line.Unobserve name) = Unobserve name
 asked (line.Explain name) = Explain name
 asked (line.Replicate name fork master handler field) = Replicate name fork master handler field
 asked (line.Turn name batch budget link) = Turn name batch budget (option_map (λ l. l.items) link)
+asked (line.Stream name) = Stream name
+asked (line.Deliver name link) = Deliver name (option_map (λ l. l.items) link)
+asked (line.Unstream name) = Unstream name
 asked (line.Changes coll since batch) = Changes coll since batch
 asked (line.Tick at) = Tick at
 asked line.Restart = Restart
@@ -75,8 +82,8 @@ max_budget = 100000
 abbrev pub usual_budget : ℕ
 usual_budget = 1000
 
--- names are names, documents and updates are objects, a moment and a write time are numbers of a script, and
--- ports, batches, budgets and late requests are within their limits
+-- names are names, documents and updates are objects, a moment and a write time are numbers of a
+-- script, and ports, batches, budgets and late requests are within their limits
 abbrev pub IsLawful : Asked → Type 0
 IsLawful (Collection name schema) = is_name name ≡ true
 IsLawful (Insert coll doc) = (is_name coll ≡ true) × (is_object doc ≡ true)
@@ -98,6 +105,9 @@ IsLawful (Replicate name fork master handler field) =
 IsLawful (Turn name batch budget link) =
     (is_name name ≡ true) × (1 ≤ batch) × (batch ≤ max_batch)
     × (1 ≤ budget) × (budget ≤ max_budget) × IfSome link (AllByRecursion IsHappening)
+IsLawful (Stream name) = is_name name ≡ true
+IsLawful (Deliver name link) = is_name name ≡ true
+IsLawful (Unstream name) = is_name name ≡ true
 IsLawful (Changes coll since batch) =
     (is_name coll ≡ true) × IfSome since (λ s. s.lwt ≤ largest) × (1 ≤ batch) × (batch ≤ max_batch)
 IsLawful (Tick at) = at ≤ largest

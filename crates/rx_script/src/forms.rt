@@ -4,10 +4,12 @@ ghost use Rattle.serde_json.specs.View.{view};
 ghost use Rattle.rx_value.specs.Due.{Due, DueBy};
 ghost use Rattle.rx_value.specs.Name.{is_name};
 ghost use Rattle.rx_script.specs.Asked.{asked, IsLawful};
-ghost use Rattle.rx_script.specs.Line.{collection_of, document_of, bulk_of, changed_of, patch_of, update_of, remove_of, hook_of, migrate_of, get_of, query_of, observe_of, name_of, replicate_of, turn_of, changes_of, tick_of, restart_of, digest_of, asked_as, form_of};
+ghost use Rattle.rx_script.specs.Line.{collection_of, document_of, bulk_of, changed_of, patch_of, update_of, remove_of, hook_of, migrate_of, get_of, query_of, observe_of, name_of, replicate_of, turn_of, deliver_of, changes_of, tick_of, restart_of, digest_of, asked_as, form_of};
 ghost use Rattle.rx_script.specs.Member.{is_object, json_at};
 ghost use Rattle.rx_script.specs.declared.fault.LineFault.TheVariants.{Memory};
+ghost use Rattle.rx_script.specs.declared.form.Form.TheVariants.{Insert, Upsert, Unobserve, Explain, Stream, Unstream};
 
+use crate::delivery::read_maybe_deliveries;
 use crate::fault::LineFault;
 use crate::form::{Form, form_by_word};
 use crate::line::{Line, MAX_BATCH, MAX_BUDGET, USUAL_BUDGET};
@@ -53,15 +55,9 @@ fn read_as(alloc: Global, form: Form, json: Json) -> Result<Line, LineFault>
 {
     match form {
         Form::Collection => read_collection(alloc, json),
-        Form::Insert => {
-            let (coll, doc) = read_document(alloc, json)?;
-            Ok(Line::Insert { coll, doc })
-        }
+        Form::Insert => read_insert(alloc, json),
         Form::Bulk => read_bulk(alloc, json),
-        Form::Upsert => {
-            let (coll, doc) = read_document(alloc, json)?;
-            Ok(Line::Upsert { coll, doc })
-        }
+        Form::Upsert => read_upsert(alloc, json),
         Form::Patch => read_patch(alloc, json),
         Form::Update => read_update(alloc, json),
         Form::Remove => read_remove(alloc, json),
@@ -77,14 +73,13 @@ fn read_as(alloc: Global, form: Form, json: Json) -> Result<Line, LineFault>
             Ok(Line::Count { coll, query })
         }
         Form::Observe => read_observe(alloc, json),
-        Form::Unobserve => Ok(Line::Unobserve {
-            name: read_name(alloc, json)?,
-        }),
-        Form::Explain => Ok(Line::Explain {
-            name: read_name(alloc, json)?,
-        }),
+        Form::Unobserve => read_unobserve(alloc, json),
+        Form::Explain => read_explain(alloc, json),
         Form::Replicate => read_replicate(alloc, json),
         Form::Turn => read_turn(alloc, json),
+        Form::Stream => read_stream(alloc, json),
+        Form::Deliver => read_deliver(alloc, json),
+        Form::Unstream => read_unstream(alloc, json),
         Form::Changes => read_changes(alloc, json),
         Form::Tick => read_tick(alloc, json),
         Form::Restart => read_restart(alloc, json),
@@ -116,6 +111,14 @@ fn read_document(alloc: Global, mut json: Json) -> Result<(RxText, Json), LineFa
     Ok((coll, take_json(&mut json, "doc")))
 }
 
+fn read_insert(alloc: Global, json: Json) -> Result<Line, LineFault>
+    ensures exact { DueBy Memory asked result (asked_as Insert (view json)) }
+    ensures lawful { IfOk result (λ line. IsLawful (asked line)) }
+{
+    let (coll, doc) = read_document(alloc, json)?;
+    Ok(Line::Insert { coll, doc })
+}
+
 fn read_bulk(alloc: Global, mut json: Json) -> Result<Line, LineFault>
     ensures exact { DueBy Memory asked result (bulk_of (view json)) }
     ensures lawful { IfOk result (λ line. IsLawful (asked line)) }
@@ -126,6 +129,14 @@ fn read_bulk(alloc: Global, mut json: Json) -> Result<Line, LineFault>
     check_name(alloc, "in", &coll)?;
     let docs = take_items(alloc, &mut json, "docs");
     Ok(Line::Bulk { coll, docs })
+}
+
+fn read_upsert(alloc: Global, json: Json) -> Result<Line, LineFault>
+    ensures exact { DueBy Memory asked result (asked_as Upsert (view json)) }
+    ensures lawful { IfOk result (λ line. IsLawful (asked line)) }
+{
+    let (coll, doc) = read_document(alloc, json)?;
+    Ok(Line::Upsert { coll, doc })
 }
 
 // The document that a line changes, as an object of that member says.
@@ -263,6 +274,22 @@ fn read_name(alloc: Global, json: Json) -> Result<RxText, LineFault>
     Ok(name)
 }
 
+fn read_unobserve(alloc: Global, json: Json) -> Result<Line, LineFault>
+    ensures exact { DueBy Memory asked result (asked_as Unobserve (view json)) }
+    ensures lawful { IfOk result (λ line. IsLawful (asked line)) }
+{
+    let name = read_name(alloc, json)?;
+    Ok(Line::Unobserve { name })
+}
+
+fn read_explain(alloc: Global, json: Json) -> Result<Line, LineFault>
+    ensures exact { DueBy Memory asked result (asked_as Explain (view json)) }
+    ensures lawful { IfOk result (λ line. IsLawful (asked line)) }
+{
+    let name = read_name(alloc, json)?;
+    Ok(Line::Explain { name })
+}
+
 fn read_replicate(alloc: Global, json: Json) -> Result<Line, LineFault>
     ensures exact { DueBy Memory asked result (replicate_of (view json)) }
     ensures lawful { IfOk result (λ line. IsLawful (asked line)) }
@@ -309,6 +336,33 @@ fn read_turn(alloc: Global, json: Json) -> Result<Line, LineFault>
         budget,
         link,
     })
+}
+
+fn read_stream(alloc: Global, json: Json) -> Result<Line, LineFault>
+    ensures exact { DueBy Memory asked result (asked_as Stream (view json)) }
+    ensures lawful { IfOk result (λ line. IsLawful (asked line)) }
+{
+    let name = read_name(alloc, json)?;
+    Ok(Line::Stream { name })
+}
+
+fn read_deliver(alloc: Global, json: Json) -> Result<Line, LineFault>
+    ensures exact { DueBy Memory asked result (deliver_of (view json)) }
+    ensures lawful { IfOk result (λ line. IsLawful (asked line)) }
+{
+    check_form(alloc, &json, &["do", "name"], &["link"])?;
+    let name = read_text(alloc, &json, "name")?;
+    let link = read_maybe_deliveries(alloc, &json, "link")?;
+    check_name(alloc, "name", &name)?;
+    Ok(Line::Deliver { name, link })
+}
+
+fn read_unstream(alloc: Global, json: Json) -> Result<Line, LineFault>
+    ensures exact { DueBy Memory asked result (asked_as Unstream (view json)) }
+    ensures lawful { IfOk result (λ line. IsLawful (asked line)) }
+{
+    let name = read_name(alloc, json)?;
+    Ok(Line::Unstream { name })
 }
 
 fn read_changes(alloc: Global, json: Json) -> Result<Line, LineFault>

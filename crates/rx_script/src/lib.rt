@@ -21,6 +21,9 @@
 //! | `explain` | `name` |
 //! | `replicate` | `name`, `fork`, `master` or `port`, `handler`, and maybe `field` |
 //! | `turn` | `name`, and maybe `batch`, `budget` and `link` |
+//! | `stream` | `name` |
+//! | `deliver` | `name`, and maybe `link` |
+//! | `unstream` | `name` |
 //! | `changes` | `in`, and maybe `since` and `batch` |
 //! | `tick` | `at` |
 //! | `restart` | |
@@ -34,7 +37,8 @@
 //! to 65,535, and stands only where `master` doesn't. `batch` and `budget` are whole numbers, 100
 //! and 1,000 where they are missing. `link` is a list of what happens to the exchanges of a turn,
 //! each one of the texts `ok`, `lose_request`, `lose_reply`, `twice` and `stale`, or an object of
-//! exactly the member `late`, a whole number from 1 to 16.
+//! exactly the member `late`, a whole number from 1 to 16. The `link` of `deliver` is a list of
+//! what happens to queued events, each one of the texts `ok`, `lose`, `twice` and `later`.
 //!
 //! The first fault counts: the line's length, its JSON, that it is an object; then `do`; then
 //! whether a member is missing, in the order of the table, where `master` is one unless `port` is
@@ -43,6 +47,7 @@
 //! from 1 to 100,000.
 #![tactic(auto)]
 
+mod delivery;
 mod fault;
 mod form;
 mod forms;
@@ -53,6 +58,7 @@ mod member;
 mod since;
 mod target;
 
+pub use delivery::Delivery;
 pub use fault::LineFault;
 pub use happening::Happening;
 pub use line::{Line, MAX_BATCH, MAX_BUDGET, MAX_LINE_BYTES, USUAL_BUDGET};

@@ -5,6 +5,7 @@ ghost use Rattle.rx_script.specs.Asked.{asked, IsLawful};
 ghost use Rattle.rx_script.specs.Line.{object_of, line_of};
 ghost use Rattle.rx_script.specs.declared.fault.LineFault.TheVariants.{Memory};
 
+use crate::delivery::Delivery;
 use crate::fault::LineFault;
 use crate::forms::read_form;
 use crate::happening::Happening;
@@ -111,6 +112,16 @@ pub enum Line {
         batch: u32,
         budget: u32,
         link: Option<Vec<Happening>>,
+    },
+    Stream {
+        name: RxText,
+    },
+    Deliver {
+        name: RxText,
+        link: Option<Vec<Delivery>>,
+    },
+    Unstream {
+        name: RxText,
     },
     Changes {
         coll: RxText,
