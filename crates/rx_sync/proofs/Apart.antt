@@ -64,7 +64,7 @@ plain_apart name (replication k fork master handler field) plain = tt
 plain_apart name (exchange k lwt written known up down) plain = absurd plain
 plain_apart name other plain = tt
 
-apart_both : (name : List ℕ) (cs ds : List Content) → AreApart name cs → AreApart name ds
+pub apart_both : (name : List ℕ) (cs ds : List Content) → AreApart name cs → AreApart name ds
     → AreApart name (cs ++ ds)
 apart_both name [] ds first rest = rest
 apart_both name (c ∷ cs) ds first rest = (first.0, apart_both name cs ds first.1 rest)
@@ -130,7 +130,7 @@ apart_late name w k now (Some q) =
 -- ---- what a fork writes, of another replication
 
 module _ (name k : List ℕ) (other : k ≢ name) where
-  apart_recorded : (fork : Held) (plan : ExchangePlan) (b : Bool) (o : Option ℕ)
+  pub apart_recorded : (fork : Held) (plan : ExchangePlan) (b : Bool) (o : Option ℕ)
       → IfOk (cond b (Ok []) (or_fault ClockEnd
       (option_map (λ lwt. exchange_at k fork plan lwt ∷ []) o))) (AreApart name)
   apart_recorded fork plan true o = tt

@@ -67,7 +67,7 @@ known_again known ss rising each =
     by k (inr n) =
         n.held ∙ sym (ap (named known) (sym n.key) ∙ each n.state n.member)
 
-same_place : (p q : Option Place) → is_same_place p q ≡ true → p ≡ q
+pub same_place : (p q : Option Place) → is_same_place p q ≡ true → p ≡ q
 same_place None None is = refl
 same_place (Some p) (Some q) is = ap Some ((place_eq-Decides p q).0 is)
 same_place None (Some q) is = absurd (true≢false (sym is))

@@ -1,6 +1,7 @@
 mod Examples
 mod BoundExamples
 mod RemoteExamples
+mod EventExamples
 pub mod Worlds
 pub mod Masters
 pub mod Staying
@@ -23,3 +24,7 @@ pub mod AnyReply
 pub mod Elsewhere
 pub mod HeardPulls
 pub mod Apart
+pub mod Goodness
+pub mod EventTakings
+pub mod Levels
+pub mod Deliveries

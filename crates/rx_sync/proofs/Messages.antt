@@ -4,7 +4,6 @@ use Rattle.std.specs.Cmp.Derive.{both_true}
 use Rattle.rx_value.specs.Due.{◌>>=◌}
 use Rattle.rx_value.specs.Named.{named}
 use Rattle.rx_value.proofs.Outcomes.{some_same}
-use Rattle.rx_schema.specs.Validity.{first_fault}
 use Rattle.rx_document.specs.Documents.{Documents}
 use Rattle.rx_document.specs.declared.place.Place.{Place}
 use Rattle.rx_document.specs.declared.stored.Stored.{Stored}
@@ -39,7 +38,7 @@ use Rattle.rx_world.specs.Linked.{IsLinked}
 use Rattle.rx_world.specs.Valid.{AreValid}
 use Rattle.rx_world.specs.World.{World}
 use Rattle.rx_world.specs.declared.replication.Replication.{Replication}
-use Rattle.rx_world.proofs.States.{valid_state}
+use Rattle.rx_world.proofs.Grown.{documents_pass as states_pass}
 use Rattle.rx_sync.specs.Asking.{asked_by, asked_in}
 use Rattle.rx_sync.specs.Exchange.{answer_states}
 use Rattle.rx_sync.specs.Laws.{HasTimeAt, IsDueOf, IsLawfulReply}
@@ -65,10 +64,7 @@ module _ (c : Held) (lawful : IsLawful c) where
       both_true (lt-ltb 0 d.lwt (omega arith)) (le-leb d.lwt 9007199254740991 last)
 
   pub documents_pass : AreValid c → DocumentsPass (is_valid c.schema) c.documents
-  documents_pass valid k d at =
-      let here = at_name (λ k d. first_fault c.schema d.state.fields
-      ≡ None) c.documents k d valid at in
-      valid_state c.schema d.state here (held_at k d at).carried
+  documents_pass valid = states_pass c lawful valid
 
 -- ---- a request
 

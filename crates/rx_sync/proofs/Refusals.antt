@@ -18,9 +18,10 @@ use Rattle.rx_handler.specs.declared.kind.HandlerKind.{HandlerKind}
 use Rattle.rx_meta.specs.Side.{Side}
 use Rattle.rx_wire.specs.declared.message.AskKind.{AskKind}
 use Rattle.rx_wire.specs.declared.message.AskKind.TheVariants.{Push, Pull}
+use Rattle.rx_wire.specs.declared.message.Body.TheVariants.{Docs}
 use Rattle.rx_wire.specs.declared.message.PushRow.{PushRow}
 use Rattle.rx_wire.specs.declared.message.Reply.{Reply}
-use Rattle.rx_replication.specs.Fitting.{PlaceFits, last_key}
+use Rattle.rx_replication.specs.Fitting.{IsFitting, PlaceFits, last_key}
 use Rattle.rx_replication.specs.Master.{body_of, conflicts, last_place, reply_with}
 use Rattle.rx_replication.specs.Member.{Member}
 use Rattle.rx_replication.specs.Taking.{Resolve, Taking, taking}
@@ -125,6 +126,13 @@ few_by true batch count fit is few fits =
     let over = ltb-true batch count is in absurd (omega arith)
 few_by false batch count fit is few fits =
     ap (λ (f : Bool). cond f None (Some count)) fits
+
+-- a page that fits isn't refused
+pub page_not_bad : (down : Option Place) (b : ℕ) (ss : List State) (to : Option Place)
+    → IsFitting (Pull down b) (Docs ss to) → bad_reply down (Pull down b) (Docs ss to) ≡ None
+page_not_bad down b ss to fits =
+    few_by (nat_lt b (length ss)) b (length ss) (is_fit down ss to) refl fits.0
+    (fits_is down ss to fits.1)
 
 -- ---- the reply of a master
 

@@ -48,6 +48,10 @@ abbrev pub local_name : MasterName → Option (List ℕ)
 local_name (Local name) = Some name
 local_name (Port port) = None
 
+-- the master of that name, where it is here
+abbrev pub master_in : World → MasterName → Option Held
+master_in w m = local_name m >>= λ name. named w.collections name
+
 -- what the master of a replication does, where it is here
 abbrev pub handled_for : World → List ℕ → Request → ℕ → Option Handled
 handled_for w name q now =

@@ -10,3 +10,5 @@ pub mod Bound
 pub mod AnyReply
 pub mod Remote
 pub mod RemoteLaws
+pub mod Events
+pub mod Delivery

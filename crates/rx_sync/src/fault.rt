@@ -46,3 +46,32 @@ impl From<AcceptFault> for TakeFault {
         }
     }
 }
+
+/// Why an event gives no record.
+#[derive(Debug, Drop, Error)]
+pub enum EventFault {
+    /// The fork has all that the master had at its place.
+    #[error("an event that the fork is beyond")]
+    Old,
+    /// So many documents of the fork are to be pushed before it.
+    #[error("an event before which documents are to be pushed")]
+    Pending(usize),
+    /// It isn't from the place that the fork has come to: one before it was lost.
+    #[error("an event behind a lost one")]
+    Gap,
+    #[error("no write time is left")]
+    ClockEnd,
+    #[error("out of memory")]
+    Memory,
+}
+
+impl From<AllocError> for EventFault {
+    ghost use Rattle.std.specs.Prelude.{◌≡◌};
+    ghost use Rattle.rx_sync.specs.declared.fault.EventFault.TheVariants.{Memory};
+
+    ghost from_gives = { λ _ e. e ≡ Memory };
+
+    fn from(_refused: AllocError) -> EventFault {
+        EventFault::Memory
+    }
+}

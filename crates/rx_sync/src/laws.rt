@@ -1,5 +1,6 @@
 ghost use Rattle.rx_sync.specs.AnyReply.{ChangesNothingElse, EveryTaking, LosesNoUpdate, LowersNoCheckpoint, MayBeKept, StaysForkSound, StaysMade, StaysSoundAtPort, StaysValid};
 ghost use Rattle.rx_sync.specs.Bound.{EachLowersLeft, EndsInTime, EveryOkTurn, PushesAtMostTwice, TurnsEndInTime};
+ghost use Rattle.rx_sync.specs.Delivery.{EveryDelivery, IsDeliverySound, LevelIsEqual, MayDeliverAgain, WaitsForPushes};
 ghost use Rattle.rx_sync.specs.RemoteLaws.{EachIsUnharmed, EveryCall, IsCallSound, MayCallAgain};
 ghost use Rattle.rx_sync.specs.Laws.{EveryTurn, IsTurnSound, MayTurnAgain, QuietIsLevel, RefusedByTheClockAlone, TwiceIsOnce};
 
@@ -61,4 +62,17 @@ pub fn remote_turn_laws()
     ensures again { EveryCall MayCallAgain }
     // No master, whatever it sends, harms the fork.
     ensures unharmed { EveryCall EachIsUnharmed }
+{}
+
+/// States what holds of every delivery of good events to a fork whose master is of the same
+/// journal, whatever the link does, and does nothing.
+pub fn delivery_laws()
+    // Each of its records may come where it comes, and leaves a sound world.
+    ensures sound { EveryDelivery IsDeliverySound }
+    // A fork that has something to push is left as it is.
+    ensures untouched { EveryDelivery WaitsForPushes }
+    // Another delivery may follow: the events that are kept stay good.
+    ensures again { EveryDelivery MayDeliverAgain }
+    // Level means equal.
+    ensures level { LevelIsEqual }
 {}

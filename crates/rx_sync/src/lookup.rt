@@ -1,5 +1,6 @@
 // The replications of a world, and their collections.
 ghost use Rattle.std.specs.Prelude.{◌≡◌, [], Some, IsSome, option_map, unwrap_or};
+ghost use Rattle.std.specs.Option.{IsSomeAnd};
 ghost use Rattle.rx_value.specs.Named.{named};
 ghost use Rattle.rx_collection.specs.Lawful.{IsLawful};
 ghost use Rattle.rx_handler.specs.Shown.{kinds_of};
@@ -7,7 +8,7 @@ ghost use Rattle.rx_world.specs.Holders.{world_in};
 ghost use Rattle.rx_world.specs.Linked.{IsLinked};
 ghost use Rattle.rx_world.specs.Made.{IsMadeWorld};
 ghost use Rattle.rx_world.specs.Valid.{AreValid};
-ghost use Rattle.rx_sync.specs.Handling.{local_name};
+ghost use Rattle.rx_sync.specs.Handling.{local_name, master_in};
 
 use rx_collection::{Collection, Holder};
 use rx_handler::{Handler, Handlers};
@@ -41,6 +42,20 @@ pub(crate) fn find_fork<'a, H: Holder + Drop>(
     ensures valid { AreValid result.now }
 {
     let holder = world.holder(replication.fork.as_str()).unwrap();
+    holder.collection()
+}
+
+// The master of a replication of the world, which is of the same journal.
+pub(crate) fn find_master<'a, H: Holder + Drop>(
+    world: &'a World<H>,
+    replication: &Replication,
+) -> &'a Collection
+    requires { IsSomeAnd (local_name replication.now.master)
+        (λ at. IsSome (named (world_in H.held world.now).collections at)) }
+    ensures { master_in (world_in H.held world.now) replication.now.master ≡ Some result.now }
+{
+    let at = local_name(&replication.master).unwrap();
+    let holder = world.holder(at.as_str()).unwrap();
     holder.collection()
 }
 

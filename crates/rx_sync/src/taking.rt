@@ -69,7 +69,7 @@ pub fn take<H: Holder + Drop>(
 }
 
 // The record of a taking, where anything changes.
-fn record_of(
+pub(crate) fn record_of(
     alloc: Global,
     name: &str,
     fork: &Collection,
@@ -137,7 +137,7 @@ fn is_known(side: &Meta, state: &State) -> bool
     }
 }
 
-fn is_same_place(this: Option<&Place>, that: Option<&Place>) -> bool
+pub(crate) fn is_same_place(this: Option<&Place>, that: Option<&Place>) -> bool
     ensures { result ≡ is_same_place (option_map (λ p. p.now) this.entry)
         (option_map (λ p. p.now) that.entry) }
 {
