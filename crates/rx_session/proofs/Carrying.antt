@@ -8,6 +8,7 @@ use Rattle.rx_value.proofs.Lists.{all_at, cons_parts}
 use Rattle.rx_collection.specs.Held.{Held}
 use Rattle.rx_observe.specs.Observing.{Observing, cooled, each, with_queries}
 use Rattle.rx_observe.specs.Rows.{emissions_due}
+use Rattle.rx_stream.specs.declared.stream.Stream.{Stream}
 use Rattle.rx_update.specs.Attached.{Hooking}
 use Rattle.rx_world.specs.Holders.{Holders, IsWhole, holders_in}
 use Rattle.rx_world.specs.Valid.{AreDistinct}
@@ -170,12 +171,12 @@ module _ (old new : Holders Observing)
   carried_quiet quiet =
       subst (AllByRecursion IsQuiet) (sym lives) (moved_quiet (holders_in old) quiet)
 
-module _ (old : Holders Observing) (moment : ℕ) (hooks : Hooking) (number : ℕ) (ps : List QueryPlace)
+module _ (old : Holders Observing) (moment : ℕ) (hooks : Hooking) (streams : List Stream) (number : ℕ) (ps : List QueryPlace)
     (quiet : AllByRecursion IsQuiet (holders_in old)) where
   -- the session before
   abbrev before : Session
   before =
-      record { world = world_of old; moment = moment; hooks = hooks; queries = queries_of (holders_in old) ps }
+      record { world = world_of old; moment = moment; hooks = hooks; streams = streams; queries = queries_of (holders_in old) ps }
 
   -- the world in another epoch
   abbrev again : World
@@ -200,7 +201,7 @@ module _ (old : Holders Observing) (moment : ℕ) (hooks : Hooking) (number : �
   pub carried_session : (new : Holders Observing)
       → holders_in new ≡ each_live with_cooled (holders_in old)
       → new.replications ≡ old.replications → new.epoch ≡ number
-      → record { world = world_of new; moment = moment; hooks = hooks; queries = queries_of (holders_in new) ps }
+      → record { world = world_of new; moment = moment; hooks = hooks; streams = []; queries = queries_of (holders_in new) ps }
       ≡ settled_session (session_after (restart number) before)
   carried_session new lives replications epoch =
       let moved = each_live with_cooled (holders_in old) in
@@ -216,5 +217,6 @@ module _ (old : Holders Observing) (moment : ℕ) (hooks : Hooking) (number : �
             { collections = collections i; replications = replications i; epoch = epoch i };
         moment = moment;
         hooks = hooks;
+        streams = [];
         queries = queries i;
       }

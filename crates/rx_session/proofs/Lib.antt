@@ -11,3 +11,4 @@ pub mod Several
 pub mod Played
 pub mod Naming
 pub mod Remade
+pub mod Streamed

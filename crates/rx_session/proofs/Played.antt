@@ -1,18 +1,21 @@
 -- What a record makes of a session in play.
-use Rattle.std.proofs.Common.{◌≡◌, ℕ, ◌||◌, true, false, true≢false, cond, Bool, List, [], ◌∷◌, ◌++◌, map, Option, Some, None, refl, sym, ap, ◌∙◌, subst}
+use Rattle.std.proofs.Common.{◌≡◌, ℕ, true, false, true≢false, cond, List, [], ◌∷◌, ◌++◌, map, Option, Some, None, refl, sym, ap, ◌∙◌, subst}
 use Rattle.std.proofs.lemmas.Bool.{or_parts}
 use Rattle.std.proofs.lemmas.List.Folds.{list_any-append}
-use Rattle.std.specs.List.{AllByRecursion, IsDistinct, flat_map, list_any}
+use Rattle.std.specs.List.{AllByRecursion, list_any}
 use Rattle.std.specs.Map.{keys_of}
 use Rattle.std.specs.Str.{bytes_eq}
 use Rattle.rx_value.proofs.Lists.{all_weaker}
 use Rattle.rx_value.proofs.Bytes.{bytes_itself}
 use Rattle.rx_record.specs.Content.{Content}
+use Rattle.rx_record.specs.Writable.{IsOrdered}
 use Rattle.rx_collection.specs.Held.{Held}
 use Rattle.rx_observe.specs.Observing.{Observing, Queries}
 use Rattle.rx_observe.specs.Rows.{emissions_due}
+use Rattle.rx_stream.specs.declared.stream.Stream.{Stream}
 use Rattle.rx_update.specs.Attached.{Hooking}
 use Rattle.rx_world.specs.Holders.{Holders, holders_in}
+use Rattle.rx_world.specs.Made.{IsMadeWorld}
 use Rattle.rx_world.specs.Step.{step, legal}
 use Rattle.rx_world.specs.Touch.{Touch, no_collection, new_collection, new_rows, remade, touch}
 use Rattle.rx_world.specs.Valid.{AreDistinct}
@@ -20,15 +23,17 @@ use Rattle.rx_world.specs.World.{World}
 use Rattle.rx_world.proofs.Looked.{all_change_named, all_put_named}
 use Rattle.rx_world.proofs.Valid.{distinct_step}
 use Rattle.rx_session.specs.Applied.{IsAfter, coll_written, with_written}
-use Rattle.rx_session.specs.Doing.{session_after, query_after, write, IsUnobserved}
-use Rattle.rx_session.specs.Emissions.{emission_due, emissions, settled_query, settled_session}
+use Rattle.rx_session.specs.Doing.{session_after, query_after, still_open, stream_in, write, IsUnobserved}
+use Rattle.rx_session.specs.Emissions.{emissions, settled_query, settled_session}
 use Rattle.rx_session.specs.Placed.{Lives, ArePlaced, IsListed, IsQuiet, queries_of, world_of}
 use Rattle.rx_session.specs.Playing.{AreQuietUnless, coll_to_note, due_in_all, add_written, settled_each}
+use Rattle.rx_session.specs.Streams.{AreStreamed}
 use Rattle.rx_session.specs.declared.query_place.QueryPlace.{QueryPlace}
 use Rattle.rx_session.proofs.Places.{colls, distinct_in, world_colls}
 use Rattle.rx_session.proofs.Remade.{remade_each}
 use Rattle.rx_session.proofs.Settling.{same_world, session_of}
 use Rattle.rx_session.proofs.Several.{colls_each, placed_each, queries_each, quiet_each, taken_is_due}
+use Rattle.rx_session.proofs.Streamed.{streamed_step}
 use Rattle.rx_session.proofs.Writing.{IsUnheld, queries_after, legal_unheld, placed_after}
 
 -- ---- what is quiet
@@ -120,9 +125,12 @@ pub record IsPlayed (content : Content) (old new : Holders Observing) (ps : List
   pub allowed : legal content (world_of old) ≡ true
   pub apart : IsUnobserved (touch content (world_of old)) (queries_of (holders_in old) ps)
   pub stepped : world_of new ≡ step content (world_of old)
+  pub ordered : IsOrdered content
+  pub was_made : IsMadeWorld (world_of old)
+  pub is_made : IsMadeWorld (world_of new)
   pub applied : IsAfter (touch content (world_of old)) (holders_in old) (holders_in new)
 
-module _ (content : Content) (old new : Holders Observing) (moment : ℕ) (hooks : Hooking) (ps : List QueryPlace)
+module _ (content : Content) (old new : Holders Observing) (moment : ℕ) (hooks : Hooking) (streams : List Stream) (ps : List QueryPlace)
     (written : List (List ℕ)) (so : IsPlayed content old new ps written) where
   unheld : IsUnheld (world_of old) ps (touch content (world_of old))
   unheld = legal_unheld content (world_of old) (holders_in old) ps so.placed so.allowed so.apart
@@ -156,10 +164,27 @@ module _ (content : Content) (old new : Holders Observing) (moment : ℕ) (hooks
       (quiet_noted (world_of old) ps t written (holders_in old) (holders_in new)
       unheld so.applied so.quiet)
 
-  pub played_session : session_of new moment hooks ps
-      ≡ session_after (write content) (session_of old moment hooks ps)
+  -- and so have the streams
+  abbrev streams_then : List Stream
+  streams_then = map (stream_in (world_of new)) (still_open content (world_of old) streams)
+
+  pub played_streamed : AreStreamed (world_of old) streams → AreStreamed (world_of new) streams_then
+  played_streamed all =
+      subst (λ w. AreStreamed w (map (stream_in w) (still_open content (world_of old) streams)))
+      (sym so.stepped)
+      (streamed_step content (world_of old) so.allowed so.ordered so.was_made
+      (subst IsMadeWorld so.stepped so.is_made) streams all)
+
+  pub played_session : session_of new moment hooks streams_then ps
+      ≡ session_after (write content) (session_of old moment hooks streams ps)
   played_session =
-      λ i. record { world = so.stepped i; moment = moment; hooks = hooks; queries = followed i }
+      λ i. record {
+        world = so.stepped i;
+        moment = moment;
+        hooks = hooks;
+        streams = map (stream_in (so.stepped i)) (still_open content (world_of old) streams);
+        queries = followed i;
+      }
 
 -- ---- once all is emitted
 
@@ -172,7 +197,7 @@ pub record IsTaken (old new : Holders Observing) (ps : List QueryPlace)
   pub replications : new.replications ≡ old.replications
   pub epochs : new.epoch ≡ old.epoch
 
-module _ (old new : Holders Observing) (moment : ℕ) (hooks : Hooking) (ps : List QueryPlace) (written : List (List ℕ))
+module _ (old new : Holders Observing) (moment : ℕ) (hooks : Hooking) (streams : List Stream) (ps : List QueryPlace) (written : List (List ℕ))
     (so : IsTaken old new ps written) where
   taken_world : world_of new ≡ world_of old
   taken_world =
@@ -184,6 +209,9 @@ module _ (old new : Holders Observing) (moment : ℕ) (hooks : Hooking) (ps : Li
       subst (λ ls. ArePlaced ls ps) (sym so.emitted)
       (placed_each written (holders_in old) ps so.placed)
 
+  pub taken_streamed : AreStreamed (world_of old) streams → AreStreamed (world_of new) streams
+  taken_streamed all = subst (λ w. AreStreamed w streams) (sym taken_world) all
+
   pub taken_distinct : AreDistinct (world_of new)
   taken_distinct = subst AreDistinct (sym taken_world) so.distinct
 
@@ -192,7 +220,7 @@ module _ (old new : Holders Observing) (moment : ℕ) (hooks : Hooking) (ps : Li
       subst (AllByRecursion IsQuiet) (sym so.emitted)
       (quiet_each written (holders_in old) (distinct_in old so.distinct) so.quiet)
 
-  pub taken_due : due_in_all written ps (holders_in old) ≡ emissions (session_of old moment hooks ps)
+  pub taken_due : due_in_all written ps (holders_in old) ≡ emissions (session_of old moment hooks streams ps)
   taken_due =
       taken_is_due written (world_of old) (holders_in old) (world_colls old) ps so.placed
       (distinct_in old so.distinct) so.quiet
@@ -203,9 +231,9 @@ module _ (old new : Holders Observing) (moment : ℕ) (hooks : Hooking) (ps : Li
       ap (λ ls. queries_of ls ps) so.emitted
       ∙ queries_each written (world_of old) (holders_in old) (world_colls old) ps so.quiet
 
-  pub taken_session : session_of new moment hooks ps ≡ settled_session (session_of old moment hooks ps)
+  pub taken_session : session_of new moment hooks streams ps ≡ settled_session (session_of old moment hooks streams ps)
   taken_session =
-      λ i. record { world = taken_world i; moment = moment; hooks = hooks; queries = taken_queries i }
+      λ i. record { world = taken_world i; moment = moment; hooks = hooks; streams = streams; queries = taken_queries i }
 
 -- where all is quiet, it is where none was written
 pub none_written : (ls : Lives) → AllByRecursion IsQuiet ls → AreQuietUnless [] ls

@@ -1,13 +1,10 @@
 -- Collections after a record: made in one way they are so in another, and what a migration makes
 -- anew has no queries.
-use Rattle.std.proofs.Common.{◌≡◌, ◌≢◌, ℕ, Bool, true, false, true≢false, cond, List, [], ◌∷◌, map, Option, Some, Result, Ok, Err, IfOk, is_some, refl, sym, ap, ◌∙◌, subst}
+use Rattle.std.proofs.Common.{◌≡◌, ℕ, Bool, true, false, cond, List, [], ◌∷◌, Some, Result, Ok, Err, IfOk, refl, sym, ap, ◌∙◌, subst}
 use Rattle.std.proofs.lemmas.Slice.Eq.{bytes_eq-Decides}
-use Rattle.std.specs.Prelude.{filter, option_and_then, IsSome}
 use Rattle.std.specs.List.{AllByRecursion}
-use Rattle.std.specs.Map.{keys_of}
 use Rattle.std.specs.Str.{bytes_eq}
 use Rattle.rx_value.specs.Named.{named}
-use Rattle.rx_value.proofs.Lists.{all_weaker}
 use Rattle.rx_collection.specs.Held.{Held}
 use Rattle.rx_collection.specs.Migrated.{migrated_collection}
 use Rattle.rx_migrate.specs.declared.step.Step.{Step}

@@ -5,23 +5,22 @@ use Rattle.std.specs.Map.{keys_of}
 use Rattle.std.specs.Str.{bytes_eq}
 use Rattle.rx_value.specs.Named.{named}
 use Rattle.rx_query.specs.QuerySpec.{QuerySpec}
-use Rattle.rx_record.specs.Content.{Content}
 use Rattle.rx_observe.specs.Observing.{Observing, each, put_all, watch_after}
+use Rattle.rx_stream.specs.declared.stream.Stream.{Stream}
 use Rattle.rx_update.specs.Attached.{Hooking}
 use Rattle.rx_update.specs.declared.attached.Attached.{Attached}
 use Rattle.rx_world.specs.Holders.{Holders, holders_in}
-use Rattle.rx_world.specs.Step.{step, legal}
-use Rattle.rx_world.specs.Touch.{Touch, touch}
+use Rattle.rx_world.specs.Touch.{Touch}
 use Rattle.rx_world.specs.Valid.{AreDistinct}
 use Rattle.rx_world.proofs.Holding.{after_all}
 use Rattle.rx_world.proofs.Looked.{keys-change_named}
-use Rattle.rx_world.proofs.Valid.{distinct_step}
-use Rattle.rx_session.specs.Applied.{IsAfter, IsMadeFor, coll_written, settled_in, due_in, without_observed, watched_in}
-use Rattle.rx_session.specs.Doing.{session_after, query_after, new_query, has_key, with_attached, set_clock, write, watch, unwatch, attach}
+use Rattle.rx_session.specs.Applied.{IsAfter, IsMadeFor, settled_in, due_in, without_observed, watched_in}
+use Rattle.rx_session.specs.Doing.{session_after, new_query, new_stream, has_key, with_attached, set_clock, watch, unwatch, attach, open_stream, close_stream}
 use Rattle.rx_session.specs.Emissions.{emissions, emission_due, settled_session, settled_query, IsSettled}
 use Rattle.rx_session.specs.Lives.{with_query}
 use Rattle.rx_session.specs.Placed.{ArePlaced, AreQuietBut, AreUnwatched, IsUnwatched, IsQuiet, Lives, place_named, queries_of, world_of}
 use Rattle.rx_session.specs.Session.{Session, is_observed}
+use Rattle.rx_session.specs.Streams.{AreStreamed}
 use Rattle.rx_session.specs.declared.query_place.QueryPlace.{QueryPlace}
 use Rattle.rx_session.proofs.Places.{any-queries_of, colls, distinct_in, world_colls}
 use Rattle.rx_session.proofs.Showing.{due_of_one, quiet_due, quiet_queries, settled_all_quiet, settled_colls, settled_placed, settled_queries}
@@ -56,9 +55,9 @@ unwatched_in lives t ls (Err e) session_after none = tt
 -- ---- sessions
 
 -- a session by its parts
-abbrev pub session_of : Holders Observing → ℕ → Hooking → List QueryPlace → Session
-session_of h moment hooks ps =
-    record { world = world_of h; moment = moment; hooks = hooks; queries = queries_of (holders_in h) ps }
+abbrev pub session_of : Holders Observing → ℕ → Hooking → List Stream → List QueryPlace → Session
+session_of h moment hooks streams ps =
+    record { world = world_of h; moment = moment; hooks = hooks; streams = streams; queries = queries_of (holders_in h) ps }
 
 -- worlds of the same collections and replications, and of the same epoch
 pub same_world : (h g : Holders Observing) → colls (holders_in h) ≡ colls (holders_in g)
@@ -80,39 +79,69 @@ module _ (h : Holders Observing) (ps : List QueryPlace)
     none_due = quiet_due (world_of h) (holders_in h) (world_colls h) ps quiet
 
     -- so the session is settled
-    pub is_settled : (moment : ℕ) (hooks : Hooking) → IsSettled (session_of h moment hooks ps)
-    is_settled moment hooks = record {
-      same = ap (λ qs. record { world = world_of h; moment = moment; hooks = hooks; queries = qs }) all_settled;
+    pub is_settled : (moment : ℕ) (hooks : Hooking) (streams : List Stream) → IsSettled (session_of h moment hooks streams ps)
+    is_settled moment hooks streams = record {
+      same = ap (λ qs. record { world = world_of h; moment = moment; hooks = hooks; streams = streams; queries = qs }) all_settled;
       quiet = none_due;
     }
 
     -- so it is at another moment
-    pub at_session : (moment : ℕ) (hooks : Hooking) (at : ℕ)
-        → session_of h at hooks ps
-        ≡ settled_session (session_after (set_clock at) (session_of h moment hooks ps))
-    at_session moment hooks at =
-        ap (λ qs. record { world = world_of h; moment = at; hooks = hooks; queries = qs }) (sym all_settled)
+    pub at_session : (moment : ℕ) (hooks : Hooking) (streams : List Stream) (at : ℕ)
+        → session_of h at hooks streams ps
+        ≡ settled_session (session_after (set_clock at) (session_of h moment hooks streams ps))
+    at_session moment hooks streams at =
+        ap (λ qs. record { world = world_of h; moment = at; hooks = hooks; streams = streams; queries = qs }) (sym all_settled)
 
     -- so it is with one hook more
-    pub attached_session : (moment : ℕ) (hooks : Hooking) (one : Attached)
-        → session_of h moment (with_attached one hooks) ps
-        ≡ settled_session (session_after (attach one) (session_of h moment hooks ps))
-    attached_session moment hooks one =
+    pub attached_session : (moment : ℕ) (hooks : Hooking) (streams : List Stream) (one : Attached)
+        → session_of h moment (with_attached one hooks) streams ps
+        ≡ settled_session (session_after (attach one) (session_of h moment hooks streams ps))
+    attached_session moment hooks streams one =
         ap (λ qs. record {
           world = world_of h;
           moment = moment;
           hooks = with_attached one hooks;
+          streams = streams;
           queries = qs;
         })
         (sym all_settled)
 
+-- ---- once a stream is opened or closed
+
+module _ (h : Holders Observing) (ps : List QueryPlace)
+    (quiet : AllByRecursion IsQuiet (holders_in h)) (moment : ℕ) (hooks : Hooking)
+    (streams : List Stream) where
+  pub opened_session : (name master : List ℕ)
+      → session_of h moment hooks (streams ++ new_stream (world_of h) name master ∷ []) ps
+      ≡ settled_session (session_after (open_stream name master) (session_of h moment hooks streams ps))
+  opened_session name master =
+      ap (λ qs. record {
+        world = world_of h;
+        moment = moment;
+        hooks = hooks;
+        streams = streams ++ new_stream (world_of h) name master ∷ [];
+        queries = qs;
+      }) (sym (all_settled h ps quiet))
+
+  pub closed_session : (name : List ℕ)
+      → session_of h moment hooks (filter (λ (st : Stream). not (bytes_eq name st.name)) streams) ps
+      ≡ settled_session (session_after (close_stream name) (session_of h moment hooks streams ps))
+  closed_session name =
+      ap (λ qs. record {
+        world = world_of h;
+        moment = moment;
+        hooks = hooks;
+        streams = filter (λ (st : Stream). not (bytes_eq name st.name)) streams;
+        queries = qs;
+      }) (sym (all_settled h ps quiet))
+
 -- ---- once a query is observed
 
 -- no place has a name that no query has
-pub free_place : (name : List ℕ) (h : Holders Observing) (moment : ℕ) (hooks : Hooking) (ps : List QueryPlace)
-    → ArePlaced (holders_in h) ps → is_observed name (session_of h moment hooks ps) ≡ false
+pub free_place : (name : List ℕ) (h : Holders Observing) (moment : ℕ) (hooks : Hooking) (streams : List Stream) (ps : List QueryPlace)
+    → ArePlaced (holders_in h) ps → is_observed name (session_of h moment hooks streams ps) ≡ false
     → list_any (λ p. bytes_eq name p.name) ps ≡ false
-free_place name h moment hooks ps placed free = sym (any-queries_of name (holders_in h) ps placed) ∙ free
+free_place name h moment hooks streams ps placed free = sym (any-queries_of name (holders_in h) ps placed) ∙ free
 
 -- a query was observed in settled collections, and the emissions that are due were written
 pub record IsWatched (name coll : List ℕ) (q : QuerySpec) (old last : Holders Observing)
@@ -127,7 +156,7 @@ pub record IsWatched (name coll : List ℕ) (q : QuerySpec) (old last : Holders 
   pub replications : last.replications ≡ old.replications
   pub epochs : last.epoch ≡ old.epoch
 
-module _ (name coll : List ℕ) (q : QuerySpec) (old last : Holders Observing) (moment : ℕ) (hooks : Hooking)
+module _ (name coll : List ℕ) (q : QuerySpec) (old last : Holders Observing) (moment : ℕ) (hooks : Hooking) (streams : List Stream)
     (ps : List QueryPlace)
     (so : IsWatched name coll q old last ps) where
   -- the collections with the query
@@ -165,7 +194,7 @@ module _ (name coll : List ℕ) (q : QuerySpec) (old last : Holders Observing) (
       (distinct_in old so.distinct)
 
   pub watched_due : due_in (Some coll) more
-      ≡ emissions (session_after (watch name coll q) (session_of old moment hooks ps))
+      ≡ emissions (session_after (watch name coll q) (session_of old moment hooks streams ps))
   watched_due =
       sym (due_of_one (world_of old) more same_then coll quiet_rest (ps ++ place_in coll name ∷ [])
       added_then)
@@ -188,15 +217,18 @@ module _ (name coll : List ℕ) (q : QuerySpec) (old last : Holders Observing) (
       (ps ++ place_in coll name ∷ [])
       ∙ ap (map (settled_query (world_of old))) query_then
 
-  pub watched_session : session_of last moment hooks (ps ++ place_in coll name ∷ [])
-      ≡ settled_session (session_after (watch name coll q) (session_of old moment hooks ps))
+  pub watched_session : session_of last moment hooks streams (ps ++ place_in coll name ∷ [])
+      ≡ settled_session (session_after (watch name coll q) (session_of old moment hooks streams ps))
   watched_session =
-      λ i. record { world = watched_world i; moment = moment; hooks = hooks; queries = watched_queries i }
+      λ i. record { world = watched_world i; moment = moment; hooks = hooks; streams = streams; queries = watched_queries i }
 
   pub watched_placed : ArePlaced (holders_in last) (ps ++ place_in coll name ∷ [])
   watched_placed =
       subst (λ ls. ArePlaced ls (ps ++ place_in coll name ∷ [])) (sym so.emitted)
       (settled_placed more coll (ps ++ place_in coll name ∷ []) added_then)
+
+  pub watched_streamed : AreStreamed (world_of old) streams → AreStreamed (world_of last) streams
+  watched_streamed all = subst (λ w. AreStreamed w streams) (sym watched_world) all
 
   pub watched_distinct : AreDistinct (world_of last)
   watched_distinct = subst AreDistinct (sym watched_world) so.distinct
@@ -218,7 +250,7 @@ pub record IsLeft (name : List ℕ) (old new : Holders Observing)
   pub replications : new.replications ≡ old.replications
   pub epochs : new.epoch ≡ old.epoch
 
-module _ (name : List ℕ) (old new : Holders Observing) (moment : ℕ) (hooks : Hooking) (ps : List QueryPlace)
+module _ (name : List ℕ) (old new : Holders Observing) (moment : ℕ) (hooks : Hooking) (streams : List Stream) (ps : List QueryPlace)
     (so : IsLeft name old new ps) where
   -- by its place
   left_colls : (o : Option QueryPlace) → colls (without_observed name o (holders_in old))
@@ -262,13 +294,16 @@ module _ (name : List ℕ) (old new : Holders Observing) (moment : ℕ) (hooks :
       subst (λ ls. ArePlaced ls (rest_of name ps)) (sym so.dropped)
       (left_placed (place_named name ps) refl)
 
+  pub without_streamed : AreStreamed (world_of old) streams → AreStreamed (world_of new) streams
+  without_streamed all = subst (λ w. AreStreamed w streams) (sym without_world) all
+
   pub without_distinct : AreDistinct (world_of new)
   without_distinct = subst AreDistinct (sym without_world) so.distinct
 
   pub without_quiet : AllByRecursion IsQuiet (holders_in new)
   without_quiet = subst (AllByRecursion IsQuiet) (sym so.dropped) (left_quiet (place_named name ps))
 
-  pub without_due : emissions (session_after (unwatch name) (session_of old moment hooks ps)) ≡ []
+  pub without_due : emissions (session_after (unwatch name) (session_of old moment hooks streams ps)) ≡ []
   without_due =
       sym (ap (λ qs. flat_map (emission_due (world_of old)) qs) without_queries)
       ∙ sym (ap (λ w. flat_map (emission_due w) (queries_of (holders_in new) (rest_of name ps)))
@@ -285,7 +320,7 @@ module _ (name : List ℕ) (old new : Holders Observing) (moment : ℕ) (hooks :
       ∙ ap (λ w. map (settled_query w)
       (filter (λ x. not (bytes_eq name x.name)) (queries_of (holders_in old) ps))) without_world
 
-  pub without_session : session_of new moment hooks (rest_of name ps)
-      ≡ settled_session (session_after (unwatch name) (session_of old moment hooks ps))
+  pub without_session : session_of new moment hooks streams (rest_of name ps)
+      ≡ settled_session (session_after (unwatch name) (session_of old moment hooks streams ps))
   without_session =
-      λ i. record { world = without_world i; moment = moment; hooks = hooks; queries = without_settled i }
+      λ i. record { world = without_world i; moment = moment; hooks = hooks; streams = streams; queries = without_settled i }

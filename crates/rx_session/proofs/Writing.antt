@@ -15,7 +15,6 @@ use Rattle.rx_collection.specs.Held.{Held}
 use Rattle.rx_record.specs.Content.{Content, collection, rows, replication, exchange, migration}
 use Rattle.rx_record.specs.declared.record.RowOut.{RowOut}
 use Rattle.rx_observe.specs.Observing.{Observing, watch_after}
-use Rattle.rx_observe.specs.Rows.{emissions_due}
 use Rattle.rx_observe.specs.Watched.{Watched}
 use Rattle.rx_world.specs.Migrating.{is_in_group}
 use Rattle.rx_world.specs.Schema.{schema_in}
@@ -23,10 +22,10 @@ use Rattle.rx_world.specs.Step.{legal, stored_rows}
 use Rattle.rx_world.specs.Touch.{IsNoMigration, Touch, no_collection, new_collection, new_rows, remade, remade_where, new_where, fork_rows, touch}
 use Rattle.rx_world.specs.World.{World}
 use Rattle.rx_world.specs.declared.replication.Replication.{Replication}
-use Rattle.rx_world.proofs.Looked.{all_change_named, all_put_named, named-change_other, named-change_same, named-put_other}
-use Rattle.rx_session.specs.Applied.{IsAfter, coll_written, with_written}
+use Rattle.rx_world.proofs.Looked.{all_put_named, named-change_other, named-change_same, named-put_other}
+use Rattle.rx_session.specs.Applied.{IsAfter, with_written}
 use Rattle.rx_session.specs.Doing.{query_after, watch_in, IsUnobserved}
-use Rattle.rx_session.specs.Placed.{Lives, ArePlaced, AreQuietBut, IsQuiet, names_in, queries_of, watched_at, with_found}
+use Rattle.rx_session.specs.Placed.{Lives, ArePlaced, names_in, queries_of, watched_at, with_found}
 use Rattle.rx_session.specs.Session.{Observed, with_watched}
 use Rattle.rx_session.specs.declared.query_place.QueryPlace.{QueryPlace}
 use Rattle.rx_session.proofs.Places.{AreFound, all_of, colls, keys-map, map_same, named-colls, named-map, observed_at, placed_changed, placed_found, queries_become, queries_stay, query_at}

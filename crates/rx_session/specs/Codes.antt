@@ -5,6 +5,8 @@ use Rattle.rx_collection.specs.Held.{Held}
 use Rattle.rx_collection.specs.contracts.collection.Collection as collection
 use Rattle.rx_observe.specs.Codes.{watched_code}
 use Rattle.rx_observe.specs.Watched.{Watched}
+use Rattle.rx_stream.specs.contracts.stream.Stream as stream
+use Rattle.rx_stream.specs.declared.stream.Stream.{Stream}
 use Rattle.rx_update.specs.Attached.{Hooking}
 use Rattle.rx_update.specs.Hooks.{HookKinds}
 use Rattle.rx_update.specs.contracts.attached.Attached as attached
@@ -50,8 +52,15 @@ hooking_code =
 -- a session
 abbrev pub session_code : Coded Session
 session_code =
-    code_by (World × (ℕ × (Hooking × List Observed)))
-    (coded× world_code (coded× coded_ℕ (coded× hooking_code (coded_list observed_code))))
-    (λ s. (s.world, (s.moment, (s.hooks, s.queries))))
-    (λ p. record { world = p.0; moment = p.1.0; hooks = p.1.1.0; queries = p.1.1.1 })
+    code_by (World × (ℕ × (Hooking × (List Stream × List Observed))))
+    (coded× world_code (coded× coded_ℕ (coded× hooking_code
+    (coded× (coded_list stream.the_row.coded) (coded_list observed_code)))))
+    (λ s. (s.world, (s.moment, (s.hooks, (s.streams, s.queries)))))
+    (λ p. record {
+      world = p.0;
+      moment = p.1.0;
+      hooks = p.1.1.0;
+      streams = p.1.1.1.0;
+      queries = p.1.1.1.1;
+    })
     (λ _. refl)

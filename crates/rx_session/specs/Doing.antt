@@ -1,15 +1,19 @@
 -- What a line does to a session.
-use Rattle.std.specs.Prelude.{⊤, ◌≡◌, ℕ, ◌+◌, List, [], ◌∷◌, ◌++◌, map, filter, Bool, true, false, not, Option, Some, None, if◌then◌else◌}
+use Rattle.std.specs.Prelude.{⊤, ◌≡◌, ℕ, ◌+◌, List, [], ◌∷◌, ◌++◌, map, filter, Bool, true, false, not, Option, Some, None, option_and_then, if◌then◌else◌}
 use Rattle.std.specs.List.{AllByRecursion}
 use Rattle.std.specs.Str.{bytes_eq}
 use Rattle.rx_value.specs.Named.{named}
 use Rattle.rx_query.specs.QuerySpec.{QuerySpec}
 use Rattle.rx_collection.specs.Held.{Held}
+use Rattle.rx_document.specs.declared.place.Place.{Place}
 use Rattle.rx_record.specs.Content.{Content, epoch, migration}
 use Rattle.rx_record.specs.Writable.{IsOrdered}
 use Rattle.rx_record.specs.declared.record.RowOut.{RowOut}
 use Rattle.rx_observe.specs.Observing.{watch_after, new_watch, cooled}
 use Rattle.rx_observe.specs.Watched.{Watched}
+use Rattle.rx_stream.specs.Events.{Queue, emptied, follow, kept, new_queue}
+use Rattle.rx_stream.specs.declared.event.Event.{Event}
+use Rattle.rx_stream.specs.declared.stream.Stream.{Stream}
 use Rattle.rx_update.specs.Attached.{Hooking}
 use Rattle.rx_update.specs.declared.attached.Attached.{Attached}
 use Rattle.rx_world.specs.Migrating.{is_in_group}
@@ -18,10 +22,12 @@ use Rattle.rx_world.specs.Touch.{IsMigration, IsNoMigration, Touch, no_collectio
 use Rattle.rx_world.specs.World.{World}
 use Rattle.rx_session.specs.Emissions.{documents_at}
 use Rattle.rx_session.specs.Session.{Observed, Session, is_observed, with_watched}
+use Rattle.rx_session.specs.Streams.{IsStreamable}
 
 -- nothing is changed, the clock is set, a record is written, the record of a migration is, a query
--- is observed under a name in a collection, a query is observed no more, a hook is attached, or the
--- journal is opened again in that epoch
+-- is observed under a name in a collection, a query is observed no more, a hook is attached, the
+-- stream of a replication is opened from its master, one is closed, or the journal is opened again in
+-- that epoch
 pub data Doing : Type 0 where
   nothing : Doing
   set_clock : ℕ → Doing
@@ -30,6 +36,8 @@ pub data Doing : Type 0 where
   watch : List ℕ → List ℕ → QuerySpec → Doing
   unwatch : List ℕ → Doing
   attach : Attached → Doing
+  open_stream : List ℕ → List ℕ → Doing
+  close_stream : List ℕ → Doing
   restart : ℕ → Doing
 
 -- the state of a query after rows that its collection takes one by one, where there is one
@@ -58,10 +66,53 @@ new_query w name coll q = record {
 abbrev pub with_attached : Attached → Hooking → Hooking
 with_attached one hooks = record hooks { attached = hooks.attached ++ one ∷ [] }
 
--- with a record more, which the queries have followed
+-- ---- streams
+
+-- with what its master wrote behind the events that it has
+abbrev pub stream_in : World → Stream → Stream
+stream_in w st =
+    record st { queue = follow (documents_at (named w.collections st.master)) st.queue }
+
+-- the streams that a record leaves open: a migration closes those of its group
+abbrev pub still_open : Content → World → List Stream → List Stream
+still_open (migration name text steps) w sts =
+    filter (λ st. not (is_in_group w.replications name st.master)) sts
+still_open other w sts = sts
+
+-- how far a replication has pulled
+abbrev pub pulled_to : List ℕ → World → Option Place
+pulled_to name w = option_and_then (λ r. r.side.down) (named w.replications name)
+
+-- one of a replication that begins at its master's last document
+abbrev pub new_stream : World → List ℕ → List ℕ → Stream
+new_stream w name master = record {
+  name = name;
+  master = master;
+  queue = new_queue (pulled_to name w) (documents_at (named w.collections master));
+}
+
+-- with another queue at the stream of a name
+abbrev pub with_queue : List ℕ → (Queue → Queue) → List Stream → List Stream
+with_queue name change [] = []
+with_queue name change (st ∷ sts) =
+    if bytes_eq name st.name then record st { queue = change st.queue } ∷ sts
+    else st ∷ with_queue name change sts
+
+-- the stream of a name has given what it had queued
+abbrev pub with_emptied : List ℕ → Session → Session
+with_emptied name s = record s { streams = with_queue name emptied s.streams }
+
+-- the stream of a name keeps events behind what it has queued
+abbrev pub with_kept : List ℕ → List Event → Session → Session
+with_kept name events s = record s { streams = with_queue name (kept events) s.streams }
+
+-- ---- what a line does
+
+-- with a record more, which the queries and the streams have followed
 abbrev pub with_record : Content → Session → Session
 with_record content s = record s {
   world = step content s.world;
+  streams = map (stream_in (step content s.world)) (still_open content s.world s.streams);
   queries = map (query_after s.world (touch content s.world)) s.queries;
 }
 
@@ -87,8 +138,13 @@ session_after (watch name coll q) s =
 session_after (unwatch name) s =
     record s { queries = filter (λ o. not (bytes_eq name o.name)) s.queries }
 session_after (attach one) s = record s { hooks = with_attached one s.hooks }
+session_after (open_stream name master) s =
+    record s { streams = s.streams ++ new_stream s.world name master ∷ [] }
+session_after (close_stream name) s =
+    record s { streams = filter (λ st. not (bytes_eq name st.name)) s.streams }
 session_after (restart number) s = record s {
   world = step (epoch number) s.world;
+  streams = [];
   queries = map (λ o. with_watched (cooled o.watched) o) s.queries;
 }
 
@@ -104,13 +160,14 @@ IsUnobserved (remade in_group schema steps) queries =
 IsUnobserved other queries = Unit {0}
 
 -- a record is legal, in order and no migration; that of a migration is legal, and nothing is observed
--- in its group; a query's name is free, and its collection has its primary key; an epoch is the next
--- one
+-- in its group; a query's name is free, and its collection has its primary key; a stream's master is
+-- that of its replication; an epoch is the next one
 abbrev pub MayDo : Doing → Session → Type 0
 MayDo (write c) s = (legal c s.world ≡ true) × IsOrdered c × IsNoMigration c
 MayDo (migrate c) s =
     (legal c s.world ≡ true) × IsMigration c × IsUnobserved (touch c s.world) s.queries
 MayDo (watch name coll q) s =
     (is_observed name s ≡ false) × (has_key q.primary (named s.world.collections coll) ≡ true)
+MayDo (open_stream name master) s = IsStreamable s.world name master
 MayDo (restart number) s = number ≡ s.world.epoch + 1
 MayDo _ s = ⊤

@@ -8,3 +8,4 @@ pub mod Lives
 pub mod Applied
 pub mod Shown
 pub mod Playing
+pub mod Streams

@@ -1,5 +1,5 @@
 -- A session in play: a line has written records, whose emissions are still due.
-use Rattle.std.specs.Prelude.{◌≡◌, ℕ, Bool, false, List, [], ◌∷◌, ◌++◌, Option, Some, None, if◌then◌else◌}
+use Rattle.std.specs.Prelude.{◌≡◌, ℕ, false, List, [], ◌∷◌, ◌++◌, Option, Some, None, if◌then◌else◌}
 use Rattle.std.specs.List.{AllByRecursion, cons_option, find, list_any}
 use Rattle.std.specs.Str.{bytes_eq}
 use Rattle.rx_value.specs.Named.{named, change_named}
@@ -12,6 +12,7 @@ use Rattle.rx_session.specs.Applied.{coll_written}
 use Rattle.rx_session.specs.Lives.{due_of, with_settled}
 use Rattle.rx_session.specs.Placed.{Lives, ArePlaced, IsQuiet, queries_of, world_of}
 use Rattle.rx_session.specs.Session.{Session}
+use Rattle.rx_session.specs.Streams.{AreStreamed}
 use Rattle.rx_session.specs.declared.query_place.QueryPlace.{QueryPlace}
 use Rattle.rx_session.specs.declared.playing.Playing.TheInside.{Inside}
 
@@ -39,14 +40,16 @@ session_in_play s = record {
   world = world_of s.world;
   moment = s.moment;
   hooks = hooking_of s.hooks;
+  streams = s.streams.items;
   queries = queries_of (holders_in s.world) s.places.items;
 }
 
--- the places are those of the collections' queries, no name of a collection comes twice, and
--- nothing is to be emitted of a collection that wasn't written
+-- the places are those of the collections' queries, no name of a collection comes twice, each stream
+-- has what its master committed, and nothing is to be emitted of a collection that wasn't written
 pub record IsInPlay (s : Inside) : Type 0 where
   pub placed : ArePlaced (holders_in s.world) s.places.items
   pub distinct : AreDistinct (world_of s.world)
+  pub streamed : AreStreamed (world_of s.world) s.streams.items
   pub quiet : AreQuietUnless s.written.items (holders_in s.world)
 
 -- ---- their emissions

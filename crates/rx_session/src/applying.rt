@@ -80,6 +80,8 @@ pub(crate) fn apply_legal(
     ensures world { IfOk result (λ w. world_of w ≡ step (content entry) (world_of world)) }
     ensures lives { IfOk result
         (λ w. IsAfter (touch (content entry) (world_of world)) (holders_in world) (holders_in w)) }
+    ensures made { IfOk result (λ w. IsMadeWorld (world_of w)) }
+    ensures before { IsMadeWorld (world_of world) }
 {
     change_legal(
         world,
@@ -102,6 +104,8 @@ fn change_legal<F: Fn(Collection) -> Result<Live, AllocError>>(
     ensures world { IfOk result (λ w. world_of w ≡ step (content entry) (world_of world)) }
     ensures lives { IfOk result
         (λ w. IsAfter (touch (content entry) (world_of world)) (holders_in world) (holders_in w)) }
+    ensures made { IfOk result (λ w. IsMadeWorld (world_of w)) }
+    ensures before { IsMadeWorld (world_of world) }
 {
     let applied = world.apply_legal(alloc, entry, make)?;
     Ok(applied)

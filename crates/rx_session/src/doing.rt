@@ -12,6 +12,15 @@ pub enum Doing {
     Watch(Watch),
     Unwatch(RxText),
     Attach(Attached),
+    OpenStream(Opening),
+    CloseStream(RxText),
+}
+
+/// A stream that is to be opened: the name of its replication, and that of the master.
+#[derive(Drop)]
+pub struct Opening {
+    pub name: RxText,
+    pub master: RxText,
 }
 
 /// A query that is to be observed, its name, and the name of its collection.

@@ -1,5 +1,5 @@
-//! What there is between two lines of a script: collections with their observed queries, and the
-//! present moment. A line that writes several records plays them one after another, and then
+//! What there is between two lines of a script: collections with their observed queries, open
+//! streams, and the present moment. A line that writes several records plays them one after another, and then
 //! settles.
 #![tactic(auto)]
 
@@ -11,8 +11,9 @@ mod playing;
 mod query_place;
 mod reopening;
 mod session;
+mod streaming;
 
 pub use applying::apply;
-pub use doing::{Doing, Watch};
+pub use doing::{Doing, Opening, Watch};
 pub use playing::Playing;
 pub use session::Session;

@@ -43,6 +43,8 @@ impl Session {
             Doing::Watch(watch) => self.watch(alloc, watch),
             Doing::Unwatch(name) => Ok((self.unwatch(&name), Vec::new(alloc))),
             Doing::Attach(one) => Ok((self.attach(one)?, Vec::new(alloc))),
+            Doing::OpenStream(opening) => Ok((self.open_stream(alloc, opening)?, Vec::new(alloc))),
+            Doing::CloseStream(name) => Ok((self.close_stream(&name), Vec::new(alloc))),
         }
     }
 }
@@ -67,6 +69,7 @@ impl Session {
             world: self.world,
             moment,
             hooks: self.hooks,
+            streams: self.streams,
             places: self.places,
             diagram: self.diagram,
         }
@@ -83,6 +86,7 @@ impl Session {
             world,
             moment,
             mut hooks,
+            streams,
             places,
             diagram,
         } = self;
@@ -91,6 +95,7 @@ impl Session {
             world,
             moment,
             hooks,
+            streams,
             places,
             diagram,
         })
@@ -125,6 +130,7 @@ impl Session {
             mut world,
             moment,
             hooks,
+            streams,
             mut places,
             diagram,
         } = self;
@@ -135,6 +141,7 @@ impl Session {
             world,
             moment,
             hooks,
+            streams,
             places,
             diagram,
         };
@@ -155,6 +162,7 @@ impl Session {
             world,
             moment: self.moment,
             hooks: self.hooks,
+            streams: self.streams,
             places,
             diagram: self.diagram,
         }

@@ -1,6 +1,6 @@
 // A session in the midst of a line.
 ghost use Rattle.std.specs.Prelude.{◌≡◌, ◌++◌, true, filter, not, IfOk, OnOk};
-ghost use Rattle.std.specs.List.{list_any};
+ghost use Rattle.std.specs.List.{AllByRecursion, list_any};
 ghost use Rattle.std.specs.Str.{bytes_eq};
 ghost use Rattle.rx_record.specs.Shown.{content};
 ghost use Rattle.rx_record.specs.Writable.{IsOrdered};
@@ -9,18 +9,22 @@ ghost use Rattle.rx_world.specs.Migrating.{is_in_group};
 ghost use Rattle.rx_world.specs.Step.{legal};
 ghost use Rattle.rx_world.specs.Touch.{touch};
 ghost use Rattle.rx_session.specs.Doing as doing;
-ghost use Rattle.rx_session.specs.Doing.{session_after, without_hooks, IsUnobserved};
+ghost use Rattle.rx_session.specs.Doing.{session_after, with_emptied, with_kept, without_hooks, IsUnobserved};
 ghost use Rattle.rx_session.specs.Emissions.{emissions, settled_session, IsSettled};
 ghost use Rattle.rx_session.specs.Placed.{world_of};
+ghost use Rattle.rx_session.specs.Session.{has_lost, queued_in};
+ghost use Rattle.rx_session.specs.Streams.{AreStreamed, IsGoodFor};
 ghost use Rattle.rx_session.specs.Playing.{coll_to_note, due_each, due_in_all, emission_of, in_places, add_written, settled_each, without_emission};
 
 use crate::applying::{apply_legal, coll_written};
 use crate::emitting::take_due;
 use crate::query_place::QueryPlace;
 use crate::session::Session;
+use crate::streaming::{follow_all, keep_queued, still_open, take_queued};
 use rx_diagram::Diagram;
 use rx_observe::{Emission, Live};
 use rx_record::Record;
+use rx_stream::{Event, Stream};
 use rx_update::{Attached, Attachments};
 use rx_value::RxText;
 use rx_world::World;
@@ -35,6 +39,7 @@ pub struct Playing {
     world: World<Live>,
     moment: u64,
     hooks: Attachments,
+    streams: Vec<Stream>,
     places: Vec<QueryPlace>,
     diagram: Rc<Diagram>,
     // The names of the collections whose documents were written, where any query is observed.
@@ -65,6 +70,7 @@ impl Session {
             world,
             moment,
             mut hooks,
+            streams,
             places,
             diagram,
         } = self;
@@ -75,6 +81,7 @@ impl Session {
             world,
             moment,
             hooks,
+            streams,
             places,
             diagram,
         }
@@ -89,6 +96,7 @@ impl Session {
             world: self.world,
             moment: self.moment,
             hooks: self.hooks,
+            streams: self.streams,
             places: self.places,
             diagram: self.diagram,
             written: Vec::new(alloc),
@@ -115,17 +123,77 @@ impl Playing {
             world,
             moment,
             hooks,
+            streams,
             places,
             diagram,
             mut written,
         } = self;
         let coll = coll_to_note(alloc, &world, places.as_slice(), &entry)?;
+        let streams = still_open(streams, &world, &entry);
         let world = apply_legal(world, alloc, entry, &diagram)?;
+        let streams = follow_all(alloc, &world, streams)?;
         note(&mut written, coll)?;
         Ok(Playing {
             world,
             moment,
             hooks,
+            streams,
+            places,
+            diagram,
+            written,
+        })
+    }
+
+    /// The session without what the stream of a name has queued, those events, and whether it has
+    /// lost any.
+    pub fn take_queue(self, alloc: Global, name: &str) -> (Playing, Vec<Event>, bool)
+        ensures session { result.0 ≡ with_emptied name.now self }
+        ensures events { result.1.items ≡ queued_in name.now self }
+        ensures lost { result.2 ≡ has_lost name.now self }
+        ensures streamed { AreStreamed self.world self.streams }
+    {
+        let Playing {
+            world,
+            moment,
+            hooks,
+            mut streams,
+            places,
+            diagram,
+            written,
+        } = self;
+        let (events, lost) = take_queued(alloc, &mut streams, name);
+        let playing = Playing {
+            world,
+            moment,
+            hooks,
+            streams,
+            places,
+            diagram,
+            written,
+        };
+        (playing, events, lost)
+    }
+
+    /// The session with events behind what the stream of a name has queued.
+    pub fn keep_events(self, name: &str, events: Vec<Event>) -> Result<Playing, AllocError>
+        requires good { AllByRecursion (IsGoodFor self.world name.now) events.items }
+        ensures { IfOk result (λ p. p ≡ with_kept name.now events.items self) }
+    {
+        let Playing {
+            world,
+            moment,
+            hooks,
+            mut streams,
+            places,
+            diagram,
+            written,
+        } = self;
+        keep_queued(&mut streams, name, events)?;
+        Ok(Playing {
+            world,
+            moment,
+            hooks,
+            streams,
             places,
             diagram,
             written,
@@ -141,6 +209,7 @@ impl Playing {
             mut world,
             moment,
             hooks,
+            streams,
             places,
             diagram,
             written,
@@ -150,6 +219,7 @@ impl Playing {
             world,
             moment,
             hooks,
+            streams,
             places,
             diagram,
         };

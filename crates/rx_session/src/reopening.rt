@@ -19,7 +19,7 @@ use std::alloc::{AllocError, Global};
 
 impl Session {
     /// The session on the same collections and replications as a journal gave them. Its queries are
-    /// cold, and go on.
+    /// cold, and go on. Its streams are closed.
     pub fn reopen(self, alloc: Global, world: World<Live>) -> Result<Session, AllocError>
         requires same { (world_of world).collections ≡ self.world.collections }
         requires replications { (world_of world).replications ≡ self.world.replications }
@@ -35,6 +35,7 @@ impl Session {
             world,
             moment: self.moment,
             hooks: self.hooks,
+            streams: Vec::new(alloc),
             places: self.places,
             diagram: self.diagram,
         })

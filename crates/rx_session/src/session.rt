@@ -22,6 +22,7 @@ use rx_collection::Collection;
 use rx_diagram::Diagram;
 use rx_observe::Live;
 use rx_record::Record;
+use rx_stream::Stream;
 use rx_table::Counts;
 use rx_update::{Attachments, HookKind};
 use rx_value::{RxText, State};
@@ -30,13 +31,15 @@ use std::alloc::Global;
 use std::marker::Model;
 use std::rc::Rc;
 
-/// Collections with their observed queries and hooks, and the present moment. Between two lines nothing is
-/// to be emitted.
+/// Collections with their observed queries, hooks and streams, and the present moment. Between two
+/// lines nothing is to be emitted.
 #[derive(Drop)]
 pub struct Session {
     pub(crate) world: World<Live>,
     pub(crate) moment: u64,
     pub(crate) hooks: Attachments,
+    /// The open streams in the order of opening.
+    pub(crate) streams: Vec<Stream>,
     /// The observed queries in the order of observing.
     pub(crate) places: Vec<QueryPlace>,
     /// A share for each collection that is made later.
@@ -72,6 +75,7 @@ impl Session {
           world = world_of world;
           moment = 0;
           hooks = record { known = known.items; attached = [] };
+          streams = [];
           queries = [];
         } }
     {
@@ -82,6 +86,7 @@ impl Session {
                 known,
                 attached: Vec::new(alloc),
             },
+            streams: Vec::new(alloc),
             places: Vec::new(alloc),
             diagram,
         }

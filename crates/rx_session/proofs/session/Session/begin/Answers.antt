@@ -13,6 +13,7 @@ invariant_of-result c =
     record {
       placed = c.self.invariant.placed;
       distinct = c.self.invariant.distinct;
+      streamed = c.self.invariant.streamed;
       quiet = subst (λ written. AreQuietUnless written ls) (sym c.new.ensures.items)
           (none_written ls c.self.invariant.quiet);
     }
@@ -21,4 +22,4 @@ pub returns-clause-before : goal.returns-clause-before
 returns-clause-before c =
     let i = c.self.inside in
     subst IsSettled c.self.view_is
-    (is_settled i.world i.places.items c.self.invariant.quiet i.moment (hooking_of i.hooks))
+    (is_settled i.world i.places.items c.self.invariant.quiet i.moment (hooking_of i.hooks) i.streams.items)

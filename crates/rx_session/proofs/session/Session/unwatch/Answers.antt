@@ -7,7 +7,7 @@ use Rattle.rx_session.specs.Emissions.{emissions, settled_session, IsSettled}
 use Rattle.rx_session.specs.Placed.{ArePlaced, place_named}
 use Rattle.rx_session.specs.Session.{Session}
 use Rattle.rx_session.proofs.Dropping.{rest_of}
-use Rattle.rx_session.proofs.Settling.{IsLeft, is_settled, session_of, without_due, without_session, without_placed, without_distinct, without_quiet}
+use Rattle.rx_session.proofs.Settling.{IsLeft, is_settled, session_of, without_due, without_session, without_placed, without_distinct, without_quiet, without_streamed}
 use Rattle.rx_session.proofs.session.Session.unwatch.Goals as goal
 
 -- what was done to the collections
@@ -40,9 +40,11 @@ invariant_of-result c =
     let ps = i.places.items in
     record {
       placed = subst (ArePlaced (holders_in new)) (sym (left c))
-          (without_placed name i.world new i.moment (hooking_of i.hooks) ps (done c));
-      distinct = without_distinct name i.world new i.moment (hooking_of i.hooks) ps (done c);
-      quiet = without_quiet name i.world new i.moment (hooking_of i.hooks) ps (done c);
+          (without_placed name i.world new i.moment (hooking_of i.hooks) i.streams.items ps (done c));
+      streamed = without_streamed name i.world new i.moment (hooking_of i.hooks) i.streams.items ps
+          (done c) c.self.invariant.streamed;
+      distinct = without_distinct name i.world new i.moment (hooking_of i.hooks) i.streams.items ps (done c);
+      quiet = without_quiet name i.world new i.moment (hooking_of i.hooks) i.streams.items ps (done c);
     }
 
 pub returns-clause-session : goal.returns-clause-session
@@ -50,20 +52,20 @@ returns-clause-session c =
     let i = c.self.inside in
     let name = c.args.name.now in
     let new = c.unobserve_at.new.world in
-    subst (λ (s : Session). session_of new i.moment (hooking_of i.hooks) c.drop_place.new.places.items
+    subst (λ (s : Session). session_of new i.moment (hooking_of i.hooks) i.streams.items c.drop_place.new.places.items
     ≡ settled_session (session_after (unwatch name) s)) c.self.view_is
-    (ap (session_of new i.moment (hooking_of i.hooks)) (left c)
-    ∙ without_session name i.world new i.moment (hooking_of i.hooks) i.places.items (done c))
+    (ap (session_of new i.moment (hooking_of i.hooks) i.streams.items) (left c)
+    ∙ without_session name i.world new i.moment (hooking_of i.hooks) i.streams.items i.places.items (done c))
 
 pub returns-clause-emissions : goal.returns-clause-emissions
 returns-clause-emissions c =
     let i = c.self.inside in
     let name = c.args.name.now in
     subst (λ (s : Session). emissions (session_after (unwatch name) s) ≡ []) c.self.view_is
-    (without_due name i.world c.unobserve_at.new.world i.moment (hooking_of i.hooks) i.places.items (done c))
+    (without_due name i.world c.unobserve_at.new.world i.moment (hooking_of i.hooks) i.streams.items i.places.items (done c))
 
 pub returns-clause-before : goal.returns-clause-before
 returns-clause-before c =
     let i = c.self.inside in
     subst IsSettled c.self.view_is
-    (is_settled i.world i.places.items c.self.invariant.quiet i.moment (hooking_of i.hooks))
+    (is_settled i.world i.places.items c.self.invariant.quiet i.moment (hooking_of i.hooks) i.streams.items)
