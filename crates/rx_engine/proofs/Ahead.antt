@@ -126,6 +126,8 @@ asks_stay (done.Write entry) w asks = refl
 asks_stay (done.Watch query) w asks = refl
 asks_stay (done.Unwatch name) w asks = refl
 asks_stay (done.Attach name) w asks = refl
+asks_stay (done.OpenStream opening) w asks = refl
+asks_stay (done.CloseStream name) w asks = refl
 
 -- ---- a line was answered
 

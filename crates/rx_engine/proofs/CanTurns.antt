@@ -2,23 +2,28 @@
 use Rattle.std.proofs.Common.{◌≡◌, ap, subst, refl, ℕ, List, Bool, true, false, Option, Some, None, is_none, Result, Ok, Err}
 use Rattle.std.specs.Bool.{⊤}
 use Rattle.std.specs.Option.{option_map_or}
+use Rattle.std.specs.Prelude.{IsSome}
 use Rattle.rx_value.specs.Due.{◌>>◌, demand, lifted, or_fault}
 use Rattle.rx_value.specs.Named.{named}
 use Rattle.rx_handler.specs.Handlers.{Kinds}
 use Rattle.rx_handler.specs.declared.kind.HandlerKind.{HandlerKind}
 use Rattle.rx_record.specs.declared.record.MasterName.{MasterName}
 use Rattle.rx_record.specs.declared.record.MasterName.TheVariants.{Local, Port}
-use Rattle.rx_script.specs.Asked.{Asked, Collection, Insert, Bulk, Upsert, Patch, Update, Remove, Hook, Migrate, Get, Find, Count, Observe, Unobserve, Explain, Replicate, Turn, Changes, Tick, Restart, Digest}
+use Rattle.rx_reply.specs.declared.refusal.Refusal.TheVariants.{NoStream}
+use Rattle.rx_script.specs.Asked.{Asked, Collection, Insert, Bulk, Upsert, Patch, Update, Remove, Hook, Migrate, Get, Find, Count, Observe, Unobserve, Explain, Replicate, Turn, Stream, Deliver, Unstream, Changes, Tick, Restart, Digest}
 use Rattle.rx_script.specs.Line.{line_of}
+use Rattle.rx_script.specs.declared.delivery.Delivery.{Delivery}
 use Rattle.rx_script.specs.declared.fault.LineFault.{LineFault}
 use Rattle.rx_script.specs.declared.happening.Happening.{Happening}
-use Rattle.rx_session.specs.Session.{Session}
+use Rattle.rx_session.specs.Session.{Session, stream_of}
+use Rattle.rx_stream.specs.declared.stream.Stream.{Stream as StreamHere}
 use Rattle.rx_world.specs.declared.replication.Replication.{Replication}
 use Rattle.rx_writes.specs.Faults.{of_line}
 use Rattle.rx_engine.specs.Calling.{Call as ToCall, CanCall}
-use Rattle.rx_engine.specs.Lines.{Task, answered, turns, calls, asked_outcome, asked_task, task, task_or_refusal, turn_line, turn_to}
+use Rattle.rx_engine.specs.Lines.{Task, answered, turns, calls, delivers, asked_outcome, asked_task, deliver_line, task, task_or_refusal, turn_line, turn_to}
 use Rattle.rx_engine.specs.Outcome.{Outcome}
 use Rattle.rx_engine.specs.Replicate.{has_handler, takes_field}
+use Rattle.rx_engine.specs.Streams.{Deliver as ToDeliver, deliver_over, replication_at, stream_at}
 use Rattle.rx_engine.specs.Turning.{CanTurn, Turn as ToTurn, is_handled, turn_here, turned_at}
 use Rattle.rx_writes.specs.declared.fault.Fault.{Fault}
 use Rattle.rx_writes.specs.declared.fault.Fault.TheVariants.{Refused, Memory}
@@ -121,6 +126,17 @@ no_call : (r : Result Outcome Fault) (c : ToCall)
 no_call (Ok o) c is = cc
 no_call (Err fault) c is = cc
 
+-- a delivery is neither
+no_outcome_delivery : (r : Result StreamHere Fault) (d : ToDeliver) (u : ToTurn)
+    → (r >> λ st. Ok (delivers d)) ≡ Ok (turns u) → ⊥
+no_outcome_delivery (Ok st) d u is = cc
+no_outcome_delivery (Err fault) d u is = cc
+
+no_call_delivery : (r : Result StreamHere Fault) (d : ToDeliver) (c : ToCall)
+    → (r >> λ st. Ok (delivers d)) ≡ Ok (calls c) → ⊥
+no_call_delivery (Ok st) d c is = cc
+no_call_delivery (Err fault) d c is = cc
+
 can_ask : (kinds : Kinds) (ask : Asked) (s : Session) (u : ToTurn)
     → asked_task kinds ask s ≡ Ok (turns u) → CanTurn kinds s u.name
 can_ask kinds (Turn name batch budget link) s u is = can_by kinds name batch budget link s u is
@@ -140,6 +156,9 @@ can_ask kinds (Observe name coll query) s u is = absurd (no_outcome _ u is)
 can_ask kinds (Unobserve name) s u is = absurd (no_outcome _ u is)
 can_ask kinds (Explain name) s u is = absurd (no_outcome _ u is)
 can_ask kinds (Replicate name fork master handler field) s u is = absurd (no_outcome _ u is)
+can_ask kinds (Stream name) s u is = absurd (no_outcome _ u is)
+can_ask kinds (Deliver name link) s u is = absurd (no_outcome_delivery (stream_at name s) (deliver_over name link) u is)
+can_ask kinds (Unstream name) s u is = absurd (no_outcome _ u is)
 can_ask kinds (Changes coll since batch) s u is = absurd (no_outcome _ u is)
 can_ask kinds (Tick at) s u is = absurd (no_outcome (asked_outcome kinds (Tick at) s) u is)
 can_ask kinds Restart s u is = absurd (no_outcome (asked_outcome kinds Restart s) u is)
@@ -164,6 +183,9 @@ call_ask kinds (Observe name coll query) s c is = absurd (no_call _ c is)
 call_ask kinds (Unobserve name) s c is = absurd (no_call _ c is)
 call_ask kinds (Explain name) s c is = absurd (no_call _ c is)
 call_ask kinds (Replicate name fork master handler field) s c is = absurd (no_call _ c is)
+call_ask kinds (Stream name) s c is = absurd (no_call _ c is)
+call_ask kinds (Deliver name link) s c is = absurd (no_call_delivery (stream_at name s) (deliver_over name link) c is)
+call_ask kinds (Unstream name) s c is = absurd (no_call _ c is)
 call_ask kinds (Changes coll since batch) s c is = absurd (no_call _ c is)
 call_ask kinds (Tick at) s c is = absurd (no_call (asked_outcome kinds (Tick at) s) c is)
 call_ask kinds Restart s c is = absurd (no_call (asked_outcome kinds Restart s) c is)
@@ -199,3 +221,82 @@ call_read kinds (Err fault) s c is = absurd (cc)
 pub can_call : (kinds : Kinds) (line : List ℕ) (s : Session) (c : ToCall)
     → task kinds line s ≡ calls c → CanCall kinds s c.name
 can_call kinds line s c is = call_read kinds (line_of line) s c (call_task_is _ c is)
+
+-- ---- a delivery
+
+no_outcome_deliver : (r : Result Outcome Fault) (d : ToDeliver)
+    → (r >> λ o. Ok (answered o)) ≡ Ok (delivers d) → ⊥
+no_outcome_deliver (Ok o) d is = cc
+no_outcome_deliver (Err fault) d is = cc
+
+no_turn_deliver : (m : MasterName) (name : List ℕ) (batch budget : ℕ)
+    (link : Option (List Happening)) (d : ToDeliver)
+    → turn_to m name batch budget link ≡ Ok (delivers d) → ⊥
+no_turn_deliver (Local at) name batch budget link d is = cc
+no_turn_deliver (Port port) name batch budget None d is = cc
+no_turn_deliver (Port port) name batch budget (Some link) d is = cc
+
+no_turn_line : (r : Result Replication Fault) (name : List ℕ) (batch budget : ℕ)
+    (link : Option (List Happening)) (d : ToDeliver)
+    → (r >> λ r. turn_to r.master name batch budget link) ≡ Ok (delivers d) → ⊥
+no_turn_line (Ok r) name batch budget link d is =
+    no_turn_deliver r.master name batch budget link d is
+no_turn_line (Err fault) name batch budget link d is = cc
+
+deliver_by : (name : List ℕ) (link : Option (List Delivery)) (s : Session) (d : ToDeliver)
+    → deliver_line name link s ≡ Ok (delivers d) → IsSome (stream_of d.name s)
+deliver_by name link s d is =
+    let at = then_is (stream_at name s) (λ st. Ok (delivers (deliver_over name link))) (delivers d) is in
+    let r = then_is (replication_at name s) (λ r. or_fault (Refused NoStream) (stream_of name s)) at.0 at.1 in
+    let same : deliver_over name link ≡ d = let x = at.2 in cc in
+    subst (λ (n : List ℕ). IsSome (stream_of n s)) (ap (λ (x : ToDeliver). x.name) same)
+    (some_of_fault (stream_of name s) at.0 r.2)
+  where
+    some_of_fault : {A : Type 0} (o : Option A) (x : A) → or_fault (Refused NoStream) o ≡ Ok x → IsSome o
+    some_of_fault (Some y) x is = refl
+    some_of_fault None x is = absurd (cc)
+
+deliver_ask : (kinds : Kinds) (ask : Asked) (s : Session) (d : ToDeliver)
+    → asked_task kinds ask s ≡ Ok (delivers d) → IsSome (stream_of d.name s)
+deliver_ask kinds (Deliver name link) s d is = deliver_by name link s d is
+deliver_ask kinds (Turn name batch budget link) s d is =
+    absurd (no_turn_line (turned_at kinds name s) name batch budget link d is)
+deliver_ask kinds (Collection name schema) s d is = absurd (no_outcome_deliver _ d is)
+deliver_ask kinds (Insert coll doc) s d is = absurd (no_outcome_deliver _ d is)
+deliver_ask kinds (Bulk coll docs) s d is = absurd (no_outcome_deliver _ d is)
+deliver_ask kinds (Upsert coll doc) s d is = absurd (no_outcome_deliver _ d is)
+deliver_ask kinds (Patch coll key set rev) s d is = absurd (no_outcome_deliver _ d is)
+deliver_ask kinds (Update coll key update rev) s d is = absurd (no_outcome_deliver _ d is)
+deliver_ask kinds (Remove coll key rev) s d is = absurd (no_outcome_deliver _ d is)
+deliver_ask kinds (Hook coll when hook field) s d is = absurd (no_outcome_deliver _ d is)
+deliver_ask kinds (Migrate coll schema steps) s d is = absurd (no_outcome_deliver _ d is)
+deliver_ask kinds (Get coll key) s d is = absurd (no_outcome_deliver _ d is)
+deliver_ask kinds (Find coll query) s d is = absurd (no_outcome_deliver _ d is)
+deliver_ask kinds (Count coll query) s d is = absurd (no_outcome_deliver _ d is)
+deliver_ask kinds (Observe name coll query) s d is = absurd (no_outcome_deliver _ d is)
+deliver_ask kinds (Unobserve name) s d is = absurd (no_outcome_deliver _ d is)
+deliver_ask kinds (Explain name) s d is = absurd (no_outcome_deliver _ d is)
+deliver_ask kinds (Replicate name fork master handler field) s d is = absurd (no_outcome_deliver _ d is)
+deliver_ask kinds (Stream name) s d is = absurd (no_outcome_deliver _ d is)
+deliver_ask kinds (Unstream name) s d is = absurd (no_outcome_deliver _ d is)
+deliver_ask kinds (Changes coll since batch) s d is = absurd (no_outcome_deliver _ d is)
+deliver_ask kinds (Tick at) s d is = absurd (no_outcome_deliver (asked_outcome kinds (Tick at) s) d is)
+deliver_ask kinds Restart s d is = absurd (no_outcome_deliver (asked_outcome kinds Restart s) d is)
+deliver_ask kinds (Digest coll) s d is = absurd (no_outcome_deliver _ d is)
+
+deliver_task_is : (r : Result Task Fault) (d : ToDeliver) → task_or_refusal r ≡ delivers d
+    → r ≡ Ok (delivers d)
+deliver_task_is (Ok t) d is = ap Ok is
+deliver_task_is (Err (Refused refusal)) d is = absurd (cc)
+deliver_task_is (Err Memory) d is = absurd (cc)
+
+deliver_read : (kinds : Kinds) (read : Result Asked LineFault) (s : Session) (d : ToDeliver)
+    → (lifted of_line read >> λ ask. asked_task kinds ask s) ≡ Ok (delivers d)
+    → IsSome (stream_of d.name s)
+deliver_read kinds (Ok ask) s d is = deliver_ask kinds ask s d is
+deliver_read kinds (Err fault) s d is = absurd (cc)
+
+-- the stream of a line that comes to a delivery is open
+pub can_deliver : (kinds : Kinds) (line : List ℕ) (s : Session) (d : ToDeliver)
+    → task kinds line s ≡ delivers d → IsSome (stream_of d.name s)
+can_deliver kinds line s d is = deliver_read kinds (line_of line) s d (deliver_task_is _ d is)

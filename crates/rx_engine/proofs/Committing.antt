@@ -11,6 +11,7 @@ use Rattle.rx_store.specs.Holds.{Holds}
 use Rattle.rx_store.proofs.Crashes.{answered, idle, ran_out, same_stop}
 use Rattle.rx_store.proofs.Growing.{stays}
 use Rattle.rx_store.proofs.Stops.{done_cause, memory_cause, ok_cause, same_cause}
+use Rattle.rx_world.specs.World.{World}
 use Rattle.rx_engine.specs.Engine.{Commits, IsAt, limit_of, session_of}
 use Rattle.rx_engine.specs.Meaning.{bodies_of}
 use Rattle.rx_engine.specs.Play.{CommitsStaged, Follows}
@@ -66,12 +67,12 @@ module _ {D : Type 0} (d : Ghosts D) (old new : D) (e : Engine) (cs : List Conte
 
   -- ---- a line in play that began with it
 
-  module _ (session : Session) (same : session ≡ session_of e) (q : Play)
+  module _ (session : Session) (same : session.world ≡ (session_of e).world) (q : Play)
       (follows : Follows (play_of e.journal session) cs q) where
     holds_here : (bodies : List (List ℕ)) → IsAt d old e bodies
         → Holds d old e.journal bodies session.world
     holds_here bodies at =
-        subst (λ (s : Session). Holds d old e.journal bodies s.world) (sym same) at
+        subst (λ (w : World). Holds d old e.journal bodies w) (sym same) at
 
     pub play_may_commit : (bodies : List (List ℕ)) → IsAt d old e bodies
         → MayCommit d old q.journal

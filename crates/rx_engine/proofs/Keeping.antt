@@ -12,7 +12,7 @@ use Rattle.rx_world.proofs.Making.{made_step}
 use Rattle.rx_world.proofs.Settled.{keeps_sound}
 use Rattle.rx_world.proofs.Sounds.{sound_step}
 use Rattle.rx_world.proofs.Steps.{epoch_legal}
-use Rattle.rx_session.specs.Doing.{Doing, nothing, set_clock, write, migrate, watch, unwatch, attach, restart, session_after, MayDo}
+use Rattle.rx_session.specs.Doing.{Doing, nothing, set_clock, write, migrate, watch, unwatch, attach, open_stream, close_stream, restart, session_after, MayDo}
 use Rattle.rx_session.specs.Session.{Session}
 use Rattle.rx_session.specs.Shown.{done_by}
 use Rattle.rx_session.specs.declared.doing.Doing.{Doing as Done}
@@ -29,6 +29,8 @@ no_record (done.Write entry) other = absurd (other entry refl)
 no_record (done.Watch w) other = refl
 no_record (done.Unwatch name) other = refl
 no_record (done.Attach one) other = refl
+no_record (done.OpenStream opening) other = refl
+no_record (done.CloseStream name) other = refl
 
 -- and leaves the world
 pub world_kept : (d : Doing) (s : Session) → records_of d ≡ []
@@ -40,6 +42,8 @@ world_kept (migrate c) s none = absurd (cc)
 world_kept (watch name coll q) s none = refl
 world_kept (unwatch name) s none = refl
 world_kept (attach one) s none = refl
+world_kept (open_stream name master) s none = refl
+world_kept (close_stream name) s none = refl
 world_kept (restart number) s none = absurd (cc)
 
 -- what is done within a session
@@ -54,6 +58,8 @@ in_session (done.Write entry) = tt
 in_session (done.Watch w) = tt
 in_session (done.Unwatch name) = tt
 in_session (done.Attach one) = tt
+in_session (done.OpenStream opening) = tt
+in_session (done.CloseStream name) = tt
 
 -- the record of a migration is in order
 pub migration_ordered : (c : Content) → IsMigration c → IsOrdered c
@@ -77,6 +83,8 @@ made_then (migrate c) s may made =
 made_then (watch name coll q) s may made = made
 made_then (unwatch name) s may made = made
 made_then (attach one) s may made = made
+made_then (open_stream name master) s may made = made
+made_then (close_stream name) s may made = made
 made_then (restart number) s may made =
     made_step (epoch number) s.world (ap (λ n. legal (epoch n) s.world) may
     ∙ epoch_legal s.world) tt made
@@ -91,4 +99,6 @@ sound_then (migrate c) s may apart made sound = migration_sound c s.world may.0 
 sound_then (watch name coll q) s may apart made sound = sound
 sound_then (unwatch name) s may apart made sound = sound
 sound_then (attach one) s may apart made sound = sound
+sound_then (open_stream name master) s may apart made sound = sound
+sound_then (close_stream name) s may apart made sound = sound
 sound_then (restart number) s may apart made sound = sound

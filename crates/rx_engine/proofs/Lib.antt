@@ -28,3 +28,6 @@ pub mod Committing
 pub mod Ahead
 pub mod Forgetting
 pub mod Grouped
+pub mod EachEvent
+pub mod AfterDeliveries
+pub mod Streamable

@@ -14,7 +14,7 @@ use Rattle.rx_collection.proofs.Last.{within_last}
 use Rattle.rx_record.specs.Content.{Content, collection, rows, replication, exchange, epoch, migration}
 use Rattle.rx_record.specs.declared.record.RowOut.{RowOut}
 use Rattle.rx_session.specs.Doing as doing
-use Rattle.rx_session.specs.Doing.{Doing, nothing, set_clock, write, migrate, watch, unwatch, attach, restart, MayDo}
+use Rattle.rx_session.specs.Doing.{Doing, nothing, set_clock, write, migrate, watch, unwatch, attach, open_stream, close_stream, restart, MayDo}
 use Rattle.rx_session.specs.Session.{Session}
 use Rattle.rx_sync.specs.Asking.{pending_in}
 use Rattle.rx_sync.specs.Exchange.{world_after}
@@ -246,6 +246,8 @@ marked_doing (migrate c) s marks inside may plain all = absurd inside
 marked_doing (watch name coll q) s marks inside may plain all = all
 marked_doing (unwatch name) s marks inside may plain all = all
 marked_doing (attach one) s marks inside may plain all = all
+marked_doing (open_stream name master) s marks inside may plain all = all
+marked_doing (close_stream name) s marks inside may plain all = all
 marked_doing (restart number) s marks inside may plain all = λ name lwt at.
     marked_after (epoch number ∷ []) s.world name lwt (
       record {

@@ -1,44 +1,51 @@
 -- What was done and answered is what the line means.
-use Rattle.std.proofs.Common.{◌≡◌, ◌≤◌, ℕ, List, [], ◌++◌, length, string_bytes, true, false, true≢false, Some, None, Result, Ok, Err, IfOk, refl, sym, ap, ◌∙◌, subst, append-nil}
+use Rattle.std.proofs.Common.{◌≡◌, ◌≤◌, ℕ, Bool, List, [], ◌++◌, length, string_bytes, true, false, true≢false, Some, None, Result, Ok, Err, IfOk, refl, sym, ap, ◌∙◌, subst, append-nil}
+use Rattle.std.specs.Prelude.{IsSome}
 use Rattle.rx_handler.specs.Handlers.{Kinds}
 use Rattle.rx_observe.specs.declared.emission.Emission.{Emission}
 use Rattle.rx_outside.specs.declared.stop.Stop.{Stop}
-use Rattle.rx_reply.specs.Answer.{turn}
+use Rattle.rx_reply.specs.Answer.{deliver, turn}
 use Rattle.rx_reply.specs.Reply.{answer_lines, is_refusal}
+use Rattle.rx_reply.specs.declared.given.Given.{Given}
 use Rattle.rx_reply.specs.declared.turn.Exchanged.{Exchanged}
 use Rattle.rx_reply.specs.declared.turn.TurnEnd.{TurnEnd}
 use Rattle.rx_reply.specs.declared.turn.TurnEnd.TheVariants.{Quiet}
 use Rattle.rx_script.specs.declared.happening.Happening.{Happening}
-use Rattle.rx_session.specs.Doing.{Doing, MayDo, nothing, session_after}
+use Rattle.rx_session.specs.Doing.{Doing, MayDo, nothing, session_after, with_emptied}
 use Rattle.rx_session.specs.Emissions.{emissions, settled_session}
-use Rattle.rx_session.specs.Session.{Session}
+use Rattle.rx_session.specs.Session.{Session, has_lost, stream_of}
 use Rattle.rx_sync.specs.Asks.{Asks}
 use Rattle.rx_sync.proofs.Bound.{exchanges_lower, turn_in_time, turn_pushes_twice}
 use Rattle.rx_sync.proofs.Elsewhere.{remote_turn_unharmed}
 use Rattle.rx_sync.specs.Bound.{AreOk, EveryOkTurn}
-use Rattle.rx_sync.specs.Exchange.{Terms}
+use Rattle.rx_sync.specs.Delivery.{is_level, is_resync}
+use Rattle.rx_sync.specs.Exchange.{Terms, world_after}
 use Rattle.rx_sync.specs.Laws.{IsLevel, MayTurn}
 use Rattle.rx_sync.specs.Remote.{Heard}
 use Rattle.rx_sync.specs.RemoteLaws.{EachIsUnharmed, MayCall}
 use Rattle.rx_sync.specs.Turn.{Turned}
 use Rattle.rx_world.specs.World.{World}
-use Rattle.rx_engine.specs.Engine.{Answers, IsAfterTurn, IsBounded, IsUnharmedBy, LeavesAll, OfOkTurn, QuietIsLevel, asks_in, session_of, standing_of}
+use Rattle.rx_engine.specs.Engine.{Answers, IsAfterDelivery, IsAfterTurn, IsBounded, IsUnharmedBy, LeavesAll, LevelIsEqual, OfOkTurn, QuietIsLevel, asks_in, session_of, standing_of}
 use Rattle.rx_engine.specs.Judged.{IsJudged, IsPrinted, MayDoJudged}
 use Rattle.rx_engine.specs.Calling.{Call as ToCall, called, to_hear}
-use Rattle.rx_engine.specs.Lines.{IsIdleTask, Task, answered, turns, calls, task}
-use Rattle.rx_engine.specs.Meaning.{Meaning, asks_kept, lines_of, meaning, meaning_of, records_of, task_meaning, turn_meaning}
+use Rattle.rx_engine.specs.Lines.{IsIdleTask, Task, answered, turns, calls, delivers, task}
+use Rattle.rx_engine.specs.Meaning.{Meaning, asks_kept, delivery_meaning, lines_of, meaning, meaning_of, records_of, task_meaning, turn_meaning}
 use Rattle.rx_engine.specs.Outcome.{Outcome}
-use Rattle.rx_engine.specs.Shown.{call_of, doing_of, turn_of}
+use Rattle.rx_engine.specs.Shown.{call_of, deliver_of, doing_of, turn_of}
 use Rattle.rx_engine.specs.Standing.{Standing, asks_of, standing_with}
+use Rattle.rx_engine.specs.Streams.{Deliver as ToDeliver, delivered_by}
 use Rattle.rx_engine.specs.Turning.{Turn as ToTurn, terms, turned}
 use Rattle.rx_engine.specs.declared.changing.AfterTurn.{AfterTurn}
+use Rattle.rx_engine.specs.declared.deliveries.AfterDelivery.{AfterDelivery}
 use Rattle.rx_engine.specs.declared.engine.Engine.{Engine}
 use Rattle.rx_engine.specs.declared.judging.Judged.{Judged}
 use Rattle.rx_engine.specs.declared.judging.Judged.TheVariants as judged
 use Rattle.rx_engine.specs.declared.judging.Printed.{Printed}
 use Rattle.rx_engine.specs.declared.output.Output.{Output}
 use Rattle.rx_engine.specs.declared.remote.Call.{Call}
+use Rattle.rx_engine.specs.declared.streams.Deliver.{Deliver}
 use Rattle.rx_engine.specs.declared.turning.Turn.{Turn}
+use Rattle.rx_engine.proofs.Plays.{written-world}
 
 -- ---- what a line was judged to be
 
@@ -47,18 +54,28 @@ is_printed : (number : ℕ) (p : Printed) (t : Task) → IsJudged number (judged
 is_printed number p (answered o) j = (o, refl, j)
 is_printed number p (turns u) j = absurd j
 is_printed number p (calls d) j = absurd j
+is_printed number p (delivers d) j = absurd j
 
 is_turn : (number : ℕ) (m : Turn) (t : Task) → IsJudged number (judged.Turns m) t
     → t ≡ turns (turn_of m)
 is_turn number m (answered o) j = absurd j
 is_turn number m (turns u) j = ap turns (sym j)
 is_turn number m (calls d) j = absurd j
+is_turn number m (delivers d) j = absurd j
 
 is_call : (number : ℕ) (m : Call) (t : Task) → IsJudged number (judged.Calls m) t
     → t ≡ calls (call_of m)
 is_call number m (answered o) j = absurd j
 is_call number m (turns u) j = absurd j
 is_call number m (calls d) j = ap calls (sym j)
+is_call number m (delivers d) j = absurd j
+
+is_delivery : (number : ℕ) (m : Deliver) (t : Task) → IsJudged number (judged.Delivers m) t
+    → t ≡ delivers (deliver_of m)
+is_delivery number m (answered o) j = absurd j
+is_delivery number m (turns u) j = absurd j
+is_delivery number m (calls d) j = absurd j
+is_delivery number m (delivers d) j = ap delivers (sym j)
 
 -- by the session that was lent for it
 module _ (number : ℕ) (kinds : Kinds) (line : List ℕ) (seen session : Session)
@@ -84,6 +101,14 @@ module _ (number : ℕ) (kinds : Kinds) (line : List ℕ) (seen session : Sessio
       (subst (λ (x : Judged). IsJudged number x (task kinds line session)) is
       (subst (λ (s : Session). IsJudged number x (task kinds line s)) same j))
 
+  pub delivery_is : (m : Deliver) → x ≡ judged.Delivers m
+      → IsJudged number x (task kinds line seen)
+      → task kinds line session ≡ delivers (deliver_of m)
+  delivery_is m is j =
+      is_delivery number m (task kinds line session)
+      (subst (λ (x : Judged). IsJudged number x (task kinds line session)) is
+      (subst (λ (s : Session). IsJudged number x (task kinds line s)) same j))
+
 pub may_do : (seen session : Session) → seen ≡ session → (x : Judged) (p : Printed)
     → x ≡ judged.Printed p → MayDoJudged x seen → MayDo (doing_of p.doing) session
 may_do seen session same x p is may =
@@ -97,6 +122,12 @@ some_asked x m s is may = subst (λ (x : Judged). MayDoJudged x s) is may
 pub some_called : (x : Judged) (m : Call) (s : Session) → x ≡ judged.Calls m → MayDoJudged x s
     → 1 ≤ m.batch
 some_called x m s is may = (subst (λ (x : Judged). MayDoJudged x s) is may).0
+
+pub some_open : (x : Judged) (m : Deliver) (seen session : Session) → seen ≡ session
+    → x ≡ judged.Delivers m → MayDoJudged x seen → IsSome (stream_of m.name session)
+some_open x m seen session same is may =
+    subst (λ (s : Session). IsSome (stream_of m.name s)) same
+    (subst (λ (x : Judged). MayDoJudged x seen) is may)
 
 -- ---- parts and wholes
 
@@ -196,6 +227,11 @@ module _ (number : ℕ) (line : List ℕ) (s : Standing) (o : Outcome) (p : Prin
   no_turn_so (Err stop) = tt
   no_turn_so (Ok x) = λ t at quiet. absurd (cc)
 
+  -- nor a delivery
+  pub no_delivery_so : (r : Result (Engine × Output) Stop) → IfOk r (λ x. LevelIsEqual line s x.0)
+  no_delivery_so (Err stop) = tt
+  no_delivery_so (Ok x) = λ d at level. absurd (cc)
+
   -- so nothing is to be said of its exchanges
   pub unbounded_so : IsBounded line s
   unbounded_so = record {
@@ -274,6 +310,12 @@ module _ (number : ℕ) (line : List ℕ) (s : Standing) (u : ToTurn)
         in_time = ok_so turn_in_time;
       }
 
+  -- it is no delivery
+  pub turn_no_delivery : (r : Result (Engine × Output) Stop)
+      → IfOk r (λ x. LevelIsEqual line s x.0)
+  turn_no_delivery (Err stop) = tt
+  turn_no_delivery (Ok x) = λ d at level. absurd (cc)
+
   -- its master is no one elsewhere
   pub no_other_so : IsUnharmedBy line s
   no_other_so c at = absurd (cc)
@@ -297,6 +339,12 @@ module _ (number : ℕ) (line : List ℕ) (s : Standing) (d : ToCall)
   no_level_so (Err stop) = tt
   no_level_so (Ok x) = λ t at quiet. absurd (cc)
 
+  -- nor a delivery
+  pub call_no_delivery : (r : Result (Engine × Output) Stop)
+      → IfOk r (λ x. LevelIsEqual line s x.0)
+  call_no_delivery (Err stop) = tt
+  call_no_delivery (Ok x) = λ d at level. absurd (cc)
+
   -- nor are its exchanges bounded
   pub no_bound_so : IsBounded line s
   no_bound_so = record {
@@ -319,6 +367,82 @@ module _ (number : ℕ) (line : List ℕ) (s : Standing) (d : ToCall)
   -- it isn't idle
   pub calling_so : IsIdleTask (task s.kinds line s.session) → ⊥
   calling_so idle = subst IsIdleTask is idle
+
+-- ---- a line that delivers
+
+-- the engine and the output are those of the delivery's meaning
+pub delivered_so : (number : ℕ) (d : ToDeliver) (s : Standing) (m : AfterDelivery) (e : Engine)
+    (o : Output) → IsAfterDelivery d s m → e ≡ m.engine
+    → string_bytes o.text
+    ≡ answer_lines number (deliver m.given m.level m.resync) ++ lines_of m.emissions.items
+    → o.emissions ≡ length m.emissions.items → o.refused ≡ false → o.end ≡ None
+    → Answers s.kinds s.heard (delivery_meaning number d s) e o
+unfolding standing_of
+delivered_so number d s m e o made here text emitted refused end =
+    let due : List ℕ = lines_of m.emissions.items in
+    let level = is_level (world_after (delivered_by d s.session).records s.session.world) d.name in
+    record {
+      next = standing_same s.kinds s.heard _ _ _ _
+          (ap (λ (x : Engine). session_of x) here ∙ made.session)
+          (ap (λ (x : Engine). asks_in x) here ∙ made.asks);
+      reply = text
+          ∙ ap (λ (gs : List Given). answer_lines number (deliver gs m.level m.resync) ++ due) made.given
+          ∙ ap (λ (b : Bool). answer_lines number (deliver (delivered_by d s.session).given b m.resync)
+          ++ due) made.level
+          ∙ ap (λ (b : Bool). answer_lines number (deliver (delivered_by d s.session).given level b)
+          ++ due) made.resync
+          ∙ ap (λ (es : List Emission). answer_lines number (deliver (delivered_by d s.session).given
+          level (is_resync (has_lost d.name s.session) (delivered_by d s.session).given))
+          ++ lines_of es) made.due;
+      emissions = emitted ∙ ap (λ (es : List Emission). length es) made.due;
+      refused = refused;
+      ended = end;
+    }
+
+module _ (number : ℕ) (line : List ℕ) (s : Standing) (d : ToDeliver)
+    (is : task s.kinds line s.session ≡ delivers d) where
+  -- its meaning is the line's
+  pub delivery_so : delivery_meaning number d s ≡ meaning number line s
+  unfolding meaning
+  delivery_so = sym (ap (λ (t : Task). task_meaning number t s) is)
+
+  -- it is no turn
+  pub delivery_no_turn : (r : Result (Engine × Output) Stop) → IfOk r (λ x. QuietIsLevel line s x.0)
+  delivery_no_turn (Err stop) = tt
+  delivery_no_turn (Ok x) = λ t at quiet. absurd (cc)
+
+  pub delivery_unbounded : IsBounded line s
+  delivery_unbounded = record {
+    lowered = λ t at. absurd (cc);
+    twice = λ t at. absurd (cc);
+    in_time = λ t at. absurd (cc);
+  }
+
+  pub delivery_no_master : IsUnharmedBy line s
+  delivery_no_master c at = absurd (cc)
+
+  -- where it is answered level, fork and master have the same states
+  pub equal_so : (r : Result (Engine × Output) Stop)
+      → IfOk r (λ x. Answers s.kinds s.heard (delivery_meaning number d s) x.0 x.1)
+      → (is_level (world_after (delivered_by d s.session).records s.session.world) d.name ≡ true
+      → IsLevel (world_after (delivered_by d s.session).records s.session.world) d.name)
+      → IfOk r (λ x. LevelIsEqual line s x.0)
+  unfolding standing_of
+  equal_so (Err stop) answers equal = tt
+  equal_so (Ok x) answers equal = λ e at level.
+      let same : d ≡ e = cc in
+      let m = delivered_by d s.session in
+      let then : (session_of x.0).world ≡ world_after m.records s.session.world =
+      ap (λ (y : Standing). y.session.world) answers.next
+      ∙ written-world m.records (with_emptied d.name s.session) in
+      subst (λ (e : ToDeliver). IsLevel (session_of x.0).world e.name) same
+      (subst (λ (w : World). IsLevel w d.name) (sym then)
+      (equal (ap (λ (e : ToDeliver).
+      is_level (world_after (delivered_by e s.session).records s.session.world) e.name) same ∙ level)))
+
+  -- it isn't idle
+  pub delivering_so : IsIdleTask (task s.kinds line s.session) → ⊥
+  delivering_so idle = subst IsIdleTask is idle
 
 -- what holds of each holds of all
 pub of_each : {A H : Type 0} (P : H → A → Type 0) (r : Result A Stop) → ((h : H) → IfOk r (P h))

@@ -17,16 +17,18 @@ use Rattle.rx_record.specs.declared.record.MasterName.TheVariants.{Local, Port}
 use Rattle.rx_record.specs.declared.record.RowOut.{RowOut}
 use Rattle.rx_handler.specs.Handlers.{Kinds}
 use Rattle.rx_query.specs.QuerySpec.{QuerySpec as Query}
-use Rattle.rx_reply.specs.Answer.{Answer, refused, insert, upsert, patch, update, remove, hook as hooked, migrate as migrated, get, find, count, observe, unobserve, explain, replicate, tick, digest}
+use Rattle.rx_reply.specs.Answer.{Answer, refused, insert, upsert, patch, update, remove, hook as hooked, migrate as migrated, stream as streamed, unstream as unstreamed, get, find, count, observe, unobserve, explain, replicate, tick, digest}
 use Rattle.rx_reply.specs.declared.refusal.Refusal.{Refusal}
-use Rattle.rx_reply.specs.declared.refusal.Refusal.TheVariants.{Chain, Clock, Exists, NoHandler, NoHook, NoQuery, SchemaDiffers, TooMany}
+use Rattle.rx_reply.specs.declared.refusal.Refusal.TheVariants.{Chain, Clock, Exists, NoHandler, NoHook, NoQuery, Remote, SchemaDiffers, TooMany}
 use Rattle.rx_reply.specs.Reply.{is_refusal}
-use Rattle.rx_script.specs.Asked.{Asked, Collection, Insert, Bulk, Upsert, Patch, Update, Remove, Hook, Migrate, Get, Find, Count, Observe, Unobserve, Explain, Replicate, Turn, Changes, Tick, Restart, Digest}
+use Rattle.rx_script.specs.Asked.{Asked, Collection, Insert, Bulk, Upsert, Patch, Update, Remove, Hook, Migrate, Get, Find, Count, Observe, Unobserve, Explain, Replicate, Turn, Stream, Deliver, Unstream, Changes, Tick, Restart, Digest}
 use Rattle.rx_script.specs.Line.{line_of}
 use Rattle.rx_script.specs.declared.fault.LineFault.{LineFault}
 use Rattle.rx_script.specs.declared.happening.Happening.{Happening}
-use Rattle.rx_session.specs.Doing.{Doing, nothing, restart, attach, migrate, set_clock, unwatch, watch, write}
-use Rattle.rx_session.specs.Session.{Session, counts_of, first_observed, is_observed}
+use Rattle.rx_session.specs.Doing.{Doing, nothing, restart, attach, close_stream, migrate, open_stream, set_clock, unwatch, watch, write}
+use Rattle.rx_session.specs.Session.{Session, counts_of, first_observed, is_observed, stream_of}
+use Rattle.rx_stream.specs.declared.stream.Stream.{Stream as StreamHere}
+use Rattle.rx_sync.specs.Handling.{local_name}
 use Rattle.rx_migrate.specs.declared.step.Step.{Step}
 use Rattle.rx_world.specs.Chain.{may_follow}
 use Rattle.rx_world.specs.Migrating.{is_in_group}
@@ -38,7 +40,7 @@ use Rattle.rx_engine.specs.Shown.{WritesNoExchange}
 use Rattle.rx_writes.specs.Documents.{document_at, next_revision}
 use Rattle.rx_world.specs.declared.replication.Replication.{Replication}
 use Rattle.rx_writes.specs.Faults.{of_line, of_schema}
-use Rattle.rx_engine.specs.Lines.{IsRestart, Task, answered, asked_outcome, asked_task, task, task_or_refusal, turn_to}
+use Rattle.rx_engine.specs.Lines.{IsRestart, Task, answered, delivers, asked_outcome, asked_task, task, task_or_refusal, turn_to}
 use Rattle.rx_engine.specs.Listing.{changes_answer, place_named}
 use Rattle.rx_update.specs.declared.attached.When.{When}
 use Rattle.rx_update.specs.declared.kind.HookKind.{HookKind}
@@ -46,6 +48,7 @@ use Rattle.rx_engine.specs.Hooking.{hook_line, hooks_in, max_hooks, takes}
 use Rattle.rx_engine.specs.Migrate.{migrate_line, names_of_group, of_migration, of_observed}
 use Rattle.rx_engine.specs.Outcome.{Outcome, answer_alone, collection_at, write_outcome}
 use Rattle.rx_engine.specs.Replicate.{has_handler, has_schema, master_at, master_of, replicate_line}
+use Rattle.rx_engine.specs.Streams.{Deliver as ToDeliver, deliver_over, replication_at, stream_at, stream_line, unstream_line}
 use Rattle.rx_engine.specs.Turning.{turned_at}
 use Rattle.rx_engine.specs.Queries.{max_queries, observe_line, query_on, rows_found}
 use Rattle.rx_engine.specs.Writes.{collection_with, commit_all, commit_one}
@@ -276,6 +279,30 @@ module _ (kinds : Kinds) (name fork : List ℕ) (master : MasterName) (handler :
       (λ _. after (demand (nat_lt (length s.world.replications) max_replications) (Refused TooMany))
       (λ _. Ok begins) (λ _. just begins refl refl tt)))))))
 
+-- a stream is opened, once all that it needs was seen, or closed
+module _ (name : List ℕ) (s : Session) where
+  abbrev opens : List ℕ → Outcome
+  opens master = record { doing = open_stream name master; answer = streamed }
+
+  abbrev unless_open : List ℕ → Result Outcome Fault
+  unless_open master =
+      demand (is_none (stream_of name s)) (Refused Exists) >> λ _. Ok (opens master)
+
+  streamed_plain : ArePlain (stream_line name s)
+  streamed_plain =
+      after (replication_at name s)
+      (λ r. or_fault (Refused Remote) (local_name r.master) >> λ master. unless_open master)
+      (λ r. after (or_fault (Refused Remote) (local_name r.master)) (λ master. unless_open master)
+      (λ master. after (demand (is_none (stream_of name s)) (Refused Exists))
+      (λ _. Ok (opens master)) (λ _. just (opens master) refl refl tt)))
+
+  abbrev closes : Outcome
+  closes = record { doing = close_stream name; answer = unstreamed }
+
+  unstreamed_plain : ArePlain (unstream_line name s)
+  unstreamed_plain =
+      after (stream_at name s) (λ st. Ok closes) (λ st. just closes refl refl tt)
+
 -- a restart alone opens the journal again
 plain_but : (kinds : Kinds) (ask : Asked) (s : Session)
     → (ask ≡ Restart) ⊎ ArePlain (asked_outcome kinds ask s)
@@ -318,6 +345,9 @@ plain_but kinds (Explain name) s =
 plain_but kinds (Replicate name fork master handler field) s =
     inr (begun_plain kinds name fork (master_of master) handler field s)
 plain_but kinds (Turn name batch budget link) s = inr (none _)
+plain_but kinds (Stream name) s = inr (streamed_plain name s)
+plain_but kinds (Deliver name link) s = inr (none _)
+plain_but kinds (Unstream name) s = inr (unstreamed_plain name s)
 plain_but kinds (Changes coll asked batch) s =
     let from = option_map place_named asked in
     inr (after (collection_at coll s)
@@ -386,6 +416,11 @@ no_turn (Ok r) name batch budget link o is =
     turn_no_outcome r.master name batch budget link o is
 no_turn (Err fault) name batch budget link o is = cc
 
+no_delivery : (r : Result StreamHere Fault) (d : ToDeliver) (o : Outcome)
+    → (r >> λ st. Ok (delivers d)) ≡ Ok (answered o) → ⊥
+no_delivery (Ok st) d o is = cc
+no_delivery (Err fault) d o is = cc
+
 answered_is : (kinds : Kinds) (ask : Asked) (s : Session) (o : Outcome)
     → asked_task kinds ask s ≡ Ok (answered o) → asked_outcome kinds ask s ≡ Ok o
 answered_is kinds (Collection name schema) s o is = does_is _ o is
@@ -406,6 +441,10 @@ answered_is kinds (Explain name) s o is = does_is _ o is
 answered_is kinds (Replicate name fork master handler field) s o is = does_is _ o is
 answered_is kinds (Turn name batch budget link) s o is =
     absurd (no_turn (turned_at kinds name s) name batch budget link o is)
+answered_is kinds (Stream name) s o is = does_is _ o is
+answered_is kinds (Deliver name link) s o is =
+    absurd (no_delivery (stream_at name s) (deliver_over name link) o is)
+answered_is kinds (Unstream name) s o is = does_is _ o is
 answered_is kinds (Changes coll since batch) s o is = does_is _ o is
 answered_is kinds (Tick at) s o is = does_is (asked_outcome kinds (Tick at) s) o is
 answered_is kinds Restart s o is = does_is (asked_outcome kinds Restart s) o is

@@ -12,7 +12,7 @@ use Rattle.rx_sync.specs.Asks.{Asks, AsksAreLawful, no_asks}
 use Rattle.rx_sync.specs.Exchange.{world_after}
 use Rattle.rx_sync.specs.Laws.{MayComeInTurn, RemembersLawful}
 use Rattle.rx_session.specs.Doing as doing
-use Rattle.rx_session.specs.Doing.{Doing, nothing, set_clock, write, migrate, watch, unwatch, attach, restart, MayDo}
+use Rattle.rx_session.specs.Doing.{Doing, nothing, set_clock, write, migrate, watch, unwatch, attach, open_stream, close_stream, restart, MayDo}
 use Rattle.rx_session.specs.Session.{Session}
 use Rattle.rx_world.proofs.Looked.{all_put_named}
 use Rattle.rx_world.proofs.Steps.{epoch_legal}
@@ -95,6 +95,8 @@ remembered_doing (migrate c) s asks inside may all = absurd inside
 remembered_doing (watch name coll q) s asks inside may all = all
 remembered_doing (unwatch name) s asks inside may all = all
 remembered_doing (attach one) s asks inside may all = all
+remembered_doing (open_stream name master) s asks inside may all = all
+remembered_doing (close_stream name) s asks inside may all = all
 remembered_doing (restart number) s asks inside may all =
     remembered_after (epoch number ∷ []) s.world asks (
       record {

@@ -1,5 +1,5 @@
 -- An engine and its disk.
-use Rattle.std.specs.Prelude.{◌≡◌, ℕ, List, [], None, Result, IfOk, string_bytes}
+use Rattle.std.specs.Prelude.{◌≡◌, ◌≢◌, ℕ, List, [], true, Some, None, Result, IfOk, string_bytes}
 use Rattle.rx_disk.specs.declared.disk.Disk.{Ghosts}
 use Rattle.rx_outside.specs.declared.stop.Stop.{Stop}
 use Rattle.rx_record.specs.Content.{Content}
@@ -10,10 +10,12 @@ use Rattle.rx_handler.specs.Handlers.{Kinds}
 use Rattle.rx_reply.specs.declared.turn.TurnEnd.TheVariants.{Quiet}
 use Rattle.rx_script.specs.declared.happening.Happening.{Happening}
 use Rattle.rx_session.specs.Emissions.{emissions, settled_session}
-use Rattle.rx_session.specs.Session.{Session}
+use Rattle.rx_session.specs.Session.{Session, has_lost}
+use Rattle.rx_sync.specs.Asking.{pending_in}
 use Rattle.rx_sync.specs.Asks.{Asks}
 use Rattle.rx_sync.specs.Bound.{AreOk, EachLowersLeft, EndsInTime, PushesAtMostTwice}
-use Rattle.rx_sync.specs.Exchange.{Terms}
+use Rattle.rx_sync.specs.Delivery.{is_level, is_resync}
+use Rattle.rx_sync.specs.Exchange.{Terms, world_after}
 use Rattle.rx_sync.specs.Laws.{IsLevel}
 use Rattle.rx_sync.specs.Remote.{Heard, RemoteTurned}
 use Rattle.rx_sync.specs.RemoteLaws.{EachIsUnharmed}
@@ -21,12 +23,14 @@ use Rattle.rx_sync.specs.Turn.{Turned}
 use Rattle.rx_value.specs.Named.{put_named}
 use Rattle.rx_world.specs.World.{World}
 use Rattle.rx_engine.specs.Calling.{Call}
-use Rattle.rx_engine.specs.Lines.{answered, turns, calls, task}
+use Rattle.rx_engine.specs.Lines.{answered, turns, calls, delivers, task}
 use Rattle.rx_engine.specs.Meaning.{Meaning, bodies_of, meaning, turn_meaning}
 use Rattle.rx_engine.specs.Outcome.{Outcome}
 use Rattle.rx_engine.specs.Standing.{Standing, asks_of, standing_with}
+use Rattle.rx_engine.specs.Streams.{Deliver, delivered_by, session_delivered}
 use Rattle.rx_engine.specs.Turning.{Turn, terms, turned, written}
 use Rattle.rx_engine.specs.declared.changing.AfterTurn.{AfterTurn}
+use Rattle.rx_engine.specs.declared.deliveries.AfterDelivery.{AfterDelivery}
 use Rattle.rx_engine.specs.declared.engine.Engine.{Engine}
 use Rattle.rx_engine.specs.declared.output.Output.{Output}
 
@@ -117,6 +121,32 @@ abbrev pub QuietIsLevel : List ℕ → Standing → Engine → Type 0
 QuietIsLevel line s e =
     (t : Turn) → task s.kinds line s.session ≡ turns t → (turned t s).ended ≡ Quiet
     → IsLevel (session_of e).world t.name
+
+-- where the line is a delivery that is answered level, its fork and its master have the same states
+-- in the engine
+abbrev pub LevelIsEqual : List ℕ → Standing → Engine → Type 0
+LevelIsEqual line s e =
+    (d : Deliver) → task s.kinds line s.session ≡ delivers d
+    → is_level (world_after (delivered_by d s.session).records s.session.world) d.name ≡ true
+    → IsLevel (session_of e).world d.name
+
+-- where the line is a delivery to a fork that has something to push, it writes nothing
+abbrev pub WaitsForPushes : List ℕ → Standing → Type 0
+WaitsForPushes line s =
+    (d : Deliver) → task s.kinds line s.session ≡ delivers d
+    → pending_in s.session.world d.name ≢ Some 0 → (delivered_by d s.session).records ≡ []
+
+-- an engine is as it is after a delivery, the emissions are those due then, and its lines and its end
+-- are the delivery's
+pub record IsAfterDelivery (d : Deliver) (s : Standing) (m : AfterDelivery) : Type 0 where
+  pub session : session_of m.engine ≡ settled_session (session_delivered d s.session)
+  pub asks : asks_in m.engine ≡ s.asks
+  pub due : m.emissions.items ≡ emissions (session_delivered d s.session)
+  pub given : m.given ≡ (delivered_by d s.session).given
+  pub level : m.level
+      ≡ is_level (world_after (delivered_by d s.session).records s.session.world) d.name
+  pub resync : m.resync
+      ≡ is_resync (has_lost d.name s.session) (delivered_by d s.session).given
 
 -- ---- how long a turn takes
 

@@ -1,11 +1,11 @@
 -- What a line was judged to be.
-use Rattle.std.specs.Prelude.{◌≡◌, ◌≤◌, ℕ, string_bytes}
+use Rattle.std.specs.Prelude.{◌≡◌, ◌≤◌, ℕ, IsSome, string_bytes}
 use Rattle.rx_reply.specs.Reply.{answer_lines, is_refusal}
 use Rattle.rx_session.specs.Doing.{MayDo}
-use Rattle.rx_session.specs.Session.{Session}
-use Rattle.rx_engine.specs.Lines.{Task, answered, turns, calls}
+use Rattle.rx_session.specs.Session.{Session, stream_of}
+use Rattle.rx_engine.specs.Lines.{Task, answered, turns, calls, delivers}
 use Rattle.rx_engine.specs.Outcome.{Outcome}
-use Rattle.rx_engine.specs.Shown.{call_of, doing_of, turn_of}
+use Rattle.rx_engine.specs.Shown.{call_of, deliver_of, doing_of, turn_of}
 use Rattle.rx_engine.specs.declared.judging.Judged.{Judged}
 use Rattle.rx_engine.specs.declared.judging.Judged.TheVariants as judged
 use Rattle.rx_engine.specs.declared.judging.Printed.{Printed}
@@ -21,16 +21,24 @@ abbrev pub IsJudged : ℕ → Judged → Task → Type 0
 IsJudged number (judged.Printed p) (answered o) = IsPrinted number p o
 IsJudged number (judged.Turns t) (turns u) = turn_of t ≡ u
 IsJudged number (judged.Calls c) (calls d) = call_of c ≡ d
+IsJudged number (judged.Delivers d) (delivers e) = deliver_of d ≡ e
 IsJudged number (judged.Printed p) (turns u) = ⊥
 IsJudged number (judged.Printed p) (calls d) = ⊥
 IsJudged number (judged.Turns t) (answered o) = ⊥
 IsJudged number (judged.Turns t) (calls d) = ⊥
 IsJudged number (judged.Calls c) (answered o) = ⊥
 IsJudged number (judged.Calls c) (turns u) = ⊥
+IsJudged number (judged.Printed p) (delivers e) = ⊥
+IsJudged number (judged.Turns t) (delivers e) = ⊥
+IsJudged number (judged.Calls c) (delivers e) = ⊥
+IsJudged number (judged.Delivers d) (answered o) = ⊥
+IsJudged number (judged.Delivers d) (turns u) = ⊥
+IsJudged number (judged.Delivers d) (calls c) = ⊥
 
--- it may be done in a session; an exchange is of one document at least, and a turn to a master
--- elsewhere has one at least
+-- it may be done in a session; an exchange is of one document at least, a turn to a master elsewhere
+-- has one at least, and a stream that delivers is open
 abbrev pub MayDoJudged : Judged → Session → Type 0
 MayDoJudged (judged.Printed p) s = MayDo (doing_of p.doing) s
 MayDoJudged (judged.Turns t) s = 1 ≤ t.batch
 MayDoJudged (judged.Calls c) s = (1 ≤ c.batch) × (1 ≤ c.budget)
+MayDoJudged (judged.Delivers d) s = IsSome (stream_of d.name s)

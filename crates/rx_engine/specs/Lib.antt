@@ -23,3 +23,5 @@ pub mod Engine
 pub mod Hearing
 pub mod Ahead
 pub mod SoundSession
+pub mod Streams
+pub mod Delivering

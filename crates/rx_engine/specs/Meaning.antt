@@ -4,18 +4,22 @@ use Rattle.std.specs.List.{flat_map}
 use Rattle.rx_record.specs.Content.{Content, epoch, content_bytes}
 use Rattle.rx_observe.specs.declared.emission.Emission.{Emission}
 use Rattle.rx_value.specs.Named.{put_named}
-use Rattle.rx_reply.specs.Answer.{turn}
+use Rattle.rx_reply.specs.Answer.{deliver, turn}
 use Rattle.rx_reply.specs.Emission.{emission_line, rows_fields}
 use Rattle.rx_reply.specs.Reply.{answer_lines, is_refusal}
 use Rattle.rx_reply.specs.declared.turn.TurnEnd.{TurnEnd}
 use Rattle.rx_session.specs.Doing.{Doing, write, migrate, restart, session_after}
 use Rattle.rx_session.specs.Emissions.{emissions, settled_session}
+use Rattle.rx_session.specs.Session.{has_lost}
 use Rattle.rx_sync.specs.Asks.{Asks}
+use Rattle.rx_sync.specs.Delivery.{is_level, is_resync}
+use Rattle.rx_sync.specs.Exchange.{world_after}
 use Rattle.rx_sync.specs.Turn.{Turned}
 use Rattle.rx_engine.specs.Calling.{called, to_hear}
-use Rattle.rx_engine.specs.Lines.{Task, answered, turns, calls, task}
+use Rattle.rx_engine.specs.Lines.{Task, answered, turns, calls, delivers, task}
 use Rattle.rx_engine.specs.Outcome.{Outcome}
 use Rattle.rx_engine.specs.Standing.{Standing, asks_after}
+use Rattle.rx_engine.specs.Streams.{Deliver, delivered_by, session_delivered}
 use Rattle.rx_engine.specs.Turning.{turned, written}
 use Rattle.rx_world.specs.World.{World}
 
@@ -79,12 +83,30 @@ turn_meaning number name t s = record {
   };
 }
 
+-- of a delivery
+abbrev pub delivery_meaning : ℕ → Deliver → Standing → Meaning
+delivery_meaning number d s =
+    let m = delivered_by d s.session in
+    let then = session_delivered d s.session in
+    record {
+      records = m.records;
+      reply = answer_lines number (deliver m.given
+          (is_level (world_after m.records s.session.world) d.name)
+          (is_resync (has_lost d.name s.session) m.given))
+          ++ lines_of (emissions then);
+      emissions = length (emissions then);
+      refused = false;
+      ended = None;
+      next = record s { session = settled_session then };
+    }
+
 -- of what a line comes to
 abbrev pub task_meaning : ℕ → Task → Standing → Meaning
 task_meaning number (answered o) s = meaning_of number o s
 task_meaning number (turns t) s = turn_meaning number t.name (turned t s) s
 task_meaning number (calls c) s =
     let u = called c s in turn_meaning number c.name u.turned (to_hear u.later s)
+task_meaning number (delivers d) s = delivery_meaning number d s
 
 -- what a line of that number means
 unfoldable pub meaning : ℕ → List ℕ → Standing → Meaning

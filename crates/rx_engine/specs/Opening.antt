@@ -18,12 +18,13 @@ abbrev pub epoch_body : World → List ℕ
 epoch_body w = content_bytes (epoch (w.epoch + 1))
 
 -- a session on a world, of a run that knows these hooks: its moment is 0, no hook stands before a
--- write, and nothing is observed
+-- write, no stream is open, and nothing is observed
 abbrev pub session_on : HookKinds → World → Session
 session_on known w = record {
   world = w;
   moment = 0;
   hooks = record { known = known; attached = [] };
+  streams = [];
   queries = [];
 }
 

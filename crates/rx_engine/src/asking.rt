@@ -5,6 +5,7 @@ ghost use Rattle.rx_handler.specs.Shown.{kinds_of};
 ghost use Rattle.rx_reply.specs.Answer as answer;
 ghost use Rattle.rx_script.specs.Asked.{asked, IsLawful};
 ghost use Rattle.rx_session.specs.Doing.{set_clock, MayDo};
+ghost use Rattle.rx_world.specs.Sound.{IsSoundWorld};
 ghost use Rattle.rx_engine.specs.Lines.{line_task, asked_outcome, asked_task, restart_line, task};
 ghost use Rattle.rx_engine.specs.Shown.{doing_of, outcome_of, task_of, MayDoTask};
 ghost use Rattle.rx_writes.specs.declared.fault.Fault.TheVariants.{Memory};
@@ -17,6 +18,7 @@ use crate::queries::{
     answer_alone, count_line, explain_line, find_line, get_line, observe_line, unobserve_line,
 };
 use crate::replicate::{Wanted, master_of, replicate_line};
+use crate::streams::{deliver_line, stream_line, unstream_line};
 use crate::turn_line::turn_line;
 use crate::writes::{
     bulk_line, collection_line, insert_line, patch_line, remove_line, update_line, upsert_line,
@@ -37,6 +39,7 @@ pub(crate) fn plan<'a>(
     hooks: &Hooks,
     text: &[u8],
 ) -> Result<Task<'a>, AllocError>
+    requires sound { IsSoundWorld session.now.world }
     ensures exact { IfOk result
         (λ p. task_of p ≡ task (kinds_of handlers.now) text.now session.now) }
     ensures may { IfOk result (λ p. MayDoTask p session.now) }
@@ -58,6 +61,7 @@ fn plan_text<'a>(
     hooks: &Hooks,
     text: &[u8],
 ) -> Result<Task<'a>, Fault>
+    requires sound { IsSoundWorld session.now.world }
     ensures exact { DueBy Memory task_of result
         (line_task (kinds_of handlers.now) text.now session.now) }
     ensures may { IfOk result (λ p. MayDoTask p session.now) }
@@ -74,7 +78,8 @@ fn plan_task<'a>(
     hooks: &Hooks,
     line: Line,
 ) -> Result<Task<'a>, Fault>
-    requires { IsLawful (asked line) }
+    requires lawful { IsLawful (asked line) }
+    requires sound { IsSoundWorld session.now.world }
     ensures exact { DueBy Memory task_of result
         (asked_task (kinds_of handlers.now) (asked line) session.now) }
     ensures may { IfOk result (λ p. MayDoTask p session.now) }
@@ -86,6 +91,7 @@ fn plan_task<'a>(
             budget,
             link,
         } => turn_line(alloc, session, handlers, name, batch, budget, link),
+        Line::Deliver { name, link } => deliver_line(alloc, session, name, link),
         line => Ok(Task::Answered(plan_line(alloc, session, handlers, hooks, line)?)),
     }
 }
@@ -98,7 +104,8 @@ fn plan_line<'a>(
     hooks: &Hooks,
     line: Line,
 ) -> Result<Outcome<'a>, Fault>
-    requires { IsLawful (asked line) }
+    requires lawful { IsLawful (asked line) }
+    requires sound { IsSoundWorld session.now.world }
     ensures exact { DueBy Memory outcome_of result
         (asked_outcome (kinds_of handlers.now) (asked line) session.now) }
     ensures may { IfOk result (λ p. MayDo (doing_of p.doing) session.now) }
@@ -156,8 +163,10 @@ fn plan_line<'a>(
                 field,
             },
         ),
-        // A turn is no outcome, and is planned before.
-        Line::Turn { .. } => Err(Fault::Refused(Refusal::NoReplication)),
+        // A turn and a delivery are no outcomes, and are planned before.
+        Line::Turn { .. } | Line::Deliver { .. } => Err(Fault::Refused(Refusal::NoReplication)),
+        Line::Stream { name } => stream_line(alloc, session, name),
+        Line::Unstream { name } => unstream_line(session, name),
         Line::Changes { coll, since, batch } => changes_line(alloc, session, &coll, since, batch),
         Line::Tick { at } => Ok(tick(at)),
         Line::Restart => restart_line(session),

@@ -6,6 +6,7 @@ ghost use Rattle.rx_handler.specs.Shown.{kinds_of};
 ghost use Rattle.rx_journal.specs.Reading.{IsUntouched};
 ghost use Rattle.rx_outside.specs.declared.stop.Stop.TheVariants as Stop;
 ghost use Rattle.rx_sync.specs.Remote.{Heard};
+ghost use Rattle.rx_session.specs.Streams.{AreStreamed};
 ghost use Rattle.rx_store.specs.Holds.{IsIllegalFile, IsJournalOfSome, IsLegalFile};
 ghost use Rattle.rx_store.specs.Safe.{HasDiskCause, IsCrashSafe};
 ghost use Rattle.rx_update.specs.Shown.{kinds_of as known_by};
@@ -43,7 +44,7 @@ pub struct Engine {
 }
 
 impl Engine {
-    ghost use Rattle.rx_engine.specs.Engine.{IsAt, IsBounded, IsUnharmedBy, LeavesAll, QuietIsLevel, session_of, standing_of, limit_of};
+    ghost use Rattle.rx_engine.specs.Engine.{IsAt, IsBounded, IsUnharmedBy, LeavesAll, LevelIsEqual, QuietIsLevel, WaitsForPushes, session_of, standing_of, limit_of};
     ghost use Rattle.rx_engine.specs.Hearing.{PlaysLine};
 
     /// Opens a journal for a run that knows these hooks, plays its records, and begins a new epoch.
@@ -130,6 +131,16 @@ impl Engine {
         ensures quiet { IfOk result (λ p.
             QuietIsLevel text.now (standing_of (kinds_of handlers.now) [] self) p.0) }
 
+        // Where a delivery answers level, so have they.
+        ensures level { IfOk result (λ p.
+            LevelIsEqual text.now (standing_of (kinds_of handlers.now) [] self) p.0) }
+
+        // A delivery to a fork that has something to push writes nothing.
+        ensures waits { WaitsForPushes text.now (standing_of (kinds_of handlers.now) [] self) }
+
+        // Each event that waits in a stream is one of what its master committed.
+        ensures streamed { AreStreamed (session_of self).world (session_of self).streams }
+
         // A turn whose link does nothing comes to its end in time.
         ensures bounded { OnOk result
             (IsBounded text.now (standing_of (kinds_of handlers.now) [] self)) }
@@ -162,6 +173,7 @@ impl Engine {
             Judged::Printed(printed) => self.answer(alloc, disk, printed),
             Judged::Turns(turn) => self.answer_turn(alloc, disk, handlers, &turn, number),
             Judged::Calls(call) => self.answer_call(alloc, disk, dial, handlers, &call, number),
+            Judged::Delivers(deliver) => self.answer_delivery(alloc, disk, &deliver, number),
         }
     }
 

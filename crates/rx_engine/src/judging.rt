@@ -1,6 +1,7 @@
 // What a line comes to, with its reply printed where it has one already.
 ghost use Rattle.std.specs.Prelude.{IfOk};
 ghost use Rattle.rx_handler.specs.Shown.{kinds_of};
+ghost use Rattle.rx_world.specs.Sound.{IsSoundWorld};
 ghost use Rattle.rx_engine.specs.Judged.{IsJudged, IsPrinted, MayDoJudged};
 ghost use Rattle.rx_engine.specs.Lines.{task};
 ghost use Rattle.rx_engine.specs.Shown.{outcome_of};
@@ -8,6 +9,7 @@ ghost use Rattle.rx_engine.specs.Shown.{outcome_of};
 use crate::asking::plan;
 use crate::outcome::{LineDoing, Outcome, Task};
 use crate::remote::Call;
+use crate::streams::Deliver;
 use crate::turning::Turn;
 use rx_handler::Handlers;
 use rx_session::Session;
@@ -23,12 +25,13 @@ pub(crate) struct Printed {
 }
 
 /// What a line comes to: something to do, which is answered already; or a turn, to a master of this
-/// journal or to one elsewhere.
+/// journal or to one elsewhere; or a delivery.
 #[derive(Drop)]
 pub(crate) enum Judged {
     Printed(Printed),
     Turns(Turn),
     Calls(Call),
+    Delivers(Deliver),
 }
 
 /// Judges a line that isn't blank.
@@ -40,6 +43,7 @@ pub(crate) fn judge(
     text: &[u8],
     number: u64,
 ) -> Result<Judged, AllocError>
+    requires sound { IsSoundWorld session.now.world }
     ensures judged { IfOk result
         (λ j. IsJudged number j (task (kinds_of handlers.now) text.now session.now)) }
     ensures may { IfOk result (λ j. MayDoJudged j session.now) }
@@ -48,6 +52,7 @@ pub(crate) fn judge(
         Task::Answered(outcome) => Ok(Judged::Printed(print(alloc, outcome, number)?)),
         Task::Turns(turn) => Ok(Judged::Turns(turn)),
         Task::Calls(call) => Ok(Judged::Calls(call)),
+        Task::Delivers(deliver) => Ok(Judged::Delivers(deliver)),
     }
 }
 

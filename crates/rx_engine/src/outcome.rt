@@ -1,4 +1,5 @@
 use crate::remote::Call;
+use crate::streams::Deliver;
 use crate::turning::Turn;
 use rx_record::Record;
 use rx_reply::Reply;
@@ -20,11 +21,12 @@ pub(crate) struct Outcome<'a> {
     pub reply: Reply<'a>,
 }
 
-/// What a line comes to: an outcome; or a turn, to a master of this journal or to one elsewhere,
-/// which is answered once it is made.
+/// What a line comes to: an outcome; or a turn, to a master of this journal or to one elsewhere, or a
+/// delivery, which are answered once they are made.
 #[derive(Drop)]
 pub(crate) enum Task<'a> {
     Answered(Outcome<'a>),
     Turns(Turn),
     Calls(Call),
+    Delivers(Deliver),
 }

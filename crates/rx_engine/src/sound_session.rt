@@ -1,6 +1,7 @@
 // A session whose world is sound.
 ghost use Rattle.std.specs.Prelude.{◌≡◌};
 ghost use Rattle.rx_value.specs.Named.{by_bytes};
+ghost use Rattle.rx_session.specs.Streams.{AreStreamed};
 ghost use Rattle.rx_world.specs.Made.{IsMadeWorld};
 ghost use Rattle.rx_world.specs.Sound.{IsSoundWorld};
 ghost use Rattle.rx_engine.specs.Marks.{AreMarked};
@@ -52,8 +53,9 @@ impl SoundSession {
     pub(crate) fn session(&self) -> &Session
         ensures value { result.now ≡ self.now.session }
         ensures sound { HasSoundWorld self.now }
+        ensures streamed { AreStreamed self.now.session.world self.now.session.streams }
     {
-        &self.session
+        self.session.seen()
     }
 
     /// The session alone: what is remembered beside it is forgotten.

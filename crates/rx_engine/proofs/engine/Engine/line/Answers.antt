@@ -2,18 +2,21 @@ use Rattle.std.proofs.Common.{◌≡◌, ◌∙◌, sym, subst, refl, true, List
 use Rattle.rx_value.proofs.Outcomes.{if_ok, on_ok}
 use Rattle.rx_handler.specs.Shown.{kinds_of}
 use Rattle.rx_record.specs.Content.{Content}
+use Rattle.rx_session.specs.Session.{Session}
 use Rattle.rx_store.specs.Safe.{IsCrashSafe}
 use Rattle.rx_sync.specs.Remote.{Heard}
+use Rattle.rx_world.specs.Sound.{IsSoundWorld}
 use Rattle.rx_engine.specs.Engine.{Answers, IsAt, LeavesAll, asks_in, limit_of, session_of, standing_of}
 use Rattle.rx_engine.specs.Lines.{IsIdleTask}
 use Rattle.rx_engine.specs.Meaning.{Meaning, bodies_of}
 use Rattle.rx_engine.specs.Standing.{Standing}
-use Rattle.rx_engine.specs.Shown.{WritesNoExchange, call_of, turn_of}
+use Rattle.rx_engine.specs.Shown.{WritesNoExchange, call_of, deliver_of, turn_of}
 use Rattle.rx_engine.proofs.AfterCalls.{may_call}
+use Rattle.rx_engine.proofs.AfterDeliveries.{level_delivered, line_waits}
 use Rattle.rx_engine.proofs.AfterTurns.{may}
-use Rattle.rx_engine.proofs.CanTurns.{can_call, can_turn}
-use Rattle.rx_engine.proofs.Hearing.{plays_call, plays_none, plays_out_of_memory, shown_printed, shown_turn}
-use Rattle.rx_engine.proofs.Meanings.{answers_so, bounded_so, busy_so, call_is, calling_so, left_so, level_so, may_do, no_bound_so, no_level_so, no_master_so, no_other_so, no_turn_so, not_refused, of_each, printed_is, records_so, refused_so, some_asked, some_called, turn_is, turn_so, unbounded_so, unharmed_so}
+use Rattle.rx_engine.proofs.CanTurns.{can_call, can_deliver, can_turn}
+use Rattle.rx_engine.proofs.Hearing.{plays_call, plays_none, plays_out_of_memory, shown_delivery, shown_printed, shown_turn}
+use Rattle.rx_engine.proofs.Meanings.{answers_so, bounded_so, busy_so, call_is, call_no_delivery, calling_so, delivering_so, delivery_is, delivery_no_master, delivery_no_turn, delivery_so, delivery_unbounded, equal_so, left_so, level_so, may_do, no_bound_so, no_delivery_so, no_level_so, no_master_so, no_other_so, no_turn_so, not_refused, of_each, printed_is, records_so, refused_so, some_asked, some_called, some_open, turn_is, turn_no_delivery, turn_so, unbounded_so, unharmed_so}
 use Rattle.rx_engine.proofs.Outcomes.{lawful_outcome}
 use Rattle.rx_store.proofs.Stops.{memory_stop}
 use Rattle.rx_engine.specs.declared.engine.Engine.{Engine}
@@ -27,6 +30,12 @@ returns-in_err-printed-clause-plays g c =
     _ c.args.self c.from_residual.result
     (memory_stop c.from_residual.result c.from_residual.ensures.1) refl
     (λ told left e. g.met.D.Disk.only_now c.args.disk.now left told e)
+
+pub judge-requires : goal.judge-requires
+judge-requires g c = record {
+  sound = subst (λ (x : Session). IsSoundWorld x.world) (sym c.session.ensures.value)
+      c.session.ensures.sound.sound;
+}
 
 -- ---- what is done is answered already
 
@@ -326,6 +335,157 @@ returns-in-Calls-clause-refused g c =
     (if_ok c.answer_call.result _ _ (c.answer_call.ensures.turned.so [])
     (λ x a. a.answers.refused))
 
+-- ---- a delivery
+
+pub answer_delivery-requires-clause-open : goal.answer_delivery-requires-clause-open
+unfolding session_of asks_in standing_of
+answer_delivery-requires-clause-open g c =
+    some_open c.in_ok-printed.field-0 c.in-Delivers.deliver c.session.result.now
+    c.args.self.session.session c.session.ensures.value c.in-Delivers.is c.in_ok-printed.ensures.may
+
+pub returns-in-Delivers-clause-plays : goal.returns-in-Delivers-clause-plays
+unfolding session_of asks_in standing_of
+returns-in-Delivers-clause-plays g c =
+    let kinds = kinds_of c.args.handlers.now in
+    let s : List Heard → Standing = λ heard. standing_of kinds heard c.args.self in
+    let m = c.in-Delivers.deliver in
+    let is = delivery_is c.args.number kinds c.args.text.now c.session.result.now (s []).session
+    c.session.ensures.value c.in_ok-printed.field-0 m c.in-Delivers.is c.in_ok-printed.ensures.judged in
+    let r = c.answer_delivery.result in
+    plays_none g.D.Disk g.L.W.Wire.tells kinds c.args.number c.args.text.now c.args.disk.now
+    c.answer_delivery.new.disk _ _ c.args.self r
+    (λ later. subst (λ (x : Meaning). IfOk r (λ p. Answers kinds later x p.0 p.1))
+    (delivery_so c.args.number c.args.text.now (s later) (deliver_of m) is)
+    (c.answer_delivery.ensures.answers kinds later))
+    (λ later told bodies at.
+    subst (λ (x : Meaning). IsCrashSafe g.D.Disk c.args.disk.now c.answer_delivery.new.disk bodies
+    (bodies_of x.records) (limit_of c.args.self)
+    (λ p. IsAt g.D.Disk c.answer_delivery.new.disk p.0) r)
+    (delivery_so c.args.number c.args.text.now (s later) (deliver_of m) is)
+    (c.answer_delivery.ensures.commits.safe told bodies at))
+    (shown_delivery g.D.Disk g.L.W.Wire.tells kinds c.args.number c.args.text.now c.args.disk.now
+    c.answer_delivery.new.disk _ _ c.args.self r
+    (deliver_of m) is refl)
+
+pub returns-in-Delivers-clause-quiet : goal.returns-in-Delivers-clause-quiet
+unfolding session_of asks_in standing_of
+returns-in-Delivers-clause-quiet g c =
+    let s = standing_of (kinds_of c.args.handlers.now) [] c.args.self in
+    let m = c.in-Delivers.deliver in
+    let is = delivery_is c.args.number s.kinds c.args.text.now c.session.result.now s.session
+    c.session.ensures.value c.in_ok-printed.field-0 m c.in-Delivers.is c.in_ok-printed.ensures.judged in
+    delivery_no_turn c.args.number c.args.text.now s (deliver_of m) is c.answer_delivery.result
+
+pub returns-in-Delivers-clause-level : goal.returns-in-Delivers-clause-level
+unfolding session_of asks_in standing_of
+returns-in-Delivers-clause-level g c =
+    let s = standing_of (kinds_of c.args.handlers.now) [] c.args.self in
+    let m = c.in-Delivers.deliver in
+    let is = delivery_is c.args.number s.kinds c.args.text.now c.session.result.now s.session
+    c.session.ensures.value c.in_ok-printed.field-0 m c.in-Delivers.is c.in_ok-printed.ensures.judged in
+    let here = c.session.ensures.sound in
+    equal_so c.args.number c.args.text.now s (deliver_of m) is c.answer_delivery.result
+    (c.answer_delivery.ensures.answers s.kinds [])
+    (level_delivered (deliver_of m) s.session here.made here.sound c.session.ensures.streamed
+    (can_deliver s.kinds c.args.text.now s.session (deliver_of m) is))
+
+pub returns-in-Delivers-clause-waits : goal.returns-in-Delivers-clause-waits
+unfolding session_of asks_in standing_of
+returns-in-Delivers-clause-waits g c =
+    let here = c.session.ensures.sound in
+    line_waits c.args.text.now (standing_of (kinds_of c.args.handlers.now) [] c.args.self) here.made
+    here.sound c.session.ensures.streamed
+
+pub returns-in-Printed-clause-level : goal.returns-in-Printed-clause-level
+unfolding session_of asks_in standing_of
+returns-in-Printed-clause-level g c =
+    let s = standing_of (kinds_of c.args.handlers.now) [] c.args.self in
+    let p = c.in-Printed.printed in
+    let j = printed_is c.args.number s.kinds c.args.text.now c.session.result.now s.session
+    c.session.ensures.value c.in_ok-printed.field-0 p c.in-Printed.is c.in_ok-printed.ensures.judged in
+    no_delivery_so c.args.number c.args.text.now s j.0 p j.1 j.2 c.answer.result
+
+pub returns-in_err-printed-clause-waits : goal.returns-in_err-printed-clause-waits
+unfolding session_of asks_in standing_of
+returns-in_err-printed-clause-waits g c =
+    let here = c.session.ensures.sound in
+    line_waits c.args.text.now (standing_of (kinds_of c.args.handlers.now) [] c.args.self) here.made
+    here.sound c.session.ensures.streamed
+
+pub returns-in-Printed-clause-waits : goal.returns-in-Printed-clause-waits
+unfolding session_of asks_in standing_of
+returns-in-Printed-clause-waits g c =
+    let here = c.session.ensures.sound in
+    line_waits c.args.text.now (standing_of (kinds_of c.args.handlers.now) [] c.args.self) here.made
+    here.sound c.session.ensures.streamed
+
+pub returns-in-Turns-clause-level : goal.returns-in-Turns-clause-level
+unfolding session_of asks_in standing_of
+returns-in-Turns-clause-level g c =
+    let s = standing_of (kinds_of c.args.handlers.now) [] c.args.self in
+    let m = c.in-Turns.turn in
+    let is = turn_is c.args.number s.kinds c.args.text.now c.session.result.now s.session
+    c.session.ensures.value c.in_ok-printed.field-0 m c.in-Turns.is c.in_ok-printed.ensures.judged in
+    turn_no_delivery c.args.number c.args.text.now s (turn_of m) is c.answer_turn.result
+
+pub returns-in-Turns-clause-waits : goal.returns-in-Turns-clause-waits
+unfolding session_of asks_in standing_of
+returns-in-Turns-clause-waits g c =
+    let here = c.session.ensures.sound in
+    line_waits c.args.text.now (standing_of (kinds_of c.args.handlers.now) [] c.args.self) here.made
+    here.sound c.session.ensures.streamed
+
+pub returns-in-Calls-clause-level : goal.returns-in-Calls-clause-level
+unfolding session_of asks_in standing_of
+returns-in-Calls-clause-level g c =
+    let s = standing_of (kinds_of c.args.handlers.now) [] c.args.self in
+    let m = c.in-Calls.call in
+    let is = call_is c.args.number s.kinds c.args.text.now c.session.result.now s.session
+    c.session.ensures.value c.in_ok-printed.field-0 m c.in-Calls.is c.in_ok-printed.ensures.judged in
+    call_no_delivery c.args.number c.args.text.now s (call_of m) is c.answer_call.result
+
+pub returns-in-Calls-clause-waits : goal.returns-in-Calls-clause-waits
+unfolding session_of asks_in standing_of
+returns-in-Calls-clause-waits g c =
+    let here = c.session.ensures.sound in
+    line_waits c.args.text.now (standing_of (kinds_of c.args.handlers.now) [] c.args.self) here.made
+    here.sound c.session.ensures.streamed
+
+pub returns-in-Delivers-clause-idle : goal.returns-in-Delivers-clause-idle
+unfolding session_of asks_in standing_of
+returns-in-Delivers-clause-idle g c idle =
+    let s = standing_of (kinds_of c.args.handlers.now) [] c.args.self in
+    let m = c.in-Delivers.deliver in
+    let is = delivery_is c.args.number s.kinds c.args.text.now c.session.result.now s.session
+    c.session.ensures.value c.in_ok-printed.field-0 m c.in-Delivers.is c.in_ok-printed.ensures.judged in
+    absurd (delivering_so c.args.number c.args.text.now s (deliver_of m) is idle)
+
+pub returns-in-Delivers-clause-bounded : goal.returns-in-Delivers-clause-bounded
+unfolding session_of asks_in standing_of
+returns-in-Delivers-clause-bounded g c =
+    let s = standing_of (kinds_of c.args.handlers.now) [] c.args.self in
+    let m = c.in-Delivers.deliver in
+    let is = delivery_is c.args.number s.kinds c.args.text.now c.session.result.now s.session
+    c.session.ensures.value c.in_ok-printed.field-0 m c.in-Delivers.is c.in_ok-printed.ensures.judged in
+    on_ok c.answer_delivery.result _
+    (delivery_unbounded c.args.number c.args.text.now s (deliver_of m) is)
+
+pub returns-in-Delivers-clause-unharmed : goal.returns-in-Delivers-clause-unharmed
+unfolding session_of asks_in standing_of
+returns-in-Delivers-clause-unharmed g c other heard =
+    let kinds = kinds_of c.args.handlers.now in
+    let s : List Heard → Standing = λ heard. standing_of kinds heard c.args.self in
+    let m = c.in-Delivers.deliver in
+    let is = delivery_is c.args.number kinds c.args.text.now c.session.result.now (s []).session
+    c.session.ensures.value c.in_ok-printed.field-0 m c.in-Delivers.is c.in_ok-printed.ensures.judged in
+    delivery_no_master c.args.number c.args.text.now (s heard) (deliver_of m) is
+
+pub returns-in-Delivers-clause-refused : goal.returns-in-Delivers-clause-refused
+returns-in-Delivers-clause-refused g c =
+    not_refused _ c.answer_delivery.result
+    (if_ok c.answer_delivery.result _ _
+    (c.answer_delivery.ensures.answers (kinds_of c.args.handlers.now) []) (λ x a. a.refused))
+
 -- ---- the limit, and the cause of a stop
 
 pub returns-in-Printed-clause-limit : goal.returns-in-Printed-clause-limit
@@ -339,3 +499,31 @@ returns-in-Turns-clause-limit g c = c.answer_turn.ensures.commits.limit
 
 pub returns-in-Turns-clause-cause : goal.returns-in-Turns-clause-cause
 returns-in-Turns-clause-cause g c = c.answer_turn.ensures.commits.cause
+
+pub returns-in-Delivers-clause-limit : goal.returns-in-Delivers-clause-limit
+returns-in-Delivers-clause-limit g c = c.answer_delivery.ensures.commits.limit
+
+pub returns-in-Delivers-clause-cause : goal.returns-in-Delivers-clause-cause
+returns-in-Delivers-clause-cause g c = c.answer_delivery.ensures.commits.cause
+
+-- ---- the streams
+
+pub returns-in_err-printed-clause-streamed : goal.returns-in_err-printed-clause-streamed
+unfolding session_of
+returns-in_err-printed-clause-streamed g c = c.session.ensures.streamed
+
+pub returns-in-Printed-clause-streamed : goal.returns-in-Printed-clause-streamed
+unfolding session_of
+returns-in-Printed-clause-streamed g c = c.session.ensures.streamed
+
+pub returns-in-Turns-clause-streamed : goal.returns-in-Turns-clause-streamed
+unfolding session_of
+returns-in-Turns-clause-streamed g c = c.session.ensures.streamed
+
+pub returns-in-Calls-clause-streamed : goal.returns-in-Calls-clause-streamed
+unfolding session_of
+returns-in-Calls-clause-streamed g c = c.session.ensures.streamed
+
+pub returns-in-Delivers-clause-streamed : goal.returns-in-Delivers-clause-streamed
+unfolding session_of
+returns-in-Delivers-clause-streamed g c = c.session.ensures.streamed

@@ -43,7 +43,8 @@ unfolding session_of
 commit-requires g c told =
     let at = c.requires.at told in
     play_may_commit g.D.Disk c.args.disk.now c.args.disk.now c.args.self _ c.begin.result
-    (c.begin.ensures.same ∙ c.release-parts.ensures.same) c.in_ok-made.made.play
+    (ap (λ (x : Session). x.world) (c.begin.ensures.same ∙ c.release-parts.ensures.same))
+    c.in_ok-made.made.play
     c.in_ok-made.ensures.staged at.0 at.1
 
 pub returns-in_err-play-clause-commits : goal.returns-in_err-play-clause-commits
@@ -61,7 +62,8 @@ returns-in_err-play-clause-commits g c =
     commits_stopped d old new self (turned u s).records (engine_with self) _ stop
     c.from_residual-in_err-play.result
     (handed_on c.from_residual-in_err-play.result stop c.from_residual-in_err-play.ensures.1)
-    (commits_play d old new self (turned u s).records c.begin.result session c.in_ok-made.made.play
+    (commits_play d old new self (turned u s).records c.begin.result
+    (ap (λ (x : Session). x.world) session) c.in_ok-made.made.play
     (follows_here u s c.begin.result c.moment-now.result (by_bytes c.release-parts.result.1.asks.entries)
     session (c.moment-now.ensures ∙ ap (λ (x : Session). x.moment) parts.same) parts.asks
     (play_of self.journal c.begin.result) c.in_ok-made.made.play c.in_ok-made.ensures.staged) _
@@ -81,7 +83,8 @@ returns-in_err-session-clause-commits g c =
     commits_before d old new self (turned u s).records (engine_with self) _ c.in_ok-play.play
     c.from_residual-in_err-session.result
     (memory_stop c.from_residual-in_err-session.result c.from_residual-in_err-session.ensures.1)
-    (commits_play d old new self (turned u s).records c.begin.result session c.in_ok-made.made.play
+    (commits_play d old new self (turned u s).records c.begin.result
+    (ap (λ (x : Session). x.world) session) c.in_ok-made.made.play
     (follows_here u s c.begin.result c.moment-now.result (by_bytes c.release-parts.result.1.asks.entries)
     session (c.moment-now.ensures ∙ ap (λ (x : Session). x.moment) parts.same) parts.asks
     (play_of self.journal c.begin.result) c.in_ok-made.made.play c.in_ok-made.ensures.staged) _
@@ -104,7 +107,8 @@ returns-clause-commits g c =
     commits_so d old new self (turned u s).records (engine_with self) _ play _
     (λ bodies held.
     subst (λ (x : Session). Holds d new play.journal bodies x.world) (sym settled) held) refl
-    (commits_play d old new self (turned u s).records c.begin.result session c.in_ok-made.made.play
+    (commits_play d old new self (turned u s).records c.begin.result
+    (ap (λ (x : Session). x.world) session) c.in_ok-made.made.play
     (follows_here u s c.begin.result c.moment-now.result (by_bytes c.release-parts.result.1.asks.entries)
     session (c.moment-now.ensures ∙ ap (λ (x : Session). x.moment) parts.same) parts.asks
     (play_of self.journal c.begin.result) c.in_ok-made.made.play c.in_ok-made.ensures.staged) _

@@ -1,6 +1,8 @@
 use Rattle.std.proofs.Common.{◌≡◌, sym, subst}
 use Rattle.rx_value.proofs.Outcomes.{if_ok}
 use Rattle.rx_handler.specs.Shown.{kinds_of}
+use Rattle.rx_session.specs.Session.{Session}
+use Rattle.rx_world.specs.Sound.{IsSoundWorld}
 use Rattle.rx_engine.specs.Ahead.{StagesLine, StagesPrinted}
 use Rattle.rx_engine.specs.Engine.{asks_in, session_of, standing_of}
 use Rattle.rx_engine.specs.Shown.{WritesNoExchange}
@@ -8,6 +10,12 @@ use Rattle.rx_engine.proofs.Ahead.{left_as_it_is, stages_printed}
 use Rattle.rx_engine.proofs.Meanings.{may_do, printed_is}
 use Rattle.rx_engine.proofs.Outcomes.{lawful_outcome}
 use Rattle.rx_engine.proofs.engine.Engine.stage_line.Goals as goal
+
+pub judge-requires : goal.judge-requires
+judge-requires g c = record {
+  sound = subst (λ (x : Session). IsSoundWorld x.world) (sym c.session.ensures.value)
+      c.session.ensures.sound.sound;
+}
 
 pub stage_printed-requires-clause-held : goal.stage_printed-requires-clause-held
 stage_printed-requires-clause-held g c = c.session.ensures.sound
@@ -43,6 +51,9 @@ returns-in-Printed g c =
 pub returns-in-Turns : goal.returns-in-Turns
 returns-in-Turns g c = left_as_it_is c.args.self
 
--- a turn to a master elsewhere
+pub returns-in-Calls : goal.returns-in-Calls
+returns-in-Calls g c = left_as_it_is c.args.self
+
+-- a delivery
 pub returns : goal.returns
 returns g c = left_as_it_is c.args.self

@@ -42,7 +42,8 @@ unfolding session_of
 commit-requires g c told =
     let at = c.requires.at told in
     play_may_commit g.D.Disk c.args.disk.now c.args.disk.now c.args.self
-    (content c.args.entry ∷ []) c.begin.result (c.begin.ensures.same ∙ c.release-parts.ensures.same)
+    (content c.args.entry ∷ []) c.begin.result
+    (ap (λ (x : Session). x.world) (c.begin.ensures.same ∙ c.release-parts.ensures.same))
     c.in_ok-staged.staged c.in_ok-staged.ensures at.0 at.1
 
 pub returns-in_err-play-clause-commits : goal.returns-in_err-play-clause-commits
@@ -57,7 +58,8 @@ returns-in_err-play-clause-commits g c =
     commits_stopped d old new self cs (engine_with self) _ stop c.from_residual-in_err-play.result
     (handed_on c.from_residual-in_err-play.result stop c.from_residual-in_err-play.ensures.1)
     (commits_play d old new self cs c.begin.result
-    (c.begin.ensures.same ∙ c.release-parts.ensures.same) c.in_ok-staged.staged
+    (ap (λ (x : Session). x.world) (c.begin.ensures.same ∙ c.release-parts.ensures.same))
+    c.in_ok-staged.staged
     c.in_ok-staged.ensures _
     c.in_err-play.ensures)
 
@@ -73,7 +75,8 @@ returns-in_err-session-clause-commits g c =
     c.from_residual-in_err-session.result
     (memory_stop c.from_residual-in_err-session.result c.from_residual-in_err-session.ensures.1)
     (commits_play d old new self cs c.begin.result
-    (c.begin.ensures.same ∙ c.release-parts.ensures.same) c.in_ok-staged.staged
+    (ap (λ (x : Session). x.world) (c.begin.ensures.same ∙ c.release-parts.ensures.same))
+    c.in_ok-staged.staged
     c.in_ok-staged.ensures _
     c.in_ok-play.ensures)
 
@@ -168,6 +171,7 @@ returns-clause-commits g c =
     (λ bodies held.
     subst (λ (x : Session). Holds d new play.journal bodies x.world) (sym settled) held) refl
     (commits_play d old new self cs c.begin.result
-    (c.begin.ensures.same ∙ c.release-parts.ensures.same) c.in_ok-staged.staged
+    (ap (λ (x : Session). x.world) (c.begin.ensures.same ∙ c.release-parts.ensures.same))
+    c.in_ok-staged.staged
     c.in_ok-staged.ensures _
     c.in_ok-play.ensures)
