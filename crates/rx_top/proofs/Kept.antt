@@ -58,6 +58,8 @@ kept_turn n line s next holds full =
         in_time = λ t is. had.bounded.in_time t (same ∙ is);
       };
       unharmed = λ c is. had.unharmed c (same ∙ is);
+      level = λ d is. had.level d (same ∙ is);
+      waits = λ d is. had.waits d (same ∙ is);
     }
 
 -- of what no master can do in it

@@ -2,7 +2,7 @@
 use Rattle.std.proofs.Common.{◌≡◌, ◌∙◌, refl, sym, ap, subst, ℕ, Bool, true, false, true≢false, cond, List, [], ◌++◌, append-nil, string_bytes, Option, None, Some, Result, Ok, Err, IsErrOf, inl}
 use Rattle.rx_disk.specs.declared.disk.Disk.{Ghosts}
 use Rattle.rx_engine.specs.Dialled.{DialStanding}
-use Rattle.rx_engine.specs.Engine.{Answers, IsAt, IsBounded, IsUnharmedBy, QuietIsLevel, limit_of, standing_of}
+use Rattle.rx_engine.specs.Engine.{Answers, IsAt, IsBounded, IsUnharmedBy, LevelIsEqual, QuietIsLevel, WaitsForPushes, limit_of, standing_of}
 use Rattle.rx_engine.specs.Hearing.{PlaysLine}
 use Rattle.rx_engine.specs.Meaning.{meaning}
 use Rattle.rx_engine.specs.declared.engine.Engine.{Engine}
@@ -64,14 +64,19 @@ module _ (s : Standing) {D : Type 0} (d : Ghosts D) (e : Engine) (n : ℕ) (line
   pub turn_done : (kinds : Kinds) (later : List Heard) (pair : Engine × Output)
       → is_blank line ≡ false → Answers kinds later (meaning n line s) pair.0 pair.1
       → QuietIsLevel line s pair.0 → IsBounded line s → IsUnharmedBy line s
+      → LevelIsEqual line s pair.0 → WaitsForPushes line s
       → HoldsOfTurn n line s effect.next
   unfolding standing_of
-  turn_done kinds later pair full answers quiet bounded unharmed _ = record {
+  turn_done kinds later pair full answers quiet bounded unharmed level waits _ = record {
     quiet = λ t is ended.
         subst (λ (x : Standing). IsLevel x.session.world t.name)
         (answers.next ∙ ap (λ (m : Effect Standing). m.next) (does full)) (quiet t is ended);
     bounded = bounded;
     unharmed = unharmed;
+    level = λ d is equal.
+        subst (λ (x : Standing). IsLevel x.session.world d.name)
+        (answers.next ∙ ap (λ (m : Effect Standing). m.next) (does full)) (level d is equal);
+    waits = waits;
   }
 
   -- a blank line makes none
@@ -205,6 +210,7 @@ module _ (kinds : Kinds) (wires k_tells : Type 0) {D : Type 0} (d : Ghosts D) (e
         (plays : PlaysLine d wires kinds n line old new dial dial' e (Ok pair))
         (quiet : QuietIsLevel line (standing []) pair.0) (bounded : IsBounded line (standing []))
         (unharmed : (heard : List Heard) → IsUnharmedBy line (standing heard))
+        (level : LevelIsEqual line (standing []) pair.0) (waits : WaitsForPushes line (standing []))
       where
         -- how long a turn takes doesn't depend on what is to be heard
         bounded_so : (heard : List Heard) → IsBounded line (standing heard)
@@ -218,7 +224,7 @@ module _ (kinds : Kinds) (wires k_tells : Type 0) {D : Type 0} (d : Ghosts D) (e
         turn_so later =
             turn_done (standing (plays.heard ++ later)) d e n line kinds later pair full
             (plays.answers later) quiet (bounded_so (plays.heard ++ later))
-            (unharmed (plays.heard ++ later))
+            (unharmed (plays.heard ++ later)) level waits
 
         left_so : (later : List Heard) → (does_for (plays.heard ++ later)).next.heard ≡ later
         unfolding standing_of

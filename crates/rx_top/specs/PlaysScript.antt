@@ -72,8 +72,9 @@ pub record PlaysScript
   pub kept : status < 2 → s.tells → FromStart d disk (λ bodies w.
       (c : List ℕ) → d.image disk' c → (after : World) × IsLegalFile c
       (bodies ++ run_bodies host heard w (lines (s.left source))) after)
-  -- Each turn that ended quiet left its fork and its master level, each whose link did nothing came
-  -- to its end in time, and no master elsewhere, whatever it sent, harmed a fork.
+  -- Each turn that ended quiet, and each delivery that was answered level, left its fork and its
+  -- master level, each turn whose link did nothing came to its end in time, no master elsewhere,
+  -- whatever it sent, harmed a fork, and no delivery wrote to one that had something to push.
   pub turns : status < 2 → s.tells → FromStart d disk (λ bodies w.
       EachLine line_effect HoldsOfTurn 1 (lines (s.left source)) (opened host heard w))
   -- The source failed, after the lines that ended in what it gave.

@@ -26,7 +26,8 @@ returns-in-Ok-write_all-clause-works g c =
     c.args.number c.args.line.now c.args.disk.now c.line.new.disk _ _
     (sym c.is_blank.ensures ∙ c.if-is_blank.false) (g.K.Sink.written c.args.out.now)
     (g.K.Sink.written c.write_all.new.sink) c.in-Ok.pair c.in-Ok.ensures.plays c.in-Ok.ensures.quiet
-    c.in-Ok.ensures.bounded (c.in-Ok.ensures.unharmed (λ is. cc))
+    c.in-Ok.ensures.bounded (c.in-Ok.ensures.unharmed (λ is. cc)) c.in-Ok.ensures.level
+    c.in-Ok.ensures.waits
     (λ k. c.in-Ok-write_all.ensures.ok k
     ∙ ap (λ (bs : List ℕ). g.K.Sink.written c.args.out.now ++ bs) c.as_bytes.ensures.value)
 
@@ -36,7 +37,8 @@ returns-in-Err-write_all-clause-works g c =
     c.args.number c.args.line.now c.args.disk.now c.line.new.disk _ _
     (sym c.is_blank.ensures ∙ c.if-is_blank.false) (g.K.Sink.written c.args.out.now)
     (g.K.Sink.written c.write_all.new.sink) c.in-Ok.pair c.in-Ok.ensures.plays c.in-Ok.ensures.quiet
-    c.in-Ok.ensures.bounded (c.in-Ok.ensures.unharmed (λ is. cc))
+    c.in-Ok.ensures.bounded (c.in-Ok.ensures.unharmed (λ is. cc)) c.in-Ok.ensures.level
+    c.in-Ok.ensures.waits
     (λ k. subst (λ (bs : List ℕ). WritesFront (g.K.Sink.written c.args.out.now)
     (g.K.Sink.written c.write_all.new.sink) bs) c.as_bytes.ensures.value
     (c.in-Err-write_all.ensures.err k))
