@@ -3,7 +3,7 @@ use Rattle.std.proofs.Common.{◌≡◌, ◌<◌, ◌∙◌, refl, sym, ap, subs
 use Rattle.rx_engine.specs.Calling.{Call}
 use Rattle.rx_engine.specs.Dialled.{DialStanding}
 use Rattle.rx_engine.specs.Hearing.{IsShownBy}
-use Rattle.rx_engine.specs.Lines.{Task, answered, turns, calls, task}
+use Rattle.rx_engine.specs.Lines.{Task, answered, turns, calls, delivers, task}
 use Rattle.rx_engine.specs.Opening.{Host, opened}
 use Rattle.rx_engine.specs.Standing.{Standing}
 use Rattle.rx_handler.specs.Handlers.{Kinds}
@@ -23,6 +23,7 @@ none_by_task : (wires : Type 0) (t : Task) (s : Standing) (old new : DialStandin
     → IsShownBy wires t s old new heard (Unit {0}) → heard ≡ []
 none_by_task wires (answered o) s old new heard none shown = shown.0
 none_by_task wires (turns t) s old new heard none shown = shown.0
+none_by_task wires (delivers d) s old new heard none shown = shown.0
 none_by_task wires (calls c) s old new heard none shown = absurd (none c refl)
 
 -- so what is to be heard stays the same

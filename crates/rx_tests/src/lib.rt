@@ -90,6 +90,10 @@ mod statuses;
 #[cfg(test)]
 mod stops;
 #[cfg(test)]
+mod stream_stops;
+#[cfg(test)]
+mod streamed;
+#[cfg(test)]
 mod turn_stops;
 #[cfg(test)]
 mod turned;

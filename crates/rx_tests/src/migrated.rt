@@ -45,7 +45,8 @@ fn masters_and_forks_elsewhere_stay_behind(rt: HostRuntime) -> Result<(), Fail> 
     play_long(rt.alloc(), ELSEWHERE)
 }
 
-fn play_long(alloc: Global, cases: &str) -> Result<(), Fail> {
+/// Plays each case of a text in which those words stand.
+pub fn play_long(alloc: Global, cases: &str) -> Result<(), Fail> {
     let cases = long(alloc, cases)?;
     play_all(alloc, cases.as_str())
 }

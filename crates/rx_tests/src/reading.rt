@@ -67,8 +67,8 @@ const CASES: &str = r#"
 < {"code":4,"line":L,"name":"Tick","refused":"unknown_do"}
 > {"do":"a\"\\\né\u0001"}
 < {"code":4,"line":L,"name":"a\"\\\né\u0001","refused":"unknown_do"}
-> {"do":"stream"}
-< {"code":4,"line":L,"name":"stream","refused":"unknown_do"}
+> {"do":"streams"}
+< {"code":4,"line":L,"name":"streams","refused":"unknown_do"}
 > {"do":"sweep"}
 < {"code":4,"line":L,"name":"sweep","refused":"unknown_do"}
 
