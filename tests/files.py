@@ -5,6 +5,7 @@ journal, what stands in its place, what fails, and a kill at any moment.
 An insert counts as acknowledged once its reply was read. What can't be shown here is a power cut: a
 killed run leaves to the system all that it wrote, synced or not.
 """
+import json
 import os
 import random
 import re
@@ -15,7 +16,7 @@ import time
 
 from model import Rules
 from shared import (RX, SCHEMA, SECONDS, SEED, Skipped, Talk, all_there, answers, case, collection, compact, content,
-                    held, insert, inserts, insist, main, room, run, same, text)
+                    digest, held, insert, inserts, insist, main, room, run, same, text)
 
 DISK = {"stop": "disk"}
 
@@ -566,6 +567,59 @@ def killed_in_a_turn(folder):
         wrong = {key: (there.get(key), n) for key, n in kept.items() if there.get(key) != n}
         insist(there.keys() == kept.keys() and not wrong, f"found and due: {wrong}")
     return f"{rounds} times, {cut} before the turn's answer: the next is quiet, and no update is lost"
+
+
+DELIVER = compact({"do": "deliver", "name": "r"})
+
+
+def bulk(round_, number, count):
+    """The keys of a bulk of its own, and its line."""
+    keys = [f"k{round_}-{number}-{key}" for key in range(count)]
+    return keys, compact({"do": "bulk", "in": "m", "docs": [{"id": key, "n": number} for key in keys]})
+
+
+def found_behind(journal, round_):
+    """What stands of a round's documents on the fork, behind which a turn brings both sides together."""
+    lines = [DELIVER, compact({"do": "find", "in": "f", "query": {}}), compact({"do": "turn", "name": "r"}),
+             *map(digest, "mf")]
+    status, replies = run(journal, lines)
+    insist(status == 1 and replies[0].get("refused") == "no_stream", f"round {round_}: {status} {replies[:1]}")
+    insist(replies[-3].get("end") == "quiet", f"round {round_}: the next turn {replies[-3]}")
+    insist(replies[-2]["digest"] == replies[-1]["digest"], f"round {round_}: the sides differ")
+    return {row["id"] for row in replies[1]["rows"] if row["id"].startswith(f"k{round_}-")}
+
+
+@case("kill -9 in a delivery")
+def killed_in_a_delivery(folder):
+    """SIGKILL while events are delivered. The fork has the first of them and no other, all where the delivery was
+    answered, and a turn in the next run brings the rest."""
+    journal, rounds, cut = os.path.join(folder, "journal"), 40, 0
+    replicate = {"do": "replicate", "name": "r", "fork": "f", "master": "m", "handler": "join"}
+    insist(run(journal, [collection("m"), collection("f"), compact(replicate)])[0] == 0, "the first run")
+    moments, longest = random.Random(SEED), 0.2
+    for round_ in range(rounds):
+        talk, events = Talk(journal), []
+        insist(talk.ask(compact({"do": "stream", "name": "r"})), f"round {round_}: the journal doesn't open")
+        for number in range(moments.randint(1, 60)):
+            keys, line = bulk(round_, number, moments.randint(1, 20))
+            insist("ok" in talk.ask(line), f"round {round_}: a bulk")
+            events.append(keys)
+        begun = time.monotonic()
+        talk.send([DELIVER])
+        if round_:
+            time.sleep(moments.uniform(0, 1.5 * longest))
+            replies = answers(talk.kill())
+        else:  # how long one takes that isn't killed
+            replies = [json.loads(talk.child.stdout.readline()) for _ in range(len(events) + 1)]
+            longest = time.monotonic() - begun
+            talk.kill()
+        is_answered = any("level" in it for it in replies)
+        stand = found_behind(journal, round_)
+        fronts = [{key for keys in events[:count] for key in keys} for count in range(len(events) + 1)]
+        insist(stand in fronts, f"round {round_}: {len(stand)} documents stand, no front of the events")
+        insist(stand == fronts[-1] or not is_answered, f"round {round_}: what was answered is lost")
+        cut += not is_answered
+    return f"{rounds} times, {cut} before the answer: a front of the events stands, and a turn brings the rest"
 
 
 FIELDS = "nv"

@@ -1,10 +1,12 @@
 """A model of docs/SCRIPT.md, written apart from the program, as far as collections go that are written,
-migrated, observed by one and the same query, and replicated in one journal: what each line is answered."""
+migrated, observed by one and the same query, and replicated in one journal, by turns and by streams: what
+each line is answered."""
 import hashlib
 import json
 import os
 import re
 import sys
+from typing import NamedTuple
 
 # How a schema is read is told by the server's own reader.
 sys.path.append(os.path.join(os.path.dirname(os.path.abspath(__file__)), "..", "server"))
@@ -15,6 +17,8 @@ QUERY = {"selector": {"n": {"$gte": 1}}, "sort": [{"n": "desc"}], "limit": 3}
 START = (0, b"")
 FIELD_NAME = re.compile(r"[A-Za-z][A-Za-z0-9_]{0,63}")
 MOST_STEPS, MOST_BY, MOST_HOOKS = 64, 1_000, 16
+MOST_STATES, MOST_QUEUED = 100, 64
+DELIVERIES = ("ok", "lose", "twice", "later")
 
 
 class Clock(Exception):
@@ -189,10 +193,10 @@ def migrated(steps, state):
 
 
 class Collection:
-    """Documents by key: a height, a write time and a state."""
+    """Documents by key: a height, a write time and a state; and the open streams of those that follow it."""
 
     def __init__(self, name, rules=None):
-        self.name, self.rules, self.docs, self.last = name, rules, {}, 0
+        self.name, self.rules, self.docs, self.last, self.streams = name, rules, {}, 0, []
 
     def state(self, key):
         return self.docs[key][2] if key in self.docs else None
@@ -206,16 +210,21 @@ class Collection:
             return
         if self.last == MAX_TIME:
             raise Clock
-        self.last = max(self.last + 1, now)
+        before, self.last = self.last_place(), max(self.last + 1, now)
         for state in states:
             height = self.docs[state["id"]][0] if state["id"] in self.docs else 0
             self.docs[state["id"]] = (height + 1, self.last, state)
+        for stream in self.streams:
+            stream.hear(before, sorted(states, key=lambda state: state["id"].encode()), self.last)
 
     def rev(self, key):
         return f"{self.docs[key][0]}-{self.name}"
 
     def place(self, key):
         return self.docs[key][1], key.encode()
+
+    def last_place(self):
+        return max(map(self.place, self.docs), default=START)
 
     def states(self):
         return [state for _, _, state in self.docs.values()]
@@ -234,17 +243,52 @@ class Collection:
         return hashlib.sha256("".join(texts).encode()).hexdigest()
 
 
+class Event(NamedTuple):
+    """A part of what a commit wrote: the place before it, its states and the last one's place."""
+    start: tuple
+    states: list
+    place: tuple
+
+
+class Stream:
+    """The events of a master's commits that wait for a fork, and whether some of them were given up."""
+
+    def __init__(self):
+        self.queue, self.is_marked = [], False
+
+    def hear(self, before, states, time):
+        """A commit of these states by rising key, behind the place that was its collection's last one."""
+        for at in range(0, len(states), MOST_STATES):
+            part = states[at:at + MOST_STATES]
+            event = Event(before, part, (time, part[-1]["id"].encode()))
+            before = event.place
+            if len(self.queue) == MOST_QUEUED:
+                self.queue, self.is_marked = [], True
+            else:
+                self.queue.append(event)
+
+
 class Replication:
-    """What a fork knows of its master, and the requests since the journal was opened or the fork migrated.
-    A master elsewhere is None."""
+    """What a fork knows of its master, the requests since the journal was opened or the fork migrated, and
+    where one is open its stream. A master elsewhere is None."""
 
     def __init__(self, fork, master, how):
         self.fork, self.master, self.how = fork, master, how
-        self.known, self.down, self.asked = {}, START, []
+        self.known, self.down, self.asked, self.stream = {}, START, [], None
 
     def migrate(self, steps):
         self.known = {key: migrated(steps, state) for key, state in self.known.items()}
         self.asked = []
+        self.close_stream()
+
+    def open_stream(self):
+        self.stream = Stream()
+        self.master.streams.append(self.stream)
+
+    def close_stream(self):
+        if self.stream:
+            self.master.streams.remove(self.stream)
+        self.stream = None
 
     def has_handler(self):
         """`greater` may have lost its field by a migration."""
@@ -321,6 +365,38 @@ class Replication:
                 return lines, end
         return lines, "more"
 
+    def judge(self, event, now):
+        """What becomes of an event that is given: it is taken as a pull's answer, or why it isn't."""
+        if event.place <= self.down:
+            return "old"
+        if self.pending():
+            return "pending"
+        if event.start != self.down:
+            return "gap"
+        try:
+            self.take(("pull",), (event.states, event.place), now)
+        except Clock:
+            return "clock"
+        return "taken"
+
+    def is_level(self):
+        return self.down == self.master.last_place() and not self.pending()
+
+    def deliver(self, link, now):
+        """The lines of the events that waited, and whether a turn is to be made."""
+        events, is_due, lines = self.stream.queue, self.stream.is_marked, []
+        self.stream.queue, self.stream.is_marked = [], False
+        for number, event in enumerate(events):
+            happening = link[number] if number < len(link) else "ok"
+            if happening == "later":
+                self.stream.queue.append(event)
+            words = {"lose": ["lost"], "later": ["later"]}.get(happening) or [
+                self.judge(event, now) for _ in range(1 + (happening == "twice"))]
+            is_due = is_due or "pending" in words or "gap" in words
+            keys = [state["id"] for state in event.states]
+            lines += ({"event": number + 1, "rows": keys, "took": word} for word in words)
+        return lines, is_due
+
 
 class Model:
     """What a run answers, line after line."""
@@ -337,8 +413,9 @@ class Model:
         self.epoch += 1
         for replication in self.replications.values():
             replication.asked = []
+            replication.close_stream()
 
-    def is_known(self, key, name="r"):
+    def is_known(self, key, name):
         """Whether a fork's state is its master's, as far as the fork knows."""
         replication = self.replications[name]
         return replication.known.get(key) == replication.fork.state(key)
@@ -477,6 +554,12 @@ class Model:
         taken = side.rev(key) if side.live(key) else None
         return self.write(line["in"], line["doc"], "insert", taken)
 
+    def bulk(self, line, _out):
+        """Of keys that are new, where no hook stands before them."""
+        side, docs = self.sides[line["in"]], line["docs"]
+        side.commit([{**doc, "_deleted": False} for doc in docs], self.moment)
+        return {"revs": [side.rev(doc["id"]) for doc in docs]}
+
     def change(self, line, changed, when="save"):
         """A write of what is made of a document that is live."""
         side, key = self.sides[line["in"]], line["key"]
@@ -512,6 +595,43 @@ class Model:
         lines, end = replication.turn(*asked, self.moment)
         out += lines
         return {"end": end, "exchanges": len(lines)}
+
+    def no_replication(self, line):
+        return None if line["name"] in self.replications else {"code": 18, "refused": "no_replication"}
+
+    def stream(self, line, _out):
+        if refused := self.no_replication(line):
+            return refused
+        replication = self.replications[line["name"]]
+        if not replication.master:
+            return {"code": 30, "refused": "remote"}
+        if replication.stream:
+            return {"code": 9, "refused": "exists"}
+        replication.open_stream()
+        return {}
+
+    def no_stream(self, line):
+        """Why there is no stream of the name that a line has, or None."""
+        if refused := self.no_replication(line):
+            return refused
+        return None if self.replications[line["name"]].stream else {"code": 31, "refused": "no_stream"}
+
+    def unstream(self, line, _out):
+        if refused := self.no_stream(line):
+            return refused
+        self.replications[line["name"]].close_stream()
+        return {}
+
+    def deliver(self, line, out):
+        link = line.get("link", [])
+        if not isinstance(link, list) or not all(it in DELIVERIES for it in link):
+            return {"code": 7, "name": "link", "refused": "wrong_type"}
+        if refused := self.no_stream(line):
+            return refused
+        replication = self.replications[line["name"]]
+        lines, is_due = replication.deliver(link, self.moment)
+        out += lines
+        return {"level": replication.is_level(), "resync": is_due}
 
     def changes(self, line, _out):
         side = self.sides[line["in"]]

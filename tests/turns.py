@@ -1,21 +1,26 @@
 #!/usr/bin/env python3
-"""Random turns of a fork and its master over the built program, beside a model of docs/SCRIPT.md.
+"""Random turns and deliveries of forks and their masters over the built program, beside a model of
+docs/SCRIPT.md.
 
-For each of eight seeds a script of 4,000 lines over two collections and a replication between them:
-writes on both sides with hooks before some, the moment, restarts, migrations of both, of which some are
-refused, and turns of any batch and budget over a link that loses, repeats and delays; in four runs, one
-after another on the same journal. The seeds take the handlers in turn. Three things are tried of what the
-program answers:
+For each of eight seeds a script of 4,000 lines over a master, its fork and a fork of that: writes on all
+sides with hooks before some, now and then more at once than a stream keeps, the moment, restarts,
+migrations of all, of which some are refused, turns of any batch and budget over a link that loses, repeats
+and delays, and streams that are opened and closed, whose events a link loses, repeats and puts off; in four
+runs, one after another on the same journal. The seeds take the handlers in turn. Three things are tried of
+what the program answers:
 
-- it is the model's answer, byte for byte: replies, exchanges, emissions, and after each turn and each
-  migration all states of both sides in the order of their places;
-- a turn that ends quiet leaves one digest on both sides, and so does a migration behind it;
-- no acknowledged write of the fork is gone: before a pull goes over its key, and before a turn ends
-  quiet, a push of it was answered, or the fork wrote the key again, or it was no edit, since the
-  master had that state as far as the fork knew, or a migration made it one that the fork knew. What
-  counts behind a migration is what its steps made of the write.
+- it is the model's answer, byte for byte: replies, exchanges, events, emissions, and after each turn, each
+  delivery and each migration all states of all sides in the order of their places;
+- a turn that ends quiet, and a delivery that ends level, leave one digest on both sides, and so does a
+  migration behind it;
+- no acknowledged write of a fork is gone: before a pull goes over its key, before an event is taken, and
+  before a turn ends quiet or a delivery level, a push of it was answered, or the fork wrote the key again,
+  or it was no edit, since the master had that state as far as the fork knew, or a migration, or a push of
+  its own fork, made it one that it knew. What counts behind a migration is what its steps made of the
+  write.
 
-Then a master and three forks, one of them a fork of a fork, that migrate with edits pending on each.
+Then commits of many documents, each of which is several events; and a master and three forks, one of them a
+fork of a fork, that migrate with edits pending on each.
 """
 import json
 import os
@@ -23,7 +28,7 @@ import random
 from collections import Counter
 from typing import NamedTuple
 
-from model import MAX_TIME, QUERY, Model, migrated
+from model import DELIVERIES, MAX_TIME, QUERY, Model, migrated
 from shared import HANDLERS, Wrong, add, case, command, compact, insist, main, same, text
 
 SEEDS = range(1, 9)
@@ -53,7 +58,7 @@ def fields(numbers, rules):
 
 def turn(numbers):
     words = ["ok", "ok", "lose_request", "lose_reply", "twice", "stale"]
-    line = {"do": "turn", "name": "r"}
+    line = {"do": "turn", "name": numbers.choice("rru")}
     if numbers.random() < 0.8:
         line["batch"] = numbers.randint(1, 8)
     if numbers.random() < 0.5:
@@ -62,6 +67,29 @@ def turn(numbers):
         line["link"] = [numbers.choice([*words, {"late": numbers.randint(1, 16)}])
                         for _ in range(numbers.randint(0, 5))]
     return line
+
+
+NO_LINKS = ["ok", {}, ["OK"], [1], [["ok"]], [{"late": 1}], ["lose_reply"], ["ok", "stale"], [None]]
+
+
+def delivery(numbers):
+    """Seldom of a replication that has no stream, or with what is no link."""
+    line = {"do": "deliver", "name": numbers.choice("ru" if numbers.random() < 0.98 else "sz")}
+    if numbers.random() < 0.6:
+        line["link"] = [numbers.choice(["ok", "ok", *DELIVERIES]) for _ in range(numbers.randint(0, 5))]
+    return {**line, "link": numbers.choice(NO_LINKS)} if numbers.random() < 0.02 else line
+
+
+def streams(numbers, often):
+    """Both replications of this journal get one, or one of them does."""
+    return [{"do": "stream", "name": name} for name in "ru" if numbers.random() < often]
+
+
+def burst(numbers, rules):
+    """Writes of one side, about as many as a stream keeps."""
+    side = numbers.choice("mf")
+    for _ in range(numbers.randint(55, 75)):
+        yield {"do": "upsert", "in": side, "doc": {"id": numbers.choice(KEYS), **fields(numbers, rules)}}
 
 
 def update(numbers):
@@ -84,11 +112,12 @@ HOOKS = [("insert", "zero", "n"), ("save", "count", "n"), ("remove", "count", "n
 def hooks_at_random(numbers):
     """Now and then one, of which a turn runs none."""
     return [{"do": "hook", "in": side, "when": when, "hook": hook, "field": field}
-            for side in "mf" for when, hook, field in HOOKS if numbers.random() < 0.25]
+            for side in "mfg" for when, hook, field in HOOKS if numbers.random() < 0.25]
 
 
-def line_at_random(numbers, rules):
-    into, key, draw = numbers.choice("ffm"), numbers.choice(KEYS), numbers.randrange(64)
+def line_at_random(numbers, rules, written):
+    """One of the sides that are written is."""
+    into, key, draw = numbers.choice(written), numbers.choice(KEYS), numbers.randrange(80)
     if draw < 30:
         return {"do": "upsert", "in": into, "doc": {"id": key, **fields(numbers, rules)}}
     if draw < 33:
@@ -105,7 +134,11 @@ def line_at_random(numbers, rules):
         return {"do": "restart"}
     if draw < 53:
         return {"do": "upsert", "in": "p", "doc": {"id": key, "n": numbers.randrange(3)}}
-    return turn(numbers)
+    if draw < 63:
+        return turn(numbers)
+    if draw < 77:
+        return delivery(numbers)
+    return {"do": "unstream" if draw == 77 else "stream", "name": numbers.choice("rrruuusz")}
 
 
 # Each changes the steps of a migration, and the properties and required names that they lead to.
@@ -205,18 +238,18 @@ UNOBSERVE = {"do": "unobserve", "name": "q"}
 
 def migrating(numbers, rules):
     """A migration with the lines around it: where the query isn't ended it is refused at the latest by that.
-    Hooks go with it, and others come."""
+    Hooks and streams go with it, and others come."""
     changes = [go_home] if numbers.random() < 0.4 else numbers.choices(CHANGES, k=numbers.randint(1, 3))
-    line = migration(numbers, rules, numbers.choice("mf"), changes)
+    line = migration(numbers, rules, numbers.choice("mfg"), changes)
     if numbers.random() < 0.3:
         line = spoilt(numbers, line)
     if numbers.random() < 0.2:
         return [line]
-    return [UNOBSERVE, line, *both_sides(), OBSERVE, *hooks_at_random(numbers)]
+    return [UNOBSERVE, line, *all_sides(), OBSERVE, *hooks_at_random(numbers), *streams(numbers, 0.7)]
 
 
-def both_sides():
-    return [{"do": do, "in": side} for side in "mf" for do in ("changes", "digest")]
+def all_sides(sides="mfg"):
+    return [{"do": do, "in": side} for side in sides for do in ("changes", "digest")]
 
 
 def at_the_end_of_time(first, second):
@@ -235,8 +268,29 @@ def at_the_end_of_time(first, second):
     ]
 
 
-SIDES = [*({"do": "collection", "name": name, "schema": SCHEMA} for name in "mf"),
-         {"do": "replicate", "name": "r", "fork": "f", "master": "m"}]
+def events_at_the_end_of_time():
+    """A fork has no write time left: an event without a row for it is taken, and no other one is."""
+    sides = [{"do": "collection", "name": name, "schema": SCHEMA} for name in "xy"]
+    return [
+        *sides,
+        {"do": "replicate", "name": "v", "fork": "y", "master": "x", "handler": "join"},
+        {"do": "stream", "name": "v"},
+        {"do": "tick", "at": MAX_TIME},
+        {"do": "upsert", "in": "y", "doc": {"id": "last"}},
+        {"do": "tick", "at": 0},
+        {"do": "turn", "name": "v", "budget": 1},
+        {"do": "upsert", "in": "x", "doc": {"id": "past"}},
+        {"do": "upsert", "in": "x", "doc": {"id": "late"}},
+        {"do": "deliver", "name": "v", "link": ["twice", "twice", "later"]},
+        {"do": "deliver", "name": "v"},
+        {"do": "turn", "name": "v"},
+        *all_sides("xy"),
+    ]
+
+
+SIDES = [*({"do": "collection", "name": name, "schema": SCHEMA} for name in "mfg"),
+         {"do": "replicate", "name": "r", "fork": "f", "master": "m"},
+         {"do": "replicate", "name": "u", "fork": "g", "master": "f"}]
 # A fork of a port at which nobody is. It can't migrate, and what is observed of it, and its hooks, stay while
 # the others do.
 ELSEWHERE = [{"do": "collection", "name": "p", "schema": SCHEMA},
@@ -246,58 +300,72 @@ APART = [{**OBSERVE, "name": "o", "in": "p"},
 
 
 def script(numbers, how, model, run):
-    """One run, with a turn without a fault at its end, between collections of the first fields."""
+    """One run, with turns without a fault at its end, between collections of the first fields."""
     def rules():
         return model.sides["f"].rules
 
     if run == 0:
         sides = [{**it, **how} if it["do"] == "replicate" else it for it in SIDES]
         yield from numbers.choice([[*sides, *ELSEWHERE], [*ELSEWHERE, *sides]])
-    yield from [*APART, OBSERVE, *hooks_at_random(numbers)]
-    for _ in range(LINES // RUNS):
-        if numbers.random() < 0.03:
-            yield from migrating(numbers, rules())
+    yield from [*APART, OBSERVE, *hooks_at_random(numbers), *streams(numbers, 0.9)]
+    for number in range(LINES // RUNS):
+        if (draw := numbers.random()) < 0.04:
+            yield from migrating(numbers, rules()) if draw < 0.03 else burst(numbers, rules())
             continue
-        line = line_at_random(numbers, rules())
+        # Now and then the master alone is written for a while, so that its fork has nothing to push.
+        is_calm = number // 50 % 2 == 1
+        if is_calm and number % 50 == 0:
+            yield from ({"do": "turn", "name": name, "budget": 100_000} for name in "ur")
+        line = line_at_random(numbers, rules(), "m" if is_calm else "ffmmg")
         yield line
-        if line["do"] == "turn":
-            yield from both_sides()
+        if line["do"] in ("turn", "deliver"):
+            yield from all_sides()
+        if line["do"] == "restart":
+            yield from streams(numbers, 0.7)
     yield from [UNOBSERVE, migration(numbers, rules(), "m", [go_home]), OBSERVE]
-    yield from [{"do": "turn", "name": "r", "budget": 100_000}, *both_sides()]
+    for name in "uru":
+        yield from [{"do": "turn", "name": name, "budget": 100_000}, *all_sides()]
     if run == RUNS - 1:
-        yield from [*at_the_end_of_time(*numbers.choice(["mf", "fm"])), *both_sides()]
+        yield from [*at_the_end_of_time(*numbers.choice(["mf", "fm"])), *all_sides()]
         # It takes no write time.
-        yield from [UNOBSERVE, migration(numbers, rules(), "f", [scale]), *both_sides()]
+        yield from [UNOBSERVE, migration(numbers, rules(), "f", [scale]), *all_sides()]
+        yield from events_at_the_end_of_time()
 
 
 # ---- what is tried
 
 class Audit:
-    """What the answers say of the fork's writes: which are still to be pushed, or in a conflict."""
+    """What the answers say of a fork's writes: which are still to be pushed, or in a conflict."""
 
-    def __init__(self):
+    def __init__(self, name, fork, master):
+        self.name, self.fork, self.sides = name, fork, (fork, master)
         self.unsent, self.digests = set(), None
         self.exchanges = self.conflicts = 0
-        self.ends, self.migrations = Counter(), Counter()
+        self.ends, self.took, self.migrations = Counter(), Counter(), Counter()
 
     def follow(self, line, replies, known):
         """The replies to a line, and the keys of which the fork knows its own state behind it."""
-        if line["do"] not in ("changes", "digest", "turn", "migrate"):
+        do, is_own = line["do"], line.get("name") == self.name
+        if do not in ("changes", "digest", "migrate"):
             self.digests = None
         for reply in map(json.loads, replies):
-            if line["do"] == "migrate":
+            if do == "migrate":
                 self.migration(reply, known)
-            elif "rev" in reply and "ok" in reply and line["in"] == "f":
+            elif "rev" in reply and "ok" in reply and line["in"] == self.fork:
                 key = line.get("key") or line["doc"]["id"]
                 (self.unsent.discard if key in known else self.unsent.add)(key)
-            elif "exchange" in reply:
+            elif is_own and "exchange" in reply:
                 self.exchange(reply)
-            elif "end" in reply:
+            elif is_own and "event" in reply:
+                self.event(reply)
+            elif is_own and ("end" in reply or "level" in reply):
                 self.end(reply)
-            elif "digest" in reply and self.digests is not None:
+            elif "digest" in reply and line["in"] in self.sides and self.digests is not None:
                 self.digests.add(reply["digest"])
                 if len(self.digests) > 1:
-                    raise Wrong(f"line {reply['line']}: the sides differ after a quiet turn")
+                    raise Wrong(f"line {reply['line']}: the sides differ after a quiet turn or a level delivery")
+        if do == "turn" and not is_own:
+            self.unsent -= known
 
     def exchange(self, reply):
         self.exchanges += 1
@@ -310,6 +378,11 @@ class Audit:
         elif self.unsent & rows:
             raise Wrong(f"a pull went over what the fork wrote at {sorted(self.unsent & rows)}")
 
+    def event(self, reply):
+        self.took[reply["took"]] += 1
+        if reply["took"] == "taken" and self.unsent:
+            raise Wrong(f"an event was taken over what the fork wrote at {sorted(self.unsent)}")
+
     def migration(self, reply, known):
         self.migrations[reply.get("cause") or reply.get("refused") or "made"] += 1
         if "ok" in reply:
@@ -317,25 +390,29 @@ class Audit:
             self.digests = None if self.digests is None else set()
 
     def end(self, reply):
-        self.digests = set() if reply["end"] == "quiet" else None
-        self.ends[reply["end"]] += 1
-        if reply["end"] == "quiet" and self.unsent:
-            raise Wrong(f"a quiet turn left what the fork wrote at {sorted(self.unsent)}")
+        word = reply["end"] if "end" in reply else "level" if reply["level"] else "not level"
+        is_same = word in ("quiet", "level")
+        self.digests = set() if is_same else None
+        self.ends[word] += 1
+        if is_same and self.unsent:
+            raise Wrong(f"it ended {word} and left what the fork wrote at {sorted(self.unsent)}")
 
 
 class Played(NamedTuple):
-    """A line, what it is due to be answered, and the keys of which the fork knows its own state behind it."""
+    """A line, what it is due to be answered, and by their replications the keys of which forks know their own
+    state behind it."""
     line: dict
     due: list
-    known: set
+    known: dict
 
 
 def played(model, lines):
     """The lines of a run, which the model plays one by one before the next is made."""
     for line in lines:
         due = model.play(line)
-        keys = model.sides["f"].docs if "r" in model.replications else ()
-        yield Played(line, due, {key for key in keys if model.is_known(key)})
+        known = {name: {key for key in it.fork.docs if model.is_known(key, name)}
+                 for name, it in model.replications.items() if name in "ru"}
+        yield Played(line, due, known)
 
 
 def answers(journal, lines):
@@ -359,22 +436,68 @@ def compare(run, found, follow):
         raise Wrong(f"nothing is due for {found[place]}")
 
 
+def counted(counts):
+    return ", ".join(f"{count:,} {what}" for what, count in sorted(counts.items()))
+
+
+def try_run(journal, run, audits):
+    """One run, whose answers are due and go to the audits."""
+    def follow(line, seen, known):
+        for audit in audits:
+            audit.follow(line, seen, known.get(audit.name, set()))
+
+    compare(run, answers(journal, [it.line for it in run]), follow)
+
+
 def try_seed(seed, how, folder):
-    numbers, model, audit = random.Random(seed), Model(), Audit()
+    numbers, model, audits = random.Random(seed), Model(), [Audit("r", "f", "m"), Audit("u", "g", "f")]
     for number in range(RUNS):
         model.open()
         run = [*played(model, script(numbers, how, model, number))]
-        compare(run, answers(os.path.join(folder, "journal"), [it.line for it in run]), audit.follow)
-    ends, migrations = (", ".join(f"{count:,} {end}" for end, count in sorted(of.items()))
-                        for of in (audit.ends, audit.migrations))
-    return (f"{audit.exchanges:,} exchanges, {audit.conflicts:,} conflicts; turns: {ends}; "
-            f"migrations: {migrations}")
+        try_run(os.path.join(folder, "journal"), run, audits)
+    first, second = audits
+    return (f"{first.exchanges + second.exchanges:,} exchanges, {first.conflicts + second.conflicts:,} conflicts; "
+            f"ends: {counted(first.ends + second.ends)}; events: {counted(first.took + second.took)}; "
+            f"migrations: {counted(first.migrations)}")
 
 
 for number in SEEDS:
     handler = HANDLERS[number % len(HANDLERS)]
     add(f"seed {number}, {handler['handler']}",
         lambda folder, seed=number, how=handler: try_seed(seed, how, folder), seconds=900, in_memory=True)
+
+
+# ---- commits of many documents
+
+def many_lines(numbers):
+    """What is written to a master at once or line after line, delivered over a link, and now and then a turn."""
+    yield from ({"do": "collection", "name": name, "schema": SCHEMA} for name in "mf")
+    yield {"do": "replicate", "name": "r", "fork": "f", "master": "m", "handler": "master_wins"}
+    yield {"do": "stream", "name": "r"}
+    for round_ in range(16):
+        keys = [f"k{round_}-{n}" for n in range(numbers.choice([1, 2, 99, 100, 101, 199, 200, 201, 350]))]
+        if numbers.random() < 0.6:
+            yield {"do": "bulk", "in": "m", "docs": [{"id": key, "n": numbers.randrange(3)} for key in keys]}
+        else:
+            yield from ({"do": "insert", "in": "m", "doc": {"id": key}} for key in keys[:80])
+        link = [numbers.choice(["ok", "ok", "ok", *DELIVERIES]) for _ in range(numbers.randint(0, 4))]
+        yield from [{"do": "deliver", "name": "r", "link": link}, *all_sides("mf")]
+        if numbers.random() < 0.6:
+            yield from [{"do": "turn", "name": "r", "budget": numbers.randint(2, 8)}, *all_sides("mf")]
+    yield from [{"do": "turn", "name": "r"}, *all_sides("mf"), {"do": "deliver", "name": "r"}, *all_sides("mf")]
+
+
+@case("commits of many documents")
+def commits_of_many(folder):
+    """Each is several events, and those that may wait are few."""
+    audit = Audit("r", "f", "m")
+    for seed in range(10):
+        model = Model()
+        model.open()
+        run = [*played(model, many_lines(random.Random(seed)))]
+        try_run(os.path.join(folder, f"journal{seed}"), run, [audit])
+    insist(audit.ends["level"] >= 10, f"ends: {counted(audit.ends)}")
+    return f"ends: {counted(audit.ends)}; events: {counted(audit.took)}"
 
 
 # ---- a group
@@ -424,7 +547,7 @@ def a_group_of_forks(folder):
         model.open()
         run, replies = [], []
         for line in group_lines(random.Random(seed)):
-            run.append(Played(line, model.play(line), set()))
+            run.append(Played(line, model.play(line), {}))
         compare(run, answers(journal, [it.line for it in run]),
                 lambda line, seen, _known: replies.append((line, json.loads(seen[-1]))))
         ends = [reply["end"] for line, reply in replies if line["do"] == "turn"]

@@ -17,6 +17,14 @@ async function fault(call) {
   throw new Error('it was not refused');
 }
 
+async function until(isSo, what) {
+  for (let n = 0; n < 2_000; n++) {
+    if (await isSo()) return;
+    await new Promise((go) => setTimeout(go, 5));
+  }
+  throw new Error(`not in time: ${what}`);
+}
+
 // What comes behind the schema, and how.
 const next = {
   ...schema,
@@ -206,6 +214,99 @@ export const behaviours = {
     same(await code(() => db.replicate({ ...replication, name: 's', fork: 'm', master: 'f' })), 21, 'a chain');
     same(await code(() => db.turn('s')), 18, 'no replication');
     same(await code(() => db.turn('r', { batch: 0 })), 20, 'no batch');
+    await db.close();
+  },
+
+  async 'a stream: events that are taken, come twice, late or not at all, and what is refused'({ open, transport }) {
+    const db = await open(transport());
+    const master = await db.collection('m', schema), fork = await db.collection('f', schema);
+    await db.replicate({ name: 'r', fork: 'f', master: 'm', handler: 'fork_wins' });
+    await db.stream('r');
+    same(await db.deliver('r'), { level: true, resync: false, each: [] }, 'nothing');
+    await master.insert({ id: 'a' });
+    await master.bulk([{ id: 'ä' }, { id: 'b' }]);
+    await master.insert({ id: 'd' });
+    const told = async (link) => {
+      const { level, resync, each } = await db.deliver('r', { link });
+      return [level, resync, each.map(({ event, rows, took }) => `${event} ${rows} ${took}`).join('; ')];
+    };
+    same(await told(['twice', 'later']), [false, true, '1 a taken; 1 a old; 2 b,ä later; 3 d gap'], 'twice, and later');
+    same(await told(), [false, false, '1 b,ä taken'], 'what was put off');
+    same((await db.turn('r')).each.map((it) => `${it.sent} ${it.rows}`), ['pull d'], 'a turn');
+    await master.patch('d', { n: 1 });
+    same(await told(['lose']), [false, false, '1 d lost'], 'one that never comes');
+    await fork.insert({ id: 'e' });
+    await master.remove('a');
+    same(await told(), [false, true, '1 a pending'], 'the fork has something to push');
+    same((await db.turn('r')).end, 'quiet', 'a turn');
+    same(await told(), [true, false, '1 e old'], 'the event of the push');
+    same([await fork.digest(), (await fork.get('d')).doc], [await master.digest(), { id: 'd', n: 1 }], 'both sides');
+
+    const refused = async (call) => (({ code, word, message }) => [code, word, message])(await fault(call));
+    same(await refused(() => db.stream('r')), [9, 'exists', 'exists (9): the stream of r is open'], 'open');
+    same((await fault(() => db.deliver('r', { link: [{ late: 1 }] }))).subject, 'link', 'a happening of turns');
+    await db.unstream('r');
+    const none = [31, 'no_stream', 'no_stream (31): no stream of r is open'];
+    for (const call of [() => db.deliver('r'), () => db.unstream('r')]) same(await refused(call), none, 'none is open');
+    same((await fault(() => db.stream('z'))).code, 18, 'no replication');
+    await db.replicate({ name: 's', fork: 'm', port: 1, handler: 'join' });
+    const elsewhere = [30, 'remote', 'remote (30): the master of s is elsewhere'];
+    same(await refused(() => db.stream('s')), elsewhere, 'a master elsewhere');
+    await db.close();
+  },
+
+  async 'followed forks of one journal have each write of their masters, over a restart and a migration'({ open, transport }) {
+    let written = '';
+    const db = await open(async (hooks) => {
+      const it = await transport()(hooks);
+      return { ...it, send(text) { written += text; it.send(text); } };
+    });
+    const [m, f, g, h] = await Promise.all([...'mfgh'].map((name) => db.collection(name, schema)));
+    for (const [name, fork, master] of [['r', 'f', 'm'], ['s', 'g', 'm'], ['t', 'h', 'f']]) {
+      await db.replicate({ name, fork, master, handler: 'fork_wins' });
+    }
+    await m.insert({ id: 'a' });
+    const followed = [...'rst'].map((name) => db.follow(name));
+    const states = {};
+    for (const it of followed) it.subscribe(({ state, pending }) => { states[it.name] = `${state} ${pending}`; });
+    const level = (sides) => until(async () => {
+      const found = await Promise.all(sides.map((it) => it.digest()));
+      return new Set(found.map((it) => it.digest)).size === 1 && Object.values(states).every((it) => it === 'in sync 0');
+    }, `${sides.map((it) => it.name)} are the same: ${JSON.stringify(states)}`);
+    const all = [m, f, g, h];
+    await level(all);
+    await m.insert({ id: 'b' });
+    await level(all);
+    await h.insert({ id: 'd' }); // goes up to f and m, and down to g
+    await level(all);
+    same(await g.count(), 3, 'the documents');
+
+    // What is written together comes together, also where it is more than waits.
+    written = '';
+    await Promise.all(Array.from({ length: 200 }, (_, n) => m.upsert({ id: `k${n % 50}`, n })));
+    await level(all);
+    const lines = written.trim().split('\n').map((it) => JSON.parse(it).do);
+    const count = lines.filter((it) => it === 'deliver' || it === 'turn').length;
+    same(count < 100, true, `${count} lines for 200 writes`);
+
+    await db.restart();
+    await Promise.all([m.remove('a'), f.insert({ id: 'e' })]);
+    await level(all);
+    same(await db.migrate('h', next, steps), ['m', 'f', 'g', 'h'], 'the group');
+    await Promise.all([m.insert({ id: 'x', on: true }), h.patch('k1', { v: 7 })]);
+    await level(all);
+    same((await m.get('k1')).doc, { id: 'k1', on: true, v: 7 }, 'an edit of a fork');
+
+    followed[0].close();
+    same((await fault(() => db.deliver('r'))).word, 'no_stream', 'its stream is closed');
+    delete states.r;
+    await m.insert({ id: 'y', on: false });
+    await level([m, g]);
+    same((await fault(() => f.get('y'))).code, 15, 'a fork that is followed no more');
+    await db.stream('r'); // by hand, which whoever follows then leaves open
+    db.follow('r').close();
+    await db.follow('r').close();
+    same((await db.deliver('r')).resync, false, 'it is open');
     await db.close();
   },
 

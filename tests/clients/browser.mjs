@@ -272,9 +272,16 @@ async function take(page, name) {
   writeFileSync(join(pictures, `${name}.png`), await page.picture());
 }
 
+// Expressions of the page of todos: a place shows so many, all that it shows, and that its last words begin so.
+const shows = (place, count) => `document.querySelectorAll('#${place} .todos li').length === ${count}`;
+const titlesOf = (place) => `Array.from(document.querySelectorAll('#${place} .title'), (it) => it.value).join('; ')`;
+const says = (words) => `document.getElementById('status').textContent.startsWith(${JSON.stringify(words)})`;
+const flip = (page, place) => page.run((place) => { document.querySelector(`#${place} .online input`).click(); }, place);
+
 test('the page of todos, by keyboard, kept over a reload', async (folder) => {
   const page = await chromium.page(`${served.origin}/clients/web/`);
-  await page.until(`document.querySelectorAll('#phone .todos li').length === 3 && document.querySelectorAll('#laptop .todos li').length === 2`);
+  for (const place of ['phone', 'server', 'laptop']) await page.until(shows(place, 5));
+  await page.until(says('Ready'));
   const titles = (page) => page.run(() => Array.from(document.querySelectorAll('#phone .todos li'), (it) => {
     const [done, title] = it.children;
     return title.value + (done.checked ? ', done' : '');
@@ -303,17 +310,19 @@ test('the page of todos, by keyboard, kept over a reload', async (folder) => {
   const removed = await page.evaluate(`document.querySelector('#phone .todos .title').value`);
   await page.run(() => { document.querySelector('#phone .todos .remove').focus(); });
   await page.key('Enter');
-  await page.until(`document.querySelectorAll('#phone .todos li').length === 3`);
+  await page.until(shows('phone', 5));
   same(await focus(), 'Remove', 'the next removal has the focus');
   const before = await titles(page);
   same([before.includes(removed), before.includes('three balls, done')].join(), 'false,true', before);
-  await page.run(() => { document.getElementById('sync').click(); });
-  await page.until(`document.getElementById('status').textContent === 'Synced the laptop in 2 exchanges.'`);
+  same(await page.evaluate(`${titlesOf('server')}.includes('three balls')`), false, 'the phone is offline');
+  await flip(page, 'phone');
+  await page.until(says('The phone came together with the server in 2 exchanges.'));
+  for (const place of ['server', 'laptop']) await page.until(`${titlesOf(place)}.includes('three balls')`);
   await take(page, 'wide-after-sync');
   await page.close();
 
   const again = await chromium.page(`${served.origin}/clients/web/`, { width: 390, height: 844 });
-  await again.until(`document.querySelectorAll('#phone .todos li').length === 3`);
+  await again.until(shows('phone', 5));
   same(await titles(again), before, 'after a reload');
   same(await again.evaluate('document.documentElement.scrollWidth <= innerWidth'), true, 'nothing is cut off on a phone');
   await take(again, 'narrow');
@@ -322,44 +331,50 @@ test('the page of todos, by keyboard, kept over a reload', async (folder) => {
     form.title.value = `Read chapter ${n}, with a title that is long enough to be cut off on a narrow screen`;
     form.requestSubmit();
   }, n);
-  await again.until(`document.querySelector('#phone .more span').textContent === '6 of 11 shown'`);
+  await again.until(`document.querySelector('#phone .more span').textContent === '6 of 13 shown'`);
   await again.run(() => { document.querySelector('#phone .more button').click(); });
-  await again.until(`document.querySelectorAll('#phone .todos li').length === 11`);
+  await again.until(shows('phone', 12));
   await take(again, 'narrow-long');
   await again.close();
 });
 
-test('the page of todos, edited apart and synced: a conflict shows its answer', async (folder) => {
+test('the page of todos, in sync while it is online, and edited apart: a conflict shows its answer', async (folder) => {
   const site = await serve(root); // an origin of its own, where nothing is stored
   const page = await chromium.page(`${site.origin}/clients/web/`);
-  const synced = async (status) => {
-    await page.run(() => { document.getElementById('status').textContent = ''; document.getElementById('sync').click(); });
-    await page.until(`document.getElementById('status').textContent`);
-    same(await page.evaluate(`document.getElementById('status').textContent`), status, 'status');
-  };
-  const titles = (place) => page.run((place) => Array.from(document.querySelectorAll(`#${place} .title`), (it) => it.value).join('; '), place);
   const edit = (place, from, to) => page.run((place, from, to) => {
     const title = Array.from(document.querySelectorAll(`#${place} .title`)).find((it) => it.value === from);
     title.value = to;
     title.dispatchEvent(new Event('change'));
   }, place, from, to);
-  const flip = () => page.run(() => { for (const it of document.querySelectorAll('.online input')) it.click(); });
 
-  await page.until(`document.querySelectorAll('#phone .todos li').length === 3 && document.querySelectorAll('#laptop .todos li').length === 2`);
-  await synced('Synced the phone and the laptop in 5 exchanges.');
-  for (const place of ['phone', 'server', 'laptop']) await page.until(`document.querySelectorAll('#${place} .todos li').length === 5`);
-  await flip();
-  await synced('Both devices are offline. Edits go on, and sync later.');
-  await edit('phone', 'Answer Ada', 'Answer Ada at once');
+  for (const place of ['phone', 'server', 'laptop']) await page.until(shows(place, 5));
+  await page.until(says('Ready'));
+  // What is written on the server's side stands on each device at once, and so does what one of them wrote.
+  await page.run(() => {
+    const form = document.querySelector('#server form');
+    form.title.value = 'Read the news';
+    form.requestSubmit();
+  });
+  for (const place of ['phone', 'laptop']) await page.until(`${titlesOf(place)}.includes('Read the news')`);
+  await edit('phone', 'Answer Ada', 'Answer Ada soon');
+  for (const place of ['server', 'laptop']) await page.until(`${titlesOf(place)}.includes('Answer Ada soon')`);
+  for (const place of ['phone', 'laptop']) {
+    await flip(page, place);
+    await page.until(says(`The ${place} is offline.`));
+  }
+  await edit('phone', 'Answer Ada soon', 'Answer Ada at once');
   await page.run(() => { Array.from(document.querySelectorAll('#phone .todos li')).find((it) => it.children[1].value === 'Buy oat milk').children[2].click(); });
-  await page.until(`document.querySelectorAll('#phone .todos li').length === 4`);
-  await edit('laptop', 'Answer Ada', 'Answer Ada and Grace');
+  await page.until(shows('phone', 5));
+  await edit('laptop', 'Answer Ada soon', 'Answer Ada and Grace');
   await edit('laptop', 'Buy oat milk', 'Buy soy milk');
+  await page.until(`${titlesOf('laptop')}.includes('soy')`);
+  same(await page.evaluate(`${titlesOf('server')}.includes('Answer Ada soon')`), true, 'nothing has come there');
   await take(page, 'apart');
-  await flip();
-  await synced('Synced the phone and the laptop in 6 exchanges. 2 todos had been edited on both sides, and the later edit was kept.');
-  same(await titles('phone'), await titles('server'), 'the phone and the server');
-  same(await titles('laptop'), await titles('server'), 'the laptop and the server');
+  await flip(page, 'phone');
+  await page.until(says('The phone came together with the server in 2 exchanges.'));
+  await flip(page, 'laptop');
+  await page.until(says('The laptop came together with the server in 3 exchanges. 2 todos had been edited on both sides, and the later edit was kept.'));
+  await page.until(`${titlesOf('phone')} === ${titlesOf('server')} && ${titlesOf('laptop')} === ${titlesOf('server')}`);
   const told = await page.run(() => Array.from(document.querySelectorAll('.conflicts li p'), (it) => it.innerText.replace(/\s+/g, ' ').trim()).join('; '));
   const [ada, milk] = ['Laptop Answer Ada and Grace kept; Server Answer Ada at once', 'Laptop Buy soy milk kept; Server removed'];
   same([`${ada}; ${milk}`, `${milk}; ${ada}`].includes(told), true, told);
@@ -372,14 +387,14 @@ test('the page of todos, edited apart and synced: a conflict shows its answer', 
 test('the page of todos in a second tab: it says that it waits, and takes over', async () => {
   const site = await serve(root); // an origin of its own, where nothing is stored
   const first = await chromium.page(`${site.origin}/clients/web/`);
-  await first.until(`document.querySelectorAll('#phone .todos li').length === 3`);
+  await first.until(shows('phone', 5));
   const second = await chromium.page(`${site.origin}/clients/web/`);
   await second.until(`document.getElementById('status').textContent.includes('open in another tab')`);
   await take(second, 'second-tab');
-  same(await second.evaluate(`document.getElementById('sync').disabled`), true, 'nothing to sync');
+  same(await second.evaluate(`document.getElementById('places').children.length`), 0, 'nothing is shown');
   await first.close();
-  await second.until(`document.querySelectorAll('#phone .todos li').length === 3`);
-  await second.until(`document.getElementById('status').textContent.startsWith('Ready')`);
+  await second.until(shows('phone', 5));
+  await second.until(says('Ready'));
   await second.close();
   site.close();
 });

@@ -17,9 +17,11 @@ async function until(isSo, what, seconds = 20) {
   throw new Error(`not in ${seconds} seconds: ${what}`);
 }
 
-/** A program that takes each line, and answers a turn as the test tells it to. */
+/** A program that takes each line, and answers a turn or a delivery as the test tells it to. */
 class Program {
-  asked = []; // the turns that have no answer yet
+  asked = []; // the turns and deliveries that have no answer yet
+  streams = []; // what was asked of streams
+  refused = {}; // of lines, by their word, what they are answered
   turns = []; // the moment of each
   dropped = 0;
   #lines = 0;
@@ -37,7 +39,10 @@ class Program {
 
   #take({ do: word, name }) {
     this.#lines += 1;
-    const reply = { line: this.#lines, ok: word };
+    const reply = { line: this.#lines, ok: word, name };
+    if (word === 'stream' || word === 'unstream') this.streams.push(word);
+    if (this.refused[word]) return this.#say({ line: reply.line, ...this.refused[word] });
+    if (word === 'deliver') return this.asked.push(reply);
     if (word === 'turn' && name !== 'none') return this.turns.push(performance.now()), this.asked.push(reply);
     if (name === 'none') this.#say({ line: reply.line, code: 18, refused: 'no_replication' });
     else this.#say({ ...reply, rev: '1-f' });
@@ -50,9 +55,21 @@ class Program {
 
   /** Waits for a turn and answers it. */
   async answer(end, ...each) {
-    await until(() => this.asked.length, 'a turn');
+    await this.#next('turn');
     const exchanges = each.map((it, at) => ({ exchange: at + 1, ...it }));
     this.#say(...exchanges, { ...this.asked.shift(), end, exchanges: each.length });
+  }
+
+  /** Waits for a delivery and answers it. */
+  async deliver(level, ...each) {
+    await this.#next('deliver');
+    const events = each.map((it, at) => ({ event: at + 1, ...it }));
+    this.#say(...events, { ...this.asked.shift(), level, resync: !level });
+  }
+
+  async #next(word) {
+    await until(() => this.asked.length, `a ${word}`);
+    same(this.asked[0].ok, word, 'what was asked');
   }
 
   stop(stop) {
@@ -64,11 +81,12 @@ class Program {
 const push = (rows, more = {}) => ({ sent: 'push', rows, ...(more.lost ? {} : { conflicts: [] }), ...more });
 const pulled = { sent: 'pull', rows: [] };
 
-async function followed(options = {}) {
+async function followed(options = {}, { refused = {}, ...master } = { port: 4001 }) {
   const it = new Program();
+  it.refused = refused;
   const db = await open(it.transport, { clock: () => 0 });
   const fork = await db.collection('f', schema);
-  await db.replicate({ name: 'r', fork: 'f', port: 4001, handler: 'join' });
+  await db.replicate({ name: 'r', fork: 'f', handler: 'join', ...master });
   const following = db.follow('r', { every: 5, longest: 20, ...options });
   const heard = [];
   following.subscribe({
@@ -172,6 +190,110 @@ alone('the network that comes, goes, or is looked for: connections are given up,
   same(it.dropped, 4, 'after the end');
   await db.close();
   delete globalThis.document;
+});
+
+alone('a fork of the same journal: by its stream, and by turns for what the stream has not', async () => {
+  const { it, db, fork, following, said } = await followed({}, { master: 'm' });
+  const master = await db.collection('m', schema);
+  await it.answer('more', { sent: 'pull', rows: ['a'] });
+  await it.answer('quiet', pulled);
+  await said(['syncing 0', 'in sync 0']);
+  same(text(it.streams), '["stream"]', 'a stream');
+  // Each write of the master is followed by a delivery, and nothing is asked meanwhile.
+  await pause(30);
+  same(it.asked.length, 0, 'asked while nothing is written');
+  await Promise.all([master.insert({ id: 'b' }), master.bulk([{ id: 'c' }, { id: 'd' }])]);
+  await it.deliver(true, { rows: ['b'], took: 'taken' }, { rows: ['c', 'd'], took: 'taken' });
+  await said(['syncing 0', 'in sync 0']);
+  // What the fork writes is pushed, and the master's own event of it tells that all is level.
+  await fork.insert({ id: 'e' });
+  await it.answer('more', push(['e']));
+  await it.deliver(true, { rows: ['e'], took: 'taken' });
+  await said(['syncing 1', 'syncing 0', 'in sync 0']);
+  // Where it isn't level a turn makes up for it.
+  await master.remove('b');
+  await it.deliver(false, { rows: ['b'], took: 'gap' });
+  await it.answer('clock');
+  await said(['syncing 0', 'offline 0 clock']);
+  await it.answer('quiet', pulled);
+  await said(['in sync 0']);
+  following.now();
+  await it.answer('quiet', pulled);
+  following.close();
+  await said(['complete']);
+  same(text(it.streams), '["stream","unstream"]', 'and it is closed');
+  await db.close();
+});
+
+alone('a stream that was ended is opened again, and one that was open before stays so', async () => {
+  const { it, db, following, said } = await followed({}, { master: 'm' });
+  const master = await db.collection('m', schema);
+  await it.answer('quiet', pulled);
+  await said(['syncing 0', 'in sync 0']);
+  it.refused = { deliver: { code: 31, refused: 'no_stream' } };
+  await master.insert({ id: 'a' });
+  await until(() => it.streams.length === 2, 'it is opened again');
+  it.refused = {};
+  await it.answer('quiet', pulled);
+  await said(['syncing 0', 'in sync 0']);
+  following.close();
+  await said(['complete']);
+  await db.close();
+
+  const other = await followed({}, { master: 'm', refused: { stream: { code: 9, refused: 'exists' } } });
+  await other.it.answer('quiet', pulled);
+  await other.said(['syncing 0', 'in sync 0']);
+  await (await other.db.collection('m', schema)).insert({ id: 'a' });
+  await other.it.deliver(true);
+  await other.said(['syncing 0', 'in sync 0']);
+  other.following.close();
+  same(text(other.it.streams), '["stream"]', 'who opened it closes it');
+  await other.db.close();
+});
+
+alone('a master of which nothing was told: its stream is refused where it is elsewhere', async () => {
+  const it = new Program();
+  it.refused = { stream: { code: 30, refused: 'remote' } };
+  const db = await open(it.transport, { clock: () => 0 });
+  const following = db.follow('r', { every: 5 });
+  for (let n = 0; n < 3; n++) await it.answer('quiet', pulled);
+  same(text(it.streams), '["stream"]', 'asked for once');
+  following.close();
+  await db.close();
+});
+
+alone('what a turn or a delivery of one fork writes is news of others', async () => {
+  const it = new Program();
+  const db = await open(it.transport, { clock: () => 0 });
+  for (const name of 'mfgh') await db.collection(name, schema);
+  for (const [name, fork, master] of [['r', 'f', 'm'], ['s', 'g', 'm'], ['t', 'h', 'f']]) {
+    await db.replicate({ name, fork, master, handler: 'join' });
+    db.follow(name);
+  }
+  for (let n = 0; n < 3; n++) await it.answer('quiet', pulled);
+  const asked = () => it.asked.map(({ ok, name }) => `${ok} ${name}`).sort().join(', ');
+  const are = (due) => until(() => asked() === due, `${due}, but ${asked()}`);
+  const turn = db.turn('t'); // h pushes to f
+  await are('turn t');
+  await it.answer('more', push(['a']));
+  await turn;
+  // f has something to push, which comes to g then.
+  await are('turn r');
+  await it.answer('more', push(['a']));
+  await are('deliver r, deliver s');
+  for (let n = 0; n < 2; n++) await it.deliver(true);
+  // What comes to f is news of h.
+  const delivery = db.deliver('r');
+  await it.deliver(true, { rows: ['b'], took: 'taken' });
+  await delivery;
+  await are('deliver t');
+  await it.deliver(true);
+  const missed = db.deliver('r');
+  await it.deliver(false, { rows: ['b'], took: 'gap' });
+  await missed;
+  await are('turn r'); // and nothing was written that others hear of
+  await it.answer('quiet', pulled);
+  await db.close();
 });
 
 alone('how following ends: refused, closed, or with the program', async () => {

@@ -34,6 +34,9 @@ async function play(db, text, observed) {
     case 'restart': return db.restart();
     case 'replicate': return db.replicate(line);
     case 'turn': return db.turn(line.name, line);
+    case 'stream': return db.stream(line.name);
+    case 'deliver': return db.deliver(line.name, line);
+    case 'unstream': return db.unstream(line.name);
     case 'observe': {
       const heard = observed.get(line.name)?.heard ?? []; // of a name that was observed before it goes on
       const first = new Promise((go, fail) => {

@@ -77,6 +77,9 @@ class Recorder:
         return re.sub(rb'(?<="line":)\d+', lambda it: b"%d" % (int(it[0]) - 1), self._output)
 
 
+DATABASE = "collection explain tick restart replicate turn stream deliver unstream".split()
+
+
 def play(db, text, observed):
     """One line of a script by the call for it; with asyncio it answers a coroutine."""
     if not text.strip():
@@ -88,7 +91,7 @@ def play(db, text, observed):
     if into is None:
         if do == "unobserve":
             return observed.pop(line["name"]).close()
-        if do in ("collection", "explain", "tick", "restart", "replicate", "turn"):
+        if do in DATABASE:
             return getattr(db, do)(**line)
         return db.call({"do": do, **line})
     collection = (rx.AsyncCollection if isinstance(db, rx.AsyncDatabase) else rx.Collection)(db, into, None)
@@ -751,6 +754,127 @@ def a_fork_and_its_master_with_asyncio(folder):
     asyncio.run(run())
 
 
+@case()
+def a_stream_and_what_becomes_of_its_events(folder):
+    def told(link=None):
+        level, resync, each = db.deliver("r", link=link)
+        return level, resync, [f"{it['event']} {','.join(it['rows'])} {it['took']}" for it in each]
+
+    with rx.open(new_journal(folder)) as db:
+        master, fork = db.collection("m", SCHEMA), db.collection("f", SCHEMA)
+        db.replicate("r", "f", "m", handler="fork_wins")
+        db.stream("r")
+        same(db.deliver("r"), (True, False, []), "nothing")
+        master.insert({"id": "a"})
+        master.bulk([{"id": "ä"}, {"id": "b"}])
+        master.insert({"id": "d"})
+        due = ["1 a taken", "1 a old", "2 b,ä later", "3 d gap"]
+        same(told(["twice", "later"]), (False, True, due))
+        same(told(), (False, False, ["1 b,ä taken"]))
+        same([(it["sent"], it["rows"]) for it in db.turn("r").each], [("pull", ["d"])])
+        fork.insert({"id": "e"})
+        master.remove("a")
+        same(told(), (False, True, ["1 a pending"]))
+        same(db.turn("r").end, "quiet")
+        same(told(), (True, False, ["1 e old"]))
+        same(fork.digest(), master.digest())
+        opened = fault(db.stream, "r")
+        same((opened.code, str(opened)), (9, "exists (9): the stream of r is open"))
+        same(fault(db.deliver, "r", link=["late"]).subject, "link")
+        db.unstream("r")
+        none = fault(db.deliver, "r")
+        same((none.code, str(none)), (31, "no_stream (31): no stream of r is open"))
+        same(fault(db.unstream, "r").code, 31)
+        same(fault(db.stream, "z").code, 18)
+        db.replicate("s", "m", port=1, handler="join")
+        away = fault(db.stream, "s")
+        same((away.code, str(away)), (30, "remote (30): the master of s is elsewhere"))
+
+
+def level_soon(sides):
+    """Waits until all have the same."""
+    end = time.monotonic() + 20
+    while len({it.digest() for it in sides}) > 1:
+        same(time.monotonic() < end, True, "they are the same")
+        time.sleep(0.005)
+
+
+FORKS = [("r", "f", "m"), ("s", "g", "m"), ("t", "h", "f")]
+
+
+@case()
+def followed_forks_of_one_journal_over_a_restart_and_a_migration(folder):
+    with rx.open(new_journal(folder)) as db:
+        m, f, g, h = sides = [db.collection(name, SCHEMA) for name in "mfgh"]
+        for name, fork, master in FORKS:
+            db.replicate(name, fork, master, handler="fork_wins")
+        m.insert({"id": "a"})
+        followed = [db.follow(name) for name, _, _ in FORKS]
+        level_soon(sides)
+        m.insert({"id": "b"})
+        level_soon(sides)
+        h.insert({"id": "d"})  # goes up to f and m, and down to g
+        level_soon(sides)
+        for number in range(200):  # more than may wait
+            m.upsert({"id": f"k{number % 50}", "n": number})
+        level_soon(sides)
+        for it in followed:
+            until(it, ("in sync", 0))
+        db.restart()
+        m.remove("a")
+        f.insert({"id": "e"})
+        level_soon(sides)
+        same(db.migrate("h", NEXT, STEPS), ["m", "f", "g", "h"])
+        m.insert({"id": "x", "on": True})
+        h.patch("k1", {"v": 7})
+        level_soon(sides)
+        same(m.get("k1").doc, {"id": "k1", "on": True, "v": 7})
+        followed[0].close()
+        same(fault(db.deliver, "r").word, "no_stream")
+        m.insert({"id": "y", "on": False})
+        level_soon([m, g])
+        same(fault(f.get, "y").code, 15)
+        # one that is open by hand stays open
+        db.stream("r")
+        with db.follow("r") as following:
+            until(following, ("in sync", 0))
+        same(db.deliver("r").level, True)
+
+
+@case()
+def followed_forks_of_one_journal_with_asyncio(folder):
+    async def level_soon(sides):
+        for _ in range(4_000):
+            if len({await it.digest() for it in sides}) == 1:
+                return
+            await asyncio.sleep(0.005)
+        raise AssertionError("they aren't the same")
+
+    async def run():
+        async with rx.open_async(new_journal(folder)) as db:
+            m, f, g, h = sides = [await db.collection(name, SCHEMA) for name in "mfgh"]
+            for name, fork, master in FORKS:
+                await db.replicate(name, fork, master, handler="fork_wins")
+            followed = [db.follow(name) for name, _, _ in FORKS]
+            await asyncio.gather(m.insert({"id": "a"}), h.insert({"id": "b"}), g.insert({"id": "d"}))
+            await level_soon(sides)
+            await db.restart()
+            await asyncio.gather(*(m.upsert({"id": f"k{n % 50}", "n": n}) for n in range(200)), h.remove("b"))
+            await level_soon(sides)
+            await followed[0].close()
+            same((await async_fault(db.deliver("r"))).word, "no_stream")
+            await db.stream("r")
+            same((await db.deliver("r", link=["ok"])).level, True)
+            await m.insert({"id": "x"})
+            await level_soon([m, g])
+            same((await async_fault(f.get("x"))).code, 15)
+            same((await db.deliver("r")).each, [{"event": 1, "rows": ["x"], "took": "taken"}])
+            await level_soon(sides)
+            await db.unstream("r")
+
+    asyncio.run(run())
+
+
 def served(folder, docs):
     """A server of a collection m with these documents, for two turns."""
     with rx.open(os.path.join(folder, "master")) as db:
@@ -825,6 +949,36 @@ def how_a_followed_fork_stands_by_what_its_turns_come_to(_folder):
     same([0.75 * it <= wait <= 1.25 * it for wait, it in zip(waits, due)], [True] * 5, f"{waits}")
     account.hurry()
     same(account.wait(), 1.0)
+
+
+@case(needs=[])
+def what_comes_next_for_a_fork_of_the_same_journal(_folder):
+    account = Account(1.0, 3.0, None)
+    account.is_streamed = True
+
+    def turned(end, *each):
+        same(account.takes_turn(), True)
+        account.turned({"end": end, "each": list(each)})
+        return account.after(rx.Turn(end, len(each), list(each)))
+
+    same(turned("more", exchange("pull", ["a"])), True)
+    same(turned("quiet", exchange("pull", [])), False)
+    same((tuple(account.now), account.wait()), (("in sync", 0, None), None))
+    account.wrote([])
+    same((account.takes_turn(), tuple(account.now)), (False, ("syncing", 0, None)))
+    account.delivered({"level": True})
+    same(tuple(account.now), ("in sync", 0, None))
+    account.wrote(["b"])
+    same(turned("more", exchange("push", ["b"], conflicts=[])), True)
+    same(account.takes_turn(), False, "a delivery tells")
+    account.delivered({"level": False})
+    same(turned("clock"), False)
+    same((account.now.state, account.wait() < 1), ("offline", True))
+    same(turned("more", exchange("push", ["b"], conflicts=["b"])), True)
+    same(turned("quiet", exchange("pull", ["b"])), False)
+    account.lost_stream()
+    account.is_streamed = True
+    same(account.takes_turn(), True)
 
 
 @case()
@@ -940,21 +1094,31 @@ def replicate_and_turn_over_scripted_lines(folder):
 
     written += lines.write(calls.replicate("r", "f", "m", "greater", None, "n"), answer)
     written += lines.write(calls.turn("r", 2, None, None), answer)
+    written += lines.write(calls.stream("r"), answer)
+    written += lines.write(calls.deliver("r", ["ok"]), answer)
+    written += lines.write(calls.unstream("r"), answer)
     same(
         written,
         b'{"do":"replicate","name":"r","fork":"f","master":"m","handler":"greater","field":"n"}\n'
-        b'{"do":"turn","name":"r","batch":2}\n',
+        b'{"do":"turn","name":"r","batch":2}\n{"do":"stream","name":"r"}\n'
+        b'{"do":"deliver","name":"r","link":["ok"]}\n{"do":"unstream","name":"r"}\n',
     )
     push = {"conflicts": ["ä"], "exchange": 1, "rows": ["ä", "b"], "sent": "push"}
+    event = {"event": 1, "rows": ["ä"], "took": "taken"}
     output = [
         '{"line":1,"ok":"replicate"}',
         json.dumps(push, ensure_ascii=False),
         '{"end":"quiet","exchanges":1,"line":2,"ok":"turn"}',
+        '{"line":3,"ok":"stream"}',
+        json.dumps(event, ensure_ascii=False),
+        '{"level":true,"line":4,"ok":"deliver","resync":false}',
+        '{"line":5,"ok":"unstream"}',
         "",
     ]
     for byte in "\n".join(output).encode():
         lines.take(bytes([byte]))
     same((replies[1]["end"], replies[1]["exchanges"], replies[1]["each"]), ("quiet", 1, [push]))
+    same((replies[3]["level"], replies[3]["resync"], replies[3]["each"]), (True, False, [event]))
 
 
 def run_in(folder, *command, **env):

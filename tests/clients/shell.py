@@ -339,6 +339,30 @@ def a_migration_is_typed_as_a_line_and_seen_at_once_and_later(folder):
 
 
 @case()
+def what_waits_in_a_stream_is_delivered(folder):
+    todos(folder, MILK)
+    replicate = {"do": "replicate", "name": "r", "fork": "phone", "master": "todos", "handler": "join"}
+    out = shown(
+        folder,
+        f"collection phone {json.dumps(TODOS)}",
+        json.dumps(replicate),
+        ".stream r",
+        ".deliver r",
+        ".turn r",
+        f"insert todos {json.dumps(RENT)}",
+        ".watch phone",
+        ".deliver r",
+        ".deliver r",
+    )
+    due = ["opened", "0 events", "not level", "1 exchange", "the turn ended quiet", "1-todos", "event  rows  took"]
+    due += ["    1     1  taken", "1 event", "level", "2 rows", "0 events", "level"]
+    lines = iter(out.splitlines())
+    same(all(line in lines for line in due), True, f"{due} in {out}")
+    status, _, faults = piped(folder, ".deliver r")
+    same((status, "no stream of r is open" in faults), (1, True), faults)
+
+
+@case()
 def what_is_watched_follows_each_statement(folder):
     todos(folder, MILK)
     same(

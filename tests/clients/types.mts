@@ -72,11 +72,21 @@ const went: string[] = await db.migrate('todos', schema, steps);
 await db.collection<Todo>('todos', constant, { steps, hooks: [{ when: 'save', hook: 'lock', field: 'done' }] });
 await db.collection('any', schema, { steps: [{ set: 'title', value: 'none' }] as const });
 
+await db.stream('sync');
+const { level, resync, each } = await db.deliver('sync', { link: ['ok', 'later'] });
+if (resync || !level) await db.turn('sync');
+const missed: string[] = each.filter((it) => it.took === 'gap').flatMap((it) => it.rows);
+await db.unstream('sync');
+
 const following = db.follow('sync', { every: 500, budget: 10 });
 following.subscribe(({ state, pending, lost }) => console.log(state === 'in sync', pending + 1, lost ?? ''));
 for await (const { state } of following) if (state === 'offline') following.now();
 following.close();
 
+// @ts-expect-error
+await db.deliver('sync', { link: [{ late: 1 }] });
+// @ts-expect-error
+each.filter((it) => it.took === 'dropped');
 // @ts-expect-error
 db.follow('sync').subscribe(({ state }) => state === 'online');
 // @ts-expect-error
