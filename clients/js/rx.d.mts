@@ -165,6 +165,27 @@ export interface Turn {
   each: Exchange[];
 }
 
+/** An event that was given, with the keys of its documents. */
+export interface Given {
+  event: number;
+  rows: string[];
+  /** It is `taken`, or why it isn't. */
+  took: 'old' | 'pending' | 'gap' | 'clock' | 'taken' | 'lost' | 'later';
+}
+
+export interface DeliverOptions {
+  /** What happens to the events. */
+  readonly link?: readonly Word<'ok' | 'lose' | 'twice' | 'later'>[];
+}
+
+export interface Delivery {
+  /** The fork has all of its master and nothing to push, so their documents are the same. */
+  level: boolean;
+  /** What some event had doesn't come again, so a turn is due. */
+  resync: boolean;
+  each: Given[];
+}
+
 /** Where a document stands in the order of writing. */
 export interface Place {
   id: string;
@@ -224,7 +245,7 @@ export interface SyncStatus {
 }
 
 export interface FollowOptions {
-  /** Milliseconds between two turns while all is in sync, 1,000 where it is left out. */
+  /** Milliseconds between two turns with a master elsewhere while all is in sync, 1,000 where it is left out. */
   readonly every?: number;
   /** The longest wait between two turns that are lost, or in a page that nobody sees: 30,000. */
   readonly longest?: number;
@@ -233,7 +254,10 @@ export interface FollowOptions {
   readonly budget?: number;
 }
 
-/** A fork that is kept in sync: by a turn at once, after each write, and from time to time. */
+/**
+ * A fork that is kept in sync: by a turn at once and after each write of its own, and after each one of its master by
+ * a delivery, or with a master elsewhere by turns from time to time.
+ */
 export interface Following extends Observable<SyncStatus> {
   readonly name: string;
   /** Makes a turn at once, whatever was lost before. */
@@ -310,6 +334,12 @@ export interface Database {
   migrate(collection: string, schema: Schema, steps: readonly Step[]): Promise<string[]>;
   replicate(replication: Replication): Promise<void>;
   turn(name: string, options?: TurnOptions): Promise<Turn>;
+  /** Has what is written to a fork's master, which is of the same journal, wait for the fork from now on. */
+  stream(name: string): Promise<void>;
+  /** Gives a fork what waits for it. */
+  deliver(name: string, options?: DeliverOptions): Promise<Delivery>;
+  /** Ends a stream, with what waits. */
+  unstream(name: string): Promise<void>;
   /** Keeps a fork in sync until it is closed. Of a replication that is followed it answers the same again. */
   follow(name: string, options?: FollowOptions): Following;
   explain(name: string): Promise<Counts>;

@@ -54,7 +54,7 @@ export async function open(transport, { clock = Date.now, waiting } = {}) {
   }
 }
 
-const writes = new Set(['insert', 'bulk', 'upsert', 'patch', 'update', 'remove', 'turn']);
+const writes = new Set(['insert', 'bulk', 'upsert', 'patch', 'update', 'remove', 'turn', 'deliver']);
 const room = 1 << 18; // so many characters of lines may be unanswered before one waits for the program
 
 class Database {
@@ -74,7 +74,7 @@ class Database {
   #followed = new Map(); // by the name of their replication
   #names = 0; // how many were made up
   #rest = ''; // the front of a line of output
-  #exchanges = []; // of the turn that is answered next
+  #each = []; // exchanges of the turn, or events of the delivery, that is answered next
   #stop = null; // the program's stop line
   #end = null; // why no line is taken any more
   #isOver = false; // the program has ended
@@ -152,7 +152,7 @@ class Database {
 
   /** Makes a collection the fork of a master: of another collection, or of one that is served at a port. */
   async replicate({ name, fork, master, port, handler, field }) {
-    this.#replications.set(name, { fork, master });
+    this.#replications.set(name, { fork, master, port });
     await this.call({ do: 'replicate', name, fork, master, port, handler, field });
   }
 
@@ -162,12 +162,35 @@ class Database {
     return { end, exchanges, each };
   }
 
-  /** Keeps a fork in sync with its master by turns, until it is closed, and tells how the two stand. */
+  /** Has what is written to a fork's master, which is of the same journal, wait for the fork from now on. */
+  async stream(name) {
+    await this.call({ do: 'stream', name });
+  }
+
+  /** Gives a fork what waits for it, event after event. Where `resync` is true a turn is due. */
+  async deliver(name, { link } = {}) {
+    const { level, resync, each } = await this.call({ do: 'deliver', name, link });
+    return { level, resync, each };
+  }
+
+  /** Ends a stream, with what waits. */
+  async unstream(name) {
+    await this.call({ do: 'unstream', name });
+  }
+
+  /**
+   * Keeps a fork in sync with its master until it is closed, and tells how the two stand: by turns, and where
+   * the master is of the same journal by a stream.
+   */
   follow(name, options = {}) {
     const held = this.#followed.get(name);
     if (held) return held;
     const following = new Following(name, {
+      isElsewhere: this.#replications.get(name)?.port !== undefined,
       turn: (how) => this.turn(name, how),
+      stream: () => this.stream(name),
+      deliver: () => this.deliver(name),
+      unstream: () => this.unstream(name),
       drop: () => this.#transport.drop?.(),
       over: () => this.#followed.delete(name),
     }, options);
@@ -320,7 +343,7 @@ class Database {
   #take(it) {
     if ('emit' in it) this.#emit(it.emit, it.rows);
     else if ('stop' in it) this.#stop = it;
-    else if ('exchange' in it) this.#exchanges.push(it);
+    else if ('exchange' in it || 'event' in it) this.#each.push(it);
     else this.#answer(it);
   }
 
@@ -334,7 +357,7 @@ class Database {
     this.#waiting.delete(reply.line);
     this.#unanswered -= length;
     if (this.#unanswered <= room) for (const it of this.#drained.splice(0)) it.resolve();
-    if (reply.ok === 'turn') reply.each = this.#exchanges.splice(0);
+    if (reply.ok === 'turn' || reply.ok === 'deliver') reply.each = this.#each.splice(0);
     if (reply.ok === 'migrate') this.#migrated(reply.collections, membersOf(request).schema);
     if (this.#followed.size && writes.has(reply.ok)) this.#tellFollowed(reply, membersOf(request));
     if ('refused' in reply) reject(this.#refusal(reply, request));
@@ -349,13 +372,25 @@ class Database {
     }
   }
 
-  // Of a write those hear whose fork or master it is, and all of which the client wasn't told.
   #tellFollowed(reply, request) {
-    if (reply.ok === 'turn') return this.#followed.get(request.name)?.turned(reply, request.batch);
+    if (!reply.each) return this.#tellWritten(request.in, this.#keysOf(request));
+    const it = this.#followed.get(request.name);
+    if (reply.ok === 'turn') it?.turned(reply, request.batch);
+    else it?.delivered(reply);
+    // It wrote to the master what was pushed, and to the fork what came.
+    const { fork, master, port } = this.#replications.get(request.name) ?? {};
+    const [up, down] = [pushed, brought].map((keys) => reply.each.flatMap(keys));
+    if (up.length && port === undefined) this.#tellWritten(master, up, request.name);
+    if (down.length) this.#tellWritten(fork, down, request.name);
+  }
+
+  // Of a write those hear whose fork or master it is, and all of which the client wasn't told.
+  #tellWritten(into, keys, by) {
     for (const [name, it] of this.#followed) {
-      const { fork, master } = this.#replications.get(name) ?? { master: request.in };
-      if (request.in === fork) it.wrote(this.#keysOf(request));
-      else if (request.in === master) it.wrote([]);
+      if (name === by) continue;
+      const { fork, master = into, port } = this.#replications.get(name) ?? {};
+      if (into !== undefined && into === fork) it.wrote(keys);
+      else if (port === undefined && (into === undefined || into === master)) it.wrote([]);
     }
   }
 
@@ -390,6 +425,11 @@ class Database {
     this.#tellStopped(new Stopped(this.#end));
   }
 }
+
+// The keys that an exchange may have written to the master, and those that it, or an event, wrote to the fork.
+const pushed = ({ sent, rows = [] }) => (sent === 'push' ? rows : []);
+const brought = ({ sent, rows = [], conflicts = [], took = 'taken' }) =>
+  (sent === 'push' ? conflicts : took === 'taken' ? rows : []);
 
 // The members of a request, which may be a line as it stands: as far as it has any.
 function membersOf(request) {
@@ -585,7 +625,7 @@ class Observed extends Observable {
 const firstWait = 500; // milliseconds after the first turn that was lost; each further one doubles them
 const isHidden = () => globalThis.document?.hidden ?? false;
 
-// A fork that is kept in sync. One turn is made at a time, and another one soon where something was written
+// A fork that is kept in sync. One call is made at a time, and another one soon where something was written
 // meanwhile. All other calls of the database wait for a turn, so by default it makes a single exchange.
 class Following extends Observable {
   #calls; // to the database
@@ -596,8 +636,11 @@ class Following extends Observable {
   #pending = new Set(); // keys
   #now = Object.freeze({ state: 'syncing', pending: 0 }); // as it was told last
   #losses = 0; // turns that were lost one after another
-  #isTurning = false;
-  #isAgain = false; // another turn comes at once
+  #isStreamed; // whether its stream is open: undefined where that is to be found out
+  #isOwn = false; // it was opened here
+  #isTurnDue = true; // a delivery wouldn't be enough
+  #isBusy = false;
+  #isAgain = false; // another call comes at once
   #timer;
   #end = null; // how subscriptions end once it is over
 
@@ -607,6 +650,7 @@ class Following extends Observable {
     this.#calls = calls;
     this.#how = { batch, budget };
     [this.#every, this.#longest] = [every, longest];
+    if (calls.isElsewhere) this.#isStreamed = false;
     for (const [target, event] of this.#events()) target.addEventListener?.(event, this);
     this.#later(0);
   }
@@ -624,6 +668,7 @@ class Following extends Observable {
   /** Makes a turn at once, whatever was lost before. */
   now() {
     this.#losses = 0;
+    this.#isTurnDue = true;
     this.#sync();
   }
 
@@ -637,12 +682,14 @@ class Following extends Observable {
     this.#over((it) => it.error(fault));
   }
 
+  // The keys are the fork's, and none where its master was written.
   /** @internal */
   wrote(keys) {
     for (const it of keys) this.#pending.add(it);
+    if (keys.length) this.#isTurnDue = true;
     const isOffline = this.#now.state === 'offline'; // then the next turn has its time
     this.#tell(isOffline ? this.#now : { state: 'syncing' });
-    if (this.#isTurning) this.#isAgain = true;
+    if (this.#isBusy) this.#isAgain = true;
     else if (!isOffline) this.#later(0);
   }
 
@@ -662,11 +709,23 @@ class Following extends Observable {
     else if (!this.#isAgain) this.#tell({ state: 'offline', lost: each.at(-1)?.lost ?? end });
   }
 
+  // A turn makes up for what no event has, where the two aren't level.
+  /** @internal */
+  delivered({ level }) {
+    if (!level) {
+      this.#isTurnDue = true;
+      return this.#isBusy ? undefined : this.#later(0);
+    }
+    this.#pending.clear();
+    this.#losses = 0;
+    this.#tell({ state: 'in sync' });
+  }
+
   // The network came or went, or the page was looked at again. A connection of before may be dead without
   // knowing, and would be waited for.
   /** @internal */
   handleEvent() {
-    if (isHidden()) return;
+    if (isHidden() || this.#isStreamed) return;
     this.#calls.drop();
     this.now();
   }
@@ -679,12 +738,53 @@ class Following extends Observable {
   async #sync() {
     if (this.#end) return;
     clearTimeout(this.#timer);
-    if (this.#isTurning) return (this.#isAgain = true);
-    this.#isTurning = true;
+    if (this.#isBusy) return (this.#isAgain = true);
+    this.#isBusy = true;
     this.#isAgain = false;
-    const end = await this.#calls.turn(this.#how).then((it) => it.end, (fault) => this.fail(fault));
-    this.#isTurning = false;
-    this.#later(this.#isAgain || end === 'more' ? 0 : this.#wait());
+    const isMore = await this.#step().catch((fault) => this.fail(fault));
+    this.#isBusy = false;
+    if (this.#isAgain || isMore) this.#later(0);
+    else if (!this.#isStreamed || this.#losses) this.#later(this.#wait());
+  }
+
+  // Whether another step comes at once.
+  async #step() {
+    if (this.#isStreamed === undefined) await this.#begin();
+    if (this.#end) return false;
+    return this.#isTurnDue || !this.#isStreamed ? this.#turn() : this.#deliver();
+  }
+
+  // A master elsewhere has no stream, and is asked from time to time. Where the stream is open already it stays so.
+  async #begin() {
+    try {
+      await this.#calls.stream();
+      this.#isStreamed = this.#isOwn = true;
+    } catch (fault) {
+      if (fault.word !== 'exists' && fault.word !== 'remote') throw fault;
+      this.#isStreamed = fault.word === 'exists';
+    }
+    if (this.#end) this.#leave();
+  }
+
+  // Behind the last push a delivery tells whether the two are level.
+  async #turn() {
+    this.#isTurnDue = false; // a write may ask for one meanwhile
+    const { end, each } = await this.#calls.turn(this.#how);
+    const isPulling = end === 'more' && each.at(-1)?.sent === 'pull';
+    if (isPulling || this.#losses || this.#pending.size) this.#isTurnDue = true;
+    return end === 'more';
+  }
+
+  async #deliver() {
+    try {
+      return !(await this.#calls.deliver()).level;
+    } catch (fault) {
+      if (fault.word !== 'no_stream') throw fault;
+      this.#isStreamed = undefined; // a restart or a migration ended it
+      this.#isOwn = false;
+      this.#isTurnDue = true;
+      return true;
+    }
   }
 
   // Waits after losses differ, so that not all who lost a server are back at once.
@@ -711,9 +811,16 @@ class Following extends Observable {
     this.#end = end;
     clearTimeout(this.#timer);
     for (const [target, event] of this.#events()) target.removeEventListener?.(event, this);
+    this.#leave();
     this.#calls.over();
     for (const it of [...this.#subscriptions]) end(it);
     this.#subscriptions.clear();
+  }
+
+  // It may be closed already.
+  #leave() {
+    if (this.#isOwn) this.#calls.unstream().catch(() => {});
+    this.#isOwn = false;
   }
 }
 
@@ -891,7 +998,9 @@ function detail({ refused, cause, name, rev, row }, request, schema) {
     case 'name':
       return out(`${name} is ${show(own)}, and no name: a lower-case letter and then up to 63 lower-case `
         + 'letters, digits, _ or -', own, limits.name);
-    case 'exists': return out(`the name ${request.name} is taken`, request.name);
+    case 'exists':
+      if (request.do === 'stream') return out(`the stream of ${request.name} is open`, request.name);
+      return out(`the name ${request.name} is taken`, request.name);
     case 'no_collection': return out(`there is no collection ${name}`, name);
     case 'schema': return ofSchema(cause, name, request.schema);
     case 'schema_differs':
@@ -915,7 +1024,10 @@ function detail({ refused, cause, name, rev, row }, request, schema) {
     case 'twice': return out(`the key ${show(key)} stands there twice`, key);
     case 'migration': return ofMigration(cause, name, request.schema);
     case 'observed': return out(`the query ${name} is observed, and is to be left by all before`, name);
-    case 'remote': return out('a fork of a master elsewhere would go with it');
+    case 'remote':
+      if (request.do === 'stream') return out(`the master of ${request.name} is elsewhere`, request.name);
+      return out('a fork of a master elsewhere would go with it');
+    case 'no_stream': return out(`no stream of ${request.name} is open`, request.name);
     case 'update': return ofUpdate(cause, name, request.update);
     case 'vetoed': return out(`the hook ${name} vetoes it`, key);
     case 'no_hook': return out(`no hook ${request.hook} with the field ${request.field}`, request.hook);

@@ -1,5 +1,5 @@
 // A todo list on two devices and a server, each a collection of one database in this tab. The devices' are forks of
-// the server's: they are edited apart, and come together by a turn.
+// the server's, and follow it while they are online. Offline they are edited apart, and come together by a turn.
 import { open, wasm } from '../js/rx.mjs';
 
 const schema = {
@@ -38,13 +38,13 @@ async function collection(db, name) {
 }
 
 /** Makes a device's collection a fork of the server's. Of two edits the later one is kept. */
-async function follow(db, name) {
+async function replicate(db, name) {
   const replication = { name, fork: name, master: 'server', handler: 'greater', field: 'edited' };
   await db.replicate(replication).catch((fault) => { if (fault.word !== 'exists') throw fault; });
 }
 
-/** One place: its todos, which follow each change, and what can be done to them. */
-function show(todos) {
+/** One place: its todos, which follow each change, and what can be done to them. Devices go on and off line. */
+function show(todos, go) {
   const { name } = todos;
   const section = copy('place');
   const part = (selector) => section.querySelector(selector);
@@ -67,7 +67,6 @@ function show(todos) {
       (next?.querySelector('.remove') ?? part('form input')).focus();
       attempt(todos.remove(row.id));
     };
-    if (name === 'server') for (const it of li.children) it.disabled = true;
     return li;
   }
 
@@ -102,9 +101,11 @@ function show(todos) {
   }
 
   part('h2').textContent = name;
-  part('.empty').textContent = name === 'server' ? 'Nothing has been synced.' : 'Nothing to do.';
-  part('.online input').onchange = ({ target }) => section.classList.toggle('offline', !target.checked);
-  part('.conflicts button').onclick = () => { part('.conflicts').hidden = true; element('sync').focus(); };
+  part('.online input').onchange = ({ target }) => {
+    section.classList.toggle('offline', !target.checked);
+    go(name, target.checked);
+  };
+  part('.conflicts button').onclick = () => { part('.conflicts').hidden = true; part('form input').focus(); };
   part('.more button').onclick = () => { limit += 6; observe(); };
   part('form').onsubmit = (event) => {
     event.preventDefault();
@@ -113,7 +114,7 @@ function show(todos) {
     input.value = '';
   };
   part('form input').setAttribute('aria-label', `New todo on the ${name}`);
-  if (name === 'server') for (const it of section.querySelectorAll('.online, form, .conflicts')) it.remove();
+  if (name === 'server') for (const it of section.querySelectorAll('.online, .conflicts')) it.remove();
   section.id = name;
   observe();
   return section;
@@ -150,23 +151,25 @@ function showConflicts(name, conflicts) {
 
 const count = (n, what) => `${n} ${what}${n === 1 ? '' : 's'}`;
 
-/** The devices that are online come to the server in turn, and all but the last once more, for what the others brought. */
-async function sync(db) {
-  const online = devices.filter((name) => element(name).querySelector('.online input').checked);
-  if (!online.length) return say('Both devices are offline. Edits go on, and sync later.');
-  const turns = [];
-  try {
-    for (const name of [...online, ...online.slice(0, -1)]) turns.push(await turn(db, name));
-  } catch (fault) {
-    return say(`Not synced: ${fault.message}`);
-  }
-  for (const name of online) showConflicts(name, turns.filter((it) => it.name === name).flatMap((it) => it.conflicts));
-  const halted = turns.find((it) => it.end !== 'quiet');
-  if (halted) return say(`The ${halted.name} is not through: its turn ended ${halted.end}.`);
-  const exchanges = turns.reduce((sum, it) => sum + it.exchanges, 0);
-  const conflicts = turns.reduce((sum, it) => sum + it.conflicts.length, 0);
-  const met = conflicts ? ` ${count(conflicts, 'todo')} had been edited on both sides, and the later edit was kept.` : '';
-  say(`Synced the ${online.join(' and the ')} in ${count(exchanges, 'exchange')}.${met}`);
+const following = new Map(); // the devices that are online
+
+/** What was edited apart comes together, and from then on each write of either side comes to the other. */
+async function goOnline(db, name) {
+  const { end, exchanges, conflicts } = await turn(db, name);
+  following.set(name, db.follow(name));
+  const trouble = ({ message }) => say(`The ${name} doesn’t follow the server: ${message}`);
+  following.get(name).subscribe({ error: trouble });
+  showConflicts(name, conflicts);
+  if (end !== 'quiet') return say(`The ${name} is not through: its turn ended ${end}.`);
+  const met = conflicts.length
+    ? ` ${count(conflicts.length, 'todo')} had been edited on both sides, and the later edit was kept.` : '';
+  say(`The ${name} came together with the server in ${count(exchanges, 'exchange')}.${met}`);
+}
+
+function goOffline(name) {
+  following.get(name)?.close();
+  following.delete(name);
+  say(`The ${name} is offline. Edits go on, and come together later.`);
 }
 
 try {
@@ -174,11 +177,15 @@ try {
   const db = await open(wasm('../../wasm/out', 'todos'), { waiting });
   db.stopped.then((why) => say(`The database has stopped: ${why.message}`));
   const places = await Promise.all(['phone', 'server', 'laptop'].map((name) => collection(db, name)));
-  await Promise.all(devices.map((name) => follow(db, name)));
-  element('places').append(...places.map(show));
-  let syncing = Promise.resolve();
-  element('sync').onclick = () => { syncing = syncing.then(() => sync(db)); };
-  element('sync').disabled = false;
+  await Promise.all(devices.map((name) => replicate(db, name)));
+  let switching = Promise.resolve(); // one after another, as the switches were flipped
+  const go = (name, isOn) => {
+    switching = switching.then(() => (isOn ? goOnline(db, name) : goOffline(name)))
+      .catch((fault) => say(`Not synced: ${fault.message}`));
+  };
+  element('places').append(...places.map((it) => show(it, go)));
+  for (const name of devices) go(name, true);
+  await switching;
   say('Ready. Everything you do is kept in this browser.');
   navigator.storage.persist?.(); // so that the browser doesn't drop the journal when it is short of room
 } catch (fault) {

@@ -11,7 +11,7 @@ The two have the same calls. A database of `open` may be shared by threads, one 
 """
 from typing import TYPE_CHECKING, Any
 
-from .calls import Changes, Digest, Document, Fields, Json, Object, Stored, Turn, Value
+from .calls import Changes, Delivery, Digest, Document, Fields, Json, Object, Stored, Turn, Value
 from .database import Collection, Database, Following, Observed, open
 from .faults import Refused, Stopped
 from .following import SyncStatus
@@ -29,6 +29,7 @@ __all__ = [
     "Clock",
     "Collection",
     "Database",
+    "Delivery",
     "Digest",
     "Document",
     "Fields",

@@ -43,6 +43,14 @@ class Turn(NamedTuple):
     each: list[Json]
 
 
+class Delivery(NamedTuple):
+    """Whether the fork has all of its master and nothing to push, whether a turn is due, and each event."""
+
+    level: bool
+    resync: bool
+    each: list[Json]
+
+
 class Call(Generic[T]):
     """A line, the word of what it does, and what is taken from its reply."""
 
@@ -245,6 +253,23 @@ def turn(name: str, batch: int | None, budget: int | None, link: Sequence[Any] |
         budget=budget,
         link=link,
     )
+
+
+def stream(name: str) -> Call[None]:
+    return _call(_nothing, "stream", name=name)
+
+
+def deliver(name: str, link: Sequence[str] | None) -> Call[Delivery]:
+    return _call(
+        lambda reply: Delivery(reply["level"], reply["resync"], reply["each"]),
+        "deliver",
+        name=name,
+        link=link,
+    )
+
+
+def unstream(name: str) -> Call[None]:
+    return _call(_nothing, "unstream", name=name)
 
 
 def tick(at: int) -> Call[None]:

@@ -8,7 +8,7 @@ from collections.abc import Iterable, Iterator, Sequence
 from typing import Any, TypeVar
 
 from . import calls, program as programs
-from .calls import Call, Changes, Digest, Document, Fields, Hook, Json, Object, Stored, Turn
+from .calls import Call, Changes, Delivery, Digest, Document, Fields, Hook, Json, Object, Stored, Turn
 from .faults import Refused, Stopped
 from .following import Account, SyncStatus
 from .lines import Answer, Clock, Lines, Newest, closed, now
@@ -168,6 +168,18 @@ class Database:
         """Syncs a fork with its master, exchange after exchange."""
         return self.ask(calls.turn(name, batch, budget, link))
 
+    def stream(self, name: str) -> None:
+        """Has what is written to a fork's master, of the same journal, wait for the fork from now on."""
+        self.ask(calls.stream(name))
+
+    def deliver(self, name: str, *, link: Sequence[str] | None = None) -> Delivery:
+        """Gives a fork what waits for it, event after event. Where `resync` is true a turn is due."""
+        return self.ask(calls.deliver(name, link))
+
+    def unstream(self, name: str) -> None:
+        """Ends a stream, with what waits."""
+        self.ask(calls.unstream(name))
+
     def follow(
         self,
         name: str,
@@ -177,10 +189,11 @@ class Database:
         batch: int | None = None,
         budget: int | None = 100,
     ) -> Following:
-        """Keeps a fork in sync until it is closed, by turns in a thread of its own.
+        """Keeps a fork in sync until it is closed, by turns and deliveries in a thread of its own.
 
-        One comes at once, one after each write, and one `every` so many seconds. After turns that were lost
-        the waits grow, up to `longest`. All other calls wait for a turn, of at most `budget` exchanges.
+        A turn comes at once and after each write to the fork, and a delivery after each write to its master. Of
+        one elsewhere a turn comes `every` so many seconds in its place, and after turns that were lost the waits
+        grow, up to `longest`. All other calls wait for a turn, of at most `budget` exchanges.
         """
         return Following(self, name, Account(every, longest, batch), batch, budget)
 
@@ -412,8 +425,10 @@ class Following:
         self._batch, self._budget = batch, budget
         self._heard = threading.Condition()
         self._told: SyncStatus | None = None
-        self._hurries = self._over = False
+        self._hurries = self._over = self._has_stream = False
         self._fault: Exception | None = None
+        if db._lines.followed.is_elsewhere(name):
+            account.is_streamed = False
         db._lines.followed.by_name[name] = self
         threading.Thread(target=self._run, name=f"rx {name}", daemon=True).start()
 
@@ -459,6 +474,7 @@ class Following:
 
     def close(self) -> None:
         self.end(None)
+        self._leave()
 
     def wrote(self, keys: Iterable[object]) -> None:
         with self._heard:
@@ -469,6 +485,12 @@ class Following:
     def turned(self, turn: Json) -> None:
         with self._heard:
             self._account.turned(turn)
+            self._heard.notify_all()
+
+    def delivered(self, delivery: Json) -> None:
+        with self._heard:
+            self._account.delivered(delivery)
+            self._hurries = self._hurries or not delivery["level"]
             self._heard.notify_all()
 
     def end(self, fault: Exception | None) -> None:
@@ -482,10 +504,48 @@ class Following:
         while not self._over:
             self._hurries = False
             try:
-                end = self._db.turn(self.name, batch=self._batch, budget=self._budget).end
+                is_more = self._step()
             except (Refused, Stopped) as fault:
-                return self.end(fault)
+                self.end(fault)
+                break
             with self._heard:
-                wait = 0 if end == "more" else self._account.wait()
+                wait = 0 if is_more else self._account.wait()
                 self._heard.wait_for(lambda: self._over or self._hurries, wait)
-        return None
+        self._leave()
+
+    def _step(self) -> bool:
+        """A turn or a delivery. Whether another one comes at once."""
+        account = self._account
+        if account.is_streamed is None:
+            account.is_streamed = self._open_stream()
+        if account.takes_turn():
+            return account.after(self._db.turn(self.name, batch=self._batch, budget=self._budget))
+        try:
+            return not self._db.deliver(self.name).level
+        except Refused as refused:
+            if refused.word != "no_stream":
+                raise
+        account.lost_stream()
+        self._has_stream = False
+        return True
+
+    def _open_stream(self) -> bool:
+        """Whether there is one: a master elsewhere has none. One that is open already stays so at the end."""
+        try:
+            self._db.stream(self.name)
+            self._has_stream = True
+        except Refused as refused:
+            if refused.word not in ("exists", "remote"):
+                raise
+            return refused.word == "exists"
+        return True
+
+    def _leave(self) -> None:
+        """Ends the stream that was opened here."""
+        with self._heard:
+            has_stream, self._has_stream = self._has_stream, False
+        try:
+            if has_stream:
+                self._db.unstream(self.name)
+        except (Refused, Stopped):
+            pass  # it is over already

@@ -14,7 +14,7 @@ from .following import Followed
 Answer = Callable[[Json, Exception | None], None]
 # What tells the present moment, in milliseconds.
 Clock = Callable[[], int]
-WRITES = {"insert", "bulk", "upsert", "patch", "update", "remove", "turn"}
+WRITES = {"insert", "bulk", "upsert", "patch", "update", "remove", "turn", "deliver"}
 
 
 def now() -> int:
@@ -82,7 +82,7 @@ class Lines:
         self._schemas: dict[str, Json] = {}
         self._hooked: set[str] = set()
         self._rest = b""
-        self._exchanges: list[Json] = []
+        self._each: list[Json] = []
         self._stop: Json | None = None
 
     def first(self) -> Call[None]:
@@ -142,15 +142,15 @@ class Lines:
                 observer.hear(it["rows"])
         elif "stop" in it:
             self._stop = it
-        elif "exchange" in it:
-            self._exchanges.append(it)
+        elif "exchange" in it or "event" in it:
+            self._each.append(it)
         else:
             line, answer = self._waiting.pop(it["line"])
             if "refused" in it:
                 answer({}, Refused(it, line, self._schema_of(line, it)))
                 return
-            if it["ok"] == "turn":
-                it["each"], self._exchanges = self._exchanges, []
+            if it["ok"] in ("turn", "deliver"):
+                it["each"], self._each = self._each, []
             elif it["ok"] == "collection":
                 made = json.loads(line)
                 self._schemas[made["name"]] = made["schema"]

@@ -134,6 +134,8 @@ def bad_name(it: Told) -> Refusal:
 
 
 def exists(it: Told) -> Refusal:
+    if it.line.get("do") == "stream":
+        return Refusal(f"the stream of {it.line.get('name')} is open", it.line.get("name"))
     kind = "replication" if it.line.get("do") == "replicate" else "observed query"
     return Refusal(
         f"there is an {kind} of the name {it.line.get('name')}".replace("an repl", "a repl"),
@@ -295,6 +297,12 @@ def batch(it: Told) -> Refusal:
     return Refusal(f"{it.name} {shown(value)} isn't from 1 to {most:,}", value, most)
 
 
+def remote(it: Told) -> Refusal:
+    if it.line.get("do") == "stream":
+        return Refusal(f"the master of {it.line.get('name')} is elsewhere", it.line.get("name"))
+    return Refusal("a fork of a master elsewhere would go with it")
+
+
 def too_many(it: Told) -> Refusal:
     what, most = HELD.get(str(it.line.get("do")), ("of them", None))
     return Refusal(f"there are {most} {what}, and no more may be", it.line.get("name"), most)
@@ -336,7 +344,8 @@ BY_WORD: dict[str, Callable[[Told], Refusal]] = {
     "twice": lambda it: Refusal(f"the key {shown(it.key())} stands twice", it.key()),
     "migration": migration,
     "observed": lambda it: Refusal(f"the query {it.name} is observed, and is to be closed before", it.name),
-    "remote": lambda it: Refusal("a fork of a master elsewhere would go with it"),
+    "remote": remote,
+    "no_stream": name_of("name", "no stream of {} is open"),
     "update": update,
     "vetoed": lambda it: Refusal(f"the hook {it.name} vetoes it", it.key()),
     "no_hook": lambda it: Refusal(

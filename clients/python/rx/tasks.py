@@ -7,7 +7,7 @@ from collections.abc import AsyncIterator, Generator, Iterable, Sequence
 from typing import Any, TypeVar
 
 from . import calls, program as programs
-from .calls import Call, Changes, Digest, Document, Fields, Hook, Json, Object, Stored, Turn
+from .calls import Call, Changes, Delivery, Digest, Document, Fields, Hook, Json, Object, Stored, Turn
 from .faults import Refused, Stopped
 from .following import Account, SyncStatus
 from .lines import Answer, Clock, Lines, Newest, closed, now
@@ -113,6 +113,15 @@ class AsyncDatabase:
         link: Sequence[Any] | None = None,
     ) -> Turn:
         return await self.ask(calls.turn(name, batch, budget, link))
+
+    async def stream(self, name: str) -> None:
+        await self.ask(calls.stream(name))
+
+    async def deliver(self, name: str, *, link: Sequence[str] | None = None) -> Delivery:
+        return await self.ask(calls.deliver(name, link))
+
+    async def unstream(self, name: str) -> None:
+        await self.ask(calls.unstream(name))
 
     def follow(
         self,
@@ -370,8 +379,10 @@ class AsyncFollowing:
         self._batch, self._budget = batch, budget
         self._heard, self._hurry = asyncio.Event(), asyncio.Event()
         self._told: SyncStatus | None = None
-        self._over = False
+        self._over = self._has_stream = False
         self._fault: Exception | None = None
+        if db._lines.followed.is_elsewhere(name):
+            account.is_streamed = False
         db._lines.followed.by_name[name] = self
         self._task = asyncio.ensure_future(self._run())
 
@@ -406,6 +417,7 @@ class AsyncFollowing:
 
     async def close(self) -> None:
         self.end(None)
+        await self._leave()
 
     def wrote(self, keys: Iterable[object]) -> None:
         self._account.wrote(keys)
@@ -416,6 +428,12 @@ class AsyncFollowing:
     def turned(self, turn: Json) -> None:
         self._account.turned(turn)
         self._heard.set()
+
+    def delivered(self, delivery: Json) -> None:
+        self._account.delivered(delivery)
+        self._heard.set()
+        if not delivery["level"]:
+            self._hurry.set()
 
     def end(self, fault: Exception | None) -> None:
         if not self._over:
@@ -428,11 +446,45 @@ class AsyncFollowing:
         while not self._over:
             self._hurry.clear()
             try:
-                end = (await self._db.turn(self.name, batch=self._batch, budget=self._budget)).end
+                is_more = await self._step()
             except (Refused, Stopped) as fault:
-                return self.end(fault)
+                self.end(fault)
+                break
             try:
-                await asyncio.wait_for(self._hurry.wait(), 0 if end == "more" else self._account.wait())
+                await asyncio.wait_for(self._hurry.wait(), 0 if is_more else self._account.wait())
             except asyncio.TimeoutError:
                 pass
-        return None
+        await self._leave()
+
+    async def _step(self) -> bool:
+        account = self._account
+        if account.is_streamed is None:
+            account.is_streamed = await self._open_stream()
+        if account.takes_turn():
+            return account.after(await self._db.turn(self.name, batch=self._batch, budget=self._budget))
+        try:
+            return not (await self._db.deliver(self.name)).level
+        except Refused as refused:
+            if refused.word != "no_stream":
+                raise
+        account.lost_stream()
+        self._has_stream = False
+        return True
+
+    async def _open_stream(self) -> bool:
+        try:
+            await self._db.stream(self.name)
+            self._has_stream = True
+        except Refused as refused:
+            if refused.word not in ("exists", "remote"):
+                raise
+            return refused.word == "exists"
+        return True
+
+    async def _leave(self) -> None:
+        has_stream, self._has_stream = self._has_stream, False
+        try:
+            if has_stream:
+                await self._db.unstream(self.name)
+        except (Refused, Stopped):
+            pass

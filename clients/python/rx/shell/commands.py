@@ -321,6 +321,26 @@ def turn(shell: Shell, text: str) -> None:
     shell.show.words(f"the turn ended {end}")
 
 
+@command(".stream", "REPLICATION")
+def stream(shell: Shell, text: str) -> None:
+    """has what is written to a fork's master wait for the fork from now on"""
+    name, rest = word(text, "a replication")
+    last(rest)
+    shell.db.stream(name)
+    shell.show.words("opened")
+
+
+@command(".deliver", "REPLICATION")
+def deliver(shell: Shell, text: str) -> None:
+    """gives a fork what waits for it"""
+    name, rest = word(text, "a replication")
+    last(rest)
+    level, resync, each = shell.db.deliver(name)
+    rows = [{**it, "rows": len(it["rows"])} for it in each]
+    shell.show.rows(rows, ["event", "rows", "took"], "events")
+    shell.show.words("a turn is due" if resync else "level" if level else "not level")
+
+
 @command(".check")
 def check(shell: Shell, text: str) -> None:
     """tells what the journal's file holds"""
