@@ -23,7 +23,7 @@ use Rattle.rx_world.specs.World.{World}
 use Rattle.rx_world.proofs.Looked.{all_change_named, all_put_named}
 use Rattle.rx_world.proofs.Valid.{distinct_step}
 use Rattle.rx_session.specs.Applied.{IsAfter, coll_written, with_written}
-use Rattle.rx_session.specs.Doing.{session_after, query_after, still_open, stream_in, write, IsUnobserved}
+use Rattle.rx_session.specs.Doing.{session_after, query_after, still_open, stream_after, write, IsUnobserved}
 use Rattle.rx_session.specs.Emissions.{emissions, settled_query, settled_session}
 use Rattle.rx_session.specs.Placed.{Lives, ArePlaced, IsListed, IsQuiet, queries_of, world_of}
 use Rattle.rx_session.specs.Playing.{AreQuietUnless, coll_to_note, due_in_all, add_written, settled_each}
@@ -166,11 +166,14 @@ module _ (content : Content) (old new : Holders Observing) (moment : ℕ) (hooks
 
   -- and so have the streams
   abbrev streams_then : List Stream
-  streams_then = map (stream_in (world_of new)) (still_open content (world_of old) streams)
+  streams_then =
+      map (stream_after (world_of new) (coll_written (touch content (world_of old))))
+      (still_open content (world_of old) streams)
 
   pub played_streamed : AreStreamed (world_of old) streams → AreStreamed (world_of new) streams_then
   played_streamed all =
-      subst (λ w. AreStreamed w (map (stream_in w) (still_open content (world_of old) streams)))
+      subst (λ w. AreStreamed w (map (stream_after w (coll_written (touch content (world_of old))))
+      (still_open content (world_of old) streams)))
       (sym so.stepped)
       (streamed_step content (world_of old) so.allowed so.ordered so.was_made
       (subst IsMadeWorld so.stepped so.is_made) streams all)
@@ -182,7 +185,8 @@ module _ (content : Content) (old new : Holders Observing) (moment : ℕ) (hooks
         world = so.stepped i;
         moment = moment;
         hooks = hooks;
-        streams = map (stream_in (so.stepped i)) (still_open content (world_of old) streams);
+        streams = map (stream_after (so.stepped i) (coll_written (touch content (world_of old))))
+            (still_open content (world_of old) streams);
         queries = followed i;
       }
 

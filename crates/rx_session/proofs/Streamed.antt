@@ -24,14 +24,17 @@ use Rattle.rx_world.specs.Linked.{IsLinked}
 use Rattle.rx_world.specs.Made.{IsMadeWorld}
 use Rattle.rx_world.specs.Migrating.{is_in_group}
 use Rattle.rx_world.specs.Step.{legal, step}
+use Rattle.rx_world.specs.Touch.{Touch, touch}
 use Rattle.rx_world.specs.Valid.{AreValid}
 use Rattle.rx_world.specs.ValidState.{is_valid_state}
 use Rattle.rx_world.specs.World.{World}
 use Rattle.rx_world.specs.declared.replication.Replication.{Replication}
 use Rattle.rx_world.proofs.Grown.{IsApart, documents_pass, stays_from, stays_grown}
 use Rattle.rx_world.proofs.Steps.{lawful_at}
-use Rattle.rx_session.specs.Doing.{new_stream, pulled_to, still_open, stream_in, with_queue}
+use Rattle.rx_session.specs.Applied.{coll_written}
+use Rattle.rx_session.specs.Doing.{new_stream, pulled_to, still_open, stream_after, stream_in, with_queue}
 use Rattle.rx_session.specs.Emissions.{documents_at}
+use Rattle.rx_session.specs.Playing.{coll_to_follow}
 use Rattle.rx_session.specs.Session.{queued_at, stream_at}
 use Rattle.rx_session.specs.Streams.{AreStreamed, IsGoodFor, IsStreamable, IsStreamed}
 
@@ -134,23 +137,46 @@ stream_follows w made st s = record {
       (follows_well w made st.master s.documents s.master_held st.queue s.good);
 }
 
+-- where it was written
+stream_goes_on : (w : World) → IsMadeWorld w → (coll : Option (List ℕ)) → (st : Stream)
+    → IsStreamed w st → IsStreamed w (stream_after w coll st)
+stream_goes_on w made None st s = s
+stream_goes_on w made (Some coll) st s =
+    elim (bytes_eq coll st.master) as (λ b. IsStreamed w (cond b (stream_in w st) st)) [
+      | true ↦ stream_follows w made st s
+      | false ↦ s
+    ]
+
 each_goes_on : (content : Content) (w : World) → legal content w ≡ true → IsOrdered content
-    → IsMadeWorld w → IsMadeWorld (step content w) → (sts : List Stream)
+    → IsMadeWorld w → IsMadeWorld (step content w) → (coll : Option (List ℕ)) → (sts : List Stream)
     → AllByRecursion (λ (st : Stream). IsApart content w st.master) sts → AreStreamed w sts
-    → AreStreamed (step content w) (map (stream_in (step content w)) sts)
-each_goes_on content w is ordered made then [] apart all = tt
-each_goes_on content w is ordered made then (st ∷ sts) apart all = (
-  stream_follows (step content w) then st (stream_stays content w is ordered made st apart.0 all.0),
-  each_goes_on content w is ordered made then sts apart.1 all.1,
+    → AreStreamed (step content w) (map (stream_after (step content w) coll) sts)
+each_goes_on content w is ordered made then coll [] apart all = tt
+each_goes_on content w is ordered made then coll (st ∷ sts) apart all = (
+  stream_goes_on (step content w) then coll st
+      (stream_stays content w is ordered made st apart.0 all.0),
+  each_goes_on content w is ordered made then coll sts apart.1 all.1,
 )
 
 -- all streams that a record leaves open
 pub streamed_step : (content : Content) (w : World) → legal content w ≡ true → IsOrdered content
     → IsMadeWorld w → IsMadeWorld (step content w) → (sts : List Stream) → AreStreamed w sts
-    → AreStreamed (step content w) (map (stream_in (step content w)) (still_open content w sts))
+    → AreStreamed (step content w)
+    (map (stream_after (step content w) (coll_written (touch content w))) (still_open content w sts))
 streamed_step content w is ordered made then sts all =
-    each_goes_on content w is ordered made then (still_open content w sts)
-    (open_apart content w sts) (open_left content w sts all)
+    each_goes_on content w is ordered made then (coll_written (touch content w))
+    (still_open content w sts) (open_apart content w sts) (open_left content w sts all)
+
+-- without rows all stay as they are
+pub all_stay : (w : World) (sts : List Stream) → map (stream_after w None) sts ≡ sts
+all_stay w [] = refl
+all_stay w (st ∷ sts) = ap (λ xs. st ∷ xs) (all_stay w sts)
+
+-- where no stream is open, nothing needs to be told
+pub followed_by : (w : World) (t : Touch) (sts : List Stream)
+    → map (stream_after w (coll_to_follow sts t)) sts ≡ map (stream_after w (coll_written t)) sts
+followed_by w t [] = refl
+followed_by w t (st ∷ sts) = refl
 
 -- ---- a new one
 

@@ -20,6 +20,7 @@ use Rattle.rx_world.specs.Migrating.{is_in_group}
 use Rattle.rx_world.specs.Step.{step, legal, stored_rows}
 use Rattle.rx_world.specs.Touch.{IsMigration, IsNoMigration, Touch, no_collection, new_collection, new_rows, remade, touch}
 use Rattle.rx_world.specs.World.{World}
+use Rattle.rx_session.specs.Applied.{coll_written}
 use Rattle.rx_session.specs.Emissions.{documents_at}
 use Rattle.rx_session.specs.Session.{Observed, Session, is_observed, with_watched}
 use Rattle.rx_session.specs.Streams.{IsStreamable}
@@ -73,6 +74,12 @@ abbrev pub stream_in : World → Stream → Stream
 stream_in w st =
     record st { queue = follow (documents_at (named w.collections st.master)) st.queue }
 
+-- a stream in the world after rows of a collection, if there were any; those of its master alone tell
+-- it anything
+abbrev pub stream_after : World → Option (List ℕ) → Stream → Stream
+stream_after w None st = st
+stream_after w (Some coll) st = if bytes_eq coll st.master then stream_in w st else st
+
 -- the streams that a record leaves open: a migration closes those of its group
 abbrev pub still_open : Content → World → List Stream → List Stream
 still_open (migration name text steps) w sts =
@@ -112,7 +119,8 @@ with_kept name events s = record s { streams = with_queue name (kept events) s.s
 abbrev pub with_record : Content → Session → Session
 with_record content s = record s {
   world = step content s.world;
-  streams = map (stream_in (step content s.world)) (still_open content s.world s.streams);
+  streams = map (stream_after (step content s.world) (coll_written (touch content s.world)))
+      (still_open content s.world s.streams);
   queries = map (query_after s.world (touch content s.world)) s.queries;
 }
 

@@ -4,6 +4,7 @@ use Rattle.std.specs.List.{AllByRecursion, cons_option, find, list_any}
 use Rattle.std.specs.Str.{bytes_eq}
 use Rattle.rx_value.specs.Named.{named, change_named}
 use Rattle.rx_observe.specs.declared.emission.Emission.{Emission}
+use Rattle.rx_stream.specs.declared.stream.Stream.{Stream}
 use Rattle.rx_update.specs.Shown.{hooking_of}
 use Rattle.rx_world.specs.Holders.{holders_in}
 use Rattle.rx_world.specs.Touch.{Touch}
@@ -22,6 +23,11 @@ use Rattle.rx_session.specs.declared.playing.Playing.TheInside.{Inside}
 abbrev pub coll_to_note : List QueryPlace → Touch → Option (List ℕ)
 coll_to_note [] t = None
 coll_to_note (p ∷ ps) t = coll_written t
+
+-- the same, where any stream is open
+abbrev pub coll_to_follow : List Stream → Touch → Option (List ℕ)
+coll_to_follow [] t = None
+coll_to_follow (st ∷ sts) t = coll_written t
 
 -- with the name of one more, if there is one
 abbrev pub add_written : Option (List ℕ) → List (List ℕ) → List (List ℕ)

@@ -20,7 +20,7 @@ use crate::applying::{apply_legal, coll_written};
 use crate::emitting::take_due;
 use crate::query_place::QueryPlace;
 use crate::session::Session;
-use crate::streaming::{follow_all, keep_queued, still_open, take_queued};
+use crate::streaming::{coll_to_follow, follow_written, keep_queued, still_open, take_queued};
 use rx_diagram::Diagram;
 use rx_observe::{Emission, Live};
 use rx_record::Record;
@@ -130,8 +130,9 @@ impl Playing {
         } = self;
         let coll = coll_to_note(alloc, &world, places.as_slice(), &entry)?;
         let streams = still_open(streams, &world, &entry);
+        let master = coll_to_follow(alloc, &world, streams.as_slice(), &entry)?;
         let world = apply_legal(world, alloc, entry, &diagram)?;
-        let streams = follow_all(alloc, &world, streams)?;
+        let streams = follow_written(alloc, &world, master, streams)?;
         note(&mut written, coll)?;
         Ok(Playing {
             world,

@@ -4,13 +4,16 @@ ghost use Rattle.std.specs.Str.{bytes_eq};
 ghost use Rattle.rx_record.specs.Shown.{content};
 ghost use Rattle.rx_stream.specs.Events.{emptied, kept};
 ghost use Rattle.rx_world.specs.Migrating.{is_in_group};
+ghost use Rattle.rx_world.specs.Touch.{touch};
 ghost use Rattle.rx_session.specs.Doing as doing;
-ghost use Rattle.rx_session.specs.Doing.{session_after, new_stream, pulled_to, still_open, stream_in, with_queue};
+ghost use Rattle.rx_session.specs.Doing.{session_after, new_stream, pulled_to, still_open, stream_after, with_queue};
 ghost use Rattle.rx_session.specs.Emissions.{emissions, settled_session, IsSettled};
 ghost use Rattle.rx_session.specs.Placed.{world_of};
+ghost use Rattle.rx_session.specs.Playing.{coll_to_follow};
 ghost use Rattle.rx_session.specs.Session.{lost_at, queued_at, stream_at, stream_of};
 ghost use Rattle.rx_session.specs.Streams.{AreStreamed, IsStreamable};
 
+use crate::applying::coll_written;
 use crate::doing::Opening;
 use crate::session::Session;
 use rx_collection::Holder;
@@ -150,24 +153,66 @@ fn close_group(streams: &mut Vec<Stream>, world: &World<Live>, name: &str)
     streams.retain(|stream| !world.is_in_group(name, stream.master.as_str()));
 }
 
-/// Streams with what their masters have written since.
-pub(crate) fn follow_all(
+/// The collection whose documents a record writes, where any stream is open.
+pub(crate) fn coll_to_follow(
     alloc: Global,
     world: &World<Live>,
+    streams: &[Stream],
+    entry: &Record,
+) -> Result<Option<RxText>, AllocError>
+    ensures { IfOk result (λ coll. coll
+        ≡ coll_to_follow streams.now (touch (content entry.now) (world_of world.now))) }
+{
+    if streams.is_empty() {
+        return Ok(None);
+    }
+    coll_written(alloc, world, entry)
+}
+
+/// Streams once a collection was written, if one was: those from it have what is new.
+pub(crate) fn follow_written(
+    alloc: Global,
+    world: &World<Live>,
+    coll: Option<RxText>,
     streams: Vec<Stream>,
 ) -> Result<Vec<Stream>, AllocError>
-    ensures { IfOk result (λ all. all.items ≡ map (stream_in (world_of world.now)) streams.items) }
+    ensures { IfOk result
+        (λ all. all.items ≡ map (stream_after (world_of world.now) coll) streams.items) }
+{
+    match coll {
+        Some(coll) => follow_all(alloc, world, &coll, streams),
+        None => Ok(streams),
+    }
+}
+
+fn follow_all(
+    alloc: Global,
+    world: &World<Live>,
+    coll: &RxText,
+    streams: Vec<Stream>,
+) -> Result<Vec<Stream>, AllocError>
+    ensures { IfOk result
+        (λ all. all.items ≡ map (stream_after (world_of world.now) (Some coll.now)) streams.items) }
 {
     let mut all = Vec::with_capacity(alloc, streams.len())?;
     for stream in streams {
-        all.push(follow(alloc, world, stream)?)?;
+        all.push(follow(alloc, world, coll, stream)?)?;
     }
     Ok(all)
 }
 
-fn follow(alloc: Global, world: &World<Live>, stream: Stream) -> Result<Stream, AllocError>
-    ensures { IfOk result (λ st. st ≡ stream_in (world_of world.now) stream) }
+// The stream with what its master has written since, if that is the collection.
+fn follow(
+    alloc: Global,
+    world: &World<Live>,
+    coll: &RxText,
+    stream: Stream,
+) -> Result<Stream, AllocError>
+    ensures { IfOk result (λ st. st ≡ stream_after (world_of world.now) (Some coll.now) stream) }
 {
+    if *coll != stream.master {
+        return Ok(stream);
+    }
     let Stream {
         name,
         master,

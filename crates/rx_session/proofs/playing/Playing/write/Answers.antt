@@ -4,13 +4,15 @@ use Rattle.rx_update.specs.Shown.{hooking_of}
 use Rattle.rx_world.specs.Holders.{holders_in}
 use Rattle.rx_world.specs.Step.{legal}
 use Rattle.rx_world.specs.Touch.{touch}
-use Rattle.rx_session.specs.Doing.{session_after, still_open, stream_in, write, IsUnobserved}
+use Rattle.rx_session.specs.Applied.{coll_written}
+use Rattle.rx_session.specs.Doing.{session_after, still_open, stream_after, write, IsUnobserved}
 use Rattle.rx_session.specs.Placed.{world_of}
-use Rattle.rx_session.specs.Playing.{AreQuietUnless, coll_to_note, add_written}
+use Rattle.rx_session.specs.Playing.{AreQuietUnless, coll_to_follow, coll_to_note, add_written}
 use Rattle.rx_session.specs.Session.{Session}
 use Rattle.rx_session.specs.Streams.{AreStreamed}
 use Rattle.rx_session.proofs.Played.{IsPlayed, played_distinct, played_placed, played_quiet, played_session, played_streamed}
 use Rattle.rx_session.proofs.Settling.{session_of}
+use Rattle.rx_session.proofs.Streamed.{followed_by}
 use Rattle.rx_session.proofs.playing.Playing.write.Goals as goal
 
 -- what was done to the collections
@@ -37,11 +39,18 @@ done c = record {
 
 -- the streams have followed
 streams_then : (c : goal.In_ok-note) → c.in_ok-streams.streams.items
-    ≡ map (stream_in (world_of c.in_ok-world.world))
+    ≡ map (stream_after (world_of c.in_ok-world.world)
+    (coll_written (touch (content c.args.entry) (world_of c.self.inside.world))))
     (still_open (content c.args.entry) (world_of c.self.inside.world) c.self.inside.streams.items)
 streams_then c =
+    let new = world_of c.in_ok-world.world in
+    let t = touch (content c.args.entry) (world_of c.self.inside.world) in
+    let sts = c.still_open-streams.result.items in
     c.in_ok-streams.ensures
-    ∙ ap (map (stream_in (world_of c.in_ok-world.world))) c.still_open-streams.ensures
+    ∙ ap (λ o. map (stream_after new o) sts)
+    (c.in_ok-master.ensures ∙ ap (λ xs. coll_to_follow xs t) c.as_slice-2.ensures.value)
+    ∙ followed_by new t sts
+    ∙ ap (map (stream_after new (coll_written t))) c.still_open-streams.ensures
 
 pub invariant_of-result : goal.invariant_of-result
 invariant_of-result c =
