@@ -1,18 +1,18 @@
 -- How things stand after a delivery.
-use Rattle.std.proofs.Common.{◌≡◌, ◌≢◌, ◌∙◌, ℕ, List, [], Option, Some, None, true, sym, ap, subst}
+use Rattle.std.proofs.Common.{◌≡◌, ◌≢◌, ◌∙◌, ℕ, List, [], Option, Some, true, ap, sym, subst}
+use Rattle.std.specs.List.{AllByRecursion}
 use Rattle.std.specs.Prelude.{IsSome}
-use Rattle.rx_value.specs.Named.{named}
+use Rattle.rx_value.specs.Named.{by_bytes, named}
 use Rattle.rx_value.proofs.Outcomes.{some_is}
 use Rattle.rx_session.specs.Doing.{with_emptied, with_kept}
 use Rattle.rx_session.specs.Session.{Session, queued_in, stream_of}
-use Rattle.rx_session.specs.Streams.{AreStreamed}
+use Rattle.rx_session.specs.Streams.{AreStreamed, IsGoodFor}
 use Rattle.rx_session.proofs.Streamed.{queued_good_for, stream_there}
 use Rattle.rx_stream.specs.declared.event.Event.{Event}
 use Rattle.rx_stream.specs.declared.stream.Stream.{Stream}
 use Rattle.rx_sync.proofs.Deliveries.{delivery_again, delivery_sound, delivery_waits}
 use Rattle.rx_sync.proofs.Levels.{level_is_equal}
-use Rattle.rx_sync.proofs.Staying.{made_after, soundly_in_turn}
-use Rattle.rx_sync.proofs.Worlds.{sound_after}
+use Rattle.rx_sync.proofs.Staying.{soundly_in_turn}
 use Rattle.rx_sync.specs.Asking.{pending_in}
 use Rattle.rx_sync.specs.Asks.{Asks}
 use Rattle.rx_sync.specs.Delivery.{Delivered, MayDeliver, delivered, is_level}
@@ -21,12 +21,17 @@ use Rattle.rx_sync.specs.Laws.{ComeSoundly, HasMasterHere, IsLevel}
 use Rattle.rx_world.specs.Made.{IsMadeWorld}
 use Rattle.rx_world.specs.Sound.{IsSoundWorld}
 use Rattle.rx_world.specs.World.{World}
-use Rattle.rx_engine.specs.Engine.{WaitsForPushes}
+use Rattle.rx_engine.specs.Delivering.{HasGoodWorld, IsBegun, IsDelivered, MayEnd}
+use Rattle.rx_engine.specs.Engine.{WaitsForPushes, asks_in, session_of}
 use Rattle.rx_engine.specs.Marks.{AreMarked, AreMarkedBut}
+use Rattle.rx_engine.specs.Play.{Follows, play_of}
 use Rattle.rx_engine.specs.Remembered.{AreRemembered}
 use Rattle.rx_engine.specs.Standing.{Standing}
 use Rattle.rx_engine.specs.Streams.{Deliver, delivered_by, session_delivered}
-use Rattle.rx_engine.specs.Turning.{written}
+use Rattle.rx_engine.specs.declared.deliveries.Begun.{Begun}
+use Rattle.rx_engine.specs.declared.delivering.Delivered.{Delivered as Made}
+use Rattle.rx_engine.specs.declared.engine.Engine.{Engine}
+use Rattle.rx_engine.specs.declared.play.Play.{Play}
 use Rattle.rx_engine.proofs.CanTurns.{can_deliver}
 use Rattle.rx_engine.proofs.EachEvent.{apart_delivered}
 use Rattle.rx_engine.proofs.Marking.{marked_then}
@@ -106,48 +111,85 @@ line_waits line s made sound streamed d at due =
 
 -- ---- as the code has its parts
 
-module _ (d : Deliver) (s begun : Session) (begun_is : begun ≡ s) (name : List ℕ)
-    (name_is : name ≡ d.name) (now : ℕ) (now_is : now ≡ s.moment) (playing : Session)
-    (taken : playing ≡ with_emptied name begun) (events : List Event)
-    (queued : events ≡ queued_in name begun) where
-  pub playing_is : playing ≡ with_emptied d.name s
-  playing_is =
-      taken ∙ ap (λ (n : List ℕ). with_emptied n begun) name_is ∙ ap (with_emptied d.name) begun_is
+module _ (d : Deliver) (e : Engine) (b : Begun) (is : IsBegun d e b) where
+  abbrev begins : Session
+  begins = e.session.session
 
-  pub world_is : playing.world ≡ s.world
-  world_is = ap (λ (x : Session). x.world) playing_is
-
-  pub events_are : events ≡ queued_in d.name s
-  events_are =
-      queued ∙ ap (λ (n : List ℕ). queued_in n begun) name_is ∙ ap (queued_in d.name) begun_is
+  abbrev comes_to : Delivered
+  comes_to = delivered d.name b.now 1 d.link b.events.items b.play.playing.world
 
   -- the delivery is the line's
-  pub same_delivery : delivered d.name now 1 d.link events playing.world ≡ delivered_by d s
+  pub same_delivery : comes_to ≡ delivered_by d begins
+  unfolding session_of
   same_delivery =
-      ap (λ (n : ℕ). delivered d.name n 1 d.link events playing.world) now_is
-      ∙ ap (λ (es : List Event). delivered d.name s.moment 1 d.link es playing.world) events_are
-      ∙ ap (delivered d.name s.moment 1 d.link (queued_in d.name s)) world_is
+      ap (λ (n : ℕ). delivered d.name n 1 d.link b.events.items b.play.playing.world) is.now
+      ∙ ap (λ (es : List Event). delivered d.name begins.moment 1 d.link es b.play.playing.world)
+      is.events
+      ∙ ap (λ (p : Play). delivered d.name begins.moment 1 d.link (queued_in d.name begins)
+      p.playing.world) is.play
 
-  -- it was made, and what is kept was put back
-  module _ (first then last : Session) (kept : List Event)
-      (wrote : first ≡ written (delivered d.name now 1 d.link events playing.world).records playing)
-      (same : then ≡ first)
-      (keeps : kept ≡ (delivered d.name now 1 d.link events playing.world).kept)
-      (put : last ≡ with_kept name kept then) where
-    then_is : then ≡ written (delivered_by d s).records (with_emptied d.name s)
-    then_is =
-        same ∙ wrote
-        ∙ ap (λ (m : Delivered). written m.records playing) same_delivery
-        ∙ ap (written (delivered_by d s).records) playing_is
+  -- it may be made
+  pub begun_may : HasGoodWorld e b.aside.remembered → IsSome (stream_of d.name begins)
+      → MayDeliver b.play.playing.world d.name b.events.items
+  unfolding session_of
+  begun_may good is_open =
+      subst (λ (p : Play). MayDeliver p.playing.world d.name b.events.items) (sym is.play)
+      (subst (MayDeliver begins.world d.name) (sym is.events)
+      (may_deliver d begins good.made good.sound good.streamed is_open))
 
-    pub world_then : then.world ≡ world_after (delivered_by d s).records s.world
+  pub begun_none : b.none ≡ true → pending_in b.play.playing.world d.name ≡ Some 0
+  unfolding session_of
+  begun_none none =
+      subst (λ (p : Play). pending_in p.playing.world d.name ≡ Some 0) (sym is.play) (is.none none)
+
+  -- it was made
+  module _ (m : Made) (was : IsDelivered comes_to b.play m) where
+    pub follows : Follows (play_of e.journal (with_emptied d.name begins))
+        (delivered_by d begins).records m.play
+    unfolding session_of
+    follows =
+        subst (λ (p : Play). Follows p (delivered_by d begins).records m.play) is.play
+        (subst (λ (x : Delivered). Follows b.play x.records m.play) same_delivery was.follows)
+
+    pub given_is : m.given ≡ (delivered_by d begins).given
+    given_is = was.given ∙ ap (λ (x : Delivered). x.given) same_delivery
+
+    kept_is : m.kept.items ≡ (delivered_by d begins).kept
+    kept_is = was.kept ∙ ap (λ (x : Delivered). x.kept) same_delivery
+
+    pub world_then : m.play.playing.world
+        ≡ world_after (delivered_by d begins).records begins.world
     world_then =
-        ap (λ (x : Session). x.world) then_is
-        ∙ written-world (delivered_by d s).records (with_emptied d.name s)
+        ap (λ (x : Session). x.world) follows.session
+        ∙ written-world (delivered_by d begins).records (with_emptied d.name begins)
 
-    pub last_is : last ≡ session_delivered d s
+    pub last_is : with_kept d.name m.kept.items m.play.playing ≡ session_delivered d begins
     last_is =
-        put ∙ ap (λ (n : List ℕ). with_kept n kept then) name_is
-        ∙ ap (λ (es : List Event). with_kept d.name es then)
-        (keeps ∙ ap (λ (m : Delivered). m.kept) same_delivery)
-        ∙ ap (with_kept d.name (delivered_by d s).kept) then_is
+        ap (λ (es : List Event). with_kept d.name es m.play.playing) kept_is
+        ∙ ap (with_kept d.name (delivered_by d begins).kept) follows.session
+
+    -- it may end
+    pub may_end : HasGoodWorld e b.aside.remembered → IsSome (stream_of d.name begins)
+        → (m.none ≡ true → pending_in m.play.playing.world d.name ≡ Some 0)
+        → MayEnd d.name m b.aside.remembered
+    unfolding session_of asks_in
+    may_end good is_open none =
+        let next = again d begins good.made good.sound good.streamed is_open in
+        record {
+          made = subst IsMadeWorld (sym world_then) next.made;
+          sound = subst IsSoundWorld (sym world_then) next.sound;
+          here = subst (λ (w : World). HasMasterHere w d.name) (sym world_then) next.here;
+          none = none;
+          good = subst (AllByRecursion (IsGoodFor m.play.playing.world d.name)) (sym kept_is)
+              (subst (λ (w : World). AllByRecursion (IsGoodFor w d.name) (delivered_by d begins).kept)
+              (sym world_then) next.good);
+          remembers = subst (λ (w : World). AreRemembered w (by_bytes b.aside.remembered.asks.entries))
+              (sym world_then)
+              (remembered_delivered d begins good.made good.sound good.streamed is_open
+              (by_bytes b.aside.remembered.asks.entries)
+              (subst (AreRemembered begins.world) (sym good.asks) good.remembers));
+          others = subst (λ (w : World). AreMarkedBut d.name w b.aside.remembered.marks)
+              (sym world_then)
+              (others_delivered d begins good.made good.sound good.streamed is_open
+              b.aside.remembered.marks good.marked);
+        }

@@ -14,12 +14,12 @@ use Rattle.rx_store.proofs.Stops.{done_cause, memory_cause, ok_cause, same_cause
 use Rattle.rx_world.specs.World.{World}
 use Rattle.rx_engine.specs.Engine.{Commits, IsAt, limit_of, session_of}
 use Rattle.rx_engine.specs.Meaning.{bodies_of}
-use Rattle.rx_engine.specs.Play.{CommitsStaged, Follows}
+use Rattle.rx_engine.specs.Play.{CommitsStaged, Follows, play_of}
 use Rattle.rx_engine.specs.SoundSession.{with_asks}
 use Rattle.rx_engine.specs.declared.engine.Engine.{Engine}
 use Rattle.rx_engine.specs.declared.play.Play.{Play}
 use Rattle.rx_engine.proofs.Remotely.{if_err}
-use Rattle.rx_engine.proofs.Staging.{may_commit, play_of, so_far}
+use Rattle.rx_engine.proofs.Staging.{may_commit, so_far}
 
 -- the engine that a line in play comes to, where it began with that one
 abbrev pub engine_with : Engine → Play → Engine

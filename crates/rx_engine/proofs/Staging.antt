@@ -111,10 +111,6 @@ after_past first journal v w x all c past is = record {
 abbrev pub no_past : Option Past
 no_past = None
 
--- nothing is staged yet
-abbrev pub play_of : Journal → Session → Play
-play_of journal session = record { journal = journal; playing = session; past = None }
-
 -- ---- one call after another
 
 pub follows_none : (p : Play) → Follows p [] p

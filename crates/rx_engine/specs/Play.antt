@@ -22,6 +22,10 @@ use Rattle.rx_engine.specs.declared.turning.Turned.{Turned as Made}
 
 -- ---- with no word of a disk
 
+-- a line in play that has staged nothing yet
+abbrev pub play_of : Journal → Session → Play
+play_of journal session = record { journal = journal; playing = session; past = None }
+
 -- of all the records of a line these are staged: all; or those before one that would end past the
 -- limit
 abbrev pub AreStaged : Option Past → Journal → List Content → List Content → Type 0

@@ -12,12 +12,12 @@ use Rattle.rx_world.specs.World.{World}
 use Rattle.rx_engine.specs.Engine.{asks_in, session_of, standing_of}
 use Rattle.rx_engine.specs.Marks.{AreMarked, AreMarkedBut}
 use Rattle.rx_engine.specs.Remembered.{AreRemembered}
+use Rattle.rx_engine.specs.Play.{play_of}
 use Rattle.rx_engine.specs.Shown.{turn_of}
 use Rattle.rx_engine.specs.SoundSession.{SessionWithAsks}
 use Rattle.rx_engine.specs.Turning.{turned}
 use Rattle.rx_engine.proofs.AfterTurns.{follows_here, level_then, made_here, made_then, may, may_here, others_then, remembered_then, sound_then}
 use Rattle.rx_engine.proofs.Committing.{commits_before, commits_play, commits_so, commits_stopped, engine_with, none_committed, play_may_commit}
-use Rattle.rx_engine.proofs.Staging.{play_of}
 use Rattle.rx_store.proofs.Stops.{handed_on, memory_stop}
 use Rattle.rx_engine.proofs.engine.Engine.make_turn.Goals as goal
 
