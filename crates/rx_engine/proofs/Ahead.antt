@@ -1,11 +1,9 @@
 -- What is done to an engine before its commit.
-use Rattle.std.proofs.Common.{◌≡◌, ◌∙◌, ℕ, List, [], ◌∷◌, ◌++◌, length, string_bytes, None, Result, Ok, refl, sym, ap, subst, arith}
-use Rattle.rx_disk.specs.declared.disk.Disk.{Ghosts}
+use Rattle.std.proofs.Common.{◌≡◌, ◌∙◌, ℕ, List, [], ◌∷◌, ◌++◌, length, string_bytes, None, Ok, refl, sym, ap, subst, arith}
 use Rattle.rx_handler.specs.Handlers.{Kinds}
 use Rattle.rx_journal.specs.Ready.{due_end, staged_bytes}
 use Rattle.rx_journal.specs.declared.journal.Journal.{Journal}
 use Rattle.rx_observe.specs.declared.emission.Emission.{Emission}
-use Rattle.rx_outside.specs.declared.stop.Stop.{Stop}
 use Rattle.rx_record.specs.Content.{Content, content_bytes}
 use Rattle.rx_session.specs.Doing.{Doing, write, session_after, MayDo}
 use Rattle.rx_session.specs.Emissions.{emissions, settled_session}
@@ -20,10 +18,10 @@ use Rattle.rx_sync.specs.Remote.{Heard}
 use Rattle.rx_world.specs.Step.{step}
 use Rattle.rx_world.specs.World.{World}
 use Rattle.rx_engine.specs.Ahead.{AddsTo, AnswersAhead, ChangesAhead, IsLeft, PlaysAhead, StagesLine, StagesPrinted}
-use Rattle.rx_engine.specs.Engine.{Answers, asks_in, session_of, standing_of}
+use Rattle.rx_engine.specs.Engine.{asks_in, session_of, standing_of}
 use Rattle.rx_engine.specs.Judged.{IsPrinted}
 use Rattle.rx_engine.specs.Lines.{answered, task}
-use Rattle.rx_engine.specs.Meaning.{asks_kept, bodies_of, lines_of, meaning, records_of}
+use Rattle.rx_engine.specs.Meaning.{asks_kept, bodies_of, lines_of, records_of}
 use Rattle.rx_engine.specs.Outcome.{Outcome}
 use Rattle.rx_engine.specs.Shown.{WritesNoExchange, doing_of}
 use Rattle.rx_engine.specs.SoundSession.{HasSoundWorld}

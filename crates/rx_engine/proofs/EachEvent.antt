@@ -18,7 +18,6 @@ use Rattle.rx_sync.specs.Asking.{fork_in, pending_in}
 use Rattle.rx_sync.specs.Delivery.{Delivered, MayDeliver, delivered, given_once, joined, later_deliveries, next_delivery, nothing_delivered, once_given, one_delivered, took_by}
 use Rattle.rx_sync.specs.Events.{event_by, event_taken}
 use Rattle.rx_sync.specs.Exchange.{world_after}
-use Rattle.rx_sync.specs.Laws.{ComeSoundly}
 use Rattle.rx_sync.specs.Shown.{giving_of, record_in}
 use Rattle.rx_sync.specs.Taking.{changes_nothing, is_same_place, recorded, write_time}
 use Rattle.rx_sync.specs.declared.fault.EventFault.{EventFault}

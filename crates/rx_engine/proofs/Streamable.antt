@@ -1,5 +1,5 @@
 -- Which stream may be opened.
-use Rattle.std.proofs.Common.{◌≡◌, ◌∙◌, ℕ, List, Some, refl, subst}
+use Rattle.std.proofs.Common.{◌≡◌, ℕ, List, Some, refl, subst}
 use Rattle.rx_value.specs.Named.{named}
 use Rattle.rx_value.proofs.Outcomes.{not_none, some_same}
 use Rattle.rx_collection.specs.Held.{Held}

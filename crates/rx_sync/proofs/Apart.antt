@@ -36,11 +36,11 @@ use Rattle.rx_world.proofs.Sounds.{IsNoExchange}
 use Rattle.rx_sync.specs.Asking.{asked_in, fork_in}
 use Rattle.rx_sync.specs.Asks.{Asks, next_number, with_request}
 use Rattle.rx_sync.specs.Exchange as step
-use Rattle.rx_sync.specs.Exchange.{Course, Planned, Terms, world_after, comes_to, course, course_by, handled_again, handled_and_taken, if_taken, late_records, late_request, lost_by, once_handled, once_late, reply_lost, reply_taken, when_taken}
+use Rattle.rx_sync.specs.Exchange.{Course, Planned, Terms, world_after, course, course_by, handled_again, handled_and_taken, if_taken, late_records, late_request, once_handled, once_late, reply_lost, reply_taken, when_taken}
 use Rattle.rx_sync.specs.Handling.{Handled, commits_of, handled, handled_by, handled_for, local_name, written_by}
 use Rattle.rx_sync.specs.Remote.{Heard, RemoteTurned, no_dial, no_wire, no_line, line, first_heard, heard_course, heard_exchange, heard_later, heard_on, lost_as, lost_or_no_time, once_heard, once_read, once_taken, remote_turn, schema_in}
 use Rattle.rx_sync.specs.Taking.{changes_nothing, exchange_at, recorded, resolve_for, take_fault, taken, taken_by, write_time}
-use Rattle.rx_sync.specs.Turn.{Turned, before, end_by, ended_with, first_of, going_on, rest_of, turn}
+use Rattle.rx_sync.specs.Turn.{Turned, end_by, first_of, going_on, rest_of, turn}
 use Rattle.rx_sync.specs.declared.fault.TakeFault.{TakeFault}
 use Rattle.rx_sync.specs.declared.fault.TakeFault.TheVariants.{ClockEnd}
 

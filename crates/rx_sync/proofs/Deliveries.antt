@@ -4,7 +4,6 @@ use Rattle.std.specs.List.{AllByRecursion}
 use Rattle.rx_value.specs.Due.{◌>>=◌}
 use Rattle.rx_value.specs.Named.{named}
 use Rattle.rx_value.proofs.Outcomes.{some_same, some_then}
-use Rattle.rx_collection.specs.Held.{Held}
 use Rattle.rx_record.specs.Content.{Content}
 use Rattle.rx_script.specs.declared.delivery.Delivery.{Delivery}
 use Rattle.rx_script.specs.declared.delivery.Delivery.TheVariants as link
@@ -12,7 +11,6 @@ use Rattle.rx_stream.specs.declared.event.Event.{Event}
 use Rattle.rx_world.specs.Made.{IsMadeWorld}
 use Rattle.rx_world.specs.Sound.{IsSoundWorld}
 use Rattle.rx_world.specs.World.{World}
-use Rattle.rx_world.specs.declared.replication.Replication.{Replication}
 use Rattle.rx_sync.specs.Asking.{fork_in, pending_in}
 use Rattle.rx_sync.specs.Delivery.{Delivered, EveryDelivery, IsDeliverySound, MayDeliver, MayDeliverAgain, WaitsForPushes, delivered, given_once, joined, later_deliveries, next_delivery, nothing_delivered, once_given, one_delivered}
 use Rattle.rx_sync.specs.Events.{IsGoodEventIn, event_by, event_taken}

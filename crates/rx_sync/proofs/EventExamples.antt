@@ -1,5 +1,5 @@
 -- Deliveries, worked out by the definitions alone.
-use Rattle.std.proofs.Common.{◌≡◌, ℕ, List, [], ◌∷◌, true, false, Option, Some, None, Err, refl, pos}
+use Rattle.std.proofs.Common.{◌≡◌, ℕ, List, [], ◌∷◌, true, false, Some, None, Err, refl, pos}
 use Rattle.rx_value.specs.declared.state.State.{State}
 use Rattle.rx_value.specs.declared.value.Value.TheVariants.{Int}
 use Rattle.rx_schema.specs.declared.shape.Shape.{Shape}

@@ -1,11 +1,10 @@
 -- What an event that is taken leaves.
-use Rattle.std.proofs.Common.{◌≡◌, ◌∙◌, ℕ, ◌==◌, Bool, true, List, [], map, take, length, Option, Some, None, option_map, Result, Ok, Err, unwrap_or, refl, sym, ap, subst, arith, eqb-true, eq-eqb}
+use Rattle.std.proofs.Common.{◌≡◌, ◌∙◌, ℕ, ◌==◌, Bool, true, List, [], map, take, length, Option, Some, option_map, Result, Ok, Err, refl, sym, ap, subst, arith, eqb-true, eq-eqb}
 use Rattle.std.proofs.lemmas.List.{nil_from_length}
 use Rattle.std.specs.List.{IsDistinct}
 use Rattle.std.specs.Str.{bytes_eq}
 use Rattle.rx_value.specs.Due.{◌>>=◌, ◌>>◌, demand, lifted, or_fault, unless}
 use Rattle.rx_value.specs.Named.{named}
-use Rattle.rx_value.specs.declared.state.State.{State}
 use Rattle.rx_value.proofs.Outcomes.{demanded, ok_then, some_same}
 use Rattle.rx_schema.specs.declared.shape.Shape.{Shape}
 use Rattle.rx_document.specs.declared.place.Place.{Place}
@@ -46,7 +45,6 @@ use Rattle.rx_sync.specs.Events.{IsGoodEventIn, event_by, event_recorded, event_
 use Rattle.rx_sync.specs.Exchange.{world_after}
 use Rattle.rx_sync.specs.Laws.{ComeSoundly, HasAnswered, HasMasterHere, IsDueOf, IsLawfulReply}
 use Rattle.rx_sync.specs.Taking.{is_same_place, recorded, resolve_for, take_fault, taken_by}
-use Rattle.rx_sync.specs.declared.fault.EventFault.{EventFault}
 use Rattle.rx_sync.specs.declared.fault.EventFault.TheVariants.{Old, Pending, Gap}
 use Rattle.rx_sync.proofs.Exchanges.{has_taken}
 use Rattle.rx_sync.proofs.Leaves.{leaves_reply, same_place}

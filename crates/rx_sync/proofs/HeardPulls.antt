@@ -5,7 +5,6 @@ use Rattle.rx_value.specs.Named.{named}
 use Rattle.rx_value.proofs.Outcomes.{some_same}
 use Rattle.rx_document.specs.declared.place.Place.{Place}
 use Rattle.rx_document.specs.declared.stored.Stored.{Stored}
-use Rattle.rx_collection.specs.Held.{Held}
 use Rattle.rx_replication.specs.Request.{IsCurrent}
 use Rattle.rx_replication.proofs.Taken.{current_pull, none_pending-known}
 use Rattle.rx_schema.specs.declared.shape.Shape.{Shape}

@@ -8,7 +8,7 @@ use Rattle.rx_engine.specs.Turning.{Turn, turned}
 use Rattle.rx_engine.proofs.Plays.{written-world}
 use Rattle.rx_handler.specs.Handlers.{Kinds}
 use Rattle.rx_sync.proofs.Bound.{turns_in_time}
-use Rattle.rx_sync.specs.Bound.{ForLink, IsOkTurn, NextTurn, enough, exchanges_of, is_done}
+use Rattle.rx_sync.specs.Bound.{IsOkTurn, NextTurn, enough, exchanges_of, is_done}
 use Rattle.rx_sync.specs.Bound as bound
 use Rattle.rx_sync.specs.Exchange.{world_after}
 use Rattle.rx_sync.specs.Turn.{Turned}

@@ -1,6 +1,5 @@
-use Rattle.std.proofs.Common.{◌≡◌, [], sym, ◌∙◌, ap, subst, rules}
+use Rattle.std.proofs.Common.{[], sym, ◌∙◌, subst, rules}
 use Rattle.rx_world.specs.Sound.{IsSoundWorld}
-use Rattle.rx_world.specs.World.{World}
 use Rattle.rx_store.proofs.Crashes.{answered, ran_out, same_stop}
 use Rattle.rx_store.specs.Holds.{Holds}
 use Rattle.rx_engine.proofs.Opened.{unwatched_all}

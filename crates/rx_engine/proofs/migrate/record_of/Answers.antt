@@ -1,4 +1,4 @@
-use Rattle.std.proofs.Common.{◌≡◌, ◌∙◌, List, ℕ, Some, ap, subst}
+use Rattle.std.proofs.Common.{◌≡◌, ◌∙◌, List, ℕ, ap, subst}
 use Rattle.rx_value.specs.Named.{named}
 use Rattle.rx_record.specs.Shown.{content}
 use Rattle.rx_session.specs.Placed.{world_of}

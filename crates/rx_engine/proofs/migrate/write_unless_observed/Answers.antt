@@ -1,4 +1,4 @@
-use Rattle.std.proofs.Common.{◌≡◌, ◌∙◌, ◌⊎◌, inl, inr, List, ℕ, Option, Some, None, sym, ap}
+use Rattle.std.proofs.Common.{◌≡◌, ◌∙◌, inl, inr, List, ℕ, Option, Some, sym, ap}
 use Rattle.rx_record.specs.Shown.{content}
 use Rattle.rx_session.specs.Session.{first_observed}
 use Rattle.rx_world.specs.Migrating.{is_in_group}

@@ -1,4 +1,4 @@
-use Rattle.std.proofs.Common.{◌≡◌, ◌∙◌, List, ℕ, Bool, true, false, cond, sym, ap}
+use Rattle.std.proofs.Common.{◌≡◌, ◌∙◌, true, false, cond, sym, ap}
 use Rattle.rx_value.specs.Named.{by_bytes}
 use Rattle.rx_session.specs.Placed.{world_of}
 use Rattle.rx_sync.specs.Asks.{Asks, forgotten}

@@ -1,13 +1,10 @@
-use Rattle.std.proofs.Common.{◌≡◌, ◌∙◌, List, ℕ, Some, true, ap, sym, subst, IfOk}
+use Rattle.std.proofs.Common.{sym, subst}
 use Rattle.rx_value.proofs.Outcomes.{if_ok}
 use Rattle.rx_reply.specs.declared.given.Took.TheVariants as took
 use Rattle.rx_script.specs.declared.delivery.Delivery.{Delivery}
-use Rattle.rx_sync.specs.Asking.{pending_in}
-use Rattle.rx_sync.specs.Delivery.{Delivered, given_once, joined, one_delivered}
-use Rattle.rx_sync.specs.Exchange.{world_after}
+use Rattle.rx_sync.specs.Delivery.{given_once, joined, one_delivered}
 use Rattle.rx_world.specs.World.{World}
 use Rattle.rx_engine.specs.Delivering.{IsDeliveredOn, MayGive, kept_as, noted_as}
-use Rattle.rx_engine.specs.declared.delivering.Delivered.{Delivered as Made}
 use Rattle.rx_engine.proofs.EachEvent.{may_again, on_after}
 use Rattle.rx_engine.proofs.Staging.{world_of}
 use Rattle.rx_engine.proofs.delivering.Delivered.deliver.Goals as goal

@@ -1,10 +1,10 @@
-use Rattle.std.proofs.Common.{◌≡◌, ◌∙◌, ◌||◌, List, ℕ, Some, Bool, true, true≢false, refl, ap, sym, subst, rules}
+use Rattle.std.proofs.Common.{◌≡◌, ◌∙◌, ◌||◌, List, ℕ, Some, Bool, true, true≢false, refl, ap, sym, subst}
 use Rattle.rx_session.specs.Placed.{world_of as seen_world}
 use Rattle.rx_sync.specs.Asking.{pending_in}
-use Rattle.rx_sync.specs.Delivery.{Delivered, given_once}
+use Rattle.rx_sync.specs.Delivery.{given_once}
 use Rattle.rx_sync.specs.Events.{IsGoodEventIn, event_taken}
 use Rattle.rx_sync.specs.Exchange.{world_after}
-use Rattle.rx_sync.specs.Laws.{ComeSoundly, HasMasterHere}
+use Rattle.rx_sync.specs.Laws.{HasMasterHere}
 use Rattle.rx_sync.specs.Shown.{giving_of, record_in}
 use Rattle.rx_world.specs.Sound.{IsSoundWorld}
 use Rattle.rx_world.specs.World.{World}

@@ -1,8 +1,6 @@
 use Rattle.std.proofs.Common.{sym, ap, subst, rules}
-use Rattle.rx_sync.specs.Remote.{Heard}
-use Rattle.rx_engine.specs.Engine.{IsAt, limit_of, session_of, standing_of}
+use Rattle.rx_engine.specs.Engine.{IsAt, limit_of, standing_of}
 use Rattle.rx_engine.specs.Shown.{deliver_of}
-use Rattle.rx_engine.specs.Streams.{delivered_by}
 use Rattle.rx_engine.specs.declared.engine.Engine.{Engine}
 use Rattle.rx_engine.proofs.Committing.{commits_before, commits_so, commits_stopped}
 use Rattle.rx_engine.proofs.Meanings.{delivered_so}

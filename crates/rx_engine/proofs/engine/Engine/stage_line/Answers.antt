@@ -1,10 +1,10 @@
-use Rattle.std.proofs.Common.{◌≡◌, sym, subst}
+use Rattle.std.proofs.Common.{sym, subst}
 use Rattle.rx_value.proofs.Outcomes.{if_ok}
 use Rattle.rx_handler.specs.Shown.{kinds_of}
 use Rattle.rx_session.specs.Session.{Session}
 use Rattle.rx_world.specs.Sound.{IsSoundWorld}
 use Rattle.rx_engine.specs.Ahead.{StagesLine, StagesPrinted}
-use Rattle.rx_engine.specs.Engine.{asks_in, session_of, standing_of}
+use Rattle.rx_engine.specs.Engine.{session_of}
 use Rattle.rx_engine.specs.Shown.{WritesNoExchange}
 use Rattle.rx_engine.proofs.Ahead.{left_as_it_is, stages_printed}
 use Rattle.rx_engine.proofs.Meanings.{may_do, printed_is}
