@@ -7,8 +7,8 @@ member is another; another spelling), and replies to other requests. A near miss
 all the same counts as right. What a fork makes of each, the requests, the lines of the exchanges, the
 emissions and, after each turn, the fork's digest are those of a model of docs/SCRIPT.md and docs/WIRE.md,
 byte for byte. Then there are peers that end, hang, or send without an end. A peer that hangs is waited
-for as long as the program waits, which is up to three minutes for one that takes nothing of a long
-request.
+for as long as the program waits: a minute, and for one that takes nothing of a long request a second more
+for each 64 KiB that the system took for it.
 """
 import collections
 import json
