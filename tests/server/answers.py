@@ -4,42 +4,54 @@ import json
 import os
 import random
 import threading
+import time
 
 import replies
-from model import MAX_TIME, Collection, Replication, printed
-from place import HASH, KEYS, SCHEMA, Place, pull_line, rows_line, state_at_random
+from model import MAX_TIME, START, Collection, Replication, printed
+from place import HASH, KEYS, SCHEMA, Place, pull_line, state_at_random
+from requests import ODD, near_miss, read
 from shared import LONGEST, SEED, Server, ask, case, compact, insist, run, said, said_line, same
+
+FAST = f"line_bytes = {LONGEST}\nrequests_a_second = 100000\nrows_a_second = 1000000"
 
 
 # ---- answers beside the model
 
+def moment():
+    return time.time_ns() // 1_000_000
+
+
 class Judge:
-    """A collection as docs/WIRE.md has it, and what it answers. The write times are the server's own, of
-    which each is only known to be above all before it."""
+    """A collection as docs/WIRE.md has it, and what it answers."""
 
     def __init__(self):
-        self.side, self.times = Collection("m"), {}
+        self.side = Collection("m")
 
-    def place_due(self, key, seen):
-        """The place of the last document of a page, whose write time is told here or was before."""
-        number = self.side.docs[key][1]
-        time = self.times.setdefault(number, seen)
-        near = [it for it in self.times if it != number]
-        insist(all((self.times[it] < time) == (it < number) for it in near), f"{seen}: times don't rise")
-        return replies.place(time, key)
+    def due(self, request):
+        """The answer to a request, and whether it writes. A write counts a time on."""
+        each = {name: request[name] for name in ("epoch", "n")}
+        if request["ask"] == "pull":
+            at = request.get("place")
+            keys = self.side.page((at["lwt"], at["id"].encode()) if at else START, request["batch"])
+            if keys:
+                at = replies.place(self.side.docs[keys[-1]][1], keys[-1])
+            return {"docs": [self.side.state(key) for key in keys], **({"place": at} if at else {}), **each}, False
+        before, rows = self.side.last, [(row.get("assumed"), row["new"]) for row in request["rows"]]
+        conflicts = Replication(None, self.side, None).handle(("push", rows), 0)
+        return {"conflicts": conflicts, **each}, self.side.last > before
 
-    def pull_due(self, place, batch, reply):
-        since = (0, b"")
-        if place:
-            number = next(it for it, time in self.times.items() if time == place["lwt"])
-            since = (number, place["id"].encode())
-        keys = self.side.page(since, batch)
-        at = self.place_due(keys[-1], reply.get("place", {}).get("lwt", 0)) if keys else place
-        return {"docs": [self.side.state(key) for key in keys], **({"place": at} if at else {})}
+    def page_behind(self):
+        """What asks for the last write's documents, and where they are."""
+        before = [key for key in self.side.docs if self.side.docs[key][1] < self.side.last]
+        at = max(map(self.side.place, before), default=None)
+        return pull_line(1, **({"place": replies.place(at[0], at[1].decode())} if at else {}))
 
-    def push_due(self, rows):
-        asked = "push", [(row.get("assumed"), row["new"]) for row in rows]
-        return {"conflicts": Replication(None, self.side, None).handle(asked, 0)}
+    def learn(self, lwt, since):
+        """The last write has this time: the present moment, or one more than the time before."""
+        counted, self.side.last = self.side.last, lwt
+        insist(max(counted, since) <= lwt <= max(counted, moment()), f"{lwt}: neither now nor the next time")
+        self.side.docs = {key: (height, lwt if at == counted else at, state)
+                          for key, (height, at, state) in self.side.docs.items()}
 
 
 def rows_at_random(numbers, judge):
@@ -50,85 +62,56 @@ def rows_at_random(numbers, judge):
         yield {**({"assumed": guess} if guess else {}), "new": state_at_random(numbers, key)}
 
 
-@case("answers beside the model")
+def place_at_random(numbers, judge):
+    """A place where a document is, or near one, or none."""
+    if not judge.side.docs or numbers.random() < 0.2:
+        return {}
+    lwt, key = judge.side.place(numbers.choice([*judge.side.docs]))
+    key = numbers.choice([key.decode(), numbers.choice(KEYS), ""])
+    return {"place": replies.place(lwt + numbers.choice([0, 0, -1, 1]), key)}
+
+
+def line_at_random(numbers, judge):
+    """A request that is right in three of five cases, and else most likely isn't one."""
+    each = {"epoch": numbers.choice([1, numbers.randint(1, MAX_TIME)]), "n": numbers.randint(1, 20), "schema": HASH}
+    if numbers.random() < 0.5:
+        batch = numbers.choice([1, 2, 3, 100])
+        line = {"ask": "pull", "batch": batch, **place_at_random(numbers, judge), **each}
+    else:
+        line = {"ask": "push", "rows": list(rows_at_random(numbers, judge)), **each}
+    line = printed(line).encode()
+    return line if numbers.random() < 0.6 else near_miss(numbers, line)
+
+
+@case("answers beside the model", seconds=3_600)
 def beside_the_model(folder):
-    place, numbers, judge = Place(folder, {"c": SCHEMA}).start(), random.Random(SEED), Judge()
-    count, taken, known = 4_000, 0, None
-    wire = place.dial("c")
-    for n in range(1, count + 1):
-        each = {"epoch": numbers.randint(1, MAX_TIME), "n": n}
-        if numbers.random() < 0.5:
-            batch = numbers.choice([1, 2, 3, 100])
-            at = known if numbers.random() < 0.7 else None
-            line = {"ask": "pull", "batch": batch, "schema": HASH, **each, **({"place": at} if at else {})}
-            reply = ask(wire, printed(line))
-            due = judge.pull_due(at, batch, reply)
-            known = due.get("place", known)
-        else:
-            rows = list(rows_at_random(numbers, judge))
-            reply = ask(wire, printed({"ask": "push", "rows": rows, "schema": HASH, **each}))
-            due = judge.push_due(rows)
-            taken += len(rows) - len(due["conflicts"])
-        same(reply, {**due, **each}, f"request {n}")
-    wire.close()
+    """Of each push that writes, the next request asks for the page behind it, which tells its time."""
+    place, numbers, judge = Place(folder, {"c": SCHEMA}, limits=FAST).start(), random.Random(SEED), Judge()
+    side, seen, lines = Side(lambda: place.dial("c")), collections.Counter(), iter(ODD)
+    count, has_written, since = int(os.environ.get("REQUESTS", "10000")), False, 0
+    while sum(seen.values()) < count:
+        line = judge.page_behind().encode() if has_written else next(lines, None)
+        line = line_at_random(numbers, judge) if line is None else line
+        if b"\n" in line:
+            continue
+        begun, reply, request = moment(), side.ask(line), read(line)
+        if has_written:
+            judge.learn(json.loads(reply)["place"]["lwt"], since)
+        due, has_written = judge.due(request) if isinstance(request, dict) else ({"fault": request}, False)
+        same(reply, printed(due).encode() + b"\n", f"{line[:300]}")
+        since = begun
+        seen[request["ask"] if isinstance(request, dict) else request] += 1
+    side.leave()
     same(place.digest("c"), {"count": len(judge.side.docs), "digest": judge.side.digest()}, "the digest")
     place.end()
-    return f"{count:,} requests, {taken:,} rows taken"
+    return told(seen)
+
+
+def told(seen):
+    return ", ".join(f"{count:,} {name}" for name, count in sorted(seen.items()))
 
 
 # ---- answers beside `rx serve`
-
-def near_miss(numbers, line):
-    """A request of which one byte, one member or the spelling is another."""
-    draw = numbers.randrange(10)
-    if draw < 4:
-        return replies.edited_byte(numbers, line + b"\n")[:-1]
-    value = json.loads(line)
-    if draw < 8:
-        parts = [it for it in objects_of(value) if it]
-        replies.edited_object(numbers, numbers.choice(parts))
-    elif draw == 8 and "rows" in value:
-        value["rows"] *= numbers.choice([0, 2, 30, 101])
-    else:
-        return spelt_otherwise(numbers, line)
-    return printed(value).encode()
-
-
-def objects_of(value):
-    """A message's objects, from the outer ones on."""
-    if isinstance(value, dict):
-        yield value
-    for it in value.values() if isinstance(value, dict) else value if isinstance(value, list) else ():
-        yield from objects_of(it)
-
-
-def spelt_otherwise(numbers, line):
-    told = line.decode()
-    return numbers.choice([
-        lambda: told.replace(":", ": ", 1), lambda: told.replace("k", "\\u006b", 1), lambda: " " + told,
-        lambda: told + "\r", lambda: "\ufeff" + told, lambda: told.replace('"n":', '"n":0', 1),
-        lambda: told.replace('"n":', '"n":-', 1), lambda: told.replace("}", ',"n":1}', 1),
-        lambda: json.dumps(dict(sorted(json.loads(told).items(), reverse=True)), separators=(",", ":")),
-        lambda: told.replace('"n":1', '"n":1.0'), lambda: told.replace('"n":1', '"n":1e0'),
-        lambda: told.replace("é", "\\u00e9"), lambda: told.replace('"id":"', '"id":"\\ud800'),
-        lambda: told.replace('"id":"', '"id":"\\ud83d\\ude00', 1), lambda: told.replace('"t":"', '"t":"\t'),
-        lambda: told.replace("/", "\\/")])().encode(errors="replace")
-
-
-def deep(levels):
-    return b"[" * levels + b"]" * levels
-
-
-ODD = [
-    b"", b" ", b"null", b"{}", b"[]", b"hello", b"\xff", b'{"ask":1}', b'{"ask":"pull"', b'"\\ud800"', b"NaN",
-    b'{"ask":"pull","batch":1e999}', b'{"ask":"pull","x":Infinity}', b"1" * 5_000, b"-" + b"1" * 400, b"-0",
-    b'{"ask":"pull","batch":' + b"9" * 310 + b"}", b'{"ask":"pull","batch":' + b"9" * 300 + b"}",
-    deep(127), deep(128), deep(5_000), b'{"ask":' + deep(126) + b"}", b'{"ask":' + deep(127) + b"}",
-    b'{"a":01}', b'{"a":.5}', b'{"a":1.}', b"\x0b{}", b"{}\x00", b'{"\\u0000":1}', b'{"a":"\\x"}',
-    b'{"a":"\\u00G0"}', b"\xed\xa0\x80", b'"\xc0\x80"', b'{"ask":"pull","ask":"push"}',
-    b'{"ask":"pull","fault":1}', b'{"ask":"\\ud83d\\ude00"}', b'{"ask":"\\ud83dx"}', b'{"ask":"\\ude00"}',
-]
-
 
 def requests_at_random(numbers):
     """Requests whose places are the same on every master: below all documents, or above."""
@@ -176,7 +159,7 @@ def without_times(reply):
 @case("answers beside rx serve", seconds=3_600, needs=["program"])
 def beside_rx_serve(folder):
     count, numbers, faults = 20_000, random.Random(SEED), collections.Counter()
-    place = Place(folder, {"c": SCHEMA}, limits=f"line_bytes = {LONGEST}\nrequests_a_second = 100000").start()
+    place = Place(folder, {"c": SCHEMA}, limits=FAST).start()
     journal = os.path.join(folder, "journal")
     insist(run(journal, [compact({"do": "collection", "name": "c", "schema": SCHEMA})])[0] == 0, "no journal")
     master = Server(folder, 1_000_000)
@@ -199,7 +182,7 @@ def beside_rx_serve(folder):
     held = run(journal, [compact({"do": "digest", "in": "c"})])[1][0]
     same(place.digest("c"), {it: held[it] for it in ("count", "digest")}, "the digests")
     place.end()
-    return ", ".join(f"{count:,} {name}" for name, count in sorted(faults.items()))
+    return told(faults)
 
 
 @case("lines of 256 MiB", seconds=1_800)

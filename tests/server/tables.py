@@ -6,10 +6,10 @@ import random
 import subprocess
 
 import replies
-from answers import objects_of
-from model import MAX_TIME
+from model import MAX_TIME, printed
 from place import SCHEMA, Place, check_packages, doc, pull_line, push_line
-from shared import RX, SEED, ask, case, compact, insist, run, same
+from requests import objects_of
+from shared import RX, SEED, ask, case, compact, hash_of, insist, run, same
 
 
 # ---- the tables
@@ -53,6 +53,22 @@ def written_by_sql(folder):
         insist("clock" in str(seen), f"{seen}")
     place.end()
     return f"one write of a master, and {len(tried)} documents refused by the schema"
+
+
+@case("the longest keys")
+def longest_keys(folder):
+    """Each code point has four bytes, and nothing is left to compress."""
+    schema = {**SCHEMA, "properties": {**SCHEMA["properties"], "id": {"type": "string", "maxLength": 650}}}
+    place, numbers = Place(folder, {"c": schema}).start(), random.Random(SEED)
+    states = [doc("".join(chr(numbers.randrange(0x10000, 0x110000)) for _ in range(650))) for _ in range(3)]
+    asked = {"epoch": 1, "n": 1, "schema": hash_of(schema)}
+    with place.dial("c") as wire:
+        reply = ask(wire, printed({"ask": "push", "rows": [{"new": it} for it in states], **asked}))
+        same(reply, {"conflicts": [], "epoch": 1, "n": 1}, "a push")
+        found = ask(wire, printed({"ask": "pull", "batch": 100, **asked}))["docs"]
+        same(found, sorted(states, key=lambda it: it["id"].encode()), "a pull")
+    place.end()
+    return "keys of 2,600 bytes"
 
 
 WORDS = ["type", "maxLength", "minimum", "multipleOf", "title", "required", "indexes", "x"]
