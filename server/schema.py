@@ -161,6 +161,7 @@ class Schema:
                              "required": self.required, "type": "object", "version": value["version"]})
         self.hash = hashlib.sha256(self.text.encode()).hexdigest()
         self.tests = {name: fits(rule, name == self.key) for name, rule in rules.items()}
+        self.longest_key = rules[self.key]["maxLength"]
         self.longest_state = 20 + sum(len(name) + 4 + longest_value(rule) for name, rule in rules.items())
 
     @staticmethod

@@ -18,6 +18,8 @@ HERE = os.path.dirname(os.path.abspath(__file__))
 # A table has the collection's name. Its indexes have one that no collection has, of the 63 bytes that
 # PostgreSQL takes.
 NAME = re.compile(r"[a-z][a-z0-9_-]{0,58}")
+# An index of PostgreSQL takes entries of at most 2,704 bytes, and a code point of a key has up to four.
+MOST_KEY_POINTS = 650
 # Engines that don't wait for a lock say that a transaction is to be tried again.
 TRIES = 20
 AGAIN = (errors.SerializationFailure, errors.DeadlockDetected)
@@ -117,6 +119,8 @@ class Store:
         if not NAME.fullmatch(name):
             raise Refused(f"{name}: a collection's name is a lower-case letter and then up to 58 lower-case "
                           "letters, digits, `_` or `-`")
+        if schema.longest_key > MOST_KEY_POINTS:
+            raise Refused(f"{name}: the primary key's maxLength is above {MOST_KEY_POINTS}")
 
         def call(connection: Connection) -> bool:
             made = connection.execute("INSERT INTO rx.collections (name, definition) VALUES (%s, %s) "

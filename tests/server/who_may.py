@@ -94,15 +94,21 @@ async def revoke_while_open(place, secret):
         same(wire.close_code, 1008, "the end")
 
 
+LONGER_KEY = {**SCHEMA["properties"], "id": {"type": "string", "maxLength": 651}}
+
+
 @case("words of the command")
 def commands(folder):
     place = Place(folder, {"c": SCHEMA})
     other = os.path.join(folder, "other.json")
-    with open(other, "w", encoding="utf-8") as file:
-        file.write(compact({**SCHEMA, "version": 1}))
+    longer = os.path.join(folder, "longer.json")
+    for path, words in ((other, {"version": 1}), (longer, {"properties": LONGER_KEY})):
+        with open(path, "w", encoding="utf-8") as file:
+            file.write(compact({**SCHEMA, **words}))
     tried = {
         ("collection", "c", other): "another schema", ("collection", "C", other): "a collection's name",
         ("collection", "d", os.path.join(folder, "none")): "No such file",
+        ("collection", "d", longer): "maxLength is above 650",
         ("token", "all", "c:read"): "a token of that name", ("token", "x", "c"): "COLLECTION:read",
         ("token", "x", "c:read", "c:write"): "stands twice", ("token", "x", "e:read"): "no such collection",
         ("revoke", "x"): "no such token", ("digest", "e"): "no such collection",
