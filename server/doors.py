@@ -1,6 +1,7 @@
 """Where forks come in: WebSockets for pages and for whoever is elsewhere, TCP for programs of this machine;
 and where the server is watched."""
 import asyncio
+import contextlib
 import functools
 import http
 import logging
@@ -30,6 +31,8 @@ MESSAGE_BYTES = 1 << 20
 HANDSHAKE_SECONDS = 10
 # How a WebSocket ends, by how its connection did.
 CODES = {"peer": 1000, "request": 1000, "clock": 1000, "forbidden": 1008, "text": 1003, "database": 1011}
+# The ends behind which a port lets its last line arrive. The others break the connection off.
+TOLD = ("peer", "request", "clock")
 NO_DATABASE = (psycopg.Error, PoolTimeout)
 
 
@@ -187,15 +190,16 @@ async def open_port(house: House, port: int, name: str, token: str) -> asyncio.S
         except NO_DATABASE:
             connection = None
         house.counts.dials["admitted" if connection else "forbidden"] += 1
-        end = await house.converse(connection, pieces_of(reader, house.limits.idle_seconds), send) \
-            if connection else "forbidden"
+        end = "forbidden"
         try:
-            if end in ("request", "clock", "peer"):
-                await leave(reader, writer)
-            else:
+            if connection:
+                end = await house.converse(connection, pieces_of(reader, house.limits.idle_seconds), send)
+        finally:
+            if end not in TOLD:
                 writer.transport.abort()
-        except OSError:
-            pass
+        if end in TOLD:
+            with contextlib.suppress(OSError):
+                await leave(reader, writer)
 
     return await asyncio.start_server(come, "127.0.0.1", port, backlog=1024)
 
