@@ -30,9 +30,9 @@ export function serve(folder, others = {}) {
   }));
 }
 
-/** Starts Chromium with its files in a folder of its own. */
-export function launch(profile) {
-  const words = ['--headless=new', '--no-sandbox', '--disable-gpu', '--no-first-run', `--user-data-dir=${profile}`, '--remote-debugging-pipe', 'about:blank'];
+/** Starts Chromium with its files in a folder of its own, by more words where there are any. */
+export function launch(profile, ...more) {
+  const words = ['--headless=new', '--no-sandbox', '--disable-gpu', '--no-first-run', `--user-data-dir=${profile}`, '--remote-debugging-pipe', ...more, 'about:blank'];
   const chromium = spawn('chromium', words, { stdio: ['ignore', 'ignore', 'ignore', 'pipe', 'pipe'] });
   const ended = new Promise((go) => chromium.on('close', go));
   const waiting = new Map();

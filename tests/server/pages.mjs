@@ -2,7 +2,7 @@
 // wasm/out, as wasm/build.sh makes it. Pictures go to the folder that PICTURES names in the environment.
 import { spawn } from 'node:child_process';
 import { mkdirSync, readFileSync, writeFileSync } from 'node:fs';
-import { createConnection } from 'node:net';
+import { createConnection, createServer } from 'node:net';
 import { join } from 'node:path';
 import { createInterface } from 'node:readline';
 import { child, open } from '../../clients/js/rx.mjs';
@@ -45,10 +45,42 @@ const listens = (port) => new Promise((go) => {
   it.on('error', () => go(false));
 });
 
+/**
+ * A network in front of a port. It may be cut, so that nobody is reached, or fall silent: connections that had to
+ * do with that stay dead when it is back.
+ */
+function network(to) {
+  let way = 'open';
+  const links = new Set();
+  const door = createServer((near) => {
+    if (way === 'cut') return near.destroy();
+    const link = { near, far: createConnection(to, '127.0.0.1'), isDead: way !== 'open' };
+    links.add(link);
+    for (const [from, into] of [[link.near, link.far], [link.far, link.near]]) {
+      from.on('error', () => {}).on('close', () => { into.destroy(); links.delete(link); });
+      from.on('data', (it) => link.isDead || into.write(it));
+    }
+  });
+  const turn = (how) => {
+    way = how;
+    for (const link of links) {
+      if (how === 'cut') link.near.destroy();
+      link.isDead ||= how !== 'open';
+    }
+  };
+  return new Promise((go) => {
+    door.listen(0, '127.0.0.1', () => go({ port: door.address().port, turn, close: () => door.close() }));
+  });
+}
+
+const freePort = () => new Promise((go) => {
+  const it = createServer().listen(0, '127.0.0.1', () => { const { port } = it.address(); it.close(() => go(port)); });
+});
+
 // The server over a PostgreSQL of its own.
-async function standing(folder) {
+async function standing(folder, ...more) {
   mkdirSync(folder);
-  const words = ['-B', join(root, 'tests/server/standing.py'), folder, site.origin];
+  const words = ['-B', join(root, 'tests/server/standing.py'), folder, site.origin, ...more];
   const it = start('/usr/bin/python3', words, 'pipe');
   const lines = createInterface(it.stdout)[Symbol.asyncIterator]();
   const next = async () => JSON.parse((await lines.next()).value);
@@ -60,8 +92,8 @@ async function standing(folder) {
   return { ...told, ask: (word) => { it.stdin.write(`${word}\n`); return next(); } };
 }
 
-function test(name, work) {
-  tests[name] = async (folder) => {
+function test(name, work, needs) {
+  tests[name] = Object.assign(async (folder) => {
     site = await serve(root);
     chromium = await launch(join(folder, 'profile'));
     try {
@@ -71,17 +103,17 @@ function test(name, work) {
       site.close();
       await Promise.all(running.map(ended));
     }
-  };
+  }, { needs });
 }
 
 // A page whose collection is a fork of the master that a WebSocket leads to.
-async function forkInPage(name, master, schema) {
-  const page = await chromium.page(`${site.origin}/empty`);
-  await page.run(async (name, master, schema, newest) => {
+async function forkInPage(name, master, schema, { how = newest, browser = chromium } = {}) {
+  const page = await browser.page(`${site.origin}/empty`);
+  await page.run(async (name, master, schema, how) => {
     const { open, wasm } = await import('/clients/js/rx.mjs');
     window.db = await open(wasm('/wasm/out', name, { masters: { 4001: master } }));
     window.todos = await db.collection('todos', schema);
-    await db.replicate({ name: 'sync', fork: 'todos', port: 4001, ...newest });
+    await db.replicate({ name: 'sync', fork: 'todos', port: 4001, ...how });
     window.turn = async (options) => {
       const { end, each } = await db.turn('sync', options);
       return end === 'lost' ? `lost by ${each.at(-1).lost}` : end;
@@ -90,14 +122,14 @@ async function forkInPage(name, master, schema) {
       for (let left = 100; left; left--) if (await turn() === 'quiet') return true;
       return false;
     };
-  }, name, master, schema, newest);
+  }, name, master, schema, how);
   return page;
 }
 
-async function forkOfProcess(folder, name, port, schema) {
+async function forkOfProcess(folder, name, port, schema, how = newest) {
   const db = await open(child(join(folder, name), { program }));
   const todos = await db.collection('todos', schema);
-  await db.replicate({ name: 'sync', fork: 'todos', port, ...newest });
+  await db.replicate({ name: 'sync', fork: 'todos', port, ...how });
   const quiet = async () => {
     for (let left = 100; left; left--) if ((await db.turn('sync')).end === 'quiet') return true;
     return false;
@@ -172,20 +204,34 @@ test('pages and a process meet at the server, which is killed between turns and 
   await native.db.close();
 });
 
-test('pages and a process meet at rx serve behind websockify', async (folder) => {
-  const schema = JSON.parse(readFileSync(join(root, 'server/todos.json'), 'utf8'));
-  const journal = join(folder, 'master');
+// `rx serve` over a journal with these documents: its port.
+async function served(journal, schema, docs = []) {
   const seed = await open(child(journal, { program }));
-  const first = await seed.collection('todos', schema);
-  await first.insert({ id: 'a', title: 'From the master', done: false, edited: 1 });
+  const todos = await seed.collection('todos', schema);
+  for (const it of docs) await todos.insert(it);
   await seed.close();
-  const [port, front] = [17_000 + process.pid % 1_000, 18_000 + process.pid % 1_000];
+  const port = await freePort();
   start(program, ['serve', journal, 'todos', `${port}`, '1000000']);
   await until(() => listens(port), '`rx serve` listens');
+  return port;
+}
+
+// The URL of a WebSocket that websockify leads to a port.
+async function websockify(port) {
+  const front = await freePort();
   const origin = ['--auth-plugin', 'ExpectOrigin', '--auth-source', site.origin];
   start('websockify', [...origin, `127.0.0.1:${front}`, `127.0.0.1:${port}`]);
   await until(() => listens(front), 'websockify listens');
-  const url = `ws://127.0.0.1:${front}`;
+  return `ws://127.0.0.1:${front}`;
+}
+
+const todosSchema = JSON.parse(readFileSync(join(root, 'server/todos.json'), 'utf8'));
+
+test('pages and a process meet at rx serve behind websockify', async (folder) => {
+  const schema = todosSchema;
+  const first = { id: 'a', title: 'From the master', done: false, edited: 1 };
+  const port = await served(join(folder, 'master'), schema, [first]);
+  const url = await websockify(port);
   const pages = [await forkInPage('one', url, schema), await forkInPage('two', url, schema)];
   const native = await forkOfProcess(folder, 'native', port, schema);
   await pages[0].run(() => todos.insert({ id: 'b', title: 'From a page', done: false, edited: 2 }));
@@ -195,21 +241,172 @@ test('pages and a process meet at rx serve behind websockify', async (folder) =>
   await native.db.close();
 });
 
+// ---- links that fail
+
+const handlers = [{ handler: 'master_wins' }, { handler: 'fork_wins' }, newest, { handler: 'join' }];
+
+// Numbers below a limit, as a seed says.
+function numbersOf(seed) {
+  let state = seed;
+  return (most) => {
+    state = (Math.imul(state, 1_103_515_245) + 12_345) & 0x7fffffff;
+    return Math.floor((state / 0x80000000) * most);
+  };
+}
+
+function editAtRandom(below) {
+  const draw = below(20), id = `k${below(12)}`, edited = below(8);
+  const titles = ['', 'Bread', 'Milch, 牛乳', '\u0000 "\\', '\u{1F600}'.repeat(80)];
+  if (draw < 14) return ['upsert', { id, title: titles[below(titles.length)], done: below(2) === 1, edited }];
+  return draw < 17 ? ['remove', id] : ['patch', id, { edited }];
+}
+
+// Edits of what isn't there are refused.
+const play = async (todos, edits) => {
+  for (const [call, ...words] of edits) {
+    await todos[call](...words).catch((fault) => { if (fault.word !== 'no_document') throw fault; });
+  }
+};
+
+/** A page and a process for each handler, as forks behind links of their own that fail. */
+async function forksBehindLinks(folder, name, place, port) {
+  const forks = [];
+  const behind = async () => (await place.ask(`link ${port} ${forks.length}`));
+  for (const how of handlers) {
+    const page = await forkInPage(`${name}${forks.length}`, await websockify(await behind()), place.schema, { how });
+    forks.push({
+      edit: (edits) => page.evaluate(`(${play})(todos, ${JSON.stringify(edits)})`),
+      turn: (options) => page.run((options) => turn(options), options),
+      quiet: () => page.evaluate('quiet()'),
+      digest: () => page.evaluate('todos.digest()'),
+    });
+    const native = await forkOfProcess(folder, `${name}${forks.length}`, await behind(), place.schema, how);
+    forks.push({
+      edit: (edits) => play(native.todos, edits),
+      turn: async (options) => (await native.db.turn('sync', options)).end,
+      quiet: native.quiet,
+      digest: () => native.todos.digest(),
+    });
+  }
+  return forks;
+}
+
+/** Edits and turns of all forks, as a seed says. The digest of all once they are quiet, and how turns ended. */
+async function playForks(forks, place, rounds) {
+  const below = numbersOf(7_919), ends = {};
+  for (let round = 0; round < rounds; round++) {
+    for (const it of forks) {
+      await it.edit(Array.from({ length: below(4) }, () => editAtRandom(below)));
+      const end = (await it.turn({ batch: [1, 2, 5, 100][below(4)] })).split(' ')[0];
+      ends[end] = (ends[end] ?? 0) + 1;
+    }
+  }
+  await place.ask('calm');
+  for (const it of [...forks, ...forks]) same(await it.quiet(), true, 'a fork is quiet');
+  const digests = new Set();
+  for (const it of forks) digests.add(text(await it.digest()));
+  same(digests.size, 1, `digests of ${forks.length} forks: ${[...digests]}`);
+  return { digest: [...digests][0], ends };
+}
+
+test('pages and processes of every handler, over links that lose and repeat', async (folder) => {
+  const place = await standing(join(folder, 'place')), rounds = 20;
+  const mine = await playForks(await forksBehindLinks(folder, 'server', place, place.port), place, rounds);
+  same(text(await place.ask('digest')), mine.digest, 'the server and its forks');
+  const port = await served(join(folder, 'master'), place.schema);
+  const due = await playForks(await forksBehindLinks(folder, 'served', place, port), place, rounds);
+  same(mine.digest, due.digest, 'the server beside `rx serve`');
+  same(mine.ends.lost > rounds, true, `turns that were lost: ${mine.ends.lost}`);
+  console.log(JSON.stringify(mine.ends));
+});
+
+test('a page by wss, where its browser trusts the certificate', async (folder) => {
+  const place = await standing(join(folder, 'place'), 'tls');
+  const other = await launch(join(folder, 'other'), '--ignore-certificate-errors');
+  try {
+    const master = { url: `wss://127.0.0.1:${place.websocket}/todos`, token: place.secret };
+    const stranger = await forkInPage('stranger', master, place.schema);
+    same(await stranger.evaluate('turn()'), 'lost by dial', 'a certificate that nobody signed');
+    const page = await forkInPage('page', master, place.schema, { browser: other });
+    await page.run(() => todos.insert({ id: 'a', title: 'By wss', done: false, edited: 1 }));
+    same(await page.evaluate('quiet()'), true, 'a turn by wss');
+    same(text(await page.evaluate('todos.digest()')), text(await place.ask('digest')), 'the server and the page');
+  } finally {
+    await other.close();
+  }
+}, ['openssl']);
+
+// ---- the demonstration
+
+const url = (port) => `${site.origin}/server/demo/?master=ws://127.0.0.1:${port}/todos`;
+const state = (page, it) => page.until(`document.getElementById('status').dataset.state === '${it}'`, 60);
+const titles = (page) => page.evaluate(`[...document.querySelectorAll('li span')].map((it) => it.textContent).join()`);
+
+async function add(page, title) {
+  await page.evaluate(`document.querySelector('#add input').focus()`);
+  await page.type(title);
+  await page.key('Enter');
+}
+
+async function enter(page, secret) {
+  await state(page, 'waiting');
+  await page.evaluate(`document.querySelector('#enter input').focus()`);
+  await page.type(secret);
+  await page.key('Enter');
+  await state(page, 'in sync');
+}
+
+test('two browsers whose network goes and comes: in sync within two seconds', async (folder) => {
+  const place = await standing(join(folder, 'place'));
+  const between = await network(place.websocket);
+  const other = await launch(join(folder, 'other'));
+  try {
+    const pages = [
+      await chromium.page(url(between.port), { width: 1000, height: 700 }),
+      await other.page(url(between.port), { width: 390, height: 700 }),
+    ];
+    for (const page of pages) await enter(page, place.secret);
+    const isOnline = async (is) => {
+      const none = { latency: 0, downloadThroughput: -1, uploadThroughput: -1 };
+      for (const page of pages) {
+        await page.on('Network.enable');
+        await page.on('Network.emulateNetworkConditions', { offline: !is, ...none });
+      }
+    };
+    let due = [];
+    for (const how of ['cut', 'silent']) {
+      between.turn(how);
+      await isOnline(false);
+      for (const [n, page] of pages.entries()) {
+        await add(page, `${how} ${n}`);
+        await page.until(`document.getElementById('status').textContent.includes('To be sent later: 1.')`, 60);
+      }
+      due = [...due, `${how} 0`, `${how} 1`];
+      between.turn('open');
+      const since = performance.now();
+      await isOnline(true);
+      await until(async () => {
+        for (const page of pages) if (await titles(page) !== due.join()) return false;
+        return true;
+      }, `${how}: ${due}`);
+      for (const page of pages) await state(page, 'in sync');
+      const ms = Math.round(performance.now() - since);
+      same(ms < 2_000, true, `${how}: in sync after ${ms} ms, and within two seconds`);
+      console.log(`${how}: in sync after ${ms} ms`);
+    }
+  } finally {
+    await other.close();
+    between.close();
+  }
+});
+
 test('the demonstration on two browsers: edits apart, then in sync', async (folder) => {
   const place = await standing(join(folder, 'place'));
   const other = await launch(join(folder, 'other'));
   try {
-    const url = `${site.origin}/server/demo/?master=ws://127.0.0.1:${place.websocket}/todos`;
+    const own = url(place.websocket);
     const sizes = [{ width: 1000, height: 700 }, { width: 390, height: 700 }];
-    const pages = [await chromium.page(url, sizes[0]), await other.page(url, sizes[1])];
-    const state = (page, it) => page.until(`document.getElementById('status').dataset.state === '${it}'`, 60);
-    const spans = `[...document.querySelectorAll('li span')]`;
-    const titles = (page) => page.evaluate(`${spans}.map((it) => it.textContent).join()`);
-    const add = async (page, title) => {
-      await page.evaluate(`document.querySelector('#add input').focus()`);
-      await page.type(title);
-      await page.key('Enter');
-    };
+    const pages = [await chromium.page(own, sizes[0]), await other.page(own, sizes[1])];
     const picture = async (name) => {
       if (!pictures) return;
       for (const [n, page] of pages.entries()) {
@@ -217,11 +414,7 @@ test('the demonstration on two browsers: edits apart, then in sync', async (fold
       }
     };
     for (const page of pages) {
-      await state(page, 'waiting');
-      await page.evaluate(`document.querySelector('#enter input').focus()`);
-      await page.type(place.secret);
-      await page.key('Enter');
-      await state(page, 'in sync');
+      await enter(page, place.secret);
       same(await page.evaluate(`document.querySelector('#enter').offsetParent`), null, 'the form of the token');
     }
     await add(pages[0], 'Bake bread');
@@ -245,7 +438,7 @@ test('the demonstration on two browsers: edits apart, then in sync', async (fold
     const due = 'Also offline,Bake bread,Written offline,Buy milk';
     await all(due);
     await picture('3-again');
-    await pages[0].go(url);
+    await pages[0].go(own);
     await state(pages[0], 'in sync');
     same(await titles(pages[0]), due, 'after a reload, with the token that the browser keeps');
     for (const page of pages) await page.evaluate(`following.now()`);

@@ -40,6 +40,15 @@ def check_packages():
         raise Skipped(MISSING)
 
 
+def certificate(folder):
+    """Makes a certificate of 127.0.0.1 that is its own authority, and answers what the configuration says of it."""
+    words = ["-x509", "-newkey", "ec", "-pkeyopt", "ec_paramgen_curve:prime256v1", "-nodes", "-days", "2",
+             "-subj", "/CN=127.0.0.1", "-addext", "subjectAltName=IP:127.0.0.1",
+             "-keyout", "key.pem", "-out", "certificate.pem"]
+    subprocess.run(["openssl", "req", *words], cwd=folder, check=True, capture_output=True)
+    return 'certificate = "certificate.pem"\nkey = "key.pem"'
+
+
 class Place:
     """A cluster in a folder, with a server over it that has these collections, each at a port of its own."""
 

@@ -9,7 +9,7 @@ import ssl
 import subprocess
 import time
 
-from place import SCHEMA, Place, doc, pull_line, push_line, waited
+from place import SCHEMA, Place, certificate, doc, pull_line, push_line, waited
 from shared import ROOT, ask, case, compact, free_port, insist, is_served, said, same
 
 
@@ -227,13 +227,9 @@ def watched(folder):
 
 @case("a WebSocket over TLS", needs=["openssl"])
 def over_tls(folder):
-    paths = [os.path.join(folder, name) for name in ("key.pem", "certificate.pem")]
-    words = ["-x509", "-newkey", "ec", "-pkeyopt", "ec_paramgen_curve:prime256v1", "-nodes", "-days", "2",
-             "-subj", "/CN=127.0.0.1", "-addext", "subjectAltName=IP:127.0.0.1"]
-    subprocess.run(["openssl", "req", *words, "-keyout", paths[0], "-out", paths[1]], check=True,
-                   capture_output=True)
-    place = Place(folder, {"c": SCHEMA}, tls='certificate = "certificate.pem"\nkey = "key.pem"').start()
-    trusted = ssl.create_default_context(cafile=paths[1])
+    place = Place(folder, {"c": SCHEMA}, tls=certificate(folder)).start()
+    authority = os.path.join(folder, "certificate.pem")
+    trusted = ssl.create_default_context(cafile=authority)
     found = waited(opened(place, "c", place.secret, [push_line(1, [doc("k1")]), pull_line(2)], scheme="wss",
                           ssl=trusted))
     same([it["id"] for it in found[0][1]["docs"]], ["k1"], "a pull")
@@ -243,17 +239,17 @@ def over_tls(folder):
         insist(False, "it answers without TLS")
     except Exception as seen:  # pylint: disable=broad-except
         insist("HTTP" in str(seen) or isinstance(seen, (OSError, EOFError)), f"{seen!r}")
-    seen = by_dial(place, paths[1])
+    seen = by_dial(place, authority)
     place.end()
     return f"pushes and pulls by wss, and nothing without it; {seen} by rx_dial"
 
 
-def by_dial(place, certificate):
+def by_dial(place, authority):
     """What a port that leads to the server tells, with a token and without one."""
     port, seen = free_port(), []
     for secret in (place.secret, "0" * 64):
         words = [os.path.join(ROOT, "server", "rx_dial"), str(port),
-                 f"wss://127.0.0.1:{place.websocket}/c", certificate]
+                 f"wss://127.0.0.1:{place.websocket}/c", authority]
         child = subprocess.Popen(words, env={**os.environ, "RX_TOKEN": secret}, stderr=subprocess.DEVNULL)
         try:
             while not is_served(port):
