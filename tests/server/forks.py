@@ -115,19 +115,20 @@ def forks_over_links(folder):
     return f"{found['count']} documents: {', '.join(told)}"
 
 
-@case("many forks at once", seconds=1_800, needs=["program"])
+@case("many forks at once", seconds=3_600, needs=["program"])
 def many_forks(folder):
-    place, count = Place(folder, {"c": SCHEMA}).start(), 12
+    """Twelve of them write, or a tenth of all."""
+    place, count = Place(folder, {"c": SCHEMA}).start(), int(os.environ.get("FORKS", "12"))
     links = [Link(place.ports["c"], random.Random(SEED + number)) for number in range(count)]
     forks = [Fork(folder, f"fork{number}", link.port_in_front(), HANDLERS[number % 4])
              for number, link in enumerate(links)]
-    failed = []
+    writing, failed = max(12, count // 10), []
 
     def live(number):
         try:
             numbers = random.Random(SEED * (number + 1))
             for _ in range(25):
-                for _ in range(numbers.randrange(4)):
+                for _ in range(numbers.randrange(4) if number < writing else 0):
                     forks[number].edit(numbers)
                 forks[number].turn(batch=numbers.choice([1, 3, 100]))
             links[number].numbers = None
@@ -148,7 +149,8 @@ def many_forks(folder):
         same(fork.digest(), found, "a fork and the server")
         fork.end()
     place.end()
-    return f"{count} forks at once over links that lose, {found['count']} documents on all"
+    return f"{count} forks at once over links that lose, of which {min(count, writing)} write: " \
+           f"{found['count']} documents on all"
 
 
 # ---- kills

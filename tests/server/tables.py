@@ -55,6 +55,20 @@ def written_by_sql(folder):
     return f"one write of a master, and {len(tried)} documents refused by the schema"
 
 
+@case("tables without the function")
+def without_the_function(folder):
+    """An engine that can't have it serves as well."""
+    place = Place(folder, {"c": SCHEMA})
+    place.sql("DROP FUNCTION rx.write, rx.fault, rx.field_fault, rx.spelling")
+    place.start()
+    with place.dial("c") as wire:
+        same(ask(wire, push_line(1, [doc("k1")])), {"conflicts": [], "epoch": 1, "n": 1}, "a push")
+        same(ask(wire, pull_line(2))["docs"], [doc("k1")], "a pull")
+    same(place.sql("SELECT to_regproc('rx.write')"), [(None,)], "the function")
+    place.end()
+    return "pushes and pulls, and nothing made it"
+
+
 @case("the longest keys")
 def longest_keys(folder):
     """Each code point has four bytes, and nothing is left to compress."""
