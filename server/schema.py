@@ -33,9 +33,8 @@ class SchemaFault(Exception):
         self.cause, self.name = cause, name
 
 
-def compact(value: Any) -> str:
-    """The one spelling of a value: members by rising name, and no white space."""
-    return json.dumps(value, ensure_ascii=False, sort_keys=True, separators=(",", ":"))
+# The one spelling of a value: members by rising name, and no white space.
+compact = json.JSONEncoder(ensure_ascii=False, sort_keys=True, separators=(",", ":")).encode
 
 
 def is_whole(value: Any, least: int = -LARGEST, most: int = LARGEST) -> bool:
@@ -140,7 +139,7 @@ def indexes_of(schema: dict[str, Any]) -> list[list[str]]:
 # ---- the schema
 
 class Schema:
-    """A schema that was read: its canonical text, its hash, and the test of a document's fields."""
+    """A schema that was read: its canonical text, its hash, and the test of a document's state."""
 
     def __init__(self, value: Any):
         check(isinstance(value, dict), "not_object")
@@ -161,6 +160,7 @@ class Schema:
                              "required": self.required, "type": "object", "version": value["version"]})
         self.hash = hashlib.sha256(self.text.encode()).hexdigest()
         self.tests = {name: fits(rule, name == self.key) for name, rule in rules.items()}
+        self.tests["_deleted"] = fits({"type": "boolean"}, False)
         self.longest_key = rules[self.key]["maxLength"]
         self.longest_state = 20 + sum(len(name) + 4 + longest_value(rule) for name, rule in rules.items())
 
@@ -172,8 +172,13 @@ class Schema:
             raise SchemaFault("primary")
         return key
 
-    def is_valid(self, fields: dict[str, Any]) -> bool:
-        """Whether these are fields of a document."""
+    def is_valid(self, state: dict[str, Any]) -> bool:
+        """Whether it has fields of a document, and `_deleted` besides."""
         tests = self.tests
-        return all(name in fields for name in self.required) \
-            and all(name in tests and tests[name](value) for name, value in fields.items())
+        for name in self.required:
+            if name not in state:
+                return False
+        for name, value in state.items():
+            if name not in tests or not tests[name](value):
+                return False
+        return True

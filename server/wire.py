@@ -12,6 +12,10 @@ MOST_STATES = 100
 MOST_DEPTH = 127
 # What an escape of half a character begins with; two of them may make one.
 HALF = re.compile(r"\\u[dD][89a-fA-F]")
+ESCAPE = re.compile(r"\\(?:u([0-9a-fA-F]{4})|.)")
+# A text, or where lists and objects begin and end.
+MARK = re.compile(r'"[^"\\]*(?:\\.[^"\\]*)*"|[][{}]')
+NESTING = {"[": 1, "{": 1, "]": -1, "}": -1}
 
 
 class Fault(Exception):
@@ -73,27 +77,42 @@ def no_number(_text: str) -> None:
     raise Fault("not_json")
 
 
-def is_deep(value: Any) -> bool:
-    """Whether lists and objects nest deeper than a message may."""
-    level = [value]
-    for _ in range(MOST_DEPTH + 1):
-        level = [it for it in level if isinstance(it, (list, dict))]
-        if not level:
-            return False
-        level = [part for it in level for part in (it.values() if isinstance(it, dict) else it)]
-    return True
+def is_deep(text: str) -> bool:
+    """Whether lists and objects nest deeper than a message may, also in a member that stands twice."""
+    depth = 0
+    if text.count("[") + text.count("{") > MOST_DEPTH:
+        for it in MARK.finditer(text):
+            depth += NESTING.get(text[it.start()], 0)
+            if depth > MOST_DEPTH:
+                return True
+    return False
 
 
-def read_json(line: bytes) -> Any:
+def has_half(text: str) -> bool:
+    """Whether an escape of half a character stands without the other half."""
+    end = None
+    for it in ESCAPE.finditer(text):
+        unit = int(it[1] or "0", 16)
+        if (0xDC00 <= unit < 0xE000) != (end is not None) or end not in (None, it.start()):
+            return True
+        end = it.end() if 0xD800 <= unit < 0xDC00 else None
+    return end is not None
+
+
+def parse(line: bytes) -> tuple[str, Any]:
+    """A line as text, and its value, but that it may nest too deep."""
     try:
         text = line.decode()
         value = json.loads(text, parse_int=whole_number, parse_float=real_number, parse_constant=no_number)
-        if HALF.search(text):
-            compact(value).encode()
     except (ValueError, RecursionError):
         raise Fault("not_json") from None
-    if is_deep(value):
-        raise Fault("not_json")
+    check(not (HALF.search(text) and has_half(text)), "not_json")
+    return text, value
+
+
+def read_json(line: bytes) -> Any:
+    text, value = parse(line)
+    check(not is_deep(text), "not_json")
     return value
 
 
@@ -138,9 +157,8 @@ def is_row(value: Any) -> bool:
 
 def key_of(state: dict[str, Any], schema: Schema) -> str:
     """The key of a valid state."""
-    fields = {name: value for name, value in state.items() if name != "_deleted"}
-    check(schema.is_valid(fields), "invalid")
-    return fields[schema.key]
+    check(schema.is_valid(state), "invalid")
+    return state[schema.key]
 
 
 def row_of(value: dict[str, Any], schema: Schema) -> Row:
@@ -192,17 +210,26 @@ def request_text(request: Request, schema: Schema) -> str:
     return f'{{"ask":"pull","batch":{request.batch},{numbers},{place}"schema":"{schema.hash}"}}'
 
 
-def read_request(line: bytes, schema: Schema) -> Request:
-    """The request that a line is, or its first fault."""
-    check(len(line) <= LONGEST_LINE, "too_long")
-    value = read_json(line)
+def request_of(value: Any, schema: Schema) -> Request:
     check(isinstance(value, dict), "not_object")
     check("ask" in value, "missing")
     reader = READERS.get(value["ask"]) if type(value["ask"]) is str else None
     if reader is None:
         raise Fault("wrong_type")
-    request = reader(value, schema)
-    check(request_text(request, schema).encode() == line, "spelling")
+    return reader(value, schema)
+
+
+def read_request(line: bytes, schema: Schema) -> Request:
+    """The request that a line is, or its first fault."""
+    check(len(line) <= LONGEST_LINE, "too_long")
+    text, value = parse(line)
+    try:
+        request = request_of(value, schema)
+        check(request_text(request, schema) == text, "spelling")
+    except Fault:
+        # A request doesn't nest too deep, so it is asked only of what is none.
+        check(not is_deep(text), "not_json")
+        raise
     return request
 
 

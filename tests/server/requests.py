@@ -1,5 +1,6 @@
 """What a master makes of a line, by docs/WIRE.md and apart from the server: the request that it is, or its
 first fault; and near misses of right requests, by single edits."""
+import itertools
 import json
 import math
 
@@ -26,17 +27,20 @@ def no_json(text):
 
 
 def levels(value):
-    inner = value.values() if isinstance(value, dict) else value if isinstance(value, list) else None
-    return 0 if inner is None else 1 + max(map(levels, inner), default=0)
+    return 1 + max(map(levels, value), default=0) if isinstance(value, list) else 0
 
 
 def value_of(line):
-    """The JSON that a line is; else it raises ValueError or RecursionError."""
-    value = json.loads(line.decode(), parse_int=number, parse_float=number, parse_constant=no_json)
-    printed(value).encode()  # a text may have half a character
-    if levels(value) > MOST_LEVELS:
+    """The JSON that a line is; else it raises ValueError or RecursionError. Of members that stand twice the last
+    one counts, and of the others too that they are JSON."""
+    def parsed(**more):
+        return json.loads(line.decode(), parse_int=number, parse_float=number, parse_constant=no_json, **more)
+
+    whole = parsed(object_pairs_hook=lambda pairs: [*itertools.chain(*pairs)])
+    printed(whole).encode()  # a text may have half a character
+    if levels(whole) > MOST_LEVELS:
         raise ValueError("depth")
-    return value
+    return parsed()
 
 
 def is_marked(it):
@@ -129,7 +133,7 @@ def spelt_otherwise(numbers, line):
         lambda: told.replace('"n":1', '"n":1.0'), lambda: told.replace('"n":1', '"n":1e0'),
         lambda: told.replace("é", "\\u00e9"), lambda: told.replace('"id":"', '"id":"\\ud800'),
         lambda: told.replace('"id":"', '"id":"\\ud83d\\ude00', 1), lambda: told.replace('"t":"', '"t":"\t'),
-        lambda: told.replace("/", "\\/")])().encode(errors="replace")
+        lambda: told.replace("{", '{"n":"\\ud800",', 1), lambda: told.replace("/", "\\/")])().encode(errors="replace")
 
 
 def deep(levels_there):
@@ -144,5 +148,7 @@ ODD = [
     b'{"a":01}', b'{"a":.5}', b'{"a":1.}', b"\x0b{}", b"{}\x00", b'{"\\u0000":1}', b'{"a":"\\x"}',
     b'{"a":"\\u00G0"}', b"\xed\xa0\x80", b'"\xc0\x80"', b'{"ask":"pull","ask":"push"}',
     b'{"ask":"pull","fault":1}', b'{"ask":"\\ud83d\\ude00"}', b'{"ask":"\\ud83dx"}', b'{"ask":"\\ude00"}',
-    b'{"ask":{}}',
+    b'{"ask":{}}', b'{"a":"\\ud800","a":1}', b'{"a":' + deep(127) + b',"a":1}', b'{"a":' + deep(126) + b',"a":1}',
+    b'{"a":"\\\\ud800"}', b'{"a":"\\ud83d\\ude00\\ude00"}', b'{"a":"\\ud83d","b":"\\ude00"}',
+    b'{"a":"[{' + b"[" * 200 + b'"}', b'{"a":"\\"' + b"[" * 200 + b'"}', b'{"a":1e999,"a":1}',
 ]
