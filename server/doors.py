@@ -160,7 +160,11 @@ def open_pages(house: House, host: str, port: int, tls: ssl.SSLContext | None) -
 # ---- TCP
 
 async def pieces_of(reader: asyncio.StreamReader, seconds: int) -> AsyncIterator[bytes]:
-    while piece := await asyncio.wait_for(reader.read(1 << 16), seconds):
+    while True:
+        async with asyncio.timeout(seconds):
+            piece = await reader.read(1 << 16)
+        if not piece:
+            return
         yield piece
 
 
@@ -183,7 +187,8 @@ async def open_port(house: House, port: int, name: str, token: str) -> asyncio.S
     async def come(reader: asyncio.StreamReader, writer: asyncio.StreamWriter) -> None:
         async def send(line: bytes) -> None:
             writer.write(line)
-            await asyncio.wait_for(writer.drain(), house.limits.idle_seconds)
+            async with asyncio.timeout(house.limits.idle_seconds):
+                await writer.drain()
 
         try:
             connection = None if house.is_full() else await house.connection(token, name)

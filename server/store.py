@@ -4,7 +4,7 @@ import hashlib
 import os
 import re
 import time
-from collections.abc import Callable
+from collections.abc import Callable, Iterable
 from dataclasses import dataclass
 from typing import TypeVar
 
@@ -41,6 +41,15 @@ class Collection:
         return sql.SQL(text).format(table=sql.Identifier("documents", self.name),
                                     by_key=sql.Identifier(f"{self.name} KEY"),
                                     by_place=sql.Identifier(f"{self.name} LWT"))
+
+
+def array(texts: Iterable[str]) -> str:
+    """A list in PostgreSQL's spelling, for which the driver takes ten times as long."""
+    return "{" + ",".join(['"' + it.replace("\\", "\\\\").replace('"', '\\"') + '"' for it in texts]) + "}"
+
+
+def bytea(it: bytes) -> str:
+    return "\\x" + it.hex()
 
 
 def now() -> int:
@@ -173,7 +182,7 @@ class Store:
         """Answers pushes one after another, in one transaction. Each takes its rows whose assumed state is
         held, at a write time of its own. To each the states that its other rows met, or none where no time
         is left."""
-        keys = list({row.key for request in requests for row in request.rows})
+        keys = array({bytea(row.key) for request in requests for row in request.rows})
 
         def call(connection: Connection) -> list[list[str] | None]:
             locked = connection.execute("SELECT last FROM rx.collections WHERE name = %s FOR UPDATE",
@@ -181,7 +190,7 @@ class Store:
             (last,) = locked.fetchone()
             # A statement of its own, as it has to see what was committed while the lock was waited for.
             held = dict(connection.execute(
-                collection.query("SELECT key, state FROM {table} WHERE key = ANY(%s)"), (keys,)).fetchall())
+                collection.query("SELECT key, state FROM {table} WHERE key = ANY(%s::bytea[])"), (keys,)).fetchall())
             batch = Batch(held, last)
             answers = [batch.answer(request) for request in requests]
             if batch.written:
@@ -197,6 +206,7 @@ class Store:
             "INSERT INTO {table} (key, state, lwt, deleted) "
             "SELECT * FROM unnest(%s::bytea[], %s::text[], %s::bigint[], %s::boolean[]) ON CONFLICT (key) "
             "DO UPDATE SET state = excluded.state, lwt = excluded.lwt, deleted = excluded.deleted"),
-            ([it.key for it in rows], [it.new for it in rows], list(times), [it.deleted for it in rows]))
+            (array(bytea(it.key) for it in rows), array(it.new for it in rows), array(map(str, times)),
+             array("t" if it.deleted else "f" for it in rows)))
         connection.execute("UPDATE rx.collections SET last = %s WHERE name = %s",
                            (batch.last, collection.name))
