@@ -4,11 +4,12 @@
     bench/server.py [PROGRAM] [--documents N] [--connected N] [--writing N] [--seconds N] [--json FILE]
 
 A push of 1 and of 100 documents and a pull of 100, by one client and by one connection of psycopg in turn: the
-same statements in one transaction, and the same SELECT with its states joined as JSON. Then N (1,000,000)
-documents are pulled by a client that is new, and where PROGRAM is there by a fork of it. Last N (1,000) clients
-are connected, of which N (100) push one document after another for N (20) seconds while the others pull pages
-of 100; beside them as many threads do the bare statements, over as many connections as the server has.
-Clients are processes of their own, two of them. The cluster is the benchmark's own, in a temporary folder.
+same statements in one transaction, and the same SELECT with its states joined as JSON. Then N (1,000) clients
+are connected, of which N (100) push a document each half second, and in a second load 100 documents each 2.5
+seconds, for N (20) seconds while the others pull 100 pages of 100 a second; beside them as many threads do the
+bare statements at the same pace, over as many connections as the server has. Last N (1,000,000) documents are pulled by a client that is new, and where PROGRAM
+is there by a fork of it, which is quiet then and has the server's digest. Clients are processes of their own,
+two of them. The cluster is the benchmark's own, in a temporary folder.
 """
 import itertools
 import json
@@ -36,16 +37,20 @@ CLIENTS = 2
 # As the server has where nothing else is said.
 CONNECTIONS = 8
 PAGE, BATCH = 100, 100
+# Seconds between the pushes of a client, by their documents, and between the pulls of a process.
+PUSH_EVERY, PULL_EVERY = {1: 0.5, BATCH: 2.5}, 0.02
 LIMITS = "requests_a_second = 1000000\nrows_a_second = 100000000\nidle_seconds = 600"
 
 
 # ---- figures
 
-def times_of(count, call):
+def times_of(count, ready, call):
+    """How long each call takes, of what is made ready before."""
     times = []
-    for number in range(count):
+    for _ in range(count):
+        made = ready()
         begun = time.perf_counter()
-        call(number)
+        call(made)
         times.append(time.perf_counter() - begun)
     return times
 
@@ -66,25 +71,29 @@ def beside(what, found, due):
 
 
 def by_turns(what, count, mine, bare):
-    """The same count of either, in turn, so that both meet the same machine."""
+    """The same count of either, in turn, so that both meet the same machine. Each is what makes a call ready, and
+    the call."""
     found, due = [], []
     for _ in range(4):
-        due += times_of(count // 4, bare)
-        found += times_of(count // 4, mine)
+        due += times_of(count // 4, *bare)
+        found += times_of(count // 4, *mine)
     beside(what, found, due)
 
 
 # ---- the bare statements
 
-def bare_push(connection, keys):
-    states = [f'{{"_deleted":false,"id":"{key}","n":1}}' for key in keys]
-    held = [key.encode() for key in keys]
+def rows_of(keys):
+    return [key.encode() for key in keys], [f'{{"_deleted":false,"id":"{key}","n":1}}' for key in keys]
+
+
+def bare_push(connection, rows):
+    keys, states = rows
     with connection.transaction():
         (last,) = connection.execute("SELECT last FROM rx.collections WHERE name = 'c' FOR UPDATE").fetchone()
-        connection.execute("SELECT key, state FROM documents.c WHERE key = ANY(%s)", (held,)).fetchall()
+        connection.execute("SELECT key, state FROM documents.c WHERE key = ANY(%s)", (keys,)).fetchall()
         connection.execute("INSERT INTO documents.c SELECT key, state, %s, false "
                            "FROM unnest(%s::bytea[], %s::text[]) AS it (key, state) "
-                           "ON CONFLICT (key) DO UPDATE SET state = excluded.state", (last + 1, held, states))
+                           "ON CONFLICT (key) DO UPDATE SET state = excluded.state", (last + 1, keys, states))
         connection.execute("UPDATE rx.collections SET last = %s WHERE name = 'c'", (last + 1,))
 
 
@@ -96,19 +105,23 @@ def bare_pull(connection):
 # ---- many at once
 
 class Crowd:
-    """Threads of this process that push or pull until a moment, and how long each call took."""
+    """Threads of this process that push or pull at their pace until a moment, and how long each call took."""
 
     def __init__(self, until):
         self.until, self.threads = until, []
         self.times = {"push": [], "pull": []}
 
-    def add(self, what, call):
+    def add(self, what, ready, call, every, share=0.0):
+        """A call is of what was made ready for its number. The first begins at this share of the time between."""
         def live():
-            mine, n = [], itertools.count(1)
+            mine, numbers, due = [], itertools.count(), time.time() + share * every
             while time.time() < self.until:
+                made = ready(next(numbers))
+                time.sleep(max(0, due - time.time()))
                 begun = time.perf_counter()
-                call(next(n))
+                call(made)
                 mine.append(time.perf_counter() - begun)
+                due += every
             self.times[what] += mine
 
         self.threads.append(threading.Thread(target=live))
@@ -121,16 +134,30 @@ class Crowd:
         return self.times
 
 
-def forks(place, number, until):
+def keys_of(letter, at, n, rows):
+    """The keys of a writer's push, which nobody pushed before: they may have six code points."""
+    return [f"{letter}{at:02}{chr(0x4e00 + it // 100)}{it % 100:02}" for it in range(n * rows, n * rows + rows)]
+
+
+def line_of(keys):
+    return push_line(1, [doc(key) for key in keys])
+
+
+def push_new(wire, line):
+    insist(not ask(wire, line)["conflicts"], "a document that isn't new")
+
+
+def forks(place, letter, rows, number, until):
     """A process's part of the connected clients: those that write, and one that pulls by all others in turn."""
     crowd = Crowd(until)
     for at in range(number, WRITING, CLIENTS):
         wire = place.dial("c")
-        crowd.add("push", lambda n, wire=wire, at=at: ask(wire, push_line(n, [doc(f"w{at:02}{n % 1000:03}"[:6])])))
+        crowd.add("push", lambda n, at=at: line_of(keys_of(letter, at, n, rows)),
+                  lambda line, wire=wire: push_new(wire, line), PUSH_EVERY[rows], at / WRITING)
     others = [place.dial("c") for _ in range(number, CONNECTED - WRITING, CLIENTS)]
     for n, wire in enumerate(others):
         ask(wire, pull_line(n + 1))
-    crowd.add("pull", lambda n: ask(others[n % len(others)], pull_line(n)))
+    crowd.add("pull", lambda n: others[n % len(others)], lambda wire: ask(wire, pull_line(1)), PULL_EVERY)
     return crowd.lived()
 
 
@@ -140,29 +167,30 @@ def pool_of(conninfo):
                           kwargs={"autocommit": True})
 
 
-def bare_forks(conninfo, number, until):
+def bare_forks(place, letter, rows, number, until):
     """The same calls by the bare statements, over this process's part of the connections."""
-    crowd = Crowd(until)
+    crowd, conninfo = Crowd(until), place.cluster.conninfo
     with pool_of(conninfo) as writing, pool_of(conninfo) as reading:
-        def push(n, at):
+        def push(made):
             with writing.connection() as connection:
-                bare_push(connection, [f"w{at:02}{n % 1000:03}"[:6]])
+                bare_push(connection, made)
 
-        def pull():
+        def pull(_):
             with reading.connection() as connection:
                 bare_pull(connection)
 
         for at in range(number, WRITING, CLIENTS):
-            crowd.add("push", lambda n, at=at: push(n, at))
-        crowd.add("pull", lambda _: pull())
+            crowd.add("push", lambda n, at=at: rows_of(keys_of(letter, at, n, rows)), push, PUSH_EVERY[rows],
+                      at / WRITING)
+        crowd.add("pull", lambda _: None, pull, PULL_EVERY)
         return crowd.lived()
 
 
 def part(call, where, number, until, told_to):
-    told_to.put(call(where, number, until))
+    told_to.put(call(*where, number, until))
 
 
-def lived(call, where):
+def lived(call, *where):
     """What all processes of clients saw."""
     # Connecting takes a while, before the seconds that count.
     until, told_to = time.time() + SECONDS + CONNECTED / 200, multiprocessing.Queue()
@@ -176,10 +204,11 @@ def lived(call, where):
     return {what: [time for it in parts for time in it[what]] for what in ("push", "pull")}
 
 
-def crowds(place):
-    of = f"{CONNECTED:,} connected, {WRITING} writing"
-    due, found = lived(bare_forks, place.cluster.conninfo), lived(forks, place)
-    for what, words in (("push", "pushes of 1"), ("pull", f"pulls of {PAGE}")):
+def crowds(place, rows, letters):
+    """Each side has a letter for its keys."""
+    of = f"{CONNECTED:,} connected, {WRITING} writing {rows} each {PUSH_EVERY[rows]} s"
+    due, found = (lived(call, place, letter, rows) for call, letter in zip((bare_forks, forks), letters))
+    for what, words in (("push", f"pushes of {rows}"), ("pull", f"pulls of {PAGE}")):
         print(f"{of}: {len(found[what]):,} {words}, and {len(due[what]):,} bare", flush=True)
         beside(f"{of}, {words}", found[what], due[what])
 
@@ -218,9 +247,11 @@ def pull_by_program(place, folder):
     while "exchange" in reply:
         reply = json.loads(talk.child.stdout.readline())
     insist(reply["end"] == "quiet", f"{reply}")
-    count = talk.ask(compact({"do": "digest", "in": "f"}))["count"]
+    found = talk.ask(compact({"do": "digest", "in": "f"}))
     talk.end()
-    return count
+    due = place.digest("c")
+    insist({it: found[it] for it in due} == due, f"the fork has {found}, and the server {due}")
+    return found["count"]
 
 
 def new_fork(place, who, call):
@@ -236,18 +267,18 @@ def new_fork(place, who, call):
 def measure(place, folder):
     fresh = itertools.count()
     with place.dial("c") as wire, psycopg.connect(place.cluster.conninfo, autocommit=True) as bare:
-        def push(count):
-            reply = ask(wire, push_line(1, [doc(f"s{next(fresh):x}") for _ in range(count)]))
-            insist(not reply["conflicts"], "a document that isn't new")
+        def keys(letter, count):
+            return [f"{letter}{next(fresh):x}" for _ in range(count)]
 
-        def push_bare(count):
-            bare_push(bare, [f"b{next(fresh):x}" for _ in range(count)])
-
-        by_turns("a push of 1", 400, lambda _: push(1), lambda _: push_bare(1))
-        by_turns("a push of 100", 80, lambda _: push(100), lambda _: push_bare(100))
+        for count, times in ((1, 400), (BATCH, 80)):
+            by_turns(f"a push of {count}", times,
+                     (lambda count=count: line_of(keys("s", count)), lambda line: push_new(wire, line)),
+                     (lambda count=count: rows_of(keys("b", count)), lambda rows: bare_push(bare, rows)))
         bare.execute("ANALYZE documents.c")
-        by_turns("a pull of 100", 400, lambda _: ask(wire, pull_line(1)), lambda _: bare_pull(bare))
-    crowds(place)
+        by_turns(f"a pull of {PAGE}", 400, (lambda: pull_line(1), lambda line: ask(wire, line)),
+                 (lambda: None, lambda _: bare_pull(bare)))
+    crowds(place, 1, "vw")
+    crowds(place, BATCH, "xy")
     fill(place, DOCUMENTS)
     new_fork(place, "a new client", lambda: pull_all(place))
     if os.path.exists(program()):
