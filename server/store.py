@@ -2,6 +2,7 @@
 it has returned; of one that failed it isn't known."""
 import hashlib
 import os
+import random
 import re
 import time
 from collections.abc import Callable, Iterable
@@ -20,8 +21,9 @@ HERE = os.path.dirname(os.path.abspath(__file__))
 NAME = re.compile(r"[a-z][a-z0-9_-]{0,58}")
 # An index of PostgreSQL takes entries of at most 2,704 bytes, and a code point of a key has up to four.
 MOST_KEY_POINTS = 650
-# Engines that don't wait for a lock say that a transaction is to be tried again.
-TRIES = 20
+# Engines that don't wait for a lock say that a transaction is to be tried again. Behind each such failure at
+# most so many seconds are waited.
+WAITS = [min(0.001 * 2**tries, 0.1) for tries in range(20)]
 AGAIN = (errors.SerializationFailure, errors.DeadlockDetected)
 
 T = TypeVar("T")
@@ -89,21 +91,29 @@ class Store:
     def __init__(self, pool: ConnectionPool):
         self.pool = pool
 
-    def transact(self, call: Callable[[Connection], T]) -> T:
-        """What a call makes of a connection in one transaction, made anew where the database says so."""
-        for left in range(TRIES, 0, -1):
+    def attempt(self, call: Callable[[Connection], T]) -> T:
+        """What a call makes of a connection, made anew where the database says so."""
+        for wait in WAITS:
             try:
-                with self.pool.connection() as connection, connection.transaction():
+                with self.pool.connection() as connection:
                     return call(connection)
             except AGAIN:
-                if left == 1:
-                    raise
-        raise AssertionError
+                # Others wait too, and not as long.
+                time.sleep(random.uniform(0, wait))
+        with self.pool.connection() as connection:
+            return call(connection)
+
+    def transact(self, call: Callable[[Connection], T]) -> T:
+        """What a call makes of a connection in one transaction."""
+        def whole(connection: Connection) -> T:
+            with connection.transaction():
+                return call(connection)
+
+        return self.attempt(whole)
 
     def rows(self, text: str | sql.Composed, *values: object) -> list[tuple]:
         """The rows of a statement that is a transaction by itself."""
-        with self.pool.connection() as connection:
-            return connection.execute(text, values).fetchall()
+        return self.attempt(lambda connection: connection.execute(text, values).fetchall())
 
     def first(self, text: str | sql.Composed, *values: object) -> tuple | None:
         return next(iter(self.rows(text, *values)), None)

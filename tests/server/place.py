@@ -1,5 +1,6 @@
 """What the tests of the server share: a PostgreSQL of their own, the server over it, and how it is asked."""
 import asyncio
+import copy
 import json
 import os
 import socket
@@ -64,15 +65,24 @@ class Place:
         self.cluster = Cluster(os.path.join(folder, "pg")).make().start()
         self.config, self.log = os.path.join(folder, "rx_server.toml"), os.path.join(folder, "log")
         self.child = None
-        self.configure(collections, limits, tls)
-        for name in collections:
-            self.command("collection", name, os.path.join(folder, f"{name}.json"))
+        self.configure(limits, tls)
+        for name, schema in collections.items():
+            path = os.path.join(folder, f"{name}.json")
+            with open(path, "w", encoding="utf-8") as file:
+                file.write(compact(schema))
+            self.command("collection", name, path)
         self.secret = self.command("token", "all", *(f"{name}:write" for name in collections)).strip()
 
-    def configure(self, collections, limits, tls):
-        for name, schema in collections.items():
-            with open(os.path.join(self.folder, f"{name}.json"), "w", encoding="utf-8") as file:
-                file.write(compact(schema))
+    def another(self):
+        """One more server over the same database."""
+        it = copy.copy(self)
+        it.config, it.log, it.child = f"{self.config}.more", f"{self.log}.more", None
+        it.ports = {name: free_port() for name in self.ports}
+        it.websocket, it.watch = free_port(), free_port()
+        it.configure("", "")
+        return it
+
+    def configure(self, limits, tls):
         doors = "".join(f'[[tcp]]\nport = {port}\ncollection = "{name}"\ntoken = "all"\n'
                         for name, port in self.ports.items())
         with open(self.config, "w", encoding="utf-8") as file:

@@ -4,6 +4,7 @@ import json
 import os
 import random
 import subprocess
+from concurrent.futures import ThreadPoolExecutor
 
 import replies
 from model import MAX_TIME, printed
@@ -84,6 +85,65 @@ def longest_keys(folder):
     place.end()
     return "keys of 2,600 bytes"
 
+
+# ---- several who write
+
+COUNTED = {**SCHEMA, "properties": {**SCHEMA["properties"], "n": {"type": "integer"}}}
+
+
+def counted(n):
+    return {"_deleted": False, "id": "k", "n": n}
+
+
+def count_by_pushes(place, times):
+    """Adds so often one to the document that is held."""
+    asked, known, left = {"ask": "push", "epoch": 1, "n": 1, "schema": hash_of(COUNTED)}, counted(0), times
+    with place.dial("c") as wire:
+        while left:
+            new = counted(known["n"] + 1)
+            conflicts = ask(wire, printed({**asked, "rows": [{"assumed": known, "new": new}]}))["conflicts"]
+            known, left = (conflicts[0], left) if conflicts else (new, left - 1)
+
+
+def count_by_sql(place, times):
+    """As server/README.md has it, and anew where the database says so."""
+    import psycopg
+    left = times
+    with psycopg.connect(place.cluster.conninfo) as connection:
+        while left:
+            try:
+                with connection.transaction():
+                    connection.execute("SELECT last FROM rx.collections WHERE name = 'c' FOR UPDATE")
+                    (n,) = connection.execute("SELECT state::jsonb ->> 'n' FROM documents.c").fetchone()
+                    connection.execute("SELECT rx.write('c', %s)", (f'{{"id":"k","n":{int(n) + 1}}}',))
+                left -= 1
+            except psycopg.errors.SerializationFailure:
+                pass
+
+
+@case("two servers over one database, and a program that writes")
+def several_writers(folder):
+    """No write is lost, under the isolation that PostgreSQL has and under the strictest one."""
+    times = 60
+    for isolation in ("read committed", "serializable"):
+        inner = os.path.join(folder, isolation.split()[0])
+        os.mkdir(inner)
+        place = Place(inner, {"c": COUNTED})
+        place.sql(f"ALTER DATABASE postgres SET default_transaction_isolation = '{isolation}'")
+        servers = [place.start(), place.another().start()]
+        place.sql("SELECT rx.write('c', '{\"id\":\"k\",\"n\":0}')")
+        with ThreadPoolExecutor() as threads:
+            work = [threads.submit(count_by_pushes, it, times) for it in servers * 2]
+            work.append(threads.submit(count_by_sql, place, times))
+        for it in work:
+            it.result()
+        same(place.sql("SELECT state FROM documents.c"), [(printed(counted(5 * times)),)], isolation)
+        servers[1].kill()
+        place.end()
+    return f"{5 * times} times one more, by four clients and by SQL"
+
+
+# ---- schemas
 
 WORDS = ["type", "maxLength", "minimum", "multipleOf", "title", "required", "indexes", "x"]
 VALUES = [*replies.VALUES, {}, "string", "number", "integer", ["n", "n"], ["x"], "b", "t", ["t"], 131_072,
