@@ -8,6 +8,7 @@ const byId = (id) => document.getElementById(id);
 function say(state, text) {
   byId('status').dataset.state = state;
   byId('status').textContent = text;
+  byId('forget').hidden = state !== 'offline';
 }
 
 // The token is kept by the browser, and goes to the server alone.
@@ -23,10 +24,21 @@ async function token() {
   return token();
 }
 
+// A page isn't told why a server doesn't take it: the token may be another one's.
+byId('forget').onclick = () => {
+  localStorage.removeItem('token');
+  location.reload();
+};
+
 const schema = await (await fetch('../todos.json')).json();
 const masters = { [port]: { url: master, token: await token() } };
 say('starting', 'Starting …');
-const db = await open(wasm('../../wasm/out', 'todos', { masters }));
+const waiting = () => say('waiting', 'The list is open in another tab. Close that one to have it here.');
+const db = await open(wasm('../../wasm/out', 'todos', { masters }), { waiting }).catch((fault) => {
+  say('failed', `The list can't be opened: ${fault.message}`);
+  throw fault;
+});
+db.stopped.then((why) => say('failed', `The list was closed: ${why.message}`));
 const todos = await db.collection('todos', schema);
 await db.replicate({ name: 'sync', fork: 'todos', port, handler: 'greater', field: 'edited' })
   .catch((fault) => { if (fault.word !== 'exists') throw fault; });

@@ -348,12 +348,12 @@ async function add(page, title) {
   await page.key('Enter');
 }
 
-async function enter(page, secret) {
+async function enter(page, secret, due = 'in sync') {
   await state(page, 'waiting');
   await page.evaluate(`document.querySelector('#enter input').focus()`);
   await page.type(secret);
   await page.key('Enter');
-  await state(page, 'in sync');
+  await state(page, due);
 }
 
 test('two browsers whose network goes and comes: in sync within two seconds', async (folder) => {
@@ -413,10 +413,16 @@ test('the demonstration on two browsers: edits apart, then in sync', async (fold
         writeFileSync(join(pictures, `${name}-${n}.png`), await page.picture());
       }
     };
+    await enter(pages[1], '0'.repeat(64), 'offline');
+    await picture('0-another-token');
+    await pages[1].evaluate(`document.getElementById('forget').click()`);
     for (const page of pages) {
       await enter(page, place.secret);
       same(await page.evaluate(`document.querySelector('#enter').offsetParent`), null, 'the form of the token');
     }
+    const tab = await chromium.page(own, sizes[0]);
+    await tab.until(`document.getElementById('status').textContent.includes('another tab')`, 60);
+    await tab.close();
     await add(pages[0], 'Bake bread');
     await add(pages[1], 'Buy milk');
     const all = (due) => until(async () => {
