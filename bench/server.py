@@ -3,19 +3,22 @@
 
     bench/server.py [PROGRAM] [--documents N] [--connected N] [--writing N] [--seconds N] [--json FILE]
 
-A push of 1 and of 100 documents and a pull of 100, by one client and by one connection of psycopg in turn: the
-same statements in one transaction, and the same SELECT with its states joined as JSON. Then N (1,000) clients
-are connected, of which N (100) push a document each half second, and in a second load 100 documents each 2.5
+A push of 1 and of 100 documents and a pull of 100, by one client over TCP and by one over a WebSocket, and by one
+connection of psycopg in turn: the same statements in one transaction, and the same SELECT with its states joined
+as JSON. Then N (1,000) clients
+are connected, every second one by a WebSocket, of which N (100) push a document each half second, and in a second load 100 documents each 2.5
 seconds, for N (20) seconds while the others pull 100 pages of 100 a second; beside them as many threads do the
 bare statements at the same pace, over as many connections as the server has. Last N (1,000,000) documents are pulled by a client that is new, and where PROGRAM
 is there by a fork of it, which is quiet then and has the server's digest. Clients are processes of their own,
 two of them. The cluster is the benchmark's own, in a temporary folder.
 """
+import functools
 import itertools
 import json
 import multiprocessing
 import os
 import statistics
+import struct
 import sys
 import tempfile
 import threading
@@ -78,6 +81,52 @@ def by_turns(what, count, mine, bare):
         due += times_of(count // 4, *bare)
         found += times_of(count // 4, *mine)
     beside(what, found, due)
+
+
+# ---- clients
+
+class Page:
+    """A WebSocket by hand, as little as it needs: its mask is of zeros, which leave a message as it is."""
+
+    def __init__(self, place):
+        self.wire = place.dial(port=place.websocket)
+        self.wire.sendall(f"GET /c HTTP/1.1\r\nHost: 127.0.0.1\r\nUpgrade: websocket\r\nConnection: Upgrade\r\n"
+                          "Sec-WebSocket-Version: 13\r\nSec-WebSocket-Key: AAAAAAAAAAAAAAAAAAAAAA==\r\n"
+                          f"Sec-WebSocket-Protocol: rx, token.{place.secret}\r\n\r\n".encode())
+        head = b""
+        while not head.endswith(b"\r\n\r\n"):
+            head += self.wire.recv(1)
+        insist(b" 101 " in head, head)
+        self.came = self.wire.makefile("rb")
+
+    def ask(self, line):
+        message = line.encode() + b"\n"
+        size, form = (len(message), "!BB") if len(message) < 126 else (126, "!BBH")
+        self.wire.sendall(struct.pack(form, 0x82, 0x80 | size, *[len(message)] * (size == 126)) + bytes(4) + message)
+        while True:
+            kind, size = self.came.read(2)
+            if size > 125:
+                size = int.from_bytes(self.came.read(2 if size == 126 else 8), "big")
+            told = self.came.read(size)
+            if kind == 0x82:
+                return json.loads(told)
+
+
+def by_port(place):
+    wire = place.dial("c")
+    return lambda line: ask(wire, line)
+
+
+def by_page(place):
+    return Page(place).ask
+
+
+DOORS = {"TCP": by_port, "a WebSocket": by_page}
+
+
+def dialled(place, number):
+    """A client's way to ask. Every second one has a WebSocket."""
+    return (by_port, by_page)[number % 2](place)
 
 
 # ---- the bare statements
@@ -143,21 +192,20 @@ def line_of(keys):
     return push_line(1, [doc(key) for key in keys])
 
 
-def push_new(wire, line):
-    insist(not ask(wire, line)["conflicts"], "a document that isn't new")
+def push_new(asked, line):
+    insist(not asked(line)["conflicts"], "a document that isn't new")
 
 
 def forks(place, letter, rows, number, until):
     """A process's part of the connected clients: those that write, and one that pulls by all others in turn."""
     crowd = Crowd(until)
     for at in range(number, WRITING, CLIENTS):
-        wire = place.dial("c")
         crowd.add("push", lambda n, at=at: line_of(keys_of(letter, at, n, rows)),
-                  lambda line, wire=wire: push_new(wire, line), PUSH_EVERY[rows], at / WRITING)
-    others = [place.dial("c") for _ in range(number, CONNECTED - WRITING, CLIENTS)]
-    for n, wire in enumerate(others):
-        ask(wire, pull_line(n + 1))
-    crowd.add("pull", lambda n: others[n % len(others)], lambda wire: ask(wire, pull_line(1)), PULL_EVERY)
+                  functools.partial(push_new, dialled(place, at // CLIENTS)), PUSH_EVERY[rows], at / WRITING)
+    others = [dialled(place, at // CLIENTS) for at in range(number, CONNECTED - WRITING, CLIENTS)]
+    for asked in others:
+        asked(pull_line(1))
+    crowd.add("pull", lambda n: others[n % len(others)], lambda asked: asked(pull_line(1)), PULL_EVERY)
     return crowd.lived()
 
 
@@ -264,19 +312,26 @@ def new_fork(place, who, call):
     figure(who, documents=count, rate=rate, memory=after)
 
 
-def measure(place, folder):
-    fresh = itertools.count()
-    with place.dial("c") as wire, psycopg.connect(place.cluster.conninfo, autocommit=True) as bare:
-        def keys(letter, count):
-            return [f"{letter}{next(fresh):x}" for _ in range(count)]
+def singles(place, door, dial):
+    """One client beside one connection of psycopg."""
+    fresh, asked = itertools.count(), dial(place)
 
+    def keys(side, count):
+        return [f"{side}{door[0]}{next(fresh):x}" for _ in range(count)]
+
+    with psycopg.connect(place.cluster.conninfo, autocommit=True) as bare:
         for count, times in ((1, 400), (BATCH, 80)):
-            by_turns(f"a push of {count}", times,
-                     (lambda count=count: line_of(keys("s", count)), lambda line: push_new(wire, line)),
+            by_turns(f"a push of {count} over {door}", times,
+                     (lambda count=count: line_of(keys("s", count)), lambda line: push_new(asked, line)),
                      (lambda count=count: rows_of(keys("b", count)), lambda rows: bare_push(bare, rows)))
         bare.execute("ANALYZE documents.c")
-        by_turns(f"a pull of {PAGE}", 400, (lambda: pull_line(1), lambda line: ask(wire, line)),
+        by_turns(f"a pull of {PAGE} over {door}", 400, (lambda: pull_line(1), asked),
                  (lambda: None, lambda _: bare_pull(bare)))
+
+
+def measure(place, folder):
+    for door, dial in DOORS.items():
+        singles(place, door, dial)
     crowds(place, 1, "vw")
     crowds(place, BATCH, "xy")
     fill(place, DOCUMENTS)

@@ -1,9 +1,11 @@
 """One connection of a fork: bytes to lines, lines to requests, and to each its reply, one after another."""
 import asyncio
+import contextlib
+import threading
 import time
-from collections import deque
 from collections.abc import AsyncIterator, Awaitable, Callable
 from dataclasses import dataclass
+from queue import SimpleQueue
 from typing import Any
 
 import tokens
@@ -22,6 +24,8 @@ MOST_ROWS = 1_000
 
 Send = Callable[[bytes], Awaitable[None]]
 Work = Callable[..., Awaitable[Any]]
+# A push, and what its connection waits for.
+Waiting = tuple[Push, asyncio.Future]
 
 
 @dataclass(frozen=True, slots=True)
@@ -69,49 +73,60 @@ async def lines(pieces: AsyncIterator[bytes], longest: int) -> AsyncIterator[byt
 
 
 class Writer:
-    """The pushes to one collection. Those that come while others are written are written together, as each
-    commit waits for the disk."""
+    """The pushes to one collection, written by a thread of its own. Those that come while others are written are
+    written together, as each commit waits for the disk."""
 
-    def __init__(self, store: Store, collection: Collection, work: Work):
-        self.store, self.collection, self.work = store, collection, work
-        self.waiting: deque[tuple[Push, asyncio.Future]] = deque()
-        self.task: asyncio.Task | None = None
+    def __init__(self, store: Store, collection: Collection, turns: threading.Semaphore):
+        self.store, self.collection, self.turns = store, collection, turns
+        self.loop = asyncio.get_running_loop()
+        self.waiting: SimpleQueue[Waiting] = SimpleQueue()
+        threading.Thread(target=self.write_all, daemon=True).start()
 
-    async def push(self, request: Push) -> list[str] | None:
-        answer = asyncio.get_running_loop().create_future()
-        self.waiting.append((request, answer))
-        if self.task is None:
-            self.task = asyncio.create_task(self.write_all())
-        return await answer
+    def push(self, request: Push) -> asyncio.Future:
+        answer = self.loop.create_future()
+        self.waiting.put((request, answer))
+        return answer
 
-    async def write_all(self) -> None:
-        while self.waiting:
-            batch = self.next_batch()
-            try:
-                told = await self.work(self.store.push, self.collection, [it for it, _ in batch], writes=True)
-            except Exception as fault:  # pylint: disable=broad-except
-                for _, answer in batch:
-                    answer.done() or answer.set_exception(fault)
-            else:
-                for (_, answer), conflicts in zip(batch, told):
-                    answer.done() or answer.set_result(conflicts)
-        self.task = None
+    def write_all(self) -> None:
+        """Until the loop is over."""
+        with contextlib.suppress(RuntimeError):
+            while True:
+                batch = self.next_batch()
+                self.loop.call_soon_threadsafe(tell, batch, self.written([it for it, _ in batch]))
 
-    def next_batch(self) -> list[tuple[Push, asyncio.Future]]:
-        batch, rows = [], 0
-        while self.waiting and rows < MOST_ROWS:
-            batch.append(self.waiting.popleft())
-            rows += len(batch[-1][0].rows)
+    def written(self, requests: list[Push]) -> list[Any]:
+        """To each request its conflicts, or to all why they weren't written."""
+        try:
+            with self.turns:
+                return self.store.push(self.collection, requests)
+        except Exception as fault:  # pylint: disable=broad-except
+            return [fault] * len(requests)
+
+    def next_batch(self) -> list[Waiting]:
+        batch = [self.waiting.get()]
+        while not self.waiting.empty() and sum(len(it.rows) for it, _ in batch) < MOST_ROWS:
+            batch.append(self.waiting.get())
         return batch
+
+
+def tell(batch: list[Waiting], told: list[Any]) -> None:
+    """Answers those who still wait."""
+    for (_, answer), it in zip(batch, told):
+        if answer.done():
+            continue
+        if isinstance(it, Exception):
+            answer.set_exception(it)
+        else:
+            answer.set_result(it)
 
 
 class Connection:
     """A fork that may use a collection, and how it is answered. `work` runs a call in a thread, as the
     database is waited for there."""
 
-    def __init__(self, writer: Writer, grant: Grant, limits: Limits, counts: Counts):
+    def __init__(self, writer: Writer, grant: Grant, limits: Limits, counts: Counts, work: Work):
         self.writer, self.store, self.collection = writer, writer.store, writer.collection
-        self.work, self.grant, self.limits, self.counts = writer.work, grant, limits, counts
+        self.grant, self.limits, self.counts, self.work = grant, limits, counts, work
         self.requests, self.rows = Pace(limits.requests_a_second), Pace(limits.rows_a_second)
         self.answered, self.seen = 0, time.monotonic()
 

@@ -6,6 +6,7 @@ import functools
 import http
 import logging
 import ssl
+import threading
 from collections.abc import AsyncIterator, Callable
 from concurrent.futures import ThreadPoolExecutor
 from dataclasses import dataclass
@@ -47,14 +48,13 @@ class House:
 
     def __post_init__(self) -> None:
         self.writers: dict[str, Writer] = {}
-        # Pushes wait for one another, so they have threads of their own: nobody else waits for them.
-        self.writing = ThreadPoolExecutor(max(1, self.threads // 2))
+        # Pushes wait for one another, so half of the database's connections is theirs: nobody else waits for them.
+        self.writing = threading.Semaphore(max(1, self.threads // 2))
         self.reading = ThreadPoolExecutor(max(1, self.threads - self.threads // 2))
 
-    async def work(self, call: Callable[..., Any], *words: Any, writes: bool = False) -> Any:
+    def work(self, call: Callable[..., Any], *words: Any) -> asyncio.Future:
         """What a call gives that waits for the database, in a thread."""
-        threads = self.writing if writes else self.reading
-        return await asyncio.get_running_loop().run_in_executor(threads, call, *words)
+        return asyncio.get_running_loop().run_in_executor(self.reading, call, *words)
 
     async def connection(self, token: str, name: str) -> Connection | None:
         """What a token's connection to a collection is answered by, where it may have one."""
@@ -64,8 +64,9 @@ class House:
         if name not in self.writers:
             # A collection never gets another schema, so it is asked for once.
             collection = await self.work(self.store.collection, name)
-            self.writers.setdefault(name, Writer(self.store, collection, self.work))
-        return Connection(self.writers[name], grant, self.limits, self.counts)
+            if name not in self.writers:
+                self.writers[name] = Writer(self.store, collection, self.writing)
+        return Connection(self.writers[name], grant, self.limits, self.counts, self.work)
 
     def is_full(self) -> bool:
         return self.counts.open >= self.limits.connections

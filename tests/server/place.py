@@ -123,8 +123,8 @@ class Place:
             insist(status == 0, f"the server ended with {status}: {self.said()}")
         self.cluster.stop()
 
-    def dial(self, name):
-        wire = socket.create_connection(("127.0.0.1", self.ports[name]), START_SECONDS)
+    def dial(self, name=None, port=None):
+        wire = socket.create_connection(("127.0.0.1", port or self.ports[name]), START_SECONDS)
         wire.setsockopt(socket.IPPROTO_TCP, socket.TCP_NODELAY, 1)
         return wire
 
