@@ -191,13 +191,12 @@ async def open_port(house: House, port: int, name: str, token: str) -> asyncio.S
             async with asyncio.timeout(house.limits.idle_seconds):
                 await writer.drain()
 
+        connection, end = None, "forbidden"
         try:
-            connection = None if house.is_full() else await house.connection(token, name)
-        except NO_DATABASE:
-            connection = None
-        house.counts.dials["admitted" if connection else "forbidden"] += 1
-        end = "forbidden"
-        try:
+            if not house.is_full():
+                with contextlib.suppress(*NO_DATABASE):
+                    connection = await house.connection(token, name)
+            house.counts.dials["admitted" if connection else "forbidden"] += 1
             if connection:
                 end = await house.converse(connection, pieces_of(reader, house.limits.idle_seconds), send)
         finally:

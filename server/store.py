@@ -9,7 +9,7 @@ from collections.abc import Callable, Iterable
 from dataclasses import dataclass
 from typing import TypeVar
 
-from psycopg import Connection, errors, sql
+from psycopg import Connection, errors
 from psycopg_pool import ConnectionPool
 
 from schema import LARGEST, Schema
@@ -39,10 +39,10 @@ class Collection:
     name: str
     schema: Schema
 
-    def query(self, text: str) -> sql.Composed:
-        return sql.SQL(text).format(table=sql.Identifier("documents", self.name),
-                                    by_key=sql.Identifier(f"{self.name} KEY"),
-                                    by_place=sql.Identifier(f"{self.name} LWT"))
+    def query(self, text: str) -> bytes:
+        """A statement over the table. No name of a collection has a quote in it."""
+        return text.format(table=f'documents."{self.name}"', by_key=f'"{self.name} KEY"',
+                           by_place=f'"{self.name} LWT"').encode()
 
 
 def array(texts: Iterable[str]) -> str:
@@ -111,11 +111,11 @@ class Store:
 
         return self.attempt(whole)
 
-    def rows(self, text: str | sql.Composed, *values: object) -> list[tuple]:
+    def rows(self, text: str | bytes, *values: object) -> list[tuple]:
         """The rows of a statement that is a transaction by itself."""
         return self.attempt(lambda connection: connection.execute(text, values).fetchall())
 
-    def first(self, text: str | sql.Composed, *values: object) -> tuple | None:
+    def first(self, text: str | bytes, *values: object) -> tuple | None:
         return next(iter(self.rows(text, *values)), None)
 
     # ---- collections
@@ -199,8 +199,8 @@ class Store:
                                         (collection.name,))
             (last,) = locked.fetchone()
             # A statement of its own, as it has to see what was committed while the lock was waited for.
-            held = dict(connection.execute(
-                collection.query("SELECT key, state FROM {table} WHERE key = ANY(%s::bytea[])"), (keys,)).fetchall())
+            held = dict(connection.execute(collection.query(
+                "SELECT key, state FROM {table} WHERE key = ANY(%s::bytea[])"), (keys,)).fetchall())
             batch = Batch(held, last)
             answers = [batch.answer(request) for request in requests]
             if batch.written:

@@ -223,6 +223,24 @@ def watched(folder):
     return "Prometheus' text, 503 without a database, and nothing of a document in the log"
 
 
+@case("work that fails")
+def work_that_fails(folder):
+    """As where a table was spoilt: the connection is broken off, and nobody waits."""
+    place = Place(folder, {"c": SCHEMA}).start()
+    place.sql("UPDATE rx.collections SET definition = '[]'")
+    same(waited(opened(place, "c", place.secret, [pull_line(1)])), 500, "a WebSocket")
+    begun = time.monotonic()
+    with place.dial("c") as wire:
+        try:
+            same(ask(wire, pull_line(1)), None, "a port")
+        except ConnectionError:
+            pass
+    insist(time.monotonic() - begun < 20, "a port isn't broken off")
+    same(place.watched("/health"), (200, "ok\n"), "health")
+    place.end()
+    return "500 for a WebSocket, and a port is broken off"
+
+
 # ---- TLS
 
 @case("a WebSocket over TLS", needs=["openssl"])
