@@ -159,7 +159,7 @@ class Load:
     """Clients that push documents of their own as fast as they are answered, and what was answered."""
 
     def __init__(self, place, count):
-        self.place, self.over, self.acknowledged, self.broken = place, False, set(), 0
+        self.place, self.over, self.acknowledged, self.broken, self.wrong = place, False, set(), 0, []
         self.threads = [threading.Thread(target=self.write, args=(number,)) for number in range(count)]
         for it in self.threads:
             it.start()
@@ -172,12 +172,14 @@ class Load:
                     wire.settimeout(30)
                     while not self.over:
                         n += 1
-                        key = f"{number}{n:05}"
+                        key = f"{number}{n:05x}"
                         reply = ask(wire, push_line(n, [doc(key)]))
                         if reply is None:
                             break
-                        same(reply, {"conflicts": [], "epoch": 1, "n": n}, "a push")
-                        self.acknowledged.add(key)
+                        if reply == {"conflicts": [], "epoch": 1, "n": n}:
+                            self.acknowledged.add(key)
+                        else:
+                            self.wrong.append(reply)
             except OSError:
                 pass
             self.broken += 1
@@ -209,6 +211,7 @@ def kills(folder):
     held = {key for (key,) in place.sql("SELECT convert_from(key, 'UTF8') FROM documents.c")}
     lost = load.acknowledged - held
     insist(not lost, f"{len(lost)} of {len(load.acknowledged)} acknowledged pushes are lost: {sorted(lost)}")
+    insist(not load.wrong, f"replies to pushes of new documents: {load.wrong[:3]}")
     insist(load.broken > rounds, f"{load.broken} connections were cut off")
     fork.until_quiet()
     same(fork.digest(), place.digest("c"), "a fork and the server")
