@@ -149,8 +149,9 @@ def limits(folder):
     waited(too_many(place))
     same(waited(opened(place, "c", place.secret, ["a" * (2 << 20)]))[1], 1009, "a long message")
     same(waited(text_message(place)), 1003, "a text message")
+    same(waited(in_pieces(place))["n"], 1, "a line over several messages")
     place.end()
-    return "requests and rows a second, silence, connections, long and text messages"
+    return "requests and rows a second, silence, connections, long and text messages, and lines over several"
 
 
 @case("more connections than files at first")
@@ -187,6 +188,14 @@ async def text_message(place):
         await wire.send(pull_line(1) + "\n")
         await wire.wait_closed()
         return wire.close_code
+
+
+async def in_pieces(place):
+    async with place.socket("c", place.secret) as wire:
+        line = pull_line(1).encode() + b"\n"
+        for at in range(0, len(line), 7):
+            await wire.send(line[at:at + 7])
+        return json.loads(await wire.recv())
 
 
 @case("health, counts and the log")
