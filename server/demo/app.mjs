@@ -5,10 +5,14 @@ const master = new URLSearchParams(location.search).get('master') ?? `ws://${loc
 const port = 4000; // only a name here: the page has its URL
 const byId = (id) => document.getElementById(id);
 
+// A page isn't told why a server doesn't take it: until it did once, the token may be the reason.
+let isTaken = false;
+
 function say(state, text) {
   byId('status').dataset.state = state;
   byId('status').textContent = text;
-  byId('forget').hidden = state !== 'offline';
+  isTaken ||= state === 'in sync';
+  byId('forget').hidden = isTaken || state !== 'offline';
 }
 
 // The token is kept by the browser, and goes to the server alone.
@@ -24,7 +28,6 @@ async function token() {
   return token();
 }
 
-// A page isn't told why a server doesn't take it: the token may be another one's.
 byId('forget').onclick = () => {
   localStorage.removeItem('token');
   location.reload();
