@@ -162,10 +162,10 @@ def beside_rx_serve(folder):
     place = Place(folder, {"c": SCHEMA}, limits=FAST).start()
     journal = os.path.join(folder, "journal")
     insist(run(journal, [compact({"do": "collection", "name": "c", "schema": SCHEMA})])[0] == 0, "no journal")
-    master = Server(folder, 1_000_000)
+    master = Server(folder, 1_000_000).wait()
     # It tells of each connection, and would wait where nobody reads that.
     threading.Thread(target=master.child.stdout.read, daemon=True).start()
-    sides = Side(master.dial), Side(lambda: place.dial("c"))
+    sides = Side(lambda: place.dial(port=master.port)), Side(lambda: place.dial("c"))
     lines = [*ODD, *(requests_at_random(numbers) if numbers.random() < 0.3
                      else near_miss(numbers, requests_at_random(numbers)) for _ in range(count))]
     for line in lines:
