@@ -5,12 +5,12 @@
 
 A push of 1 and of 100 documents and a pull of 100, by one client over TCP and by one over a WebSocket, and by one
 connection of psycopg in turn: the same statements in one transaction, and the same SELECT with its states joined
-as JSON. Then N (1,000) clients
-are connected, every second one by a WebSocket, of which N (100) push a document each half second, and in a second load 100 documents each 2.5
-seconds, for N (20) seconds while the others pull 100 pages of 100 a second; beside them as many threads do the
-bare statements at the same pace, over as many connections as the server has. Last N (1,000,000) documents are pulled by a client that is new, and where PROGRAM
-is there by a fork of it, which is quiet then and has the server's digest. Clients are processes of their own,
-two of them. The cluster is the benchmark's own, in a temporary folder.
+as JSON. Then N (1,000) clients are connected, every second one by a WebSocket, of which N (100) push a document
+each half second, and in a second load 100 documents each 2.5 seconds, for N (20) seconds while the others pull 100
+pages of 100 a second; in turn with them as many threads do the bare statements at the same pace, over as many
+connections as the server has. Last N (1,000,000) documents are pulled by a client that is new, and where PROGRAM
+is there by a fork of it, which is quiet then and has the server's digest. Clients are processes of their own, two
+of them. The cluster is the benchmark's own, in a temporary folder.
 """
 import functools
 import itertools
@@ -241,7 +241,7 @@ def part(call, where, number, until, told_to):
 def lived(call, *where):
     """What all processes of clients saw."""
     # Connecting takes a while, before the seconds that count.
-    until, told_to = time.time() + SECONDS + CONNECTED / 200, multiprocessing.Queue()
+    until, told_to = time.time() + SECONDS / 2 + CONNECTED / 200, multiprocessing.Queue()
     children = [multiprocessing.Process(target=part, args=(call, where, number, until, told_to))
                 for number in range(CLIENTS)]
     for it in children:
@@ -253,9 +253,12 @@ def lived(call, *where):
 
 
 def crowds(place, rows, letters):
-    """Each side has a letter for its keys."""
-    of = f"{CONNECTED:,} connected, {WRITING} writing {rows} each {PUSH_EVERY[rows]} s"
-    due, found = (lived(call, place, letter, rows) for call, letter in zip((bare_forks, forks), letters))
+    """Both sides in turn, once for each letter, with which its keys begin."""
+    of, due, found = f"{CONNECTED:,} connected, {WRITING} writing {rows} each {PUSH_EVERY[rows]} s", {}, {}
+    for letter in letters:
+        for seen, call, own in ((due, bare_forks, letter.upper()), (found, forks, letter)):
+            for what, times in lived(call, place, own, rows).items():
+                seen.setdefault(what, []).extend(times)
     for what, words in (("push", f"pushes of {rows}"), ("pull", f"pulls of {PAGE}")):
         print(f"{of}: {len(found[what]):,} {words}, and {len(due[what]):,} bare", flush=True)
         beside(f"{of}, {words}", found[what], due[what])

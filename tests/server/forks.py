@@ -208,7 +208,7 @@ def kills(folder):
             place.start()
         fork.until_quiet()
     load.end()
-    held = {key for (key,) in place.sql("SELECT convert_from(key, 'UTF8') FROM documents.c")}
+    held = {key.decode() for (key,) in place.sql("SELECT key FROM documents.c")}
     lost = load.acknowledged - held
     insist(not lost, f"{len(lost)} of {len(load.acknowledged)} acknowledged pushes are lost: {sorted(lost)}")
     insist(not load.wrong, f"replies to pushes of new documents: {load.wrong[:3]}")
