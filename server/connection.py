@@ -8,15 +8,12 @@ from dataclasses import dataclass
 from queue import SimpleQueue
 from typing import Any
 
-import tokens
 from counts import Counts
 from store import Collection, Store
-from tokens import Grant
+from tokens import Leave
 from wire import (LONGEST_LINE, Fault, Pull, Push, conflicts_line, docs_line, fault_line, longest_request,
                   read_request)
 
-# A revoked token is known so many seconds later.
-FRESH_SECONDS = 5.0
 # A longer line is read in a thread, so that others go on.
 SHORT_LINE = 16_384
 # So many rows are written in one transaction, or one push.
@@ -124,11 +121,11 @@ class Connection:
     """A fork that may use a collection, and how it is answered. `work` runs a call in a thread, as the
     database is waited for there."""
 
-    def __init__(self, writer: Writer, grant: Grant, limits: Limits, counts: Counts, work: Work):
+    def __init__(self, writer: Writer, leave: Leave, refresh: Work, limits: Limits, counts: Counts, work: Work):
         self.writer, self.store, self.collection = writer, writer.store, writer.collection
-        self.grant, self.limits, self.counts, self.work = grant, limits, counts, work
+        self.leave, self.refresh, self.limits, self.counts, self.work = leave, refresh, limits, counts, work
         self.requests, self.rows = Pace(limits.requests_a_second), Pace(limits.rows_a_second)
-        self.answered, self.seen = 0, time.monotonic()
+        self.answered = 0
 
     async def converse(self, pieces: AsyncIterator[bytes], send: Send) -> str:
         """Answers until an end, which is told: as `rx serve` has it, or that the token may not."""
@@ -159,12 +156,8 @@ class Connection:
 
     async def may(self, request: Pull | Push) -> bool:
         """Whether the token may still do this."""
-        if time.monotonic() - self.seen > FRESH_SECONDS:
-            grant = await self.work(tokens.grant_of, self.store, self.grant.token, self.grant.collection)
-            if grant is None:
-                return False
-            self.grant, self.seen = grant, time.monotonic()
-        return self.grant.may_write or isinstance(request, Pull)
+        await self.refresh()
+        return self.leave.may_read if isinstance(request, Pull) else self.leave.may_write
 
     async def reply(self, request: Pull | Push) -> tuple[bytes | None, str, dict[str, int]]:
         """The line that answers a request, if there is one, and the states that went either way."""

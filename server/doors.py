@@ -7,10 +7,12 @@ import http
 import logging
 import ssl
 import threading
+import time
 from collections.abc import AsyncIterator, Callable
 from concurrent.futures import ThreadPoolExecutor
 from dataclasses import dataclass
 from typing import Any
+from weakref import WeakValueDictionary
 
 import psycopg
 from psycopg_pool import PoolTimeout
@@ -30,6 +32,8 @@ log = logging.getLogger("rx_server")
 PROTOCOL, TOKEN = "rx", "token."
 MESSAGE_BYTES = 1 << 20
 HANDSHAKE_SECONDS = 10
+# A revoked token is known so many seconds later.
+FRESH_SECONDS = 5.0
 # How a WebSocket ends, by how its connection did.
 CODES = {"peer": 1000, "request": 1000, "clock": 1000, "forbidden": 1008, "text": 1003, "database": 1011}
 # The ends behind which a port lets its last line arrive. The others break the connection off.
@@ -48,6 +52,9 @@ class House:
 
     def __post_init__(self) -> None:
         self.writers: dict[str, Writer] = {}
+        # As long as a connection has them.
+        self.leaves: WeakValueDictionary[tuple[str, str], tokens.Leave] = WeakValueDictionary()
+        self.seen = 0.0
         # Pushes wait for one another, so half of the database's connections is theirs: nobody else waits for them.
         self.writing = threading.Semaphore(max(1, self.threads // 2))
         self.reading = ThreadPoolExecutor(max(1, self.threads - self.threads // 2))
@@ -58,15 +65,28 @@ class House:
 
     async def connection(self, token: str, name: str) -> Connection | None:
         """What a token's connection to a collection is answered by, where it may have one."""
-        grant = await self.work(tokens.grant_of, self.store, token, name)
-        if grant is None:
+        found = await self.work(tokens.granted, self.store, [token])
+        if (token, name) not in found:
             return None
+        leave = self.leaves.setdefault((token, name), tokens.Leave(token, name, found[token, name]))
         if name not in self.writers:
             # A collection never gets another schema, so it is asked for once.
             collection = await self.work(self.store.collection, name)
             if name not in self.writers:
                 self.writers[name] = Writer(self.store, collection, self.writing)
-        return Connection(self.writers[name], grant, self.limits, self.counts, self.work)
+        return Connection(self.writers[name], leave, self.refresh, self.limits, self.counts, self.work)
+
+    async def refresh(self) -> None:
+        """Learns what the tokens in use may, once in some seconds. Meanwhile the others go by what is known."""
+        if time.monotonic() - self.seen > FRESH_SECONDS:
+            self.seen, leaves = time.monotonic(), dict(self.leaves)
+            try:
+                found = await self.work(tokens.granted, self.store, list({token for token, _ in leaves}))
+            except NO_DATABASE:
+                self.seen = 0.0
+                raise
+            for key, leave in leaves.items():
+                leave.may_read, leave.may_write = key in found, found.get(key, False)
 
     def is_full(self) -> bool:
         return self.counts.open >= self.limits.connections
@@ -89,8 +109,8 @@ class House:
         finally:
             self.counts.open -= 1
             self.counts.ends[end] += 1
-            log.info("token %s, collection %s: ended by %s after %d requests", connection.grant.token,
-                     connection.grant.collection, end, connection.answered)
+            log.info("token %s, collection %s: ended by %s after %d requests", connection.leave.token,
+                     connection.leave.collection, end, connection.answered)
         return end
 
 

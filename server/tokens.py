@@ -78,8 +78,16 @@ def name_of(store: Store, secret: str) -> str | None:
     return row[0] if row else None
 
 
-def grant_of(store: Store, name: str, collection: str) -> Grant | None:
-    """What the token of a name may do, unless it is revoked."""
-    row = store.first("SELECT may_write FROM rx.grants JOIN rx.tokens ON token = name "
-                      "WHERE name = %s AND collection = %s AND revoked IS NULL", name, collection)
-    return Grant(name, collection, row[0]) if row else None
+class Leave:
+    """What a token may do with a collection, as it was known last."""
+
+    def __init__(self, token: str, collection: str, may_write: bool):
+        self.token, self.collection, self.may_read, self.may_write = token, collection, True, may_write
+
+
+def granted(store: Store, names: list[str]) -> dict[tuple[str, str], bool]:
+    """Whether these tokens may write, by their names and the collections that they may read; of those that aren't
+    revoked."""
+    return {(token, collection): may_write for token, collection, may_write in store.rows(
+        "SELECT token, collection, may_write FROM rx.grants JOIN rx.tokens ON token = name "
+        "WHERE name = ANY(%s) AND revoked IS NULL", names)}
