@@ -1,5 +1,6 @@
 // The inspector: its parts over the native program, and its page in Chromium, which wants wasm/out.
 // Pictures of the page go to the folder that PICTURES names, if there is one in the environment.
+import { File } from 'node:buffer';
 import { spawn, spawnSync } from 'node:child_process';
 import { createHash } from 'node:crypto';
 import { cpSync, mkdirSync, readFileSync, writeFileSync } from 'node:fs';

@@ -79,7 +79,8 @@ test('a dial, the words of its handshake, and what is no master', async () => {
 });
 
 test('no wait is longer than ten seconds, and a shorter one is as long as it says', async () => {
-  mock.timers.enable({ apis: ['setTimeout'] });
+  const apis = ['setTimeout']; // Node 18 takes the list itself
+  mock.timers.enable(parseInt(process.versions.node) < 20 ? apis : { apis });
   const wires = new Wires({ [port]: url }, () => {});
   const { wires: open } = await opened();
   const givenUp = async (answer, due, code) => {
