@@ -237,7 +237,9 @@ class Database {
 
   /** Writes a request and answers its reply. Members that are undefined are left out. */
   call(request) {
-    return new Promise((resolve, reject) => this.#ask(request, resolve, reject));
+    return new Promise((resolve, reject) => {
+      this.#ask(request, resolve, (fault) => (fault instanceof Refused ? resolve(refused(fault)) : reject(fault)));
+    });
   }
 
   /** Writes a line as it stands and answers its reply. A blank one is counted and not answered. */
@@ -430,6 +432,14 @@ class Database {
 const pushed = ({ sent, rows = [] }) => (sent === 'push' ? rows : []);
 const brought = ({ sent, rows = [], conflicts = [], took = 'taken' }) =>
   (sent === 'push' ? conflicts : took === 'taken' ? rows : []);
+
+// Rejects once it is known who waits for it, so that its stack leads there.
+async function refused(fault) {
+  await null;
+  await null;
+  Error.captureStackTrace?.(fault);
+  throw fault;
+}
 
 // The members of a request, which may be a line as it stands: as far as it has any.
 function membersOf(request) {

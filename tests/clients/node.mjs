@@ -196,6 +196,16 @@ tests['a refused query that nobody takes is a warning, and Node goes on'] = asyn
   same(`${status} ${stdout}${said}`, '0 0\ntrue', stderr);
 };
 
+tests['a refusal leads to the line that asked'] = async (folder) => {
+  const { stderr } = node(`
+    const db = await open(child('journal'));
+    const c = await db.collection('c', ${JSON.stringify(schema)});
+    async function look() { return c.get('none'); }
+    async function work() { await look(); }
+    await work();`, { cwd: folder });
+  same(/^ +at async work \(file:/m.test(stderr), true, stderr);
+};
+
 // Lines as a program would write them, to be delivered in whatever pieces.
 const scripted = (answers, pieces) => async (hooks) => ({
   send(text) {
