@@ -278,14 +278,28 @@ tests['an observer that throws disturbs no other'] = async (folder) => {
   same(stdout, '2 its own,its own\n', stderr);
 };
 
-tests['the quickstart of clients/README.md'] = async (folder) => {
+/** What a quickstart of clients/README.md says in two runs, beside a copy of the client. */
+function twice(folder, name) {
   cpSync(join(root, 'clients/js/rx.mjs'), join(folder, 'rx.mjs'));
-  writeFileSync(join(folder, 'quickstart.mjs'), quickstart('quickstart.mjs'));
-  for (const run of ['first', 'second']) {
-    const { stdout, stderr, status } = spawnSync(process.execPath, ['quickstart.mjs'], { cwd: folder, encoding: 'utf8', env: { ...process.env, RX: program } });
-    if (status !== 0) throw new Error(stdout + stderr);
-    if (run === 'second') same(stdout.includes('Bake bread'), true, 'the journal kept it');
-  }
+  writeFileSync(join(folder, name), quickstart(name));
+  const options = { cwd: folder, encoding: 'utf8', env: { ...process.env, RX: program } };
+  return [1, 2].map(() => {
+    const { stdout, stderr, status } = spawnSync(process.execPath, [name], options);
+    same(`${status} ${stderr}`, '0 ', stdout);
+    return stdout;
+  });
+}
+
+tests['the quickstart of clients/README.md'] = async (folder) => {
+  const [, second] = twice(folder, 'quickstart.mjs');
+  same(second.includes('Bake bread'), true, 'the journal kept it');
+};
+
+tests['the fork of clients/README.md'] = async (folder) => {
+  const milk = "on the server: [ 'Buy milk' ]\n", quiet = 'quiet []\n';
+  const [first, second] = twice(folder, 'synced.mjs');
+  same(first, `on the server: []\n${milk}${quiet}`, 'the first run');
+  same(second, `${milk}${milk}${quiet}`, 'the second');
 };
 
 await tryOne(tests);

@@ -57,17 +57,17 @@ test('what a page needs is copied into its folder', ['npm', 'wasm'], (folder) =>
   same(usage, 'usage: rx-client page FOLDER\n', 'another word');
 });
 
-const tsc = (cwd, files, due) => run('tsc', [
+const tsc = (cwd, words, due) => run('tsc', [
   '--strict', '--noEmit', '--checkJs', '--allowJs', '--target', 'es2022', '--module', 'nodenext',
-  '--moduleResolution', 'nodenext', '--lib', 'es2022,dom,dom.iterable', ...files,
+  '--moduleResolution', 'nodenext', '--lib', 'es2022,dom,dom.iterable', ...words,
 ], { cwd, due });
 
 test('the quickstarts by tsc --strict, beside a copy of the client', ['tsc'], (folder) => {
   for (const name of ['rx.mjs', 'rx.d.mts']) cpSync(join(root, 'clients/js', name), join(folder, name));
   const script = quickstart('index.html').match(/<script type="module">\n([^]*)<\/script>/)[1];
-  writeFileSync(join(folder, 'quickstart.mjs'), quickstart('quickstart.mjs'));
+  for (const name of ['quickstart.mjs', 'synced.mjs']) writeFileSync(join(folder, name), quickstart(name));
   writeFileSync(join(folder, 'page.mjs'), script);
-  tsc(folder, ['quickstart.mjs', 'page.mjs']);
+  tsc(folder, ['quickstart.mjs', 'synced.mjs', 'page.mjs']);
   // It is the types that were read: a wrong call is told.
   writeFileSync(join(folder, 'wrong.mjs'), "import { open } from './rx.mjs';\nopen(7);\n");
   const said = tsc(folder, ['wrong.mjs'], 2);
