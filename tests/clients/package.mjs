@@ -1,7 +1,9 @@
-// The package for JavaScript: packed, installed into an empty folder, checked by tsc and bundled by esbuild.
+// The package for JavaScript: packed, installed into an empty folder, checked by tsc, bundled by esbuild and
+// observed by RxJS.
 import { spawnSync } from 'node:child_process';
-import { cpSync, existsSync, mkdirSync, readFileSync, readdirSync, writeFileSync } from 'node:fs';
+import { cpSync, existsSync, mkdirSync, readFileSync, readdirSync, symlinkSync, writeFileSync } from 'node:fs';
 import { join } from 'node:path';
+import { schema } from './schema.mjs';
 import { program, quickstart, root, same, tryOne } from './shared.mjs';
 
 const tests = {};
@@ -89,6 +91,37 @@ test('esbuild takes the client for a page, as a module and as a script', ['npm',
     const said = run('esbuild', words, { cwd: app });
     same(/warning|error/i.test(said), false, said);
   }
+});
+
+const reactive = `
+import { firstValueFrom, from, map, take, toArray } from 'rxjs';
+import { child, open } from 'rx-client';
+
+const db = await open(child('journal'));
+const todos = await db.collection('todos', ${JSON.stringify(schema)});
+const counts = from(todos.observe({}, 'all')).pipe(map((rows) => rows.length), take(3), toArray());
+const heard = firstValueFrom(counts);
+await todos.insert({ id: 'a' });
+await todos.insert({ id: 'b' });
+console.log((await heard).join());
+console.log(await db.explain('all').catch((fault) => fault.word));
+from(todos.observe({ limit: -1 })).subscribe({ error: (fault) => console.log(fault.message) });
+from(todos.observe()).subscribe({ complete: () => console.log('complete') });
+await new Promise((go) => { from(db.follow('none')).subscribe({ error: go }); });
+// @ts-expect-error
+from(todos.observe()).pipe(map((rows) => rows.nothing));
+await todos.count();
+await db.close();
+`;
+
+test('RxJS takes what is observed, with its types', ['npm', 'tsc', 'rxjs', 'program'], (folder) => {
+  const app = installed(folder);
+  symlinkSync('/usr/share/nodejs/rxjs', join(app, 'node_modules', 'rxjs'));
+  writeFileSync(join(app, 'reactive.mjs'), reactive);
+  tsc(app, ['--skipLibCheck', 'reactive.mjs']); // the types of RxJS want those of Node
+  const said = run(process.execPath, ['reactive.mjs'], { cwd: app, env: { RX: program } });
+  const refused = 'query (16): limit is -1, and from 0 to 1000000000';
+  same(said, `0,1,2\nno_query\n${refused}\ncomplete\n`, 'what was heard');
 });
 
 await tryOne(tests);
