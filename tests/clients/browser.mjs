@@ -1,5 +1,6 @@
 // The client over WebAssembly in Chromium, and the page of todos. It wants wasm/out, as wasm/build.sh makes it.
-// Pictures of the page go to the folder that PICTURES names, if there is one in the environment.
+// Pictures of the page go to the folder that PICTURES names, if there is one in the environment: conflict.png is
+// clients/web/todos.png.
 import { spawnSync } from 'node:child_process';
 import { cpSync, mkdirSync, mkdtempSync, readFileSync, writeFileSync } from 'node:fs';
 import { join } from 'node:path';
@@ -340,7 +341,7 @@ test('the page of todos, by keyboard, kept over a reload', async (folder) => {
 
 test('the page of todos, in sync while it is online, and edited apart: a conflict shows its answer', async (folder) => {
   const site = await serve(root); // an origin of its own, where nothing is stored
-  const page = await chromium.page(`${site.origin}/clients/web/`);
+  const page = await chromium.page(`${site.origin}/clients/web/`, { width: 1100, height: 1000 });
   const edit = (place, from, to) => page.run((place, from, to) => {
     const title = Array.from(document.querySelectorAll(`#${place} .title`)).find((it) => it.value === from);
     title.value = to;

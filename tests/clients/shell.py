@@ -1,5 +1,6 @@
 """The shell for Python: by a pipe, by words, and typed at a terminal."""
 import csv
+import html
 import json
 import os
 import pty
@@ -705,20 +706,53 @@ def ctrl_c_in_an_export_leaves_what_was_written(folder):
     same(keys, sorted(f"k{n}" for n in range(12_000))[:5000])
 
 
+def readme(*path):
+    with open(os.path.join(ROOT, *path, "README.md"), encoding="utf-8") as file:
+        return file.read()
+
+
+def session():
+    """The journal and the lines of the session that clients/README.md shows."""
+    return re.search(r"```text\n\$ python3 -m rx (\S+)\n(.*?)```", readme("clients"), re.S).groups()
+
+
+def untimed(text):
+    """Seconds and rates are another time's."""
+    return re.sub(r" in [\d.]+ s, [\d,]+ a second", " in ..", text)
+
+
 @case()
 def the_session_of_the_readme(folder):
-    """Typed at a terminal as the page shows it; only seconds and rates are another time's."""
-    with open(os.path.join(ROOT, "clients", "README.md"), encoding="utf-8") as file:
-        session = re.search(r"```text\n\$ python3 -m rx (\S+)\n(.*?)```", file.read(), re.S)
-    it = Terminal(folder, session[1], term="dumb")
-    for line in session[2].splitlines():
+    """Typed at a terminal as the page shows it."""
+    journal, lines = session()
+    it = Terminal(folder, journal, term="dumb")
+    for line in lines.splitlines():
         if line.startswith(("rx> ", "..> ")):
             it.until(line[:4])
             it.type(line[4:] + "\n")
     same(it.end(), 0)
-    timing = re.compile(r" in [\d.]+ s, [\d,]+ a second")
-    found = timing.sub(" in ..", it.seen.replace("\r\n", "\n"))
-    same(found, timing.sub(" in ..", session[2]), "the session")
+    same(untimed(it.seen.replace("\r\n", "\n")), untimed(lines), "the session")
+
+
+@case(needs=[])
+def the_picture_of_the_readme_has_its_session(_folder):
+    with open(os.path.join(ROOT, "clients", "shell.svg"), encoding="utf-8") as file:
+        texts = re.findall(r'<text class="[^"]*-r\d+" x="[\d.]+" y="([\d.]+)"[^>]*>([^<]*)</text>', file.read())
+    rows = {}
+    for y, text in texts:
+        rows[y] = rows.get(y, "") + html.unescape(text).replace("\xa0", " ")
+    same(untimed("".join(rows.values())), untimed(session()[1].removesuffix("rx> .quit\n")))
+
+
+@case(needs=[])
+def the_readmes_show_the_pages_and_the_shell_in_pictures_below_200_kb(_folder):
+    for path in ((), ("clients",)):
+        pictures = re.findall(r"!\[[^\]]+\]\(([^)]+)\)", readme(*path))
+        files = [os.path.normpath(os.path.join(ROOT, *path, it)) for it in pictures]
+        for name in ("web/todos.png", "inspector/inspector.png", "shell.svg"):
+            same(os.path.join(ROOT, "clients", name) in files, True, f"{name} in {path}")
+        sizes = {it: os.path.getsize(it) for it in files}
+        same([it for it, size in sizes.items() if size > 200_000], [], f"{sizes}")
 
 
 if __name__ == "__main__":
