@@ -41,6 +41,9 @@ export class Stopped extends Error {
  * answered when it no longer is.
  */
 export async function open(transport, { clock = Date.now, waiting } = {}) {
+  if (typeof transport !== 'function') {
+    throw new TypeError('open takes child(journal) in Node, or wasm(folder, journal) in a page');
+  }
   for (let isFirst = true; ; isFirst = false) {
     const db = new Database(clock);
     try {
@@ -1014,7 +1017,9 @@ function detail({ refused, cause, name, rev, row }, request, schema) {
     case 'no_collection': return out(`there is no collection ${name}`, name);
     case 'schema': return ofSchema(cause, name, request.schema);
     case 'schema_differs':
-      return out('it is held with another schema, or the fork has another than its master', request.name);
+      if (request.do === 'replicate') return out('the fork has another schema than its master', request.name);
+      return out(`${request.name} is held with another schema: another one is its next version, with steps`,
+        request.name);
     case 'invalid':
       if (request.update && !(name in doc)) return out(`${name} would be no value that its property takes`);
       return ofField(cause, name, doc[name], schema?.properties[name]);
@@ -1024,13 +1029,15 @@ function detail({ refused, cause, name, rev, row }, request, schema) {
     case 'no_query': return out(`no query of the name ${request.name} is observed`, request.name);
     case 'no_replication': return out(`there is no replication ${request.name}`, request.name);
     case 'no_handler':
-      return out(`no handler ${request.handler} with the field ${request.field}`, request.handler);
+      return out(`no handler ${request.handler} with ${request.field === undefined ? 'no field' : request.field}:`
+        + ' those are master_wins, fork_wins, join, and greater with a field of whole numbers', request.handler);
     case 'batch': return out(`${name} is ${own}, and from 1 to ${limits[name]}`, own, limits[name]);
-    case 'chain': return out('the fork is the master, or one of them is a fork or a master already');
+    case 'chain': return out('the fork is the master, or is a fork already, or has the master below it');
     case 'clock': return out('no write time is left', undefined, Number.MAX_SAFE_INTEGER);
     case 'too_many':
       return out(most && `there are at most ${most} ${things[request.do]}`, request.name ?? request.in, most);
-    case 'key': return out('the primary key is missing or no text, or would become another', key);
+    case 'key':
+      return out(`${schema?.primaryKey ?? 'the primary key'} is missing or no text, or would become another`, key);
     case 'twice': return out(`the key ${show(key)} stands there twice`, key);
     case 'migration': return ofMigration(cause, name, request.schema);
     case 'observed': return out(`the query ${name} is observed, and is to be left by all before`, name);
@@ -1089,12 +1096,12 @@ function ofQuery(cause, name, query) {
   const out = (words, value, limit) => ({ value, limit, said: words });
   switch (cause) {
     case 'not_object': return out('a selector, or the query, is no object');
-    case 'member': return out(`${name} is no member of a query`);
+    case 'member': return out(`${name} is no member of a query: those are selector, sort, skip and limit`);
     case 'field': return out(`${name} is no property of the schema`);
     case 'operator': return out(`${name} is no operator`);
     case 'operand': return out(`what stands behind ${name} isn't what it takes`);
     case 'sort':
-      return out(`sort by ${name}: it is a list of {"FIELD":"asc"} or "desc", each a property and once`);
+      return out(`${name} can't be sorted by: sort is a list of {"FIELD":"asc"} or "desc", each a property and once`);
     case 'depth': return out(`a selector is at most ${most} deep`, undefined, most);
     case 'skip': case 'limit':
       return out(`${cause} is ${show(query?.[cause])}, and from 0 to ${most}`, query?.[cause], most);
@@ -1141,6 +1148,7 @@ const leaveAll = () => running.forEach((leave) => leave());
 
 /** The program as a child process of Node: what `program` or RX names, or rx on the path. */
 export function child(journal, { program, maxJournal } = {}) {
+  if (typeof journal !== 'string') throw new TypeError(`a journal is named by its path, and not by ${journal}`);
   const start = async ({ output, ended, leave }) => {
     const { spawn } = await builtIn('child_process');
     if ((await lockOf(journal)).isLocked) throw new Stopped(inUse(journal));
@@ -1249,8 +1257,9 @@ const stopOf = ({ said }) => (said.includes('NoModificationAllowedError') ? 'in_
 function alone(journal, transport) {
   const name = `rx ${journal}`;
   const start = (hooks) => new Promise((resolve, reject) => {
-    if (!navigator.locks) throw new Stopped({ stop: 'start', said: 'pages want https or localhost' });
-    navigator.locks.request(name, { ifAvailable: true }, (lock) => new Promise((over) => {
+    const { locks } = globalThis.navigator ?? {};
+    if (!locks) throw new Stopped({ stop: 'start', said: 'it wants a page of https or localhost' });
+    locks.request(name, { ifAvailable: true }, (lock) => new Promise((over) => {
       const fail = (fault) => { reject(fault); over(); };
       if (!lock) return fail(new Stopped({ stop: 'in_use', said: `another page has ${journal}` }));
       transport({ ...hooks, ended: (how) => { hooks.ended(how); over(); } }).then(resolve, fail);

@@ -433,6 +433,18 @@ export const behaviours = {
       [() => c.insert({ id: 'a', n: [1] }), [1], undefined, 'invalid (13): n is [1], and no integer'],
       [() => c.insert({ id: 'a', m: 1 }), 1, undefined, 'invalid (13): m is no property of the schema'],
       [() => c.find({ limit: -1 }), -1, 1e9, 'query (16): limit is -1, and from 0 to 1000000000'],
+      [() => c.find({ id: 'a' }), undefined, undefined,
+        'query (16): id is no member of a query: those are selector, sort, skip and limit'],
+      [() => c.find({ sort: ['id'] }), undefined, undefined, 'query (16): sort can\'t be sorted by: sort is a list of'
+        + ' {"FIELD":"asc"} or "desc", each a property and once'],
+      [() => c.insert({ n: 1 }), undefined, undefined, 'key (24): id is missing or no text, or would become another'],
+      [() => db.collection('c', schema), 'c', undefined,
+        'schema_differs (12): c is held with another schema: another one is its next version, with steps'],
+      [() => db.replicate({ name: 'r', fork: 'c', master: 'c', handler: 'newest' }), 'newest', undefined,
+        'no_handler (19): no handler newest with no field: those are master_wins, fork_wins, join, and greater'
+        + ' with a field of whole numbers'],
+      [() => db.replicate({ name: 'r', fork: 'c', master: 'c', handler: 'join' }), undefined, undefined,
+        'chain (21): the fork is the master, or is a fork already, or has the master below it'],
       [() => c.find({ selector: { $not: 1 } }), undefined, undefined, 'query (16): $not is no operator'],
       [() => db.line('{"do":"find","in":"c","query":{"skip":2.5}}'), 2.5, 1e9,
         'query (16): skip is 2.5, and from 0 to 1000000000'],

@@ -3,7 +3,7 @@ import { spawn, spawnSync } from 'node:child_process';
 import { cpSync, mkdirSync, readFileSync, symlinkSync, writeFileSync } from 'node:fs';
 import { connect, createServer } from 'node:net';
 import { join } from 'node:path';
-import { child as childOf, open as openWith } from '../../clients/js/rx.mjs';
+import { child as childOf, open as openWith, wasm } from '../../clients/js/rx.mjs';
 import { behaviours } from './behaviours.mjs';
 import { emissionsOf, playScript } from './play.mjs';
 import { schema } from './schema.mjs';
@@ -134,6 +134,16 @@ tests['a journal that can not be had: open rejects, with the program\'s stop wor
     same((await db.close().catch((it) => it)).stop, due.split(' ')[0], 'close');
   }
   same(readFileSync(path, 'utf8'), 'something else than a journal', 'it is left alone');
+};
+
+tests['what is no transport and no path is said so'] = async () => {
+  const told = (call) => call().then(() => null, (it) => `${it.name} ${it.message}`);
+  const cases = [
+    [() => openWith('todos.journal'), 'TypeError open takes child(journal)'],
+    [async () => openWith(childOf(undefined)), 'TypeError a journal is named by its path, and not by undefined'],
+    [() => openWith(wasm('out', 'todos')), 'Stopped start: it wants a page of https or localhost'],
+  ];
+  for (const [call, due] of cases) same((await told(call))?.slice(0, due.length), due, due);
 };
 
 tests['a journal that another process has is in use, and may be waited for'] = async (folder) => {

@@ -240,6 +240,10 @@ def a_refusal_says_the_value_and_the_limit_that_were_wrong(folder):
         told("m", None, "m is no property of the schema", c.find, {"selector": {"m": 1}})
         told(70_000, 65_535, "version 70000 is no", db.collection, "d", {**schema, "version": 70_000})
         told(5, None, "key 5 is no text", c.get, 5)
+        told(None, None, "id is missing or no text", c.insert, {"n": 2})
+        told("c", None, "c is held with another schema", db.collection, "c", SCHEMA)
+        told("newest", None, 'handler "newest" is none of', db.replicate, "r", "c", "c", handler="newest")
+        told(None, None, "the fork is the master, or is a fork already", db.replicate, "r", "c", "c", handler="join")
         told(1_048_577, 1_048_576, "1,048,577 bytes, more than", db.line, " " * 1_048_575 + "{}")
         for n in range(63):
             db.collection(f"c{n}", schema)

@@ -171,7 +171,7 @@ class Lines:
 
     def _schema_of(self, line: bytes, refused: Json) -> Json | None:
         """The schema of the line's collection, where a line of this client gave it."""
-        of_document = refused["refused"] in ("invalid", "conflict", "twice", "vetoed")
+        of_document = refused["refused"] in ("invalid", "conflict", "key", "twice", "vetoed")
         return self._schemas.get(json.loads(line)["in"]) if of_document else None
 
     def finish(self, status: int | None, stop: str = "ended", said: str = "", in_use: bool = False) -> None:

@@ -183,6 +183,13 @@ def schema(it: Told) -> Refusal:
     return said
 
 
+def schema_differs(it: Told) -> Refusal:
+    name = it.line.get("name")
+    if it.line.get("do") == "replicate":
+        return Refusal("the fork has another schema than its master", name)
+    return Refusal(f"{name} is held with another schema: another one is its next version, with steps", name)
+
+
 def invalid(it: Told) -> Refusal:
     value, bounds = it.document().get(it.name), it.property()
     what = f"{it.name} {shown(value)}"
@@ -325,10 +332,7 @@ BY_WORD: dict[str, Callable[[Told], Refusal]] = {
     "exists": exists,
     "no_collection": lambda it: Refusal(f"there is no collection {it.name}", it.name),
     "schema": schema,
-    "schema_differs": lambda it: Refusal(
-        "the collection is held with another schema, or the fork's is another " "than its master's",
-        it.line.get("name"),
-    ),
+    "schema_differs": schema_differs,
     "invalid": invalid,
     "conflict": conflict,
     "no_document": no_document,
@@ -337,10 +341,12 @@ BY_WORD: dict[str, Callable[[Told], Refusal]] = {
     "no_replication": name_of("name", "there is no replication {}"),
     "no_handler": no_handler,
     "batch": batch,
-    "chain": lambda it: Refusal("the fork is the master, or one of the two is a fork or a master already"),
+    "chain": lambda it: Refusal("the fork is the master, or is a fork already, or has the master below it"),
     "clock": lambda it: Refusal(f"the collection's last write time is {NUMBER:,}", None, NUMBER),
     "too_many": too_many,
-    "key": lambda it: Refusal("the primary key is missing or no text, or would be another"),
+    "key": lambda it: Refusal(
+        f"{it.schema.get('primaryKey', 'the primary key')} is missing or no text, or would be another", it.key()
+    ),
     "twice": lambda it: Refusal(f"the key {shown(it.key())} stands twice", it.key()),
     "migration": migration,
     "observed": lambda it: Refusal(f"the query {it.name} is observed, and is to be closed before", it.name),
