@@ -283,6 +283,8 @@ def what_a_journal_is_opened_as(folder):
         [*SHELL, "journal"], env={**WHERE, "RX": "none"}, cwd=folder, capture_output=True, text=True
     )
     same((ran.returncode != 0, "tools/install" in ran.stderr), (True, True), ran.stderr)
+    ran = subprocess.run(SHELL, env=WHERE, cwd=folder, capture_output=True, text=True)
+    same((ran.returncode, "are required: JOURNAL\n" in ran.stderr), (2, True), ran.stderr)
 
 
 @case()

@@ -80,7 +80,7 @@ def parser() -> argparse.ArgumentParser:
     )
     made.add_argument("journal", metavar="JOURNAL", help="the file, made where there is none")
     made.add_argument(
-        "statement", metavar="STATEMENT", nargs="*", help="what is to be done, and then it ends"
+        "statement", metavar="STATEMENT", nargs="*", default=[], help="what is to be done, and then it ends"
     )
     made.add_argument("--program", help="the program, where it isn't RX in the environment or rx on the path")
     made.add_argument("--max-journal", type=int, metavar="BYTES", help="how long the journal may become")
