@@ -188,6 +188,22 @@ test('a journal that another page has is in use, and may be waited for', async (
   await third.close();
 });
 
+test('a journal that can not be had: open rejects', async () => {
+  const page = await empty(), file = journalName();
+  const told = await page.run(async (name) => {
+    const { open, wasm } = await import('/clients/js/rx.mjs');
+    const folder = await navigator.storage.getDirectory();
+    const to = await (await folder.getFileHandle(name, { create: true })).createWritable();
+    await to.write('Dear Ada, this is no journal.');
+    await to.close();
+    const ends = ['a name of no file/', name].map((it) => open(wasm('/wasm/out', it)).catch(({ stop }) => stop));
+    return (await Promise.all(ends)).join();
+  }, file);
+  same(told, 'start,not_journal', 'the words');
+  same(Buffer.from(await page.run(readInPage, file)).toString(), 'Dear Ada, this is no journal.', 'it is left alone');
+  await page.close();
+});
+
 test('what could not be had is told by its address', async () => {
   const page = await empty();
   const told = await page.run(async () => {
