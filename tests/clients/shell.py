@@ -528,8 +528,9 @@ def documents_file(folder, count=COUNT):
     """A file of small documents, and a script that makes the same by bulks of the shell's size."""
     rows = [compact({"id": f"k{n * SEED % count}", "n": n}) for n in range(count)]
     write(folder, "docs.jsonl", "".join(row + "\n" for row in rows))
+    size = transfer.DOCUMENTS
     bulks = [
-        f'{{"do":"bulk","in":"c","docs":[{",".join(rows[at:at + 1000])}]}}' for at in range(0, count, 1000)
+        f'{{"do":"bulk","in":"c","docs":[{",".join(rows[at:at + size])}]}}' for at in range(0, count, size)
     ]
     write(
         folder,
@@ -685,7 +686,7 @@ def ctrl_c_in_an_import_leaves_what_was_acknowledged(folder):
         it.until("rx>")
         it.type("\x04")
         same(it.end(), 0)
-        same(0 < count < 400_000 and count % 1000 == 0, True, f"{count} documents")
+        same(0 < count < 400_000 and count % transfer.DOCUMENTS == 0, True, f"{count} documents")
         status, replies = run(
             os.path.join(folder, journal), [compact({"do": "count", "in": "c", "query": {}})]
         )

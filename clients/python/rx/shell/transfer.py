@@ -14,7 +14,7 @@ from ..faults import Refused
 from .progress import Interrupt, Progress
 from .statements import Wrong
 
-DOCUMENTS, BYTES = 1_000, 400_000  # of a bulk, whichever comes first
+DOCUMENTS, BYTES = 2_000, 400_000  # of a bulk, whichever comes first
 PAGE = 5_000
 OPENED, CLOSED = b"{}"
 FORMATS = (".jsonl", ".csv")
