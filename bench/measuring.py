@@ -32,7 +32,8 @@ def program():
 # What is shared with the tests runs the same program.
 os.environ["RX"] = program()
 sys.path.insert(0, os.path.join(HERE, "..", "tests"))
-from shared import SCHEMA, SEED, Server, Talk, collection, compact, hash_of, peak_of  # noqa: E402, F401
+from shared import (SCHEMA, SEED, Server, Talk, collection, compact, free_port, hash_of,  # noqa: E402, F401
+                    peak_of)
 
 
 def sqlite():
@@ -49,6 +50,12 @@ def processor():
     """The processor time of all programs that were run and have ended."""
     used = resource.getrusage(resource.RUSAGE_CHILDREN)
     return used.ru_utime + used.ru_stime
+
+
+def processor_of(child):
+    """The processor time of a program that runs."""
+    with open(f"/proc/{child.pid}/schedstat", encoding="ascii") as file:
+        return int(file.read().split()[0]) / 1e9
 
 
 def measure(command, lines):

@@ -24,7 +24,7 @@ import sys
 import tempfile
 import time
 
-from measuring import SCHEMA, compact, figure, program
+from measuring import SCHEMA, compact, figure, processor_of, program
 
 RUNS = 3
 SECONDS = 600
@@ -278,19 +278,14 @@ class Played:
     def level(self):
         self.ask([{"do": "turn", "name": "r", "budget": BUDGET}])
 
-    def seconds(self):
-        """Its processor time."""
-        with open(f"/proc/{self.child.pid}/schedstat", encoding="ascii") as file:
-            return int(file.read().split()[0]) / 1e9
-
     def block(self, side, number):
         """The seconds of inserts, each with a turn that brings it to the other side."""
         docs = [{"id": f"{side}{number}-{n}", "n": n} for n in range(BLOCK)]
         turn = {"do": "turn", "name": "r", "budget": 1}
         lines = [line for doc in docs for line in ({"do": "insert", "in": side, "doc": doc}, turn)]
-        start = self.seconds()
+        start = processor_of(self.child)
         replies = self.ask(lines)
-        seconds = self.seconds() - start
+        seconds = processor_of(self.child) - start
         due = "more" if side == "f" else "quiet"
         if any(reply["end"] != due or reply["exchanges"] != 1 for reply in replies[1::2]):
             sys.exit(f"rx: other turns, {replies[1]}")

@@ -26,7 +26,7 @@ import sys
 import tempfile
 import time
 
-from measuring import HERE, SCHEMA, collection, compact, figure, hash_of, measure, program
+from measuring import HERE, SCHEMA, collection, compact, figure, free_port, hash_of, measure, program
 
 RUNS = 3
 SECONDS, MOST = 5, 2_000
@@ -130,12 +130,6 @@ def make(path, size):
     docs = [{"id": f"k{n}", "n": 0} for n in range(size)]
     bulks = [{"do": "bulk", "in": "c", "docs": docs[at:at + BULK]} for at in range(0, size, BULK)]
     measure([program(), "run", path], [collection(), *map(compact, bulks)])
-
-
-def free_port():
-    with socket.socket() as it:
-        it.bind(("127.0.0.1", 0))
-        return it.getsockname()[1]
 
 
 def rx_run(made, asked, lines):

@@ -24,7 +24,7 @@ import sys
 import tempfile
 import time
 
-from measuring import SCHEMA, compact, figure, program
+from measuring import SCHEMA, compact, figure, processor_of, program
 
 STORAGE = sys.argv[2] if len(sys.argv) > 2 else "/dev/shm"
 FEWER = int(sys.argv[3]) if len(sys.argv) > 3 else 1
@@ -77,21 +77,16 @@ class Played:
         """One line for each fork, all in one piece."""
         return self.ask([{"do": do, "name": name, **more} for name in self.names])
 
-    def seconds(self):
-        """Its processor time."""
-        with open(f"/proc/{self.child.pid}/schedstat", encoding="ascii") as file:
-            return int(file.read().split()[0]) / 1e9
-
     def block(self, do, keys, **more):
         """The seconds of writes, and of what brings each of them to the forks."""
         written = brought = 0
         for some in keys:
             docs = [{"id": key, "n": 1} for key in some]
-            start = self.seconds()
+            start = processor_of(self.child)
             self.ask([{"do": "bulk", "in": "m", "docs": docs}])
-            middle = self.seconds()
+            middle = processor_of(self.child)
             replies = self.each(do, **more)
-            brought += self.seconds() - middle
+            brought += processor_of(self.child) - middle
             written += middle - start
             if do == "deliver" and not all(reply["level"] for reply in replies):
                 sys.exit(f"rx: a delivery that isn't level, {replies}")
