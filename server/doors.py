@@ -82,7 +82,8 @@ class House:
             self.seen, leaves = time.monotonic(), dict(self.leaves)
             try:
                 found = await self.work(tokens.granted, self.store, list({token for token, _ in leaves}))
-            except NO_DATABASE:
+            except BaseException:
+                # Also where it was broken off: what isn't known is asked for again.
                 self.seen = 0.0
                 raise
             for key, leave in leaves.items():
