@@ -5,3 +5,4 @@ pub mod Tables
 pub mod Levels
 pub mod Depth
 pub mod Listed
+pub mod Walks

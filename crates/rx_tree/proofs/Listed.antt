@@ -148,28 +148,28 @@ here_or_below (suc k) es n c listed is rest = or_right (c == n) listed (rest k r
 listed : (levels k : ℕ) (es : List (ℕ × ℕ)) (n top : ℕ)
     → AllByRecursion (λ e. e.0 < most_collections) es → k < levels
     → climbed ◌==◌ (suc k) es n ≡ Some top
-    → list_any (λ c. c == n) (levels_down levels es top) ≡ true
+    → list_any (λ c. c == n) (levels_down (forks_of es) levels top) ≡ true
 listed zero k es n top few less is = absurd (omega arith)
 listed (suc levels) k es n top few less is =
     let last = climb_last ◌==◌ Decides-eqb k es n top is in
     let c = last.0 in
-    any_flat (λ x. x == n) (λ x. x ∷ levels_down levels es x) (forks_of es top) c
+    any_flat (λ x. x == n) (λ x. x ∷ levels_down (forks_of es) levels x) (forks_of es top) c
     (passed (follows ◌==◌ es top) c (numbers_below most_collections) (has_master es c top last.2)
     (number c most_collections (fork_small es c top few last.2)))
-    (here_or_below k es n c (list_any (λ x. x == n) (levels_down levels es c)) last.1
+    (here_or_below k es n c (list_any (λ x. x == n) (levels_down (forks_of es) levels c)) last.1
     (λ j next way. listed levels j es n c few (omega (arith, next, less)) way))
 
 -- what is listed reaches it
 reaches : (levels : ℕ) (es : List (ℕ × ℕ)) (n top : ℕ)
     → ((m c : ℕ) → follows ◌==◌ es m c ≡ true → master_of ◌==◌ es c ≡ Some m)
-    → list_any (λ c. c == n) (levels_down levels es top) ≡ true
+    → list_any (λ c. c == n) (levels_down (forks_of es) levels top) ≡ true
     → (k : ℕ) × (climbed ◌==◌ (suc k) es n ≡ Some top)
 reaches zero es n top only is = absurd (false≢true is)
 reaches (suc levels) es n top only is =
-    let found = flat_any (λ x. x == n) (λ x. x ∷ levels_down levels es x) (forks_of es top) is in
+    let found = flat_any (λ x. x == n) (λ x. x ∷ levels_down (forks_of es) levels x) (forks_of es top) is in
     let c = found.0 in
     let at = only top c (passes (follows ◌==◌ es top) c (numbers_below most_collections) found.1) in
-    elim (or_cases (c == n) (list_any (λ x. x == n) (levels_down levels es c)) found.2) [
+    elim (or_cases (c == n) (list_any (λ x. x == n) (levels_down (forks_of es) levels c)) found.2) [
       | inl here ↦
           (0, climb_end ◌==◌ Decides-eqb 0 es n c top (ap Some (sym (eqb-true c n here))) at)
       | inr below ↦
@@ -195,13 +195,13 @@ turned false false = refl
 
 -- it lists the same
 same_listed : (test : ℕ → Bool) (levels : ℕ) (es : List (ℕ × ℕ)) (top : ℕ)
-    → list_any test (levels_up levels es top) ≡ list_any test (levels_down levels es top)
+    → list_any test (levels_up (forks_of es) levels top) ≡ list_any test (levels_down (forks_of es) levels top)
 same_listed test zero es top = refl
 same_listed test (suc levels) es top =
-    any_same test (λ x. levels_up levels es x ++ x ∷ []) (λ x. x ∷ levels_down levels es x)
+    any_same test (λ x. levels_up (forks_of es) levels x ++ x ∷ []) (λ x. x ∷ levels_down (forks_of es) levels x)
     (forks_of es top)
-    (λ x. list_any-append test (levels_up levels es x) (x ∷ [])
-    ∙ turned (list_any test (levels_up levels es x)) (test x)
+    (λ x. list_any-append test (levels_up (forks_of es) levels x) (x ∷ [])
+    ∙ turned (list_any test (levels_up (forks_of es) levels x)) (test x)
     ∙ ap (λ b. test x || b) (same_listed test levels es x))
 
 pub up_lists : ListsThoseBelow up

@@ -4,6 +4,19 @@ use Rattle.std.specs.List.{filter, flat_map, list_any}
 use Rattle.rx_tree.specs.Forest.{climbed, follows}
 use Rattle.rx_tree.specs.Table.{IsTree, most_collections}
 
+module _ {X : Type 0} (forks : X → List X) where
+  -- so many levels of the forks below a collection, each before those below it
+  abbrev pub levels_down : ℕ → X → List X
+  levels_down zero n = []
+  levels_down (suc k) n = flat_map (λ c. c ∷ levels_down k c) (forks n)
+
+  -- and each after those below it
+  abbrev pub levels_up : ℕ → X → List X
+  levels_up zero n = []
+  levels_up (suc k) n = flat_map (λ c. levels_up k c ++ c ∷ []) (forks n)
+
+-- ---- of collections by their number
+
 -- the numbers below one
 unfoldable pub numbers_below : ℕ → List ℕ
 numbers_below zero = []
@@ -13,22 +26,12 @@ numbers_below (suc n) = numbers_below n ++ n ∷ []
 abbrev pub forks_of : List (ℕ × ℕ) → ℕ → List ℕ
 forks_of es n = filter (follows ◌==◌ es n) (numbers_below most_collections)
 
--- so many levels of the forks below a collection, each before those below it
-abbrev pub levels_down : ℕ → List (ℕ × ℕ) → ℕ → List ℕ
-levels_down zero es n = []
-levels_down (suc k) es n = flat_map (λ c. c ∷ levels_down k es c) (forks_of es n)
-
--- and each after those below it
-abbrev pub levels_up : ℕ → List (ℕ × ℕ) → ℕ → List ℕ
-levels_up zero es n = []
-levels_up (suc k) es n = flat_map (λ c. levels_up k es c ++ c ∷ []) (forks_of es n)
-
 -- the forks below a collection in either order: there are no more levels than forks
 abbrev pub down : List (ℕ × ℕ) → ℕ → List ℕ
-down es n = levels_down (length es) es n
+down es n = levels_down (forks_of es) (length es) n
 
 abbrev pub up : List (ℕ × ℕ) → ℕ → List ℕ
-up es n = levels_up (length es) es n
+up es n = levels_up (forks_of es) (length es) n
 
 -- an order lists exactly the forks that reach the collection
 abbrev pub ListsThoseBelow : (List (ℕ × ℕ) → ℕ → List ℕ) → Type 0

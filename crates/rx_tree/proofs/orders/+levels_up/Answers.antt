@@ -1,7 +1,7 @@
 use Rattle.std.proofs.Common.{ℕ, ◌-◌, [], ◌∷◌, ◌++◌, List, refl, sym, ap, ◌∙◌, arith}
 use Rattle.std.specs.List.{flat_map}
 use Rattle.rx_value.proofs.Lists.{ended}
-use Rattle.rx_tree.specs.Orders.{levels_up}
+use Rattle.rx_tree.specs.Orders.{forks_of, levels_up}
 use Rattle.rx_tree.proofs.Levels.{levels_up-more}
 use Rattle.rx_tree.proofs.orders.+levels_up.Goals as goal
 
@@ -9,7 +9,7 @@ pub returns : goal.returns
 returns t c =
     let es = c.args.forks.now in
     let items = c.deref-fork-items.result.now in
-    let below : ℕ → List ℕ = λ n. levels_up (c.args.levels - 1) es n ++ n ∷ [] in
+    let below : ℕ → List ℕ = λ n. levels_up (forks_of es) (c.args.levels - 1) n ++ n ∷ [] in
     ended (flat_map below) items c.loop-fork.fork-index c.loop-fork.order.items
     (flat_map below items) refl c.loop-fork-test.false (sym c.loop-fork.invariant)
     ∙ ap (flat_map below) (c.deref-fork-items.ensures.value ∙ c.in_ok-forks_of.ensures)
