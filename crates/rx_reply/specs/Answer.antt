@@ -10,13 +10,15 @@ use Rattle.rx_table.specs.declared.counts.Counts.{Counts}
 use Rattle.rx_reply.specs.declared.given.Given.{Given}
 use Rattle.rx_reply.specs.declared.refusal.Refusal.{Refusal}
 use Rattle.rx_reply.specs.declared.reply.Reply.{Reply}
-use Rattle.rx_reply.specs.declared.reply.Reply.TheVariants.{Collection, Insert, Upsert, Patch, Update, Remove, Hook, Migrate, Bulk, Get, Find, Count, Observe, Unobserve, Explain, Replicate, Turn, Stream, Deliver, Unstream, Changes, Tick, Restart, Digest, Refused}
+use Rattle.rx_reply.specs.declared.reply.Reply.TheVariants.{Collection, Insert, Upsert, Patch, Update, Remove, Hook, Migrate, Bulk, Get, Find, Count, Observe, Unobserve, Explain, Replicate, Turn, Sweep, Stream, Deliver, Unstream, Changes, Tick, Restart, Digest, Refused}
+use Rattle.rx_reply.specs.declared.swept.Swept.{Swept}
 use Rattle.rx_reply.specs.declared.turn.Exchanged.{Exchanged}
 use Rattle.rx_reply.specs.declared.turn.TurnEnd.{TurnEnd}
 
 -- a collection is there, new or not; a document is written; a hook is attached; collections went to
 -- another schema; documents are written, read, found, counted; a query is observed, no more
--- observed, explained; a replication begins; a turn made these exchanges and ended so; a stream is
+-- observed, explained; a replication begins; a turn made these exchanges and ended so; a sweep made these turns,
+-- and the last one ended so; a stream is
 -- opened; that came of its events, whether the fork is level, and whether it is to pull; a stream
 -- is closed; states are listed up to a place; the clock is set; an epoch begins; states are
 -- counted and have that digest; or the line is refused
@@ -38,6 +40,7 @@ pub data Answer : Type 0 where
   explain : Counts → Answer
   replicate : Answer
   turn : List Exchanged → TurnEnd → Answer
+  sweep : List Swept → TurnEnd → Answer
   stream : Answer
   deliver : List Given → (level resync : Bool) → Answer
   unstream : Answer
@@ -74,6 +77,7 @@ answer_of Unobserve = unobserve
 answer_of (Explain counts) = explain counts.now
 answer_of Replicate = replicate
 answer_of (Turn exchanges ended) = turn exchanges ended
+answer_of (Sweep turns ended) = sweep turns ended
 answer_of Stream = stream
 answer_of (Deliver given level resync) = deliver given level resync
 answer_of Unstream = unstream

@@ -4,5 +4,6 @@ pub mod Form
 pub mod Explain
 pub mod Turn
 pub mod Given
+pub mod Swept
 pub mod Reply
 pub mod Emission

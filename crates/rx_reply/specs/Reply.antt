@@ -4,10 +4,11 @@ use Rattle.serde_json.specs.Data.{Data, boolean, string, object, Members, no_mem
 use Rattle.rx_value.specs.State.{state_data}
 use Rattle.rx_value.specs.Writing.{fields_data}
 use Rattle.rx_document.specs.Revision.{revision_text}
-use Rattle.rx_reply.specs.Answer.{Answer, collection, insert, upsert, patch, update, remove, hook, migrate, bulk, get, find, count, observe, unobserve, explain, replicate, turn, stream, deliver, unstream, changes, tick, restart, digest, refused}
+use Rattle.rx_reply.specs.Answer.{Answer, collection, insert, upsert, patch, update, remove, hook, migrate, bulk, get, find, count, observe, unobserve, explain, replicate, turn, sweep, stream, deliver, unstream, changes, tick, restart, digest, refused}
 use Rattle.rx_reply.specs.Explain.{explain_data}
 use Rattle.rx_reply.specs.Form.{form_of, form_data}
 use Rattle.rx_reply.specs.Given.{given_lines}
+use Rattle.rx_reply.specs.Swept.{swept_lines}
 use Rattle.rx_reply.specs.Turn.{end_word, exchange_lines}
 use Rattle.rx_reply.specs.Writing.{number_data, list_data, place_data, optional_member, output_line}
 use Rattle.rx_reply.specs.declared.turn.TurnEnd.{TurnEnd}
@@ -31,6 +32,13 @@ turn_data line exchanges ended = object
     (member (codes "end") (string (end_word ended))
     (member (codes "exchanges") (number_data exchanges)
     (member (codes "line") (number_data line) (ok_members (codes "turn") no_members))))
+
+-- a sweep made so many turns, and the last one ended so
+abbrev pub sweep_data : ℕ → ℕ → TurnEnd → Data
+sweep_data line turns ended = object
+    (member (codes "end") (string (end_word ended))
+    (member (codes "line") (number_data line)
+    (ok_members (codes "sweep") (member (codes "turns") (number_data turns) no_members))))
 
 -- events were delivered: whether the fork is level with its master, and whether it is to pull
 abbrev pub deliver_data : ℕ → Bool → Bool → Data
@@ -72,6 +80,7 @@ answer_data line unobserve = line_object line (ok_members (codes "unobserve") no
 answer_data line (explain counts) = explain_data line counts
 answer_data line replicate = line_object line (ok_members (codes "replicate") no_members)
 answer_data line (turn exchanges ended) = turn_data line (length exchanges) ended
+answer_data line (sweep turns ended) = sweep_data line (length turns) ended
 answer_data line stream = line_object line (ok_members (codes "stream") no_members)
 answer_data line (deliver given level resync) = deliver_data line level resync
 answer_data line unstream = line_object line (ok_members (codes "unstream") no_members)
@@ -90,10 +99,11 @@ answer_data line (digest n text) = object
     (member (codes "line") (number_data line) (ok_members (codes "digest") no_members))))
 answer_data line (refused refusal) = form_data line (form_of refusal)
 
--- A turn has a line for each of its exchanges before its own, numbered from 1, and a delivery one
--- for each giving of an event; every other answer is one line.
+-- A turn has a line for each of its exchanges before its own, numbered from 1, a sweep those of each
+-- of its turns, and a delivery one for each giving of an event; every other answer is one line.
 abbrev pub lines_before : Answer → List ℕ
 lines_before (turn exchanges ended) = exchange_lines 1 exchanges
+lines_before (sweep turns ended) = swept_lines turns
 lines_before (deliver given level resync) = given_lines given
 lines_before _ = []
 

@@ -9,6 +9,7 @@ mod form;
 mod given;
 mod refusal;
 mod reply;
+mod swept;
 mod turn;
 mod writing;
 
@@ -16,6 +17,7 @@ pub use emission::emission_line;
 pub use given::{Given, Took};
 pub use refusal::{Cause, DocumentFault, MigrationCause, Refusal};
 pub use reply::Reply;
+pub use swept::{Pass, Swept};
 pub use turn::{Exchanged, Lost, TurnEnd};
 pub use writing::{
     finish_line, line_after, put_maybe_number, put_maybe_text, put_number, put_text,

@@ -5,11 +5,12 @@ ghost use Rattle.serde_json.specs.Written.{outline};
 ghost use Rattle.rx_value.specs.Form.{texts};
 ghost use Rattle.rx_reply.specs.Answer as answer;
 ghost use Rattle.rx_reply.specs.Answer.{answer_of, rows_of, states_of};
-ghost use Rattle.rx_reply.specs.Reply.{line_object, ok_members, written_data, turn_data, deliver_data, answer_data, lines_before, answer_lines, is_refusal};
+ghost use Rattle.rx_reply.specs.Reply.{line_object, ok_members, written_data, turn_data, sweep_data, deliver_data, answer_data, lines_before, answer_lines, is_refusal};
 
 use crate::explain::put_explain;
 use crate::given::{Given, given_lines};
 use crate::refusal::Refusal;
+use crate::swept::{Swept, swept_lines};
 use crate::turn::{Exchanged, TurnEnd, exchange_lines};
 use crate::writing::{
     finish_line, line_after, put_maybe_place, put_names, put_number, put_rows, put_states,
@@ -79,6 +80,11 @@ pub enum Reply<'a> {
         exchanges: RxList<Exchanged>,
         end: TurnEnd,
     },
+    /// The turns that a sweep made, and how the last one ended: quiet, where there was none.
+    Sweep {
+        turns: RxList<Swept>,
+        end: TurnEnd,
+    },
     /// A stream is opened.
     Stream,
     /// What came of the queued events, whether the fork is level with its master, and whether it
@@ -117,7 +123,7 @@ impl Reply<'_> {
     }
 
     /// The lines of output that answer the line of that number: one, and before it one for each
-    /// exchange of a turn, or for each giving of an event.
+    /// exchange of a turn, for each exchange and turn of a sweep, or for each giving of an event.
     pub fn lines(&self, alloc: Global, number: u64) -> Result<String, AllocError>
         ensures { IfOk result (λ t. string_bytes t ≡ answer_lines number (answer_of self.now)) }
     {
@@ -131,6 +137,7 @@ impl Reply<'_> {
     {
         match self {
             Reply::Turn { exchanges, .. } => exchange_lines(alloc, exchanges.as_slice()),
+            Reply::Sweep { turns, .. } => swept_lines(alloc, turns.as_slice()),
             Reply::Deliver { given, .. } => given_lines(alloc, given.as_slice()),
             _ => String::with_capacity(alloc, ROOM),
         }
@@ -159,6 +166,7 @@ impl Reply<'_> {
             Reply::Explain { counts } => put_explain(writer, number, counts),
             Reply::Replicate => put_plain(writer, number, "replicate"),
             Reply::Turn { exchanges, end } => put_turn(writer, number, exchanges.len(), *end),
+            Reply::Sweep { turns, end } => put_sweep(writer, number, turns.len(), *end),
             Reply::Stream => put_plain(writer, number, "stream"),
             Reply::Deliver { level, resync, .. } => put_deliver(writer, number, *level, *resync),
             Reply::Unstream => put_plain(writer, number, "unstream"),
@@ -292,6 +300,19 @@ fn put_turn(
     put_number(writer, "exchanges", exchanges as u64)?;
     put_number(writer, "line", number)?;
     put_text(writer, "ok", "turn")?;
+    writer.end_object()
+}
+
+fn put_sweep(writer: &mut Writer, number: u64, turns: usize, end: TurnEnd) -> Result<(), AllocError>
+    ensures tokens { OnOk result (writer.new.tokens ≡ writer.old.tokens
+        ++ json_tokens (outline (sweep_data number turns end))) }
+    ensures before { writer.new.before ≡ writer.old.before }
+{
+    writer.begin_object()?;
+    put_text(writer, "end", end.word())?;
+    put_number(writer, "line", number)?;
+    put_text(writer, "ok", "sweep")?;
+    put_number(writer, "turns", turns as u64)?;
     writer.end_object()
 }
 

@@ -69,7 +69,15 @@ pub enum TurnEnd {
 pub(crate) fn exchange_lines(alloc: Global, exchanges: &[Exchanged]) -> Result<String, AllocError>
     ensures { IfOk result (λ t. string_bytes t ≡ exchange_lines 1 exchanges.now) }
 {
-    let mut text = String::new(alloc);
+    add_exchanges(String::new(alloc), exchanges)
+}
+
+/// The same behind a text.
+pub(crate) fn add_exchanges(text: String, exchanges: &[Exchanged]) -> Result<String, AllocError>
+    ensures { IfOk result (λ t. string_bytes t
+        ≡ string_bytes text ++ exchange_lines 1 exchanges.now) }
+{
+    let mut text = text;
     for i in 0..exchanges.len() {
         text = exchanges[i].add_line(text, i as u64 + 1)?;
     }

@@ -36,6 +36,7 @@ pub data Asked : Type 0 where
   Replicate : (name fork : List ℕ) (master : Target) (handler : List ℕ) (field : Option (List ℕ))
       → Asked
   Turn : (name : List ℕ) (batch budget : ℕ) (link : Option (List Happening)) → Asked
+  Sweep : (name : List ℕ) (batch budget : ℕ) → Asked
   Stream : (name : List ℕ) → Asked
   Deliver : (name : List ℕ) (link : Option (List Delivery)) → Asked
   Unstream : (name : List ℕ) → Asked
@@ -62,6 +63,7 @@ asked (line.Unobserve name) = Unobserve name
 asked (line.Explain name) = Explain name
 asked (line.Replicate name fork master handler field) = Replicate name fork master handler field
 asked (line.Turn name batch budget link) = Turn name batch budget (option_map (λ l. l.items) link)
+asked (line.Sweep name batch budget) = Sweep name batch budget
 asked (line.Stream name) = Stream name
 asked (line.Deliver name link) = Deliver name (option_map (λ l. l.items) link)
 asked (line.Unstream name) = Unstream name
@@ -105,6 +107,9 @@ IsLawful (Replicate name fork master handler field) =
 IsLawful (Turn name batch budget link) =
     (is_name name ≡ true) × (1 ≤ batch) × (batch ≤ max_batch)
     × (1 ≤ budget) × (budget ≤ max_budget) × IfSome link (AllByRecursion IsHappening)
+IsLawful (Sweep name batch budget) =
+    (is_name name ≡ true) × (1 ≤ batch) × (batch ≤ max_batch)
+    × (1 ≤ budget) × (budget ≤ max_budget)
 IsLawful (Stream name) = is_name name ≡ true
 IsLawful (Deliver name link) = is_name name ≡ true
 IsLawful (Unstream name) = is_name name ≡ true

@@ -5,7 +5,7 @@ use Rattle.serde_json.specs.Data.{Data}
 use Rattle.serde_json.specs.Read.{read}
 use Rattle.rx_value.specs.Due.{◌>>◌, demand, or_fault}
 use Rattle.rx_value.specs.Named.{named}
-use Rattle.rx_script.specs.Asked.{Asked, max_batch, max_budget, usual_budget, Collection, Insert, Bulk, Upsert, Patch, Update, Remove, Hook, Migrate, Get, Find, Count, Observe, Unobserve, Explain, Replicate, Turn, Stream, Deliver, Unstream, Changes, Tick, Restart, Digest}
+use Rattle.rx_script.specs.Asked.{Asked, max_batch, max_budget, usual_budget, Collection, Insert, Bulk, Upsert, Patch, Update, Remove, Hook, Migrate, Get, Find, Count, Observe, Unobserve, Explain, Replicate, Turn, Sweep, Stream, Deliver, Unstream, Changes, Tick, Restart, Digest}
 use Rattle.rx_script.specs.Delivery.{maybe_deliveries}
 use Rattle.rx_script.specs.Link.{maybe_link}
 use Rattle.rx_script.specs.Member.{has_needed, has_form, is_object, json_at, items_of, a_text, maybe_text, an_object, objects, a_moment, maybe_whole, a_name, a_count, a_when, some_steps}
@@ -139,6 +139,15 @@ turn_of d =
     a_count (codes "budget") max_budget usual_budget d >> λ budget.
     Ok (Turn name batch budget link)
 
+abbrev pub sweep_of : Data → Result Asked LineFault
+sweep_of d =
+    has_form (codes "do" ∷ codes "name" ∷ []) (codes "batch" ∷ codes "budget" ∷ []) d >> λ _.
+    a_text (codes "name") d >> λ name. maybe_whole (codes "batch") d >> λ _.
+    maybe_whole (codes "budget") d >> λ _. a_name (codes "name") name >> λ _.
+    a_count (codes "batch") max_batch max_batch d >> λ batch.
+    a_count (codes "budget") max_budget usual_budget d >> λ budget.
+    Ok (Sweep name batch budget)
+
 abbrev pub deliver_of : Data → Result Asked LineFault
 deliver_of d =
     has_form (codes "do" ∷ codes "name" ∷ []) (codes "link" ∷ []) d >> λ _.
@@ -182,6 +191,7 @@ forms =
     ∷ (codes "observe", form.Observe)
     ∷ (codes "unobserve", form.Unobserve) ∷ (codes "explain", form.Explain)
     ∷ (codes "replicate", form.Replicate) ∷ (codes "turn", form.Turn)
+    ∷ (codes "sweep", form.Sweep)
     ∷ (codes "stream", form.Stream) ∷ (codes "deliver", form.Deliver)
     ∷ (codes "unstream", form.Unstream)
     ∷ (codes "changes", form.Changes) ∷ (codes "tick", form.Tick)
@@ -206,6 +216,7 @@ asked_as form.Unobserve d = name_of d >> λ name. Ok (Unobserve name)
 asked_as form.Explain d = name_of d >> λ name. Ok (Explain name)
 asked_as form.Replicate d = replicate_of d
 asked_as form.Turn d = turn_of d
+asked_as form.Sweep d = sweep_of d
 asked_as form.Stream d = name_of d >> λ name. Ok (Stream name)
 asked_as form.Deliver d = deliver_of d
 asked_as form.Unstream d = name_of d >> λ name. Ok (Unstream name)

@@ -4,7 +4,7 @@ ghost use Rattle.serde_json.specs.View.{view};
 ghost use Rattle.rx_value.specs.Due.{Due, DueBy};
 ghost use Rattle.rx_value.specs.Name.{is_name};
 ghost use Rattle.rx_script.specs.Asked.{asked, IsLawful};
-ghost use Rattle.rx_script.specs.Line.{collection_of, document_of, bulk_of, changed_of, patch_of, update_of, remove_of, hook_of, migrate_of, get_of, query_of, observe_of, name_of, replicate_of, turn_of, deliver_of, changes_of, tick_of, restart_of, digest_of, asked_as, form_of};
+ghost use Rattle.rx_script.specs.Line.{collection_of, document_of, bulk_of, changed_of, patch_of, update_of, remove_of, hook_of, migrate_of, get_of, query_of, observe_of, name_of, replicate_of, turn_of, sweep_of, deliver_of, changes_of, tick_of, restart_of, digest_of, asked_as, form_of};
 ghost use Rattle.rx_script.specs.Member.{is_object, json_at};
 ghost use Rattle.rx_script.specs.declared.fault.LineFault.TheVariants.{Memory};
 ghost use Rattle.rx_script.specs.declared.form.Form.TheVariants.{Insert, Upsert, Unobserve, Explain, Stream, Unstream};
@@ -77,6 +77,7 @@ fn read_as(alloc: Global, form: Form, json: Json) -> Result<Line, LineFault>
         Form::Explain => read_explain(alloc, json),
         Form::Replicate => read_replicate(alloc, json),
         Form::Turn => read_turn(alloc, json),
+        Form::Sweep => read_sweep(alloc, json),
         Form::Stream => read_stream(alloc, json),
         Form::Deliver => read_deliver(alloc, json),
         Form::Unstream => read_unstream(alloc, json),
@@ -335,6 +336,24 @@ fn read_turn(alloc: Global, json: Json) -> Result<Line, LineFault>
         batch,
         budget,
         link,
+    })
+}
+
+fn read_sweep(alloc: Global, json: Json) -> Result<Line, LineFault>
+    ensures exact { DueBy Memory asked result (sweep_of (view json)) }
+    ensures lawful { IfOk result (λ line. IsLawful (asked line)) }
+{
+    check_form(alloc, &json, &["do", "name"], &["batch", "budget"])?;
+    let name = read_text(alloc, &json, "name")?;
+    check_maybe_whole(alloc, &json, "batch")?;
+    check_maybe_whole(alloc, &json, "budget")?;
+    check_name(alloc, "name", &name)?;
+    let batch = read_count(alloc, &json, "batch", MAX_BATCH, MAX_BATCH)?;
+    let budget = read_count(alloc, &json, "budget", MAX_BUDGET, USUAL_BUDGET)?;
+    Ok(Line::Sweep {
+        name,
+        batch,
+        budget,
     })
 }
 

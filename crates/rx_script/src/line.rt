@@ -113,6 +113,11 @@ pub enum Line {
         budget: u32,
         link: Option<Vec<Happening>>,
     },
+    Sweep {
+        name: RxText,
+        batch: u32,
+        budget: u32,
+    },
     Stream {
         name: RxText,
     },
