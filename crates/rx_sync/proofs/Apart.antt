@@ -5,6 +5,7 @@ use Rattle.rx_value.specs.Due.{◌>>=◌, ◌>>◌, lifted, or_fault}
 use Rattle.rx_value.specs.Named.{named}
 use Rattle.rx_value.specs.declared.state.State.{State}
 use Rattle.rx_schema.specs.declared.shape.Shape.{Shape}
+use Rattle.rx_document.specs.declared.place.Place.{Place}
 use Rattle.rx_collection.specs.Commit.{rows_of}
 use Rattle.rx_collection.specs.Held.{Held}
 use Rattle.rx_collection.specs.Time.{stamp}
@@ -24,6 +25,7 @@ use Rattle.rx_fork.specs.declared.accept.ExchangePlan.{ExchangePlan}
 use Rattle.rx_fork.specs.declared.ask.Asked.{Asked}
 use Rattle.rx_fork.specs.declared.fault.AcceptFault.{AcceptFault}
 use Rattle.rx_record.specs.Content.{Content, collection, rows, replication, exchange}
+use Rattle.rx_record.specs.declared.record.RowOut.{RowOut}
 use Rattle.rx_reply.specs.declared.turn.Lost.{Lost}
 use Rattle.rx_reply.specs.declared.turn.Lost.TheVariants as lost
 use Rattle.rx_reply.specs.declared.turn.TurnEnd.{TurnEnd}
@@ -64,42 +66,124 @@ plain_apart name (replication k fork master handler field) plain = tt
 plain_apart name (exchange k lwt written known up down) plain = absurd plain
 plain_apart name other plain = tt
 
-pub apart_both : (name : List ℕ) (cs ds : List Content) → AreApart name cs → AreApart name ds
-    → AreApart name (cs ++ ds)
-apart_both name [] ds first rest = rest
-apart_both name (c ∷ cs) ds first rest = (first.0, apart_both name cs ds first.1 rest)
+-- ---- what holds of each record
+
+pub each_both : (P : Content → Type 0) (cs ds : List Content) → AllByRecursion P cs
+    → AllByRecursion P ds → AllByRecursion P (cs ++ ds)
+each_both P [] ds first rest = rest
+each_both P (c ∷ cs) ds first rest = (first.0, each_both P cs ds first.1 rest)
+
+each_answered : (P : Content → Type 0) (reply : Reply) (o : Option (List Content))
+    → IfSome o (AllByRecursion P)
+    → IfSome (option_map (λ (cs : List Content). record { records = cs; reply = reply }) o)
+    (λ (h : Handled). AllByRecursion P h.records)
+each_answered P reply None is = tt
+each_answered P reply (Some cs) is = is
+
+-- of what a master writes, where it holds of its rows
+module _ (P : Content → Type 0) (k : List ℕ)
+    (of_rows : (lwt : ℕ) (written : List RowOut) → P (rows k lwt written)) where
+  each_written : (now : ℕ) (c : Held) (ss : List State)
+      → IfSome (written_by k now c ss) (AllByRecursion P)
+  each_written now c [] = tt
+  each_written now c (s ∷ ss) =
+      elim (stamp c.documents now)
+      as (λ o. IfSome (option_map (λ (r : Content). r ∷ []) (option_map
+      (λ lwt. rows k lwt (map out_of (rows_of c (s ∷ ss) lwt))) o)) (AllByRecursion P)) [
+        | None ↦ tt
+        | Some lwt ↦ (of_rows lwt (map out_of (rows_of c (s ∷ ss) lwt)), tt)
+      ]
+
+  each_commits : (now : ℕ) (ask : AskKind) (c : Held)
+      → IfSome (commits_of k now ask c) (AllByRecursion P)
+  each_commits now (Push rs) c = each_written now c (writes c.documents rs)
+  each_commits now (Pull place batch) c = tt
+
+  pub each_handled : (now : ℕ) (q : Request) (c : Held)
+      → IfSome (handled_by k now q c) (λ h. AllByRecursion P h.records)
+  each_handled now q c =
+      each_answered P (reply_with q (body_of c.documents q.ask)) (commits_of k now q.ask c)
+      (each_commits now q.ask c)
+
+-- of what a fork writes, where it holds of the exchanges of its replication
+module _ (P : Content → Type 0) (k : List ℕ)
+    (of_exchange : (lwt : ℕ) (written : List RowOut) (known : List State) (up down : Option Place)
+    → P (exchange k lwt written known up down)) where
+  pub each_recorded : (fork : Held) (plan : ExchangePlan) (b : Bool) (o : Option ℕ)
+      → IfOk (cond b (Ok []) (or_fault ClockEnd
+      (option_map (λ lwt. exchange_at k fork plan lwt ∷ []) o))) (AllByRecursion P)
+  each_recorded fork plan true o = tt
+  each_recorded fork plan false None = tt
+  each_recorded fork plan false (Some lwt) = (
+    of_exchange lwt (map out_of (rows_of fork plan.rows lwt)) plan.known plan.up plan.down,
+    tt,
+  )
+
+  each_accepted : (now : ℕ) (fork : Held) (side : Side) (r : Result ExchangePlan AcceptFault)
+      → IfOk (lifted take_fault r >> recorded k now fork side) (AllByRecursion P)
+  each_accepted now fork side (Ok plan) =
+      each_recorded fork plan (changes_nothing side plan) (write_time now fork plan.rows)
+  each_accepted now fork side (Err e) = tt
+
+  each_kind : (now : ℕ) (asked : Asked) (reply : Reply) (r : Replication) (fork : Held)
+      (o : Option HandlerKind)
+      → IfSome (o >>= λ kind. Some (taken_by k now asked reply r fork kind))
+      (λ x. IfOk x (AllByRecursion P))
+  each_kind now asked reply r fork None = tt
+  each_kind now asked reply r fork (Some kind) =
+      each_accepted now fork r.side
+      (accepted (resolve_for kind r) fork.documents r.side asked reply)
+
+  each_fork : (kinds : Kinds) (now : ℕ) (asked : Asked) (reply : Reply) (r : Replication)
+      (o : Option Held)
+      → IfSome (o >>= λ fork. named kinds r.handler >>= λ kind.
+      Some (taken_by k now asked reply r fork kind)) (λ x. IfOk x (AllByRecursion P))
+  each_fork kinds now asked reply r None = tt
+  each_fork kinds now asked reply r (Some fork) =
+      each_kind now asked reply r fork (named kinds r.handler)
+
+  each_replication : (w : World) (kinds : Kinds) (now : ℕ) (asked : Asked) (reply : Reply)
+      (o : Option Replication)
+      → IfSome (o >>= λ r. fork_in w r >>= λ fork. named kinds r.handler >>= λ kind.
+      Some (taken_by k now asked reply r fork kind)) (λ x. IfOk x (AllByRecursion P))
+  each_replication w kinds now asked reply None = tt
+  each_replication w kinds now asked reply (Some r) =
+      each_fork kinds now asked reply r (fork_in w r)
+
+  pub each_taken : (w : World) (kinds : Kinds) (asked : Asked) (reply : Reply) (now : ℕ)
+      → IfSome (taken w kinds k asked reply now) (λ x. IfOk x (AllByRecursion P))
+  each_taken w kinds asked reply now =
+      each_replication w kinds now asked reply (named w.replications k)
+
+-- of an exchange
+pub each_when : (P : Content → Type 0) (ask : AskKind) (body : Body)
+    (o : Option (Result (List Content) TakeFault)) → IfSome o (λ x. IfOk x (AllByRecursion P))
+    → AllByRecursion P (when_taken ask body (if_taken o)).records
+each_when P ask body None is = tt
+each_when P ask body (Some (Ok cs)) is = each_both P cs [] is tt
+each_when P ask body (Some (Err fault)) is = tt
+
+pub each_once : (P : Content → Type 0) (next : Handled → World → Planned) (w : World)
+    (o : Option Handled) → IfSome o (λ h. AllByRecursion P h.records)
+    → ((h : Handled) (v : World) → AllByRecursion P (next h v).records)
+    → AllByRecursion P (once_handled next w o).records
+each_once P next w None is then = tt
+each_once P next w (Some h) is then =
+    each_both P h.records (next h (world_after h.records w)).records is
+    (then h (world_after h.records w))
+
+pub each_going : (P : Content → Type 0) (c : Course) (o : Option TurnEnd) (rest : Turned)
+    → AllByRecursion P c.records → AllByRecursion P rest.records
+    → AllByRecursion P (going_on c o rest).records
+each_going P c None rest first later = each_both P c.records rest.records first later
+each_going P c (Some end) rest first later = each_both P c.records [] first tt
 
 -- ---- what a master writes
-
-apart_written : (name k : List ℕ) (now : ℕ) (c : Held) (ss : List State)
-    → IfSome (written_by k now c ss) (AreApart name)
-apart_written name k now c [] = tt
-apart_written name k now c (s ∷ ss) =
-    elim (stamp c.documents now)
-    as (λ o. IfSome (option_map (λ (r : Content). r ∷ []) (option_map
-    (λ lwt. rows k lwt (map out_of (rows_of c (s ∷ ss) lwt))) o)) (AreApart name)) [
-      | None ↦ tt
-      | Some lwt ↦ (tt, tt)
-    ]
-
-apart_commits : (name k : List ℕ) (now : ℕ) (ask : AskKind) (c : Held)
-    → IfSome (commits_of k now ask c) (AreApart name)
-apart_commits name k now (Push rs) c = apart_written name k now c (writes c.documents rs)
-apart_commits name k now (Pull place batch) c = tt
-
-apart_answered : (name : List ℕ) (reply : Reply) (o : Option (List Content))
-    → IfSome o (AreApart name)
-    → IfSome (option_map (λ (cs : List Content). record { records = cs; reply = reply }) o)
-    (λ (h : Handled). AreApart name h.records)
-apart_answered name reply None is = tt
-apart_answered name reply (Some cs) is = is
 
 apart_held : (name k : List ℕ) (now : ℕ) (q : Request) (o : Option Held)
     → IfSome (o >>= handled_by k now q) (λ h. AreApart name h.records)
 apart_held name k now q None = tt
-apart_held name k now q (Some c) =
-    apart_answered name (reply_with q (body_of c.documents q.ask)) (commits_of k now q.ask c)
-    (apart_commits name k now q.ask c)
+apart_held name k now q (Some c) = each_handled (IsApart name) k (λ lwt written. tt) now q c
 
 apart_local : (name : List ℕ) (w : World) (q : Request) (now : ℕ) (o : Option (List ℕ))
     → IfSome (o >>= λ master. handled w master q now) (λ h. AreApart name h.records)
@@ -129,91 +213,36 @@ apart_late name w k now (Some q) =
 
 -- ---- what a fork writes, of another replication
 
-module _ (name k : List ℕ) (other : k ≢ name) where
-  pub apart_recorded : (fork : Held) (plan : ExchangePlan) (b : Bool) (o : Option ℕ)
-      → IfOk (cond b (Ok []) (or_fault ClockEnd
-      (option_map (λ lwt. exchange_at k fork plan lwt ∷ []) o))) (AreApart name)
-  apart_recorded fork plan true o = tt
-  apart_recorded fork plan false None = tt
-  apart_recorded fork plan false (Some lwt) = (other, tt)
-
-  apart_accepted : (now : ℕ) (fork : Held) (side : Side) (r : Result ExchangePlan AcceptFault)
-      → IfOk (lifted take_fault r >> recorded k now fork side) (AreApart name)
-  apart_accepted now fork side (Ok plan) =
-      apart_recorded fork plan (changes_nothing side plan) (write_time now fork plan.rows)
-  apart_accepted now fork side (Err e) = tt
-
-  apart_kind : (now : ℕ) (asked : Asked) (reply : Reply) (r : Replication) (fork : Held)
-      (o : Option HandlerKind)
-      → IfSome (o >>= λ kind. Some (taken_by k now asked reply r fork kind))
-      (λ x. IfOk x (AreApart name))
-  apart_kind now asked reply r fork None = tt
-  apart_kind now asked reply r fork (Some kind) =
-      apart_accepted now fork r.side
-      (accepted (resolve_for kind r) fork.documents r.side asked reply)
-
-  apart_fork : (kinds : Kinds) (now : ℕ) (asked : Asked) (reply : Reply) (r : Replication)
-      (o : Option Held)
-      → IfSome (o >>= λ fork. named kinds r.handler >>= λ kind.
-      Some (taken_by k now asked reply r fork kind)) (λ x. IfOk x (AreApart name))
-  apart_fork kinds now asked reply r None = tt
-  apart_fork kinds now asked reply r (Some fork) =
-      apart_kind now asked reply r fork (named kinds r.handler)
-
-  apart_replication : (w : World) (kinds : Kinds) (now : ℕ) (asked : Asked) (reply : Reply)
-      (o : Option Replication)
-      → IfSome (o >>= λ r. fork_in w r >>= λ fork. named kinds r.handler >>= λ kind.
-      Some (taken_by k now asked reply r fork kind)) (λ x. IfOk x (AreApart name))
-  apart_replication w kinds now asked reply None = tt
-  apart_replication w kinds now asked reply (Some r) =
-      apart_fork kinds now asked reply r (fork_in w r)
-
-  apart_taken : (w : World) (kinds : Kinds) (asked : Asked) (reply : Reply) (now : ℕ)
-      → IfSome (taken w kinds k asked reply now) (λ x. IfOk x (AreApart name))
-  apart_taken w kinds asked reply now =
-      apart_replication w kinds now asked reply (named w.replications k)
+pub apart_taken : (name k : List ℕ) → k ≢ name → (w : World) (kinds : Kinds) (asked : Asked)
+    (reply : Reply) (now : ℕ) → IfSome (taken w kinds k asked reply now) (λ x. IfOk x (AreApart name))
+apart_taken name k other w kinds asked reply now =
+    each_taken (IsApart name) k (λ lwt written known up down. other) w kinds asked reply now
 
 -- ---- an exchange
-
-apart_when : (name : List ℕ) (ask : AskKind) (body : Body)
-    (o : Option (Result (List Content) TakeFault)) → IfSome o (λ x. IfOk x (AreApart name))
-    → AreApart name (when_taken ask body (if_taken o)).records
-apart_when name ask body None is = tt
-apart_when name ask body (Some (Ok cs)) is = apart_both name cs [] is tt
-apart_when name ask body (Some (Err fault)) is = tt
-
-apart_once : (name : List ℕ) (next : Handled → World → Planned) (w : World) (o : Option Handled)
-    → IfSome o (λ h. AreApart name h.records)
-    → ((h : Handled) (v : World) → AreApart name (next h v).records)
-    → AreApart name (once_handled next w o).records
-apart_once name next w None is then = tt
-apart_once name next w (Some h) is then =
-    apart_both name h.records (next h (world_after h.records w)).records is
-    (then h (world_after h.records w))
 
 module _ (t : Terms) (name : List ℕ) (other : t.name ≢ name) where
   apart_reply : (asked : Asked) (h : Handled) (w : World)
       → AreApart name (reply_taken t asked h w).records
   apart_reply asked h w =
-      apart_when name asked.request.ask h.reply.body (taken w t.kinds t.name asked h.reply t.now)
+      each_when (IsApart name) asked.request.ask h.reply.body (taken w t.kinds t.name asked h.reply t.now)
       (apart_taken name t.name other w t.kinds asked h.reply t.now)
 
   apart_all : (asked : Asked) (w : World) → AreApart name (handled_and_taken t asked w).records
   apart_all asked w =
-      apart_once name (reply_taken t asked) w (handled_for w t.name asked.request t.now)
+      each_once (IsApart name) (reply_taken t asked) w (handled_for w t.name asked.request t.now)
       (apart_handled name w t.name asked.request t.now) (apart_reply asked)
 
   apart_lost : (why : Lost) (asked : Asked) (w : World)
       → AreApart name (once_handled (reply_lost why asked) w
       (handled_for w t.name asked.request t.now)).records
   apart_lost why asked w =
-      apart_once name (reply_lost why asked) w (handled_for w t.name asked.request t.now)
+      each_once (IsApart name) (reply_lost why asked) w (handled_for w t.name asked.request t.now)
       (apart_handled name w t.name asked.request t.now) (λ h v. tt)
 
   apart_again : (asked : Asked) (h : Handled) (w : World)
       → AreApart name (handled_again t asked h w).records
   apart_again asked h w =
-      apart_once name (λ again v. reply_taken t asked h v) w
+      each_once (IsApart name) (λ again v. reply_taken t asked h v) w
       (handled_for w t.name asked.request t.now)
       (apart_handled name w t.name asked.request t.now) (λ again v. apart_reply asked h v)
 
@@ -224,7 +253,7 @@ module _ (t : Terms) (name : List ℕ) (other : t.name ≢ name) where
   apart_exchange asked link.LoseRequest w = tt
   apart_exchange asked link.LoseReply w = apart_lost lost.LoseReply asked w
   apart_exchange asked link.Twice w =
-      apart_once name (handled_again t asked) w (handled_for w t.name asked.request t.now)
+      each_once (IsApart name) (handled_again t asked) w (handled_for w t.name asked.request t.now)
       (apart_handled name w t.name asked.request t.now) (apart_again asked)
   apart_exchange asked link.Stale w = apart_lost lost.Stale asked w
 
@@ -232,7 +261,7 @@ module _ (t : Terms) (name : List ℕ) (other : t.name ≢ name) where
       → IfSome o (AreApart name) → AreApart name (once_late t asked x w o).records
   apart_once_late asked x w None is = tt
   apart_once_late asked x w (Some cs) is =
-      apart_both name cs (step.exchange t asked x (world_after cs w)).records is
+      each_both (IsApart name) cs (step.exchange t asked x (world_after cs w)).records is
       (apart_exchange asked x (world_after cs w))
 
   apart_course_by : (x : Happening) (w : World) (a : Asks) (o : Option Asked)
@@ -243,18 +272,13 @@ module _ (t : Terms) (name : List ℕ) (other : t.name ≢ name) where
       apart_once_late asked x w (late_records t.name t.now w q)
       (apart_late name w t.name t.now q)
 
-  apart_going : (c : Course) (o : Option TurnEnd) (rest : Turned) → AreApart name c.records
-      → AreApart name rest.records → AreApart name (going_on c o rest).records
-  apart_going c None rest first later = apart_both name c.records rest.records first later
-  apart_going c (Some end) rest first later = apart_both name c.records [] first tt
-
   -- a turn is apart from every replication but its own
   pub apart_turn : (batch budget : ℕ) (over : List Happening) (w : World) (a : Asks)
       → AreApart name (turn t batch budget over w a).records
   apart_turn batch zero over w a = tt
   apart_turn batch (suc budget) over w a =
       let c : Course = course t batch (first_of over) w a in
-      apart_going c (end_by batch c.came)
+      each_going (IsApart name) c (end_by batch c.came)
       (turn t batch budget (rest_of over) (world_after c.records w) c.asks)
       (apart_course_by (first_of over) w a (asked_in w t.name (next_number a) batch))
       (apart_turn batch budget (rest_of over) (world_after c.records w) c.asks)
@@ -269,7 +293,7 @@ module _ (t : Terms) (name : List ℕ) (other : t.name ≢ name) where
   apart_once_taken : (ask : AskKind) (body : Body) (o : Option (Result (List Content) TakeFault))
       → IfSome o (λ x. IfOk x (AreApart name)) → AreApart name (once_taken ask body o).records
   apart_once_taken ask body None is = tt
-  apart_once_taken ask body (Some (Ok cs)) is = apart_both name cs [] is tt
+  apart_once_taken ask body (Some (Ok cs)) is = each_both (IsApart name) cs [] is tt
   apart_once_taken ask body (Some (Err fault)) is = apart_lost_or ask (lost_as fault)
 
   apart_read : (asked : Asked) (w : World) (r : Result Reply WireFault)
@@ -300,8 +324,8 @@ module _ (t : Terms) (name : List ℕ) (other : t.name ≢ name) where
       (rest : RemoteTurned) → AreApart name c.records → AreApart name rest.turned.records
       → AreApart name (heard_on c o hs end rest).turned.records
   apart_heard_on c o hs None rest first later =
-      apart_both name c.records rest.turned.records first later
-  apart_heard_on c o hs (Some end) rest first later = apart_both name c.records [] first tt
+      each_both (IsApart name) c.records rest.turned.records first later
+  apart_heard_on c o hs (Some end) rest first later = each_both (IsApart name) c.records [] first tt
 
   pub apart_remote_turn : (batch budget : ℕ) (hs : List Heard) (w : World) (a : Asks)
       → AreApart name (remote_turn t batch budget hs w a).turned.records

@@ -24,6 +24,14 @@ pub mod AnyReply
 pub mod Elsewhere
 pub mod HeardPulls
 pub mod Apart
+pub mod Within
+pub mod Untouched
+pub mod Forks
+pub mod Sweeps
+pub mod KeysWithin
+pub mod SweepsInTime
+pub mod SweepOrders
+pub mod StepsHere
 pub mod Goodness
 pub mod EventTakings
 pub mod Levels

@@ -144,6 +144,20 @@ ready_after cs w name kinds ready come =
       handler = ap (named kinds) s.handler ∙ ready.handler;
     }
 
+-- of the same fork and master
+pub ready_after-fork : (cs : List Content) (w : World) (name : List ℕ) (kinds : Kinds)
+    (ready : IsReady w name kinds) (come : ComeSoundly w cs)
+    → (ready_after cs w name kinds ready come).here.replication.fork ≡ ready.here.replication.fork
+unfolding ready_after
+ready_after-fork cs w name kinds ready come =
+    (still_after cs w name ready.here.replication (soundly_in_turn w cs come) ready.here.held).fork
+
+pub ready_after-master : (cs : List Content) (w : World) (name : List ℕ) (kinds : Kinds)
+    (ready : IsReady w name kinds) (come : ComeSoundly w cs)
+    → (ready_after cs w name kinds ready come).here.master ≡ ready.here.master
+unfolding ready_after
+ready_after-master cs w name kinds ready come = refl
+
 -- what is remembered stays lawful
 pub remembers_after : (cs : List Content) (w : World) (name : List ℕ) (kinds : Kinds) (a : Asks)
     → IsReady w name kinds → MayComeInTurn w cs → RemembersLawful w name a

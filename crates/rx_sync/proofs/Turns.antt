@@ -29,7 +29,7 @@ use Rattle.rx_sync.proofs.Exchanges.{HasHandled}
 use Rattle.rx_sync.proofs.Going.{GoesWell, behind_well, due_here, handled_come, handled_well, lost_goes_well, lost_well, no_time_well, taken_goes_well}
 use Rattle.rx_sync.proofs.Messages.{asked_at}
 use Rattle.rx_sync.proofs.Repeats.{twice_is_once}
-use Rattle.rx_sync.proofs.Staying.{ready_after, remembers_after, soundly_in_turn}
+use Rattle.rx_sync.proofs.Staying.{ready_after, ready_after-master, remembers_after, soundly_in_turn}
 use Rattle.rx_sync.proofs.Worlds.{after-append, soundly-append}
 
 -- ---- an exchange
@@ -159,13 +159,13 @@ remembers_more w name r fork q a at held lawful all = λ s s_at c c_held.
 
 -- ---- an exchange with all that belongs to it
 
-record CourseGoesWell (t : Terms) (batch : ℕ) (w : World) (c : Course) : Type 0 where
+pub record CourseGoesWell (t : Terms) (batch : ℕ) (w : World) (c : Course) : Type 0 where
   pub come : ComeSoundly w c.records
   pub asks : RemembersLawful w t.name c.asks
   pub quiet : end_by batch c.came ≡ Some Quiet → IsLevel (world_after c.records w) t.name
   pub pulled : PullLeavesNone w t.name c.records c.came
 
-course_well : (t : Terms) (batch : ℕ) → 1 ≤ batch → (x : Happening) (w : World) (a : Asks)
+pub course_well : (t : Terms) (batch : ℕ) → 1 ≤ batch → (x : Happening) (w : World) (a : Asks)
     → MayTurn t w a → CourseGoesWell t batch w (course t batch x w a)
 course_well t batch some x w a may = by (asked_in w t.name (next_number a) batch) refl
   where
@@ -197,13 +197,20 @@ pub course_pulled : (t : Terms) (batch : ℕ) → 1 ≤ batch → (x : Happening
 course_pulled t batch some x w a may = (course_well t batch some x w a may).pulled
 
 -- afterwards another one may follow
-course_again : (t : Terms) (batch : ℕ) (w : World) (a : Asks) (c : Course) → MayTurn t w a
+pub course_again : (t : Terms) (batch : ℕ) (w : World) (a : Asks) (c : Course) → MayTurn t w a
     → CourseGoesWell t batch w c → MayTurn t (world_after c.records w) c.asks
 course_again t batch w a c may well = record {
   ready = ready_after c.records w t.name t.kinds may.ready well.come;
   asks = remembers_after c.records w t.name t.kinds c.asks may.ready
       (soundly_in_turn w c.records well.come) well.asks;
 }
+
+pub course_again-master : (t : Terms) (batch : ℕ) (w : World) (a : Asks) (c : Course)
+    (may : MayTurn t w a) (well : CourseGoesWell t batch w c)
+    → (course_again t batch w a c may well).ready.here.master ≡ may.ready.here.master
+unfolding course_again
+course_again-master t batch w a c may well =
+    ready_after-master c.records w t.name t.kinds may.ready well.come
 
 -- ---- a turn
 

@@ -1,6 +1,7 @@
 -- What is remembered of a replication's requests since the journal was opened.
-use Rattle.std.specs.Prelude.{ℕ, ◌+◌, min, List, [], ◌∷◌, take, Option, slice_get}
+use Rattle.std.specs.Prelude.{ℕ, ◌+◌, min, List, [], ◌∷◌, take, Option, slice_get, unwrap_or}
 use Rattle.std.specs.List.{AllByRecursion}
+use Rattle.rx_value.specs.Named.{named}
 use Rattle.rx_schema.specs.declared.shape.Shape.{Shape}
 use Rattle.rx_wire.specs.declared.message.Request.{Request}
 use Rattle.rx_fork.specs.Asked.{HasRowsApart}
@@ -51,3 +52,7 @@ pub record IsLawfulRequest (schema : Shape) (q : Request) : Type 0 where
 -- each remembered one is so
 abbrev pub AsksAreLawful : Shape → Asks → Type 0
 AsksAreLawful schema a = AllByRecursion (IsLawfulRequest schema) a.requests
+
+-- what is remembered of a replication's, by its name
+abbrev pub asks_of : List ℕ → List (List ℕ × Asks) → Asks
+asks_of name asks = unwrap_or (named asks name) no_asks

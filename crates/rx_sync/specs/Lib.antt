@@ -12,3 +12,4 @@ pub mod Remote
 pub mod RemoteLaws
 pub mod Events
 pub mod Delivery
+pub mod Sweep

@@ -2,6 +2,7 @@ ghost use Rattle.rx_sync.specs.AnyReply.{ChangesNothingElse, EveryTaking, LosesN
 ghost use Rattle.rx_sync.specs.Bound.{EachLowersLeft, EndsInTime, EveryOkTurn, PushesAtMostTwice, TurnsEndInTime};
 ghost use Rattle.rx_sync.specs.Delivery.{EveryDelivery, IsDeliverySound, LevelIsEqual, MayDeliverAgain, WaitsForPushes};
 ghost use Rattle.rx_sync.specs.RemoteLaws.{EachIsUnharmed, EveryCall, IsCallSound, MayCallAgain};
+ghost use Rattle.rx_sync.specs.Sweep.{QuietSweepIsEqual, SweepEndsInTime};
 ghost use Rattle.rx_sync.specs.Laws.{EveryTurn, IsTurnSound, MayTurnAgain, QuietIsLevel, RefusedByTheClockAlone, TwiceIsOnce};
 
 /// States what holds of every turn of every replication that may make one, whatever its link does,
@@ -75,4 +76,14 @@ pub fn delivery_laws()
     ensures again { EveryDelivery MayDeliverAgain }
     // Level means equal.
     ensures level { LevelIsEqual }
+{}
+
+/// States what holds of every sweep over a tree of one journal, whatever its handlers answer, and
+/// does nothing.
+pub fn sweep_laws()
+    // Where it ends quiet, each collection of the tree has the same state as its root at each key.
+    ensures quiet { QuietSweepIsEqual }
+    // For K keys in the tree, turns of 3 K + 1 exchanges are enough to end quiet, unless a commit
+    // finds no write time.
+    ensures in_time { SweepEndsInTime }
 {}

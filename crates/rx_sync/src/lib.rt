@@ -1,6 +1,7 @@
 //! What the forks and masters of one journal do with each other: what a fork asks, what its master
-//! answers, how the fork takes it, and turns of such exchanges over a link that loses, repeats and
-//! delays. A world is only read here. What is to be written is given as records.
+//! answers, how the fork takes it, turns of such exchanges over a link that loses, repeats and
+//! delays, deliveries of a stream's events, and sweeps over a tree. A world is only read here. What
+//! is to be written is given as records.
 #![tactic(auto)]
 
 mod asking;
@@ -15,6 +16,7 @@ mod handling;
 mod laws;
 mod lookup;
 mod remote;
+mod sweeping;
 mod taking;
 
 pub use asking::{ask, ask_to_pull, pending};
@@ -26,6 +28,9 @@ pub use exchanging::{Planned, exchange, lost_by};
 pub use fault::{EventFault, TakeFault};
 pub use giving::{Giving, give, given_as, is_resync};
 pub use handling::{Handled, handle, handle_by};
-pub use laws::{any_reply_laws, bound_laws, delivery_laws, remote_turn_laws, turn_laws};
+pub use laws::{
+    any_reply_laws, bound_laws, delivery_laws, remote_turn_laws, sweep_laws, turn_laws,
+};
 pub use remote::{Heard, fork_schema, hear};
+pub use sweeping::{Step, sweep_steps};
 pub use taking::take;
