@@ -9,7 +9,7 @@ use Rattle.rx_sync.proofs.Apart.{apart_remote_turn}
 use Rattle.rx_sync.proofs.Elsewhere.{remote_turn_again, remote_turn_sound}
 use Rattle.rx_sync.proofs.Staying.{made_after, soundly_in_turn}
 use Rattle.rx_sync.proofs.Worlds.{linked_at, sound_after}
-use Rattle.rx_sync.specs.Asks.{Asks}
+use Rattle.rx_sync.specs.Asks.{Asks, asks_of}
 use Rattle.rx_sync.specs.Exchange.{world_after}
 use Rattle.rx_sync.specs.Laws.{ComeSoundly}
 use Rattle.rx_sync.specs.Remote.{Heard, remote_turn}
@@ -23,7 +23,7 @@ use Rattle.rx_engine.specs.Callings.{IsDialledBy, IsRemoteMadeByName, TurnsRemot
 use Rattle.rx_engine.specs.Dialled.{DialStanding}
 use Rattle.rx_engine.specs.Marks.{AreMarked, AreMarkedBut}
 use Rattle.rx_engine.specs.Remembered.{AreRemembered}
-use Rattle.rx_engine.specs.Standing.{Standing, asks_of}
+use Rattle.rx_engine.specs.Standing.{Standing}
 use Rattle.rx_engine.specs.Turning.{terms, written}
 use Rattle.rx_engine.specs.declared.turning.Turned.{Turned as Made}
 use Rattle.rx_engine.proofs.Marking.{marked_then}

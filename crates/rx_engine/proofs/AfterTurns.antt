@@ -7,7 +7,7 @@ use Rattle.rx_sync.proofs.Apart.{apart_turn}
 use Rattle.rx_sync.proofs.Staying.{made_after, soundly_in_turn}
 use Rattle.rx_sync.proofs.Turns.{turn_again, turn_quiet, turn_sound}
 use Rattle.rx_sync.proofs.Worlds.{linked_at, sound_after}
-use Rattle.rx_sync.specs.Asks.{Asks}
+use Rattle.rx_sync.specs.Asks.{Asks, asks_of}
 use Rattle.rx_sync.specs.Exchange.{world_after}
 use Rattle.rx_sync.specs.Laws.{ComeSoundly, IsLevel, MayTurn}
 use Rattle.rx_sync.specs.Turn.{Turned, turn}
@@ -17,7 +17,7 @@ use Rattle.rx_world.specs.World.{World}
 use Rattle.rx_engine.specs.Marks.{AreMarked, AreMarkedBut}
 use Rattle.rx_engine.specs.Play.{Follows, IsMadeByName}
 use Rattle.rx_engine.specs.Remembered.{AreRemembered}
-use Rattle.rx_engine.specs.Standing.{Standing, asks_of}
+use Rattle.rx_engine.specs.Standing.{Standing}
 use Rattle.rx_engine.specs.Turning.{CanTurn, Turn as ToTurn, terms, turned, written}
 use Rattle.rx_engine.specs.declared.play.Play.{Play}
 use Rattle.rx_engine.specs.declared.turning.Turned.{Turned as Made}

@@ -10,7 +10,7 @@ use Rattle.rx_handler.specs.declared.kind.HandlerKind.{HandlerKind}
 use Rattle.rx_record.specs.declared.record.MasterName.{MasterName}
 use Rattle.rx_record.specs.declared.record.MasterName.TheVariants.{Local, Port}
 use Rattle.rx_reply.specs.declared.refusal.Refusal.TheVariants.{NoStream}
-use Rattle.rx_script.specs.Asked.{Asked, Collection, Insert, Bulk, Upsert, Patch, Update, Remove, Hook, Migrate, Get, Find, Count, Observe, Unobserve, Explain, Replicate, Turn, Stream, Deliver, Unstream, Changes, Tick, Restart, Digest}
+use Rattle.rx_script.specs.Asked.{Asked, Collection, Insert, Bulk, Upsert, Patch, Update, Remove, Hook, Migrate, Get, Find, Count, Observe, Unobserve, Explain, Replicate, Turn, Sweep, Stream, Deliver, Unstream, Changes, Tick, Restart, Digest}
 use Rattle.rx_script.specs.Line.{line_of}
 use Rattle.rx_script.specs.declared.delivery.Delivery.{Delivery}
 use Rattle.rx_script.specs.declared.fault.LineFault.{LineFault}
@@ -20,10 +20,11 @@ use Rattle.rx_stream.specs.declared.stream.Stream.{Stream as StreamHere}
 use Rattle.rx_world.specs.declared.replication.Replication.{Replication}
 use Rattle.rx_writes.specs.Faults.{of_line}
 use Rattle.rx_engine.specs.Calling.{Call as ToCall, CanCall}
-use Rattle.rx_engine.specs.Lines.{Task, answered, turns, calls, delivers, asked_outcome, asked_task, deliver_line, task, task_or_refusal, turn_line, turn_to}
+use Rattle.rx_engine.specs.Lines.{Task, answered, turns, calls, sweeps, delivers, asked_outcome, asked_task, deliver_line, task, task_or_refusal, turn_line, turn_to}
 use Rattle.rx_engine.specs.Outcome.{Outcome}
 use Rattle.rx_engine.specs.Replicate.{has_handler, takes_field}
 use Rattle.rx_engine.specs.Streams.{Deliver as ToDeliver, deliver_over, replication_at, stream_at}
+use Rattle.rx_engine.specs.Sweeping.{Sweep as ToSweep, swept_at}
 use Rattle.rx_engine.specs.Turning.{CanTurn, Turn as ToTurn, is_handled, turn_here, turned_at}
 use Rattle.rx_writes.specs.declared.fault.Fault.{Fault}
 use Rattle.rx_writes.specs.declared.fault.Fault.TheVariants.{Refused, Memory}
@@ -137,6 +138,15 @@ no_call_delivery : (r : Result StreamHere Fault) (d : ToDeliver) (c : ToCall)
 no_call_delivery (Ok st) d c is = cc
 no_call_delivery (Err fault) d c is = cc
 
+-- nor is a sweep
+no_turn_sweep : (r : Result ToSweep Fault) (u : ToTurn) → (r >> λ v. Ok (sweeps v)) ≡ Ok (turns u) → ⊥
+no_turn_sweep (Ok v) u is = cc
+no_turn_sweep (Err fault) u is = cc
+
+no_call_sweep : (r : Result ToSweep Fault) (c : ToCall) → (r >> λ v. Ok (sweeps v)) ≡ Ok (calls c) → ⊥
+no_call_sweep (Ok v) c is = cc
+no_call_sweep (Err fault) c is = cc
+
 can_ask : (kinds : Kinds) (ask : Asked) (s : Session) (u : ToTurn)
     → asked_task kinds ask s ≡ Ok (turns u) → CanTurn kinds s u.name
 can_ask kinds (Turn name batch budget link) s u is = can_by kinds name batch budget link s u is
@@ -156,6 +166,7 @@ can_ask kinds (Observe name coll query) s u is = absurd (no_outcome _ u is)
 can_ask kinds (Unobserve name) s u is = absurd (no_outcome _ u is)
 can_ask kinds (Explain name) s u is = absurd (no_outcome _ u is)
 can_ask kinds (Replicate name fork master handler field) s u is = absurd (no_outcome _ u is)
+can_ask kinds (Sweep name batch budget) s u is = absurd (no_turn_sweep (swept_at kinds name batch budget s) u is)
 can_ask kinds (Stream name) s u is = absurd (no_outcome _ u is)
 can_ask kinds (Deliver name link) s u is = absurd (no_outcome_delivery (stream_at name s) (deliver_over name link) u is)
 can_ask kinds (Unstream name) s u is = absurd (no_outcome _ u is)
@@ -183,6 +194,7 @@ call_ask kinds (Observe name coll query) s c is = absurd (no_call _ c is)
 call_ask kinds (Unobserve name) s c is = absurd (no_call _ c is)
 call_ask kinds (Explain name) s c is = absurd (no_call _ c is)
 call_ask kinds (Replicate name fork master handler field) s c is = absurd (no_call _ c is)
+call_ask kinds (Sweep name batch budget) s c is = absurd (no_call_sweep (swept_at kinds name batch budget s) c is)
 call_ask kinds (Stream name) s c is = absurd (no_call _ c is)
 call_ask kinds (Deliver name link) s c is = absurd (no_call_delivery (stream_at name s) (deliver_over name link) c is)
 call_ask kinds (Unstream name) s c is = absurd (no_call _ c is)
@@ -228,6 +240,11 @@ no_outcome_deliver : (r : Result Outcome Fault) (d : ToDeliver)
     → (r >> λ o. Ok (answered o)) ≡ Ok (delivers d) → ⊥
 no_outcome_deliver (Ok o) d is = cc
 no_outcome_deliver (Err fault) d is = cc
+
+no_sweep_deliver : (r : Result ToSweep Fault) (d : ToDeliver)
+    → (r >> λ v. Ok (sweeps v)) ≡ Ok (delivers d) → ⊥
+no_sweep_deliver (Ok v) d is = cc
+no_sweep_deliver (Err fault) d is = cc
 
 no_turn_deliver : (m : MasterName) (name : List ℕ) (batch budget : ℕ)
     (link : Option (List Happening)) (d : ToDeliver)
@@ -277,6 +294,7 @@ deliver_ask kinds (Observe name coll query) s d is = absurd (no_outcome_deliver 
 deliver_ask kinds (Unobserve name) s d is = absurd (no_outcome_deliver _ d is)
 deliver_ask kinds (Explain name) s d is = absurd (no_outcome_deliver _ d is)
 deliver_ask kinds (Replicate name fork master handler field) s d is = absurd (no_outcome_deliver _ d is)
+deliver_ask kinds (Sweep name batch budget) s d is = absurd (no_sweep_deliver (swept_at kinds name batch budget s) d is)
 deliver_ask kinds (Stream name) s d is = absurd (no_outcome_deliver _ d is)
 deliver_ask kinds (Unstream name) s d is = absurd (no_outcome_deliver _ d is)
 deliver_ask kinds (Changes coll since batch) s d is = absurd (no_outcome_deliver _ d is)

@@ -32,12 +32,16 @@ same_when_long k above line =
           too_long (take k line) (omega arith) ∙ sym (too_long line (omega arith)))
     ] refl
 
--- so it comes to the same
+-- so it asks the same
+pub same_ask_when_cut : (line : List ℕ) → line_of (take (max_line_bytes + 1) line) ≡ line_of line
+same_ask_when_cut line = same_when_long (max_line_bytes + 1) (omega arith) line
+
+-- and comes to the same
 pub same_task_when_cut : (line : List ℕ) (s : Standing)
     → task s.kinds (take (max_line_bytes + 1) line) s.session ≡ task s.kinds line s.session
 same_task_when_cut line s =
     ap (λ read. task_or_refusal (lifted of_line read >> λ ask. asked_task s.kinds ask s.session))
-    (same_when_long (max_line_bytes + 1) (omega arith) line)
+    (same_ask_when_cut line)
 
 pub same_when_cut : (n : ℕ) (line : List ℕ) (s : Standing)
     → meaning n (take (max_line_bytes + 1) line) s ≡ meaning n line s

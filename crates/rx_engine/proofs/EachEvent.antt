@@ -23,7 +23,7 @@ use Rattle.rx_sync.specs.Taking.{changes_nothing, is_same_place, recorded, write
 use Rattle.rx_sync.specs.declared.fault.EventFault.{EventFault}
 use Rattle.rx_sync.specs.declared.fault.EventFault.TheVariants as fault
 use Rattle.rx_sync.specs.declared.giving.Giving.{Giving}
-use Rattle.rx_sync.proofs.Apart.{AreApart, apart_both, apart_recorded}
+use Rattle.rx_sync.proofs.Apart.{AreApart, IsApart, each_both, each_recorded}
 use Rattle.rx_sync.proofs.Deliveries.{given_well, may_after, one_well, rest_may}
 use Rattle.rx_world.specs.World.{World}
 use Rattle.rx_world.specs.declared.replication.Replication.{Replication}
@@ -241,7 +241,8 @@ module _ (name k : List ℕ) (other : k ≢ name) (now : ℕ) where
       (demand_ok (AreApart name) (due == 0) (fault.Pending due) _
       (demand_ok (AreApart name) (is_same_place e.from r.side.down) fault.Gap _
       (lifted_ok (AreApart name) (λ f. fault.ClockEnd) (recorded k now fork r.side plan)
-      (apart_recorded name k other fork plan (changes_nothing r.side plan)
+      (each_recorded (IsApart name) k (λ lwt written known up down. other) fork plan
+      (changes_nothing r.side plan)
       (write_time now fork plan.rows)))))
 
   apart_fork : (e : Event) (r : Replication) (o : Option Held)
@@ -273,7 +274,7 @@ module _ (name k : List ℕ) (other : k ≢ name) (now : ℕ) where
   apart_one i link.Twice e w =
       let first = given_once k now i e w in
       let v = world_after first.records w in
-      apart_both name first.records (given_once k now i e v).records (apart_given i e w)
+      each_both (IsApart name) first.records (given_once k now i e v).records (apart_given i e w)
       (apart_given i e v)
 
   pub apart_delivered : (i : ℕ) (ls : List Delivery) (es : List Event) (w : World)
@@ -282,6 +283,6 @@ module _ (name k : List ℕ) (other : k ≢ name) (now : ℕ) where
   apart_delivered i ls (e ∷ es) w =
       let d = one_delivered k now i (next_delivery ls) e w in
       let v = world_after d.records w in
-      apart_both name d.records (delivered k now (i + 1) (later_deliveries ls) es v).records
+      each_both (IsApart name) d.records (delivered k now (i + 1) (later_deliveries ls) es v).records
       (apart_one i (next_delivery ls) e w)
       (apart_delivered (i + 1) (later_deliveries ls) es v)

@@ -14,10 +14,11 @@ use Rattle.rx_engine.specs.Callings.{IsDialledBy, TurnsRemotely}
 use Rattle.rx_engine.specs.Dialled.{DialStanding}
 use Rattle.rx_engine.specs.Engine.{Answers, AnswersCall, IsAt, limit_of, session_of, standing_of}
 use Rattle.rx_engine.specs.Hearing.{IsShownBy, PlaysLine}
-use Rattle.rx_engine.specs.Lines.{Task, answered, turns, calls, delivers, task}
+use Rattle.rx_engine.specs.Lines.{Task, answered, turns, calls, sweeps, delivers, task}
 use Rattle.rx_engine.specs.Meaning.{Meaning, bodies_of, meaning, turn_meaning}
 use Rattle.rx_engine.specs.Outcome.{Outcome}
 use Rattle.rx_engine.specs.Standing.{Standing}
+use Rattle.rx_engine.specs.Sweeping.{Sweep}
 use Rattle.rx_engine.specs.Streams.{Deliver}
 use Rattle.rx_engine.specs.Turning.{Turn as ToTurn}
 use Rattle.rx_engine.specs.declared.engine.Engine.{Engine}
@@ -58,6 +59,11 @@ module _ {D : Type 0} (d : Ghosts D) (tells : Type 0) (kinds : Kinds) (number : 
   pub shown_turn : (u : ToTurn) → to_do ≡ turns u → dial' ≡ dial
       → IsShownBy tells to_do (standing []) dial dial' [] (IsOk r)
   shown_turn u is same =
+      subst (λ (t : Task). IsShownBy tells t (standing []) dial dial' [] (IsOk r)) (sym is) (refl, same)
+
+  pub shown_sweep : (v : Sweep) → to_do ≡ sweeps v → dial' ≡ dial
+      → IsShownBy tells to_do (standing []) dial dial' [] (IsOk r)
+  shown_sweep v is same =
       subst (λ (t : Task). IsShownBy tells t (standing []) dial dial' [] (IsOk r)) (sym is) (refl, same)
 
   pub shown_delivery : (u : Deliver) → to_do ≡ delivers u → dial' ≡ dial

@@ -24,6 +24,9 @@ pub mod Dialled
 pub mod AfterCalls
 pub mod Hearing
 pub mod Staging
+pub mod SweepSteps
+pub mod AfterSweeps
+pub mod CanSweeps
 pub mod Committing
 pub mod Ahead
 pub mod Forgetting

@@ -4,7 +4,7 @@ use Rattle.std.specs.Prelude.{IsSome}
 use Rattle.rx_handler.specs.Handlers.{Kinds}
 use Rattle.rx_observe.specs.declared.emission.Emission.{Emission}
 use Rattle.rx_outside.specs.declared.stop.Stop.{Stop}
-use Rattle.rx_reply.specs.Answer.{deliver, turn}
+use Rattle.rx_reply.specs.Answer.{deliver, turn, sweep}
 use Rattle.rx_reply.specs.Reply.{answer_lines, is_refusal}
 use Rattle.rx_reply.specs.declared.given.Given.{Given}
 use Rattle.rx_reply.specs.declared.turn.Exchanged.{Exchanged}
@@ -14,7 +14,7 @@ use Rattle.rx_script.specs.declared.happening.Happening.{Happening}
 use Rattle.rx_session.specs.Doing.{Doing, MayDo, nothing, session_after, with_emptied}
 use Rattle.rx_session.specs.Emissions.{emissions, settled_session}
 use Rattle.rx_session.specs.Session.{Session, has_lost, stream_of}
-use Rattle.rx_sync.specs.Asks.{Asks}
+use Rattle.rx_sync.specs.Asks.{Asks, asks_of}
 use Rattle.rx_sync.proofs.Bound.{exchanges_lower, turn_in_time, turn_pushes_twice}
 use Rattle.rx_sync.proofs.Elsewhere.{remote_turn_unharmed}
 use Rattle.rx_sync.specs.Bound.{AreOk, EveryOkTurn}
@@ -25,14 +25,14 @@ use Rattle.rx_sync.specs.Remote.{Heard}
 use Rattle.rx_sync.specs.RemoteLaws.{EachIsUnharmed, MayCall}
 use Rattle.rx_sync.specs.Turn.{Turned}
 use Rattle.rx_world.specs.World.{World}
-use Rattle.rx_engine.specs.Engine.{Answers, IsAfterDelivery, IsAfterTurn, IsBounded, IsUnharmedBy, LeavesAll, LevelIsEqual, OfOkTurn, QuietIsLevel, asks_in, session_of, standing_of}
+use Rattle.rx_engine.specs.Engine.{Answers, IsAfterDelivery, IsAfterTurn, IsBounded, IsUnharmedBy, LeavesAll, LevelIsEqual, OfOkTurn, QuietIsLevel, asks_in, session_of, standing_of, IsAfterSweep}
 use Rattle.rx_engine.specs.Judged.{IsJudged, IsPrinted, MayDoJudged}
 use Rattle.rx_engine.specs.Calling.{Call as ToCall, called, to_hear}
-use Rattle.rx_engine.specs.Lines.{IsIdleTask, Task, answered, turns, calls, delivers, task}
-use Rattle.rx_engine.specs.Meaning.{Meaning, asks_kept, delivery_meaning, lines_of, meaning, meaning_of, records_of, task_meaning, turn_meaning}
+use Rattle.rx_engine.specs.Lines.{IsIdleTask, Task, answered, turns, calls, sweeps, delivers, task}
+use Rattle.rx_engine.specs.Meaning.{Meaning, asks_kept, delivery_meaning, lines_of, meaning, meaning_of, records_of, task_meaning, turn_meaning, sweep_meaning}
 use Rattle.rx_engine.specs.Outcome.{Outcome}
-use Rattle.rx_engine.specs.Shown.{call_of, deliver_of, doing_of, turn_of}
-use Rattle.rx_engine.specs.Standing.{Standing, asks_of, standing_with}
+use Rattle.rx_engine.specs.Shown.{call_of, deliver_of, doing_of, turn_of, sweep_of}
+use Rattle.rx_engine.specs.Standing.{Standing, standing_with}
 use Rattle.rx_engine.specs.Streams.{Deliver as ToDeliver, delivered_by}
 use Rattle.rx_engine.specs.Turning.{Turn as ToTurn, terms, turned}
 use Rattle.rx_engine.specs.declared.changing.AfterTurn.{AfterTurn}
@@ -44,6 +44,10 @@ use Rattle.rx_engine.specs.declared.judging.Printed.{Printed}
 use Rattle.rx_engine.specs.declared.output.Output.{Output}
 use Rattle.rx_engine.specs.declared.remote.Call.{Call}
 use Rattle.rx_engine.specs.declared.streams.Deliver.{Deliver}
+use Rattle.rx_engine.specs.Sweeping.{Sweep as ToSweep, swept}
+use Rattle.rx_reply.specs.declared.swept.Swept.{Swept as SweptTurn}
+use Rattle.rx_engine.specs.declared.sweeps.AfterSweep.{AfterSweep}
+use Rattle.rx_engine.specs.declared.sweeping.Sweep.{Sweep}
 use Rattle.rx_engine.specs.declared.turning.Turn.{Turn}
 use Rattle.rx_engine.proofs.Plays.{written-world}
 
@@ -54,6 +58,7 @@ is_printed : (number : ℕ) (p : Printed) (t : Task) → IsJudged number (judged
 is_printed number p (answered o) j = (o, refl, j)
 is_printed number p (turns u) j = absurd j
 is_printed number p (calls d) j = absurd j
+is_printed number p (sweeps v) j = absurd j
 is_printed number p (delivers d) j = absurd j
 
 is_turn : (number : ℕ) (m : Turn) (t : Task) → IsJudged number (judged.Turns m) t
@@ -61,6 +66,7 @@ is_turn : (number : ℕ) (m : Turn) (t : Task) → IsJudged number (judged.Turns
 is_turn number m (answered o) j = absurd j
 is_turn number m (turns u) j = ap turns (sym j)
 is_turn number m (calls d) j = absurd j
+is_turn number m (sweeps v) j = absurd j
 is_turn number m (delivers d) j = absurd j
 
 is_call : (number : ℕ) (m : Call) (t : Task) → IsJudged number (judged.Calls m) t
@@ -68,13 +74,23 @@ is_call : (number : ℕ) (m : Call) (t : Task) → IsJudged number (judged.Calls
 is_call number m (answered o) j = absurd j
 is_call number m (turns u) j = absurd j
 is_call number m (calls d) j = ap calls (sym j)
+is_call number m (sweeps v) j = absurd j
 is_call number m (delivers d) j = absurd j
+
+is_sweep : (number : ℕ) (m : Sweep) (t : Task) → IsJudged number (judged.Sweeps m) t
+    → t ≡ sweeps (sweep_of m)
+is_sweep number m (answered o) j = absurd j
+is_sweep number m (turns u) j = absurd j
+is_sweep number m (calls d) j = absurd j
+is_sweep number m (sweeps v) j = ap sweeps (sym j)
+is_sweep number m (delivers d) j = absurd j
 
 is_delivery : (number : ℕ) (m : Deliver) (t : Task) → IsJudged number (judged.Delivers m) t
     → t ≡ delivers (deliver_of m)
 is_delivery number m (answered o) j = absurd j
 is_delivery number m (turns u) j = absurd j
 is_delivery number m (calls d) j = absurd j
+is_delivery number m (sweeps v) j = absurd j
 is_delivery number m (delivers d) j = ap delivers (sym j)
 
 -- by the session that was lent for it
@@ -101,6 +117,13 @@ module _ (number : ℕ) (kinds : Kinds) (line : List ℕ) (seen session : Sessio
       (subst (λ (x : Judged). IsJudged number x (task kinds line session)) is
       (subst (λ (s : Session). IsJudged number x (task kinds line s)) same j))
 
+  pub sweep_is : (m : Sweep) → x ≡ judged.Sweeps m → IsJudged number x (task kinds line seen)
+      → task kinds line session ≡ sweeps (sweep_of m)
+  sweep_is m is j =
+      is_sweep number m (task kinds line session)
+      (subst (λ (x : Judged). IsJudged number x (task kinds line session)) is
+      (subst (λ (s : Session). IsJudged number x (task kinds line s)) same j))
+
   pub delivery_is : (m : Deliver) → x ≡ judged.Delivers m
       → IsJudged number x (task kinds line seen)
       → task kinds line session ≡ delivers (deliver_of m)
@@ -122,6 +145,10 @@ some_asked x m s is may = subst (λ (x : Judged). MayDoJudged x s) is may
 pub some_called : (x : Judged) (m : Call) (s : Session) → x ≡ judged.Calls m → MayDoJudged x s
     → 1 ≤ m.batch
 some_called x m s is may = (subst (λ (x : Judged). MayDoJudged x s) is may).0
+
+pub some_swept : (x : Judged) (m : Sweep) (s : Session) → x ≡ judged.Sweeps m → MayDoJudged x s
+    → 1 ≤ m.batch
+some_swept x m s is may = subst (λ (x : Judged). MayDoJudged x s) is may
 
 pub some_open : (x : Judged) (m : Deliver) (seen session : Session) → seen ≡ session
     → x ≡ judged.Delivers m → MayDoJudged x seen → IsSome (stream_of m.name session)
@@ -367,6 +394,63 @@ module _ (number : ℕ) (line : List ℕ) (s : Standing) (d : ToCall)
   -- it isn't idle
   pub calling_so : IsIdleTask (task s.kinds line s.session) → ⊥
   calling_so idle = subst IsIdleTask is idle
+
+-- ---- a line that makes the turns of a tree
+
+-- the engine and the output are those of the sweep's meaning
+pub swept_so : (number : ℕ) (v : ToSweep) (s : Standing) (m : AfterSweep) (e : Engine) (o : Output)
+    → IsAfterSweep (swept v s) s m → e ≡ m.engine
+    → string_bytes o.text
+    ≡ answer_lines number (sweep m.turns m.ended) ++ lines_of m.emissions.items
+    → o.emissions ≡ length m.emissions.items → o.refused ≡ false → o.end ≡ Some m.ended
+    → Answers s.kinds s.heard (sweep_meaning number v s) e o
+unfolding standing_of
+swept_so number v s m e o made here text emitted refused end =
+    let t = swept v s in
+    record {
+      next = standing_same s.kinds s.heard _ _ _ _
+          (ap (λ (x : Engine). session_of x) here ∙ made.session)
+          (ap (λ (x : Engine). asks_in x) here ∙ made.asks);
+      reply = text
+          ∙ ap (λ (ts : List SweptTurn). answer_lines number (sweep ts m.ended)
+          ++ lines_of m.emissions.items) made.turns
+          ∙ ap (λ (e : TurnEnd). answer_lines number (sweep t.turns e)
+          ++ lines_of m.emissions.items) made.ended
+          ∙ ap (λ (es : List Emission). answer_lines number (sweep t.turns t.ended)
+          ++ lines_of es) made.due;
+      emissions = emitted ∙ ap (λ (es : List Emission). length es) made.due;
+      refused = refused;
+      ended = end ∙ ap (λ (e : TurnEnd). Some e) made.ended;
+    }
+
+module _ (number : ℕ) (line : List ℕ) (s : Standing) (v : ToSweep)
+    (is : task s.kinds line s.session ≡ sweeps v) where
+  -- its meaning is the line's
+  pub sweep_so : sweep_meaning number v s ≡ meaning number line s
+  unfolding meaning
+  sweep_so = sym (ap (λ (t : Task). task_meaning number t s) is)
+
+  -- it is no turn, no delivery, and none to a master elsewhere
+  pub sweep_no_turn : (r : Result (Engine × Output) Stop) → IfOk r (λ x. QuietIsLevel line s x.0)
+  sweep_no_turn (Err stop) = tt
+  sweep_no_turn (Ok x) = λ t at quiet. absurd (cc)
+
+  pub sweep_unbounded : IsBounded line s
+  sweep_unbounded = record {
+    lowered = λ t at. absurd (cc);
+    twice = λ t at. absurd (cc);
+    in_time = λ t at. absurd (cc);
+  }
+
+  pub sweep_no_delivery : (r : Result (Engine × Output) Stop) → IfOk r (λ x. LevelIsEqual line s x.0)
+  sweep_no_delivery (Err stop) = tt
+  sweep_no_delivery (Ok x) = λ d at level. absurd (cc)
+
+  pub sweeping_so : IsIdleTask (task s.kinds line s.session) → ⊥
+  sweeping_so idle = subst IsIdleTask is idle
+
+  pub sweep_no_master : IsUnharmedBy line s
+  sweep_no_master c at = absurd (cc)
 
 -- ---- a line that delivers
 

@@ -21,7 +21,7 @@ use Rattle.rx_reply.specs.Answer.{Answer, refused, insert, upsert, patch, update
 use Rattle.rx_reply.specs.declared.refusal.Refusal.{Refusal}
 use Rattle.rx_reply.specs.declared.refusal.Refusal.TheVariants.{Chain, Clock, Exists, NoHandler, NoHook, NoQuery, Remote, SchemaDiffers, TooMany}
 use Rattle.rx_reply.specs.Reply.{is_refusal}
-use Rattle.rx_script.specs.Asked.{Asked, Collection, Insert, Bulk, Upsert, Patch, Update, Remove, Hook, Migrate, Get, Find, Count, Observe, Unobserve, Explain, Replicate, Turn, Stream, Deliver, Unstream, Changes, Tick, Restart, Digest}
+use Rattle.rx_script.specs.Asked.{Asked, Collection, Insert, Bulk, Upsert, Patch, Update, Remove, Hook, Migrate, Get, Find, Count, Observe, Unobserve, Explain, Replicate, Turn, Sweep, Stream, Deliver, Unstream, Changes, Tick, Restart, Digest}
 use Rattle.rx_script.specs.Line.{line_of}
 use Rattle.rx_script.specs.declared.fault.LineFault.{LineFault}
 use Rattle.rx_script.specs.declared.happening.Happening.{Happening}
@@ -40,7 +40,7 @@ use Rattle.rx_engine.specs.Shown.{WritesNoExchange}
 use Rattle.rx_writes.specs.Documents.{document_at, next_revision}
 use Rattle.rx_world.specs.declared.replication.Replication.{Replication}
 use Rattle.rx_writes.specs.Faults.{of_line, of_schema}
-use Rattle.rx_engine.specs.Lines.{IsRestart, Task, answered, delivers, asked_outcome, asked_task, task, task_or_refusal, turn_to}
+use Rattle.rx_engine.specs.Lines.{IsRestart, Task, answered, sweeps, delivers, asked_outcome, asked_task, task, task_or_refusal, turn_to}
 use Rattle.rx_engine.specs.Listing.{changes_answer, place_named}
 use Rattle.rx_update.specs.declared.attached.When.{When}
 use Rattle.rx_update.specs.declared.kind.HookKind.{HookKind}
@@ -48,6 +48,7 @@ use Rattle.rx_engine.specs.Hooking.{hook_line, hooks_in, max_hooks, takes}
 use Rattle.rx_engine.specs.Migrate.{migrate_line, names_of_group, of_migration, of_observed}
 use Rattle.rx_engine.specs.Outcome.{Outcome, answer_alone, collection_at, write_outcome}
 use Rattle.rx_engine.specs.Replicate.{has_handler, has_schema, master_at, master_of, replicate_line}
+use Rattle.rx_engine.specs.Sweeping.{Sweep as ToSweep, swept_at}
 use Rattle.rx_engine.specs.Streams.{Deliver as ToDeliver, deliver_over, replication_at, stream_at, stream_line, unstream_line}
 use Rattle.rx_engine.specs.Turning.{turned_at}
 use Rattle.rx_engine.specs.Queries.{max_queries, observe_line, query_on, rows_found}
@@ -345,6 +346,7 @@ plain_but kinds (Explain name) s =
 plain_but kinds (Replicate name fork master handler field) s =
     inr (begun_plain kinds name fork (master_of master) handler field s)
 plain_but kinds (Turn name batch budget link) s = inr (none _)
+plain_but kinds (Sweep name batch budget) s = inr (none _)
 plain_but kinds (Stream name) s = inr (streamed_plain name s)
 plain_but kinds (Deliver name link) s = inr (none _)
 plain_but kinds (Unstream name) s = inr (unstreamed_plain name s)
@@ -416,6 +418,10 @@ no_turn (Ok r) name batch budget link o is =
     turn_no_outcome r.master name batch budget link o is
 no_turn (Err fault) name batch budget link o is = cc
 
+no_sweep : (r : Result ToSweep Fault) (o : Outcome) → (r >> λ v. Ok (sweeps v)) ≡ Ok (answered o) → ⊥
+no_sweep (Ok v) o is = cc
+no_sweep (Err fault) o is = cc
+
 no_delivery : (r : Result StreamHere Fault) (d : ToDeliver) (o : Outcome)
     → (r >> λ st. Ok (delivers d)) ≡ Ok (answered o) → ⊥
 no_delivery (Ok st) d o is = cc
@@ -441,6 +447,7 @@ answered_is kinds (Explain name) s o is = does_is _ o is
 answered_is kinds (Replicate name fork master handler field) s o is = does_is _ o is
 answered_is kinds (Turn name batch budget link) s o is =
     absurd (no_turn (turned_at kinds name s) name batch budget link o is)
+answered_is kinds (Sweep name batch budget) s o is = absurd (no_sweep (swept_at kinds name batch budget s) o is)
 answered_is kinds (Stream name) s o is = does_is _ o is
 answered_is kinds (Deliver name link) s o is =
     absurd (no_delivery (stream_at name s) (deliver_over name link) o is)

@@ -8,7 +8,7 @@ use Rattle.rx_collection.specs.Held.{Held}
 use Rattle.rx_schema.specs.declared.shape.Shape.{Shape}
 use Rattle.rx_record.specs.Content.{Content, epoch}
 use Rattle.rx_sync.proofs.Staying.{stay_after, still_after}
-use Rattle.rx_sync.specs.Asks.{Asks, AsksAreLawful, no_asks}
+use Rattle.rx_sync.specs.Asks.{Asks, AsksAreLawful, asks_of, no_asks}
 use Rattle.rx_sync.specs.Exchange.{world_after}
 use Rattle.rx_sync.specs.Laws.{MayComeInTurn, RemembersLawful}
 use Rattle.rx_session.specs.Doing as doing
@@ -20,7 +20,6 @@ use Rattle.rx_world.specs.Step.{legal}
 use Rattle.rx_world.specs.World.{World}
 use Rattle.rx_world.specs.declared.replication.Replication.{Replication}
 use Rattle.rx_engine.specs.Remembered.{AreRemembered, IsRemembered}
-use Rattle.rx_engine.specs.Standing.{asks_of}
 use Rattle.rx_engine.proofs.Keeping.{IsInSession}
 
 -- after records that may come, of one replication

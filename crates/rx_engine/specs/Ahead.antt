@@ -41,8 +41,8 @@ pub record IsLeft (e next : Engine) : Type 0 where
       → standing_of kinds heard next ≡ standing_of kinds heard e
   pub adds : AddsTo e next []
 
--- A line was played, and its records are to be written: it makes no turn, and whatever is to be
--- heard of masters elsewhere, its answer is that of its meaning.
+-- A line was played, and its records are to be written: it makes no turn and no delivery, and
+-- whatever is to be heard of masters elsewhere, its answer is that of its meaning.
 pub record PlaysAhead
     (kinds : Kinds)
     (number : ℕ)

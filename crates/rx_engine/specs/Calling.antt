@@ -6,7 +6,8 @@ use Rattle.rx_handler.specs.declared.kind.HandlerKind.{HandlerKind}
 use Rattle.rx_session.specs.Session.{Session}
 use Rattle.rx_sync.specs.Remote.{Heard, RemoteTurned, remote_turn}
 use Rattle.rx_sync.specs.RemoteLaws.{HasMasterElsewhere}
-use Rattle.rx_engine.specs.Standing.{Standing, asks_of}
+use Rattle.rx_sync.specs.Asks.{asks_of}
+use Rattle.rx_engine.specs.Standing.{Standing}
 use Rattle.rx_engine.specs.Turning.{terms}
 
 -- exchanges of the replication of a name with its master at a port: of so many documents, so many

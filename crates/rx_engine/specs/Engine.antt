@@ -1,5 +1,5 @@
 -- An engine and its disk.
-use Rattle.std.specs.Prelude.{◌≡◌, ◌≢◌, ℕ, List, [], true, Some, None, Result, IfOk, string_bytes}
+use Rattle.std.specs.Prelude.{◌≡◌, ◌≢◌, ◌⊎◌, ℕ, ◌+◌, ◌*◌, ◌≤◌, List, [], length, true, Some, None, Result, Ok, IfOk, string_bytes}
 use Rattle.rx_disk.specs.declared.disk.Disk.{Ghosts}
 use Rattle.rx_outside.specs.declared.stop.Stop.{Stop}
 use Rattle.rx_record.specs.Content.{Content}
@@ -7,30 +7,35 @@ use Rattle.rx_store.specs.Holds.{Holds}
 use Rattle.rx_store.specs.Safe.{HasDiskCause, IsCrashSafe}
 use Rattle.rx_reply.specs.Reply.{answer_lines}
 use Rattle.rx_handler.specs.Handlers.{Kinds}
-use Rattle.rx_reply.specs.declared.turn.TurnEnd.TheVariants.{Quiet}
+use Rattle.rx_reply.specs.declared.turn.TurnEnd.TheVariants.{Quiet, Clock}
+use Rattle.rx_script.specs.Asked.{Sweep as SweepOver}
+use Rattle.rx_script.specs.Line.{line_of}
 use Rattle.rx_script.specs.declared.happening.Happening.{Happening}
 use Rattle.rx_session.specs.Emissions.{emissions, settled_session}
 use Rattle.rx_session.specs.Session.{Session, has_lost}
 use Rattle.rx_sync.specs.Asking.{pending_in}
-use Rattle.rx_sync.specs.Asks.{Asks}
+use Rattle.rx_sync.specs.Asks.{Asks, asks_of}
 use Rattle.rx_sync.specs.Bound.{AreOk, EachLowersLeft, EndsInTime, PushesAtMostTwice}
 use Rattle.rx_sync.specs.Delivery.{is_level, is_resync}
 use Rattle.rx_sync.specs.Exchange.{Terms, world_after}
 use Rattle.rx_sync.specs.Laws.{IsLevel}
 use Rattle.rx_sync.specs.Remote.{Heard, RemoteTurned}
 use Rattle.rx_sync.specs.RemoteLaws.{EachIsUnharmed}
+use Rattle.rx_sync.specs.Sweep.{AreEqualIn, HoldsOnly, IsInTree, Swept}
 use Rattle.rx_sync.specs.Turn.{Turned}
 use Rattle.rx_value.specs.Named.{put_named}
 use Rattle.rx_world.specs.World.{World}
 use Rattle.rx_engine.specs.Calling.{Call}
-use Rattle.rx_engine.specs.Lines.{answered, turns, calls, delivers, task}
+use Rattle.rx_engine.specs.Lines.{answered, turns, calls, sweeps, delivers, task}
 use Rattle.rx_engine.specs.Meaning.{Meaning, bodies_of, meaning, turn_meaning}
 use Rattle.rx_engine.specs.Outcome.{Outcome}
-use Rattle.rx_engine.specs.Standing.{Standing, asks_of, standing_with}
+use Rattle.rx_engine.specs.Standing.{Standing, standing_with}
 use Rattle.rx_engine.specs.Streams.{Deliver, delivered_by, session_delivered}
+use Rattle.rx_engine.specs.Sweeping.{Sweep, swept}
 use Rattle.rx_engine.specs.Turning.{Turn, terms, turned, written}
 use Rattle.rx_engine.specs.declared.changing.AfterTurn.{AfterTurn}
 use Rattle.rx_engine.specs.declared.deliveries.AfterDelivery.{AfterDelivery}
+use Rattle.rx_engine.specs.declared.sweeps.AfterSweep.{AfterSweep}
 use Rattle.rx_engine.specs.declared.engine.Engine.{Engine}
 use Rattle.rx_engine.specs.declared.output.Output.{Output}
 
@@ -147,6 +152,34 @@ pub record IsAfterDelivery (d : Deliver) (s : Standing) (m : AfterDelivery) : Ty
       ≡ is_level (world_after (delivered_by d s.session).records s.session.world) d.name
   pub resync : m.resync
       ≡ is_resync (has_lost d.name s.session) (delivered_by d s.session).given
+
+-- an engine is as it is after a sweep, the emissions are those due then, and the turns and the end are
+-- the sweep's
+pub record IsAfterSweep (t : Swept) (s : Standing) (m : AfterSweep) : Type 0 where
+  pub session : session_of m.engine ≡ settled_session (written t.records s.session)
+  pub asks : asks_in m.engine ≡ t.asks
+  pub due : m.emissions.items ≡ emissions (written t.records s.session)
+  pub turns : m.turns ≡ t.turns
+  pub ended : m.ended ≡ t.ended
+
+-- where the line sweeps over the tree of a collection, this holds of them
+abbrev pub OfSweep : (List ℕ → Sweep → Type 0) → List ℕ → Standing → Type 0
+OfSweep P line s =
+    (root : List ℕ) (batch budget : ℕ) → line_of line ≡ Ok (SweepOver root batch budget)
+    → (v : Sweep) → task s.kinds line s.session ≡ sweeps v → P root v
+
+-- a line that sweeps, and the world after it
+pub record IsWellSwept (line : List ℕ) (s : Standing) (next : World) : Type 0 where
+  -- where it ends quiet, each collection of the tree has the states of its root then
+  pub equal : OfSweep
+      (λ root v. (swept v s).ended ≡ Quiet → (c : List ℕ) → IsInTree s.session.world c root
+      → AreEqualIn next c root) line s
+  -- for K keys in the tree, turns of 3 K + 1 exchanges are enough to end quiet, or where no write
+  -- time is left
+  pub in_time : OfSweep
+      (λ root v. (keys : List (List ℕ)) → HoldsOnly s.session.world root keys
+      → 3 * length keys + 1 ≤ v.budget
+      → ((swept v s).ended ≡ Quiet) ⊎ ((swept v s).ended ≡ Clock)) line s
 
 -- ---- how long a turn takes
 

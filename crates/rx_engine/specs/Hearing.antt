@@ -11,7 +11,7 @@ use Rattle.rx_engine.specs.Calling.{Call, called, to_hear}
 use Rattle.rx_engine.specs.Callings.{HasMade, IsDialledBy}
 use Rattle.rx_engine.specs.Dialled.{DialStanding}
 use Rattle.rx_engine.specs.Engine.{Answers, IsAt, limit_of, session_of, standing_of}
-use Rattle.rx_engine.specs.Lines.{Task, answered, turns, calls, delivers, task}
+use Rattle.rx_engine.specs.Lines.{Task, answered, turns, calls, sweeps, delivers, task}
 use Rattle.rx_engine.specs.Meaning.{bodies_of, meaning}
 use Rattle.rx_engine.specs.Standing.{Standing}
 use Rattle.rx_engine.specs.declared.engine.Engine.{Engine}
@@ -32,6 +32,7 @@ abbrev pub IsShownBy : Type 0 → Task → Standing → DialStanding → DialSta
 IsShownBy tells (answered o) s old new heard Done = (heard ≡ []) × (new ≡ old)
 IsShownBy tells (turns t) s old new heard Done = (heard ≡ []) × (new ≡ old)
 IsShownBy tells (calls c) s old new heard Done = IsShown tells c s old new heard Done
+IsShownBy tells (sweeps v) s old new heard Done = (heard ≡ []) × (new ≡ old)
 IsShownBy tells (delivers d) s old new heard Done = (heard ≡ []) × (new ≡ old)
 
 -- A line is played, and this is heard in it. Whatever is to be heard later, the answer is that of

@@ -3,9 +3,9 @@ use Rattle.std.specs.Prelude.{◌≡◌, ◌≤◌, ℕ, IsSome, string_bytes}
 use Rattle.rx_reply.specs.Reply.{answer_lines, is_refusal}
 use Rattle.rx_session.specs.Doing.{MayDo}
 use Rattle.rx_session.specs.Session.{Session, stream_of}
-use Rattle.rx_engine.specs.Lines.{Task, answered, turns, calls, delivers}
+use Rattle.rx_engine.specs.Lines.{Task, answered, turns, calls, sweeps, delivers}
 use Rattle.rx_engine.specs.Outcome.{Outcome}
-use Rattle.rx_engine.specs.Shown.{call_of, deliver_of, doing_of, turn_of}
+use Rattle.rx_engine.specs.Shown.{call_of, deliver_of, doing_of, sweep_of, turn_of}
 use Rattle.rx_engine.specs.declared.judging.Judged.{Judged}
 use Rattle.rx_engine.specs.declared.judging.Judged.TheVariants as judged
 use Rattle.rx_engine.specs.declared.judging.Printed.{Printed}
@@ -22,6 +22,7 @@ IsJudged number (judged.Printed p) (answered o) = IsPrinted number p o
 IsJudged number (judged.Turns t) (turns u) = turn_of t ≡ u
 IsJudged number (judged.Calls c) (calls d) = call_of c ≡ d
 IsJudged number (judged.Delivers d) (delivers e) = deliver_of d ≡ e
+IsJudged number (judged.Sweeps v) (sweeps w) = sweep_of v ≡ w
 IsJudged number (judged.Printed p) (turns u) = ⊥
 IsJudged number (judged.Printed p) (calls d) = ⊥
 IsJudged number (judged.Turns t) (answered o) = ⊥
@@ -34,6 +35,14 @@ IsJudged number (judged.Calls c) (delivers e) = ⊥
 IsJudged number (judged.Delivers d) (answered o) = ⊥
 IsJudged number (judged.Delivers d) (turns u) = ⊥
 IsJudged number (judged.Delivers d) (calls c) = ⊥
+IsJudged number (judged.Printed p) (sweeps w) = ⊥
+IsJudged number (judged.Turns t) (sweeps w) = ⊥
+IsJudged number (judged.Calls c) (sweeps w) = ⊥
+IsJudged number (judged.Delivers d) (sweeps w) = ⊥
+IsJudged number (judged.Sweeps v) (answered o) = ⊥
+IsJudged number (judged.Sweeps v) (turns u) = ⊥
+IsJudged number (judged.Sweeps v) (calls c) = ⊥
+IsJudged number (judged.Sweeps v) (delivers e) = ⊥
 
 -- it may be done in a session; an exchange is of one document at least, a turn to a master elsewhere
 -- has one at least, and a stream that delivers is open
@@ -41,4 +50,5 @@ abbrev pub MayDoJudged : Judged → Session → Type 0
 MayDoJudged (judged.Printed p) s = MayDo (doing_of p.doing) s
 MayDoJudged (judged.Turns t) s = 1 ≤ t.batch
 MayDoJudged (judged.Calls c) s = (1 ≤ c.batch) × (1 ≤ c.budget)
+MayDoJudged (judged.Sweeps v) s = 1 ≤ v.batch
 MayDoJudged (judged.Delivers d) s = IsSome (stream_of d.name s)

@@ -24,4 +24,6 @@ pub mod Hearing
 pub mod Ahead
 pub mod SoundSession
 pub mod Streams
+pub mod Sweeping
+pub mod Sweeps
 pub mod Delivering

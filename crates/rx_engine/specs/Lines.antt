@@ -6,7 +6,7 @@ use Rattle.rx_reply.specs.Answer.{tick, restart, refused}
 use Rattle.rx_record.specs.declared.record.MasterName.{MasterName}
 use Rattle.rx_record.specs.declared.record.MasterName.TheVariants as master
 use Rattle.rx_reply.specs.declared.refusal.Refusal.TheVariants.{Clock, Line, NoReplication}
-use Rattle.rx_script.specs.Asked.{Asked, Collection, Insert, Bulk, Upsert, Patch, Update, Remove, Hook, Migrate, Get, Find, Count, Observe, Unobserve, Explain, Replicate, Turn, Stream, Deliver, Unstream, Changes, Tick, Restart, Digest}
+use Rattle.rx_script.specs.Asked.{Asked, Collection, Insert, Bulk, Upsert, Patch, Update, Remove, Hook, Migrate, Get, Find, Count, Observe, Unobserve, Explain, Replicate, Turn, Sweep, Stream, Deliver, Unstream, Changes, Tick, Restart, Digest}
 use Rattle.rx_script.specs.Line.{line_of}
 use Rattle.rx_script.specs.declared.delivery.Delivery.{Delivery}
 use Rattle.rx_script.specs.declared.fault.LineFault.TheVariants.{Unexpected}
@@ -24,6 +24,7 @@ use Rattle.rx_engine.specs.Migrate.{migrate_line}
 use Rattle.rx_engine.specs.Replicate.{master_of, replicate_line}
 use Rattle.rx_engine.specs.Standing.{Standing}
 use Rattle.rx_engine.specs.Streams.{Deliver as ToDeliver, deliver_over, stream_at, stream_line, unstream_line}
+use Rattle.rx_engine.specs.Sweeping.{Sweep as ToSweep, swept_at}
 use Rattle.rx_engine.specs.Turning.{Turn as ToTurn, turn_here, turned_at}
 use Rattle.rx_writes.specs.declared.fault.Fault.{Fault}
 use Rattle.rx_writes.specs.declared.fault.Fault.TheVariants.{Refused, Memory}
@@ -39,7 +40,7 @@ restart_line s = Ok (record {
   answer = restart (s.world.epoch + 1);
 })
 
--- what a line does and is answered; a turn and a delivery are none of these
+-- what a line does and is answered; turns and a delivery are none of these
 abbrev pub asked_outcome : Kinds → Asked → Session → Result Outcome Fault
 asked_outcome kinds (Collection name schema) s = collection_line name schema s
 asked_outcome kinds (Insert coll doc) s = insert_line coll doc s
@@ -59,6 +60,7 @@ asked_outcome kinds (Explain name) s = explain_line name s
 asked_outcome kinds (Replicate name fork master handler field) s =
     replicate_line kinds name fork (master_of master) handler field s
 asked_outcome kinds (Turn name batch budget link) s = Err (Refused NoReplication)
+asked_outcome kinds (Sweep name batch budget) s = Err (Refused NoReplication)
 asked_outcome kinds (Stream name) s = stream_line name s
 asked_outcome kinds (Deliver name link) s = Err (Refused NoReplication)
 asked_outcome kinds (Unstream name) s = unstream_line name s
@@ -67,12 +69,13 @@ asked_outcome kinds (Tick at) s = tick_line at
 asked_outcome kinds Restart s = restart_line s
 asked_outcome kinds (Digest coll) s = digest_line coll s
 
--- what a line comes to: an outcome; or a turn, to a master of this journal or to one elsewhere, or
--- a delivery, which are answered once they are made
+-- what a line comes to: an outcome; or a turn, to a master of this journal or to one elsewhere, the
+-- turns of a tree, or a delivery, which are answered once they are made
 pub data Task : Type 0 where
   answered : Outcome → Task
   turns : ToTurn → Task
   calls : Call → Task
+  sweeps : ToSweep → Task
   delivers : ToDeliver → Task
 
 -- the turn to a master; nothing is said of the link to one elsewhere
@@ -89,12 +92,18 @@ abbrev pub turn_line : Kinds → List ℕ → ℕ → ℕ → Option (List Happe
 turn_line kinds name batch budget link s =
     turned_at kinds name s >> λ r. turn_to r.master name batch budget link
 
+-- the sweep that is made, or why none is
+abbrev pub sweep_line : Kinds → List ℕ → ℕ → ℕ → Session → Result Task Fault
+sweep_line kinds name batch budget s =
+    swept_at kinds name batch budget s >> λ v. Ok (sweeps v)
+
 -- the delivery that is made, or why none is
 abbrev pub deliver_line : List ℕ → Option (List Delivery) → Session → Result Task Fault
 deliver_line name link s = stream_at name s >> λ st. Ok (delivers (deliver_over name link))
 
 abbrev pub asked_task : Kinds → Asked → Session → Result Task Fault
 asked_task kinds (Turn name batch budget link) s = turn_line kinds name batch budget link s
+asked_task kinds (Sweep name batch budget) s = sweep_line kinds name batch budget s
 asked_task kinds (Deliver name link) s = deliver_line name link s
 asked_task kinds other s = asked_outcome kinds other s >> λ o. Ok (answered o)
 
@@ -116,6 +125,7 @@ abbrev pub IsIdleTask : Task → Type 0
 IsIdleTask (answered o) = o.doing ≡ nothing
 IsIdleTask (turns t) = ⊥
 IsIdleTask (calls c) = ⊥
+IsIdleTask (sweeps v) = ⊥
 IsIdleTask (delivers d) = ⊥
 
 -- so it is of a line

@@ -4,7 +4,7 @@ use Rattle.std.specs.List.{flat_map}
 use Rattle.rx_record.specs.Content.{Content, epoch, content_bytes}
 use Rattle.rx_observe.specs.declared.emission.Emission.{Emission}
 use Rattle.rx_value.specs.Named.{put_named}
-use Rattle.rx_reply.specs.Answer.{deliver, turn}
+use Rattle.rx_reply.specs.Answer.{deliver, sweep, turn}
 use Rattle.rx_reply.specs.Emission.{emission_line, rows_fields}
 use Rattle.rx_reply.specs.Reply.{answer_lines, is_refusal}
 use Rattle.rx_reply.specs.declared.turn.TurnEnd.{TurnEnd}
@@ -16,15 +16,16 @@ use Rattle.rx_sync.specs.Delivery.{is_level, is_resync}
 use Rattle.rx_sync.specs.Exchange.{world_after}
 use Rattle.rx_sync.specs.Turn.{Turned}
 use Rattle.rx_engine.specs.Calling.{called, to_hear}
-use Rattle.rx_engine.specs.Lines.{Task, answered, turns, calls, delivers, task}
+use Rattle.rx_engine.specs.Lines.{Task, answered, turns, calls, sweeps, delivers, task}
 use Rattle.rx_engine.specs.Outcome.{Outcome}
 use Rattle.rx_engine.specs.Standing.{Standing, asks_after}
 use Rattle.rx_engine.specs.Streams.{Deliver, delivered_by, session_delivered}
+use Rattle.rx_engine.specs.Sweeping.{Sweep, swept}
 use Rattle.rx_engine.specs.Turning.{turned, written}
 use Rattle.rx_world.specs.World.{World}
 
 -- the records, the reply with the emissions after it, how many these are, whether the line is
--- refused, how its turn ended, if it made one, and how things stand then
+-- refused, how its turn or its sweep ended, if it made one, and how things stand then
 pub record Meaning : Type 0 where
   pub records : List Content
   pub reply : List ℕ
@@ -83,6 +84,20 @@ turn_meaning number name t s = record {
   };
 }
 
+-- of a sweep
+abbrev pub sweep_meaning : ℕ → Sweep → Standing → Meaning
+sweep_meaning number v s =
+    let t = swept v s in
+    let then = written t.records s.session in
+    record {
+      records = t.records;
+      reply = answer_lines number (sweep t.turns t.ended) ++ lines_of (emissions then);
+      emissions = length (emissions then);
+      refused = false;
+      ended = Some t.ended;
+      next = record s { session = settled_session then; asks = t.asks };
+    }
+
 -- of a delivery
 abbrev pub delivery_meaning : ℕ → Deliver → Standing → Meaning
 delivery_meaning number d s =
@@ -106,6 +121,7 @@ task_meaning number (answered o) s = meaning_of number o s
 task_meaning number (turns t) s = turn_meaning number t.name (turned t s) s
 task_meaning number (calls c) s =
     let u = called c s in turn_meaning number c.name u.turned (to_hear u.later s)
+task_meaning number (sweeps v) s = sweep_meaning number v s
 task_meaning number (delivers d) s = delivery_meaning number d s
 
 -- what a line of that number means

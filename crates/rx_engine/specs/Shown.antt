@@ -6,17 +6,19 @@ use Rattle.rx_session.specs.Doing.{Doing, write, migrate, restart, MayDo}
 use Rattle.rx_session.specs.Session.{Session, stream_of}
 use Rattle.rx_session.specs.Shown.{done_by}
 use Rattle.rx_engine.specs.Calling.{Call}
-use Rattle.rx_engine.specs.Lines.{Task, answered, turns, calls, delivers}
+use Rattle.rx_engine.specs.Lines.{Task, answered, turns, calls, sweeps, delivers}
 use Rattle.rx_world.proofs.Sounds.{IsNoExchange}
 use Rattle.rx_engine.specs.Outcome.{Outcome}
 use Rattle.rx_engine.specs.Streams.{Deliver}
+use Rattle.rx_engine.specs.Sweeping.{Sweep}
 use Rattle.rx_engine.specs.Turning.{Turn}
 use Rattle.rx_engine.specs.declared.outcome.Outcome.{Outcome as Planned}
 use Rattle.rx_engine.specs.declared.outcome.LineDoing.{LineDoing}
 use Rattle.rx_engine.specs.declared.outcome.Task.{Task as ToDo}
-use Rattle.rx_engine.specs.declared.outcome.Task.TheVariants.{Answered, Turns, Calls, Delivers}
+use Rattle.rx_engine.specs.declared.outcome.Task.TheVariants.{Answered, Turns, Calls, Sweeps, Delivers}
 use Rattle.rx_engine.specs.declared.remote.Call.{Call as ToCall}
 use Rattle.rx_engine.specs.declared.streams.Deliver.{Deliver as ToDeliver}
+use Rattle.rx_engine.specs.declared.sweeping.Sweep.{Sweep as ToSweep}
 use Rattle.rx_engine.specs.declared.turning.Turn.{Turn as Made}
 use Rattle.rx_engine.specs.declared.outcome.LineDoing.TheVariants.{InSession, Migrate, Restart}
 
@@ -42,10 +44,14 @@ call_of c = record { name = c.name; port = c.port; batch = c.batch; budget = c.b
 abbrev pub deliver_of : ToDeliver → Deliver
 deliver_of d = record { name = d.name; link = d.link.items }
 
+abbrev pub sweep_of : ToSweep → Sweep
+sweep_of v = record { steps = v.steps.items; batch = v.batch; budget = v.budget }
+
 abbrev pub task_of : ToDo → Task
 task_of (Answered p) = answered (outcome_of p)
 task_of (Turns t) = turns (turn_of t)
 task_of (Calls c) = calls (call_of c)
+task_of (Sweeps v) = sweeps (sweep_of v)
 task_of (Delivers d) = delivers (deliver_of d)
 
 -- it may be done in a session; an exchange is of one document at least, a turn to a master elsewhere
@@ -54,4 +60,5 @@ abbrev pub MayDoTask : ToDo → Session → Type 0
 MayDoTask (Answered p) s = MayDo (doing_of p.doing) s
 MayDoTask (Turns t) s = 1 ≤ t.batch
 MayDoTask (Calls c) s = (1 ≤ c.batch) × (1 ≤ c.budget)
+MayDoTask (Sweeps v) s = 1 ≤ v.batch
 MayDoTask (Delivers d) s = IsSome (stream_of d.name s)

@@ -1,11 +1,11 @@
 -- How things stand between two lines of a run.
-use Rattle.std.specs.Prelude.{ℕ, List, map, Bool, false, if◌then◌else◌, unwrap_or}
+use Rattle.std.specs.Prelude.{ℕ, List, map, Bool, false, if◌then◌else◌}
 use Rattle.std.specs.Option.{option_map_or}
 use Rattle.rx_value.specs.Named.{named}
 use Rattle.rx_handler.specs.Handlers.{Kinds}
 use Rattle.rx_record.specs.Content.{Content, migration}
 use Rattle.rx_session.specs.Session.{Session}
-use Rattle.rx_sync.specs.Asks.{Asks, forgotten, no_asks}
+use Rattle.rx_sync.specs.Asks.{Asks, forgotten}
 use Rattle.rx_sync.specs.Remote.{Heard}
 use Rattle.rx_world.specs.Migrating.{is_in_group}
 use Rattle.rx_world.specs.World.{World, Replications}
@@ -18,10 +18,6 @@ pub record Standing : Type 0 where
   pub asks : List (List ℕ × Asks)
   pub kinds : Kinds
   pub heard : List Heard
-
--- what is remembered of the requests of a replication
-abbrev pub asks_of : List ℕ → List (List ℕ × Asks) → Asks
-asks_of name asks = unwrap_or (named asks name) no_asks
 
 -- the replication of a name is one of a group
 abbrev pub is_of_group : (List ℕ → Bool) → Replications → List ℕ → Bool

@@ -16,7 +16,8 @@ use Rattle.rx_sync.specs.Laws.{HasMasterHere}
 use Rattle.rx_sync.specs.Turn.{Turned, turn}
 use Rattle.rx_world.specs.declared.replication.Replication.{Replication}
 use Rattle.rx_engine.specs.Replicate.{has_handler}
-use Rattle.rx_engine.specs.Standing.{Standing, asks_of}
+use Rattle.rx_sync.specs.Asks.{asks_of}
+use Rattle.rx_engine.specs.Standing.{Standing}
 use Rattle.rx_writes.specs.declared.fault.Fault.{Fault}
 use Rattle.rx_writes.specs.declared.fault.Fault.TheVariants.{Refused}
 

@@ -19,6 +19,7 @@ use crate::queries::{
 };
 use crate::replicate::{Wanted, master_of, replicate_line};
 use crate::streams::{deliver_line, stream_line, unstream_line};
+use crate::sweeping::sweep_line;
 use crate::turn_line::turn_line;
 use crate::writes::{
     bulk_line, collection_line, insert_line, patch_line, remove_line, update_line, upsert_line,
@@ -91,6 +92,11 @@ fn plan_task<'a>(
             budget,
             link,
         } => turn_line(alloc, session, handlers, name, batch, budget, link),
+        Line::Sweep {
+            name,
+            batch,
+            budget,
+        } => sweep_line(alloc, session, handlers, &name, batch, budget),
         Line::Deliver { name, link } => deliver_line(alloc, session, name, link),
         line => Ok(Task::Answered(plan_line(alloc, session, handlers, hooks, line)?)),
     }
@@ -163,8 +169,10 @@ fn plan_line<'a>(
                 field,
             },
         ),
-        // A turn and a delivery are no outcomes, and are planned before.
-        Line::Turn { .. } | Line::Deliver { .. } => Err(Fault::Refused(Refusal::NoReplication)),
+        // Turns and a delivery are no outcomes, and are planned before.
+        Line::Turn { .. } | Line::Sweep { .. } | Line::Deliver { .. } => {
+            Err(Fault::Refused(Refusal::NoReplication))
+        }
         Line::Stream { name } => stream_line(alloc, session, name),
         Line::Unstream { name } => unstream_line(session, name),
         Line::Changes { coll, since, batch } => changes_line(alloc, session, &coll, since, batch),

@@ -11,7 +11,7 @@ ghost use Rattle.rx_world.specs.Made.{IsMadeWorld};
 ghost use Rattle.rx_world.specs.Sound.{IsSoundWorld};
 ghost use Rattle.rx_engine.specs.Callings.{IsDialledBy, IsMissed, IsRemoteMade, IsRemoteMadeByName, TurnsRemotely};
 ghost use Rattle.rx_engine.specs.Play.{IsPlayAt};
-ghost use Rattle.rx_engine.specs.Standing.{asks_of};
+ghost use Rattle.rx_sync.specs.Asks.{asks_of};
 ghost use Rattle.rx_engine.specs.Turning.{terms};
 
 use crate::exchanging::ask_next;

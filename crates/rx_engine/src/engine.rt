@@ -44,7 +44,7 @@ pub struct Engine {
 }
 
 impl Engine {
-    ghost use Rattle.rx_engine.specs.Engine.{IsAt, IsBounded, IsUnharmedBy, LeavesAll, LevelIsEqual, QuietIsLevel, WaitsForPushes, session_of, standing_of, limit_of};
+    ghost use Rattle.rx_engine.specs.Engine.{IsAt, IsBounded, IsUnharmedBy, IsWellSwept, LeavesAll, LevelIsEqual, QuietIsLevel, WaitsForPushes, session_of, standing_of, limit_of};
     ghost use Rattle.rx_engine.specs.Hearing.{PlaysLine};
 
     /// Opens a journal for a run that knows these hooks, plays its records, and begins a new epoch.
@@ -135,6 +135,11 @@ impl Engine {
         ensures level { IfOk result (λ p.
             LevelIsEqual text.now (standing_of (kinds_of handlers.now) [] self) p.0) }
 
+        // Where a sweep ends quiet, each collection of its tree has the states of the root, and
+        // three exchanges a key and one are enough for each of its turns.
+        ensures swept { IfOk result (λ p. IsWellSwept text.now
+            (standing_of (kinds_of handlers.now) [] self) (session_of p.0).world) }
+
         // A delivery to a fork that has something to push writes nothing.
         ensures waits { WaitsForPushes text.now (standing_of (kinds_of handlers.now) [] self) }
 
@@ -173,6 +178,7 @@ impl Engine {
             Judged::Printed(printed) => self.answer(alloc, disk, printed),
             Judged::Turns(turn) => self.answer_turn(alloc, disk, handlers, &turn, number),
             Judged::Calls(call) => self.answer_call(alloc, disk, dial, handlers, &call, number),
+            Judged::Sweeps(sweep) => self.answer_sweep(alloc, disk, handlers, &sweep, number),
             Judged::Delivers(deliver) => self.answer_delivery(alloc, disk, &deliver, number),
         }
     }

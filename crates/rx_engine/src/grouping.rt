@@ -62,6 +62,7 @@ impl Engine {
             Judged::Printed(printed) => self.stage_printed(alloc, printed),
             Judged::Turns(_) => Ok(Staged::Alone(self)),
             Judged::Calls(_) => Ok(Staged::Alone(self)),
+            Judged::Sweeps(_) => Ok(Staged::Alone(self)),
             Judged::Delivers(_) => Ok(Staged::Alone(self)),
         }
     }

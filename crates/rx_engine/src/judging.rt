@@ -10,6 +10,7 @@ use crate::asking::plan;
 use crate::outcome::{LineDoing, Outcome, Task};
 use crate::remote::Call;
 use crate::streams::Deliver;
+use crate::sweeping::Sweep;
 use crate::turning::Turn;
 use rx_handler::Handlers;
 use rx_session::Session;
@@ -25,12 +26,13 @@ pub(crate) struct Printed {
 }
 
 /// What a line comes to: something to do, which is answered already; or a turn, to a master of this
-/// journal or to one elsewhere; or a delivery.
+/// journal or to one elsewhere; or the turns of a tree; or a delivery.
 #[derive(Drop)]
 pub(crate) enum Judged {
     Printed(Printed),
     Turns(Turn),
     Calls(Call),
+    Sweeps(Sweep),
     Delivers(Deliver),
 }
 
@@ -52,6 +54,7 @@ pub(crate) fn judge(
         Task::Answered(outcome) => Ok(Judged::Printed(print(alloc, outcome, number)?)),
         Task::Turns(turn) => Ok(Judged::Turns(turn)),
         Task::Calls(call) => Ok(Judged::Calls(call)),
+        Task::Sweeps(sweep) => Ok(Judged::Sweeps(sweep)),
         Task::Delivers(deliver) => Ok(Judged::Delivers(deliver)),
     }
 }

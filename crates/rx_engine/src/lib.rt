@@ -31,6 +31,8 @@ mod replicate;
 mod requests;
 mod sound_session;
 mod streams;
+mod sweeping;
+mod sweeps;
 mod turn_line;
 mod turning;
 mod writes;

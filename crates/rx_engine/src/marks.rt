@@ -13,8 +13,9 @@ use rx_world::World;
 use std::alloc::{AllocError, Global};
 use std::marker::Model;
 
-/// By the name of a replication, the last write of its fork at which nothing was to be pushed. It
-/// is told by the turn before, which ended with a pull, and holds until the fork is written again.
+/// By the name of a replication, the last write of its fork at which nothing was to be pushed. A
+/// turn that ends with a pull tells it, and so does a delivery that found it so. It holds until the
+/// fork is written again.
 #[derive(Drop)]
 pub(crate) struct Marks {
     by_name: IndexMap<String, Option<u64>>,
@@ -69,7 +70,7 @@ impl Marks {
     }
 }
 
-/// Ends a line in play that made a turn, and marks its replication.
+/// Ends a line in play that made a turn or a delivery, and marks its replication.
 pub(crate) fn settle_turn(
     alloc: Global,
     playing: Playing,

@@ -1,5 +1,6 @@
 use crate::remote::Call;
 use crate::streams::Deliver;
+use crate::sweeping::Sweep;
 use crate::turning::Turn;
 use rx_record::Record;
 use rx_reply::Reply;
@@ -21,12 +22,13 @@ pub(crate) struct Outcome<'a> {
     pub reply: Reply<'a>,
 }
 
-/// What a line comes to: an outcome; or a turn, to a master of this journal or to one elsewhere, or a
-/// delivery, which are answered once they are made.
+/// What a line comes to: an outcome; or a turn, to a master of this journal or to one elsewhere, the
+/// turns of a tree, or a delivery, which are answered once they are made.
 #[derive(Drop)]
 pub(crate) enum Task<'a> {
     Answered(Outcome<'a>),
     Turns(Turn),
     Calls(Call),
+    Sweeps(Sweep),
     Delivers(Deliver),
 }

@@ -35,7 +35,7 @@ impl Remembered {
     }
 
     /// The same once a record is written. A migration has the requests of its group forgotten.
-    /// Marks are told anew after it, by the turns to come.
+    /// Marks are told anew after it, by what comes.
     pub(crate) fn migrated(self, alloc: Global, world: &World<Live>, entry: &Record) -> Remembered
         ensures asks { by_bytes result.asks.entries ≡ asks_after (content entry.now)
             (world_of world.now) (by_bytes self.asks.entries) }

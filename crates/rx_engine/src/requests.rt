@@ -6,7 +6,7 @@ ghost use Rattle.rx_sync.specs.Laws.{MayTurn};
 ghost use Rattle.rx_sync.specs.Turn.{turn};
 ghost use Rattle.rx_value.specs.Named.{by_bytes, put_named};
 ghost use Rattle.rx_engine.specs.Play.{Follows, IsMadeByName};
-ghost use Rattle.rx_engine.specs.Standing.{asks_of};
+ghost use Rattle.rx_sync.specs.Asks.{asks_of};
 ghost use Rattle.rx_engine.specs.Turning.{terms};
 
 use crate::play::Play;

@@ -1,13 +1,12 @@
 use Rattle.std.proofs.Common.{◌≡◌, ◌∙◌, ℕ, List, [], ap, sym, subst, rules}
 use Rattle.rx_handler.specs.Shown.{kinds_of}
-use Rattle.rx_sync.specs.Asks.{Asks}
+use Rattle.rx_sync.specs.Asks.{Asks, asks_of}
 use Rattle.rx_sync.specs.Remote.{Heard, remote_turn}
 use Rattle.rx_sync.specs.RemoteLaws.{MayCall}
 use Rattle.rx_value.specs.Named.{by_bytes, put_named}
 use Rattle.rx_value.proofs.Outcomes.{some_same, not_none}
 use Rattle.rx_engine.specs.Callings.{IsDialledBy, IsRemoteMade}
 use Rattle.rx_engine.specs.Play.{IsPlayAt}
-use Rattle.rx_engine.specs.Standing.{asks_of}
 use Rattle.rx_engine.specs.Turning.{terms}
 use Rattle.rx_engine.specs.declared.turning.Turned.{Turned as Made}
 use Rattle.rx_engine.proofs.Dialled.{none_called}

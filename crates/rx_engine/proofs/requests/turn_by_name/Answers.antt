@@ -1,12 +1,11 @@
 use Rattle.std.proofs.Common.{◌≡◌, ◌∙◌, ℕ, List, IfOk, ap, sym, subst}
 use Rattle.rx_handler.specs.Shown.{kinds_of}
-use Rattle.rx_sync.specs.Asks.{Asks}
+use Rattle.rx_sync.specs.Asks.{Asks, asks_of}
 use Rattle.rx_sync.specs.Laws.{MayTurn}
 use Rattle.rx_sync.specs.Turn.{Turned, turn}
 use Rattle.rx_value.specs.Named.{by_bytes, put_named}
 use Rattle.rx_value.proofs.Outcomes.{some_same, not_none, if_ok}
 use Rattle.rx_engine.specs.Play.{Follows, IsMade}
-use Rattle.rx_engine.specs.Standing.{asks_of}
 use Rattle.rx_engine.specs.Turning.{terms}
 use Rattle.rx_engine.specs.declared.turning.Turned.{Turned as Made}
 use Rattle.rx_engine.proofs.Rooms.{changed_there, found_there}

@@ -7,16 +7,18 @@ use Rattle.rx_store.specs.Safe.{IsCrashSafe}
 use Rattle.rx_sync.specs.Remote.{Heard}
 use Rattle.rx_world.specs.Sound.{IsSoundWorld}
 use Rattle.rx_engine.specs.Engine.{Answers, IsAt, LeavesAll, asks_in, limit_of, session_of, standing_of}
-use Rattle.rx_engine.specs.Lines.{IsIdleTask}
+use Rattle.rx_engine.specs.Lines.{IsIdleTask, answered, turns, calls, delivers}
 use Rattle.rx_engine.specs.Meaning.{Meaning, bodies_of}
 use Rattle.rx_engine.specs.Standing.{Standing}
-use Rattle.rx_engine.specs.Shown.{WritesNoExchange, call_of, deliver_of, turn_of}
+use Rattle.rx_engine.specs.Shown.{WritesNoExchange, call_of, deliver_of, sweep_of, turn_of}
 use Rattle.rx_engine.proofs.AfterCalls.{may_call}
 use Rattle.rx_engine.proofs.AfterDeliveries.{level_delivered, line_waits}
+use Rattle.rx_engine.proofs.AfterSweeps.{not_swept, well_swept}
 use Rattle.rx_engine.proofs.AfterTurns.{may}
+use Rattle.rx_engine.proofs.CanSweeps.{can_sweep}
 use Rattle.rx_engine.proofs.CanTurns.{can_call, can_deliver, can_turn}
-use Rattle.rx_engine.proofs.Hearing.{plays_call, plays_none, plays_out_of_memory, shown_delivery, shown_printed, shown_turn}
-use Rattle.rx_engine.proofs.Meanings.{answers_so, bounded_so, busy_so, call_is, call_no_delivery, calling_so, delivering_so, delivery_is, delivery_no_master, delivery_no_turn, delivery_so, delivery_unbounded, equal_so, left_so, level_so, may_do, no_bound_so, no_delivery_so, no_level_so, no_master_so, no_other_so, no_turn_so, not_refused, of_each, printed_is, records_so, refused_so, some_asked, some_called, some_open, turn_is, turn_no_delivery, turn_so, unbounded_so, unharmed_so}
+use Rattle.rx_engine.proofs.Hearing.{plays_call, plays_none, plays_out_of_memory, shown_delivery, shown_printed, shown_sweep, shown_turn}
+use Rattle.rx_engine.proofs.Meanings.{answers_so, bounded_so, busy_so, call_is, call_no_delivery, calling_so, delivering_so, delivery_is, delivery_no_master, delivery_no_turn, delivery_so, delivery_unbounded, equal_so, left_so, level_so, may_do, no_bound_so, no_delivery_so, no_level_so, no_master_so, no_other_so, no_turn_so, not_refused, of_each, printed_is, records_so, refused_so, some_asked, some_called, some_open, some_swept, sweep_is, sweep_no_delivery, sweep_no_master, sweep_no_turn, sweep_so, sweep_unbounded, sweeping_so, turn_is, turn_no_delivery, turn_so, unbounded_so, unharmed_so}
 use Rattle.rx_engine.proofs.Outcomes.{lawful_outcome}
 use Rattle.rx_store.proofs.Stops.{memory_stop}
 use Rattle.rx_engine.specs.declared.engine.Engine.{Engine}
@@ -527,3 +529,162 @@ returns-in-Calls-clause-streamed g c = c.session.ensures.streamed
 pub returns-in-Delivers-clause-streamed : goal.returns-in-Delivers-clause-streamed
 unfolding session_of
 returns-in-Delivers-clause-streamed g c = c.session.ensures.streamed
+
+-- ---- the turns of a tree
+
+pub answer_sweep-requires-clause-batch : goal.answer_sweep-requires-clause-batch
+answer_sweep-requires-clause-batch g c =
+    some_swept c.in_ok-printed.field-0 c.in-Sweeps.sweep c.session.result.now c.in-Sweeps.is
+    c.in_ok-printed.ensures.may
+
+pub answer_sweep-requires-clause-can : goal.answer_sweep-requires-clause-can
+unfolding session_of asks_in standing_of
+answer_sweep-requires-clause-can g c =
+    let s = standing_of (kinds_of c.args.handlers.now) [] c.args.self in
+    let m = c.in-Sweeps.sweep in
+    let is = sweep_is c.args.number s.kinds c.args.text.now c.session.result.now s.session
+    c.session.ensures.value c.in_ok-printed.field-0 m c.in-Sweeps.is c.in_ok-printed.ensures.judged in
+    can_sweep s.kinds c.args.text.now s.session (sweep_of m) c.session.ensures.sound.made is
+
+pub returns-in-Sweeps-clause-level : goal.returns-in-Sweeps-clause-level
+unfolding session_of asks_in standing_of
+returns-in-Sweeps-clause-level g c =
+    let s = standing_of (kinds_of c.args.handlers.now) [] c.args.self in
+    let m = c.in-Sweeps.sweep in
+    let is = sweep_is c.args.number s.kinds c.args.text.now c.session.result.now s.session
+    c.session.ensures.value c.in_ok-printed.field-0 m c.in-Sweeps.is c.in_ok-printed.ensures.judged in
+    sweep_no_delivery c.args.number c.args.text.now s (sweep_of m) is c.answer_sweep.result
+
+pub returns-in-Sweeps-clause-plays : goal.returns-in-Sweeps-clause-plays
+unfolding session_of asks_in standing_of
+returns-in-Sweeps-clause-plays g c =
+    let kinds = kinds_of c.args.handlers.now in
+    let s : List Heard → Standing = λ heard. standing_of kinds heard c.args.self in
+    let m = c.in-Sweeps.sweep in
+    let is = sweep_is c.args.number kinds c.args.text.now c.session.result.now (s []).session
+    c.session.ensures.value c.in_ok-printed.field-0 m c.in-Sweeps.is c.in_ok-printed.ensures.judged in
+    let r = c.answer_sweep.result in
+    plays_none g.D.Disk g.L.W.Wire.tells kinds c.args.number c.args.text.now c.args.disk.now
+    c.answer_sweep.new.disk _ _ c.args.self r
+    (λ later. subst (λ (x : Meaning). IfOk r (λ p. Answers kinds later x p.0 p.1))
+    (sweep_so c.args.number c.args.text.now (s later) (sweep_of m) is)
+    (c.answer_sweep.ensures.answers later))
+    (λ later told bodies at.
+    subst (λ (x : Meaning). IsCrashSafe g.D.Disk c.args.disk.now c.answer_sweep.new.disk bodies
+    (bodies_of x.records) (limit_of c.args.self)
+    (λ p. IsAt g.D.Disk c.answer_sweep.new.disk p.0) r)
+    (sweep_so c.args.number c.args.text.now (s later) (sweep_of m) is)
+    (c.answer_sweep.ensures.commits.safe told bodies at))
+    (shown_sweep g.D.Disk g.L.W.Wire.tells kinds c.args.number c.args.text.now c.args.disk.now
+    c.answer_sweep.new.disk _ _ c.args.self r
+    (sweep_of m) is refl)
+
+pub returns-in-Sweeps-clause-quiet : goal.returns-in-Sweeps-clause-quiet
+unfolding session_of asks_in standing_of
+returns-in-Sweeps-clause-quiet g c =
+    let s = standing_of (kinds_of c.args.handlers.now) [] c.args.self in
+    let m = c.in-Sweeps.sweep in
+    let is = sweep_is c.args.number s.kinds c.args.text.now c.session.result.now s.session
+    c.session.ensures.value c.in_ok-printed.field-0 m c.in-Sweeps.is c.in_ok-printed.ensures.judged in
+    sweep_no_turn c.args.number c.args.text.now s (sweep_of m) is c.answer_sweep.result
+
+pub returns-in-Sweeps-clause-waits : goal.returns-in-Sweeps-clause-waits
+unfolding session_of asks_in standing_of
+returns-in-Sweeps-clause-waits g c =
+    let here = c.session.ensures.sound in
+    line_waits c.args.text.now (standing_of (kinds_of c.args.handlers.now) [] c.args.self) here.made
+    here.sound c.session.ensures.streamed
+
+pub returns-in-Sweeps-clause-idle : goal.returns-in-Sweeps-clause-idle
+unfolding session_of asks_in standing_of
+returns-in-Sweeps-clause-idle g c idle =
+    let s = standing_of (kinds_of c.args.handlers.now) [] c.args.self in
+    let m = c.in-Sweeps.sweep in
+    let is = sweep_is c.args.number s.kinds c.args.text.now c.session.result.now s.session
+    c.session.ensures.value c.in_ok-printed.field-0 m c.in-Sweeps.is c.in_ok-printed.ensures.judged in
+    absurd (sweeping_so c.args.number c.args.text.now s (sweep_of m) is idle)
+
+pub returns-in-Sweeps-clause-bounded : goal.returns-in-Sweeps-clause-bounded
+unfolding session_of asks_in standing_of
+returns-in-Sweeps-clause-bounded g c =
+    let s = standing_of (kinds_of c.args.handlers.now) [] c.args.self in
+    let m = c.in-Sweeps.sweep in
+    let is = sweep_is c.args.number s.kinds c.args.text.now c.session.result.now s.session
+    c.session.ensures.value c.in_ok-printed.field-0 m c.in-Sweeps.is c.in_ok-printed.ensures.judged in
+    on_ok c.answer_sweep.result _
+    (sweep_unbounded c.args.number c.args.text.now s (sweep_of m) is)
+
+pub returns-in-Sweeps-clause-unharmed : goal.returns-in-Sweeps-clause-unharmed
+unfolding session_of asks_in standing_of
+returns-in-Sweeps-clause-unharmed g c other heard =
+    let kinds = kinds_of c.args.handlers.now in
+    let s : List Heard → Standing = λ heard. standing_of kinds heard c.args.self in
+    let m = c.in-Sweeps.sweep in
+    let is = sweep_is c.args.number kinds c.args.text.now c.session.result.now (s []).session
+    c.session.ensures.value c.in_ok-printed.field-0 m c.in-Sweeps.is c.in_ok-printed.ensures.judged in
+    sweep_no_master c.args.number c.args.text.now (s heard) (sweep_of m) is
+
+pub returns-in-Sweeps-clause-refused : goal.returns-in-Sweeps-clause-refused
+returns-in-Sweeps-clause-refused g c =
+    not_refused _ c.answer_sweep.result
+    (if_ok c.answer_sweep.result _ _
+    (c.answer_sweep.ensures.answers []) (λ x a. a.refused))
+
+pub returns-in-Sweeps-clause-limit : goal.returns-in-Sweeps-clause-limit
+returns-in-Sweeps-clause-limit g c = c.answer_sweep.ensures.commits.limit
+
+pub returns-in-Sweeps-clause-cause : goal.returns-in-Sweeps-clause-cause
+returns-in-Sweeps-clause-cause g c = c.answer_sweep.ensures.commits.cause
+
+pub returns-in-Sweeps-clause-streamed : goal.returns-in-Sweeps-clause-streamed
+unfolding session_of
+returns-in-Sweeps-clause-streamed g c = c.session.ensures.streamed
+
+pub returns-in-Sweeps-clause-swept : goal.returns-in-Sweeps-clause-swept
+unfolding session_of asks_in standing_of
+returns-in-Sweeps-clause-swept g c =
+    let s = standing_of (kinds_of c.args.handlers.now) [] c.args.self in
+    let m = c.in-Sweeps.sweep in
+    let is = sweep_is c.args.number s.kinds c.args.text.now c.session.result.now s.session
+    c.session.ensures.value c.in_ok-printed.field-0 m c.in-Sweeps.is c.in_ok-printed.ensures.judged in
+    let here = c.session.ensures.sound in
+    well_swept c.args.number c.args.text.now s (sweep_of m) is
+    (some_swept c.in_ok-printed.field-0 m _ c.in-Sweeps.is c.in_ok-printed.ensures.may)
+    here.made here.sound here.remembered c.answer_sweep.result
+    (c.answer_sweep.ensures.answers [])
+
+pub returns-in-Printed-clause-swept : goal.returns-in-Printed-clause-swept
+unfolding session_of asks_in standing_of
+returns-in-Printed-clause-swept g c =
+    let s = standing_of (kinds_of c.args.handlers.now) [] c.args.self in
+    let m = c.in-Printed.printed in
+    let is = printed_is c.args.number s.kinds c.args.text.now c.session.result.now s.session
+    c.session.ensures.value c.in_ok-printed.field-0 m c.in-Printed.is c.in_ok-printed.ensures.judged in
+    not_swept c.args.text.now s (answered is.0) is.1 (λ v same. cc) c.answer.result
+
+pub returns-in-Turns-clause-swept : goal.returns-in-Turns-clause-swept
+unfolding session_of asks_in standing_of
+returns-in-Turns-clause-swept g c =
+    let s = standing_of (kinds_of c.args.handlers.now) [] c.args.self in
+    let m = c.in-Turns.turn in
+    let is = turn_is c.args.number s.kinds c.args.text.now c.session.result.now s.session
+    c.session.ensures.value c.in_ok-printed.field-0 m c.in-Turns.is c.in_ok-printed.ensures.judged in
+    not_swept c.args.text.now s (turns (turn_of m)) is (λ v same. cc) c.answer_turn.result
+
+pub returns-in-Calls-clause-swept : goal.returns-in-Calls-clause-swept
+unfolding session_of asks_in standing_of
+returns-in-Calls-clause-swept g c =
+    let s = standing_of (kinds_of c.args.handlers.now) [] c.args.self in
+    let m = c.in-Calls.call in
+    let is = call_is c.args.number s.kinds c.args.text.now c.session.result.now s.session
+    c.session.ensures.value c.in_ok-printed.field-0 m c.in-Calls.is c.in_ok-printed.ensures.judged in
+    not_swept c.args.text.now s (calls (call_of m)) is (λ v same. cc) c.answer_call.result
+
+pub returns-in-Delivers-clause-swept : goal.returns-in-Delivers-clause-swept
+unfolding session_of asks_in standing_of
+returns-in-Delivers-clause-swept g c =
+    let s = standing_of (kinds_of c.args.handlers.now) [] c.args.self in
+    let m = c.in-Delivers.deliver in
+    let is = delivery_is c.args.number s.kinds c.args.text.now c.session.result.now s.session
+    c.session.ensures.value c.in_ok-printed.field-0 m c.in-Delivers.is c.in_ok-printed.ensures.judged in
+    not_swept c.args.text.now s (delivers (deliver_of m)) is (λ v same. cc) c.answer_delivery.result

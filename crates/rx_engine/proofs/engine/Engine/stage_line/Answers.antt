@@ -54,6 +54,9 @@ returns-in-Turns g c = left_as_it_is c.args.self
 pub returns-in-Calls : goal.returns-in-Calls
 returns-in-Calls g c = left_as_it_is c.args.self
 
+pub returns-in-Sweeps : goal.returns-in-Sweeps
+returns-in-Sweeps g c = left_as_it_is c.args.self
+
 -- a delivery
 pub returns : goal.returns
 returns g c = left_as_it_is c.args.self
