@@ -3,10 +3,9 @@ use Rattle.std.proofs.Common.{◌≡◌, ◌<◌, ◌∙◌, refl, sym, ap, subs
 use Rattle.rx_engine.specs.Calling.{Call}
 use Rattle.rx_engine.specs.Dialled.{DialStanding}
 use Rattle.rx_engine.specs.Hearing.{IsShownBy}
-use Rattle.rx_engine.specs.Lines.{Task, answered, turns, calls, delivers, task}
+use Rattle.rx_engine.specs.Lines.{Task, answered, turns, calls, sweeps, delivers, task}
 use Rattle.rx_engine.specs.Opening.{Host, opened}
 use Rattle.rx_engine.specs.Standing.{Standing}
-use Rattle.rx_handler.specs.Handlers.{Kinds}
 use Rattle.rx_sync.specs.Remote.{Heard}
 use Rattle.rx_top.specs.Hears.{HearsAll, HearsLines}
 use Rattle.rx_top.specs.Lines.{is_blank, lines}
@@ -23,6 +22,7 @@ none_by_task : (wires : Type 0) (t : Task) (s : Standing) (old new : DialStandin
     → IsShownBy wires t s old new heard (Unit {0}) → heard ≡ []
 none_by_task wires (answered o) s old new heard none shown = shown.0
 none_by_task wires (turns t) s old new heard none shown = shown.0
+none_by_task wires (sweeps v) s old new heard none shown = shown.0
 none_by_task wires (delivers d) s old new heard none shown = shown.0
 none_by_task wires (calls c) s old new heard none shown = absurd (none c refl)
 

@@ -94,6 +94,8 @@ mod stream_stops;
 #[cfg(test)]
 mod streamed;
 #[cfg(test)]
+mod swept;
+#[cfg(test)]
 mod turn_stops;
 #[cfg(test)]
 mod turned;

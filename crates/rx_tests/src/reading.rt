@@ -69,8 +69,8 @@ const CASES: &str = r#"
 < {"code":4,"line":L,"name":"a\"\\\né\u0001","refused":"unknown_do"}
 > {"do":"streams"}
 < {"code":4,"line":L,"name":"streams","refused":"unknown_do"}
-> {"do":"sweep"}
-< {"code":4,"line":L,"name":"sweep","refused":"unknown_do"}
+> {"do":"sweeps"}
+< {"code":4,"line":L,"name":"sweeps","refused":"unknown_do"}
 
 == where a member stands twice the last one counts
 > {"do":"fly","do":"tick","at":"x","at":5}

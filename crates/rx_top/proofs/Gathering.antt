@@ -6,9 +6,10 @@ use Rattle.rx_disk.specs.declared.disk.Disk.{Ghosts}
 use Rattle.rx_engine.specs.Ahead.{AddsTo, IsAhead, PlaysAhead}
 use Rattle.rx_engine.specs.Calling.{Call}
 use Rattle.rx_engine.specs.Engine.{IsAt, limit_of, session_of, standing_of}
-use Rattle.rx_engine.specs.Lines.{answered, calls, delivers, task, turns}
+use Rattle.rx_engine.specs.Lines.{answered, calls, delivers, sweeps, task, turns}
 use Rattle.rx_engine.specs.Meaning.{meaning}
 use Rattle.rx_engine.specs.Streams.{Deliver}
+use Rattle.rx_engine.specs.Sweeping.{Sweep}
 use Rattle.rx_engine.specs.Turning.{Turn}
 use Rattle.rx_engine.specs.Standing.{Standing}
 use Rattle.rx_engine.specs.declared.engine.Engine.{Engine}
@@ -246,6 +247,10 @@ module _ (kinds : Kinds) (line : List ℕ) (g : Group) where
           unharmed = λ c is. absurd (no_call c is);
           level = λ d is. absurd (no_delivery d is);
           waits = λ d is. absurd (no_delivery d is);
+          swept = record {
+            equal = λ root batch budget asks v is. absurd (no_sweep v is);
+            in_time = λ root batch budget asks v is. absurd (no_sweep v is);
+          };
         };
         here = λ heard _ c is. no_call c is;
         adds = λ heard. subst (λ (x : Effect Standing). AddsTo g.engine then.engine x.bodies)
@@ -257,6 +262,9 @@ module _ (kinds : Kinds) (line : List ℕ) (g : Group) where
 
       no_delivery : (d : Deliver) → task kinds line (session_of g.engine) ≡ delivers d → ⊥
       no_delivery d is = let both : answered plays.outcome ≡ delivers d = sym plays.is ∙ is in cc
+
+      no_sweep : (v : Sweep) → task kinds line (session_of g.engine) ≡ sweeps v → ⊥
+      no_sweep v is = let both : answered plays.outcome ≡ sweeps v = sym plays.is ∙ is in cc
 
       no_call : (c : Call) → task kinds line (session_of g.engine) ≡ calls c → ⊥
       no_call c is = let both : answered plays.outcome ≡ calls c = sym plays.is ∙ is in cc

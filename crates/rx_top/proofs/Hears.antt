@@ -4,7 +4,7 @@ use Rattle.rx_engine.specs.Calling.{Call, to_hear}
 use Rattle.rx_engine.specs.Dialled.{DialStanding}
 use Rattle.rx_engine.specs.Engine.{session_of, standing_of}
 use Rattle.rx_engine.specs.Hearing.{IsShownBy}
-use Rattle.rx_engine.specs.Lines.{Task, answered, turns, calls, delivers, task}
+use Rattle.rx_engine.specs.Lines.{Task, answered, turns, calls, sweeps, delivers, task}
 use Rattle.rx_engine.specs.Meaning.{meaning, task_meaning}
 use Rattle.rx_engine.specs.Opening.{Host, opened}
 use Rattle.rx_engine.specs.Standing.{Standing}
@@ -40,6 +40,7 @@ module _ {Done Then : Type 0} (wires : Type 0) (old new : DialStanding) (heard :
       → IsShownBy wires t (to_hear hs s) old new heard Then
   shown_by hs s (answered o) shown = shown
   shown_by hs s (turns t) shown = shown
+  shown_by hs s (sweeps v) shown = shown
   shown_by hs s (delivers d) shown = shown
   shown_by hs s (calls c) shown = record {
     requests = shown.requests;
@@ -121,6 +122,7 @@ same_task : (n : ℕ) (t : Task) (s : Standing) → ((c : Call) → t ≡ calls 
     → (task_meaning n t s).next.heard ≡ s.heard
 same_task n (answered o) s none = refl
 same_task n (turns u) s none = refl
+same_task n (sweeps v) s none = refl
 same_task n (delivers d) s none = refl
 same_task n (calls c) s none = absurd (none c refl)
 
@@ -138,6 +140,7 @@ nobody_shown : (wires : Type 0) (t : Task) (s : Standing) (dial : DialStanding)
     → ((c : Call) → t ≡ calls c → ⊥) → IsShownBy wires t s dial dial [] (Unit {0})
 nobody_shown wires (answered o) s dial none = (refl, refl)
 nobody_shown wires (turns u) s dial none = (refl, refl)
+nobody_shown wires (sweeps v) s dial none = (refl, refl)
 nobody_shown wires (delivers d) s dial none = (refl, refl)
 nobody_shown wires (calls c) s dial none = absurd (none c refl)
 

@@ -2,7 +2,7 @@
 use Rattle.std.proofs.Common.{◌≡◌, ◌∙◌, sym, ap, subst, ℕ, ◌+◌, ◌<◌, false, cond, leb, List, length, refl, arith, inl, inr}
 use Rattle.std.proofs.lemmas.Bool.Decides.{leb_tells}
 use Rattle.std.proofs.lemmas.List.{take_all, length-take-le}
-use Rattle.rx_engine.proofs.Cut.{same_task_when_cut, same_when_cut}
+use Rattle.rx_engine.proofs.Cut.{same_ask_when_cut, same_task_when_cut, same_when_cut}
 use Rattle.rx_engine.specs.Dialled.{DialStanding}
 use Rattle.rx_engine.specs.Engine.{IsUnharmedBy}
 use Rattle.rx_engine.specs.Hearing.{IsShownBy}
@@ -60,6 +60,12 @@ kept_turn n line s next holds full =
       unharmed = λ c is. had.unharmed c (same ∙ is);
       level = λ d is. had.level d (same ∙ is);
       waits = λ d is. had.waits d (same ∙ is);
+      swept = record {
+        equal = λ root batch budget asks v is.
+            had.swept.equal root batch budget (same_ask_when_cut line ∙ asks) v (same ∙ is);
+        in_time = λ root batch budget asks v is.
+            had.swept.in_time root batch budget (same_ask_when_cut line ∙ asks) v (same ∙ is);
+      };
     }
 
 -- of what no master can do in it

@@ -3,7 +3,8 @@ use Rattle.std.proofs.Common.{◌≡◌, ◌∙◌, refl, sym, ap, subst, ℕ, �
 use Rattle.std.specs.List.{AllByRecursion}
 use Rattle.rx_engine.specs.Lines.{Task, turns, task}
 use Rattle.rx_engine.specs.Meaning.{meaning, task_meaning, turn_meaning}
-use Rattle.rx_engine.specs.Standing.{Standing, asks_of}
+use Rattle.rx_sync.specs.Asks.{asks_of}
+use Rattle.rx_engine.specs.Standing.{Standing}
 use Rattle.rx_engine.specs.Turning.{Turn, turned}
 use Rattle.rx_engine.proofs.Plays.{written-world}
 use Rattle.rx_handler.specs.Handlers.{Kinds}

@@ -2,7 +2,7 @@
 use Rattle.std.proofs.Common.{◌≡◌, ◌∙◌, refl, sym, ap, subst, ℕ, Bool, true, false, true≢false, cond, List, [], ◌++◌, append-nil, string_bytes, Option, None, Some, Result, Ok, Err, IsErrOf, inl}
 use Rattle.rx_disk.specs.declared.disk.Disk.{Ghosts}
 use Rattle.rx_engine.specs.Dialled.{DialStanding}
-use Rattle.rx_engine.specs.Engine.{Answers, IsAt, IsBounded, IsUnharmedBy, LevelIsEqual, QuietIsLevel, WaitsForPushes, limit_of, standing_of}
+use Rattle.rx_engine.specs.Engine.{Answers, IsAt, IsBounded, IsUnharmedBy, IsWellSwept, LevelIsEqual, QuietIsLevel, WaitsForPushes, limit_of, session_of, standing_of}
 use Rattle.rx_engine.specs.Hearing.{PlaysLine}
 use Rattle.rx_engine.specs.Meaning.{meaning}
 use Rattle.rx_engine.specs.declared.engine.Engine.{Engine}
@@ -65,9 +65,10 @@ module _ (s : Standing) {D : Type 0} (d : Ghosts D) (e : Engine) (n : ℕ) (line
       → is_blank line ≡ false → Answers kinds later (meaning n line s) pair.0 pair.1
       → QuietIsLevel line s pair.0 → IsBounded line s → IsUnharmedBy line s
       → LevelIsEqual line s pair.0 → WaitsForPushes line s
+      → IsWellSwept line s (session_of pair.0).world
       → HoldsOfTurn n line s effect.next
   unfolding standing_of
-  turn_done kinds later pair full answers quiet bounded unharmed level waits _ = record {
+  turn_done kinds later pair full answers quiet bounded unharmed level waits swept _ = record {
     quiet = λ t is ended.
         subst (λ (x : Standing). IsLevel x.session.world t.name)
         (answers.next ∙ ap (λ (m : Effect Standing). m.next) (does full)) (quiet t is ended);
@@ -77,6 +78,8 @@ module _ (s : Standing) {D : Type 0} (d : Ghosts D) (e : Engine) (n : ℕ) (line
         subst (λ (x : Standing). IsLevel x.session.world d.name)
         (answers.next ∙ ap (λ (m : Effect Standing). m.next) (does full)) (level d is equal);
     waits = waits;
+    swept = subst (λ (x : Standing). IsWellSwept line s x.session.world)
+        (answers.next ∙ ap (λ (m : Effect Standing). m.next) (does full)) swept;
   }
 
   -- a blank line makes none
@@ -211,6 +214,7 @@ module _ (kinds : Kinds) (wires k_tells : Type 0) {D : Type 0} (d : Ghosts D) (e
         (quiet : QuietIsLevel line (standing []) pair.0) (bounded : IsBounded line (standing []))
         (unharmed : (heard : List Heard) → IsUnharmedBy line (standing heard))
         (level : LevelIsEqual line (standing []) pair.0) (waits : WaitsForPushes line (standing []))
+        (swept : IsWellSwept line (standing []) (session_of pair.0).world)
       where
         -- how long a turn takes doesn't depend on what is to be heard
         bounded_so : (heard : List Heard) → IsBounded line (standing heard)
@@ -218,13 +222,19 @@ module _ (kinds : Kinds) (wires k_tells : Type 0) {D : Type 0} (d : Ghosts D) (e
         bounded_so heard =
             record { lowered = bounded.lowered; twice = bounded.twice; in_time = bounded.in_time }
 
+        -- nor does a sweep
+        swept_so : (heard : List Heard)
+            → IsWellSwept line (standing heard) (session_of pair.0).world
+        unfolding standing_of
+        swept_so heard = record { equal = swept.equal; in_time = swept.in_time }
+
         turn_so : (later : List Heard) → HoldsOfTurn n line (standing (plays.heard ++ later))
             (does_for (plays.heard ++ later)).next
         unfolding standing_of
         turn_so later =
             turn_done (standing (plays.heard ++ later)) d e n line kinds later pair full
             (plays.answers later) quiet (bounded_so (plays.heard ++ later))
-            (unharmed (plays.heard ++ later)) level waits
+            (unharmed (plays.heard ++ later)) level waits (swept_so (plays.heard ++ later))
 
         left_so : (later : List Heard) → (does_for (plays.heard ++ later)).next.heard ≡ later
         unfolding standing_of

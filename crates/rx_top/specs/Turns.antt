@@ -1,10 +1,10 @@
--- What holds of the turns and the deliveries of a script.
+-- What holds of the turns, the deliveries and the sweeps of a script.
 use Rattle.std.specs.Prelude.{◌≡◌, ℕ, List, true, false}
 use Rattle.rx_reply.specs.declared.turn.TurnEnd.TheVariants.{Quiet}
 use Rattle.rx_sync.specs.Delivery.{is_level}
 use Rattle.rx_sync.specs.Exchange.{world_after}
 use Rattle.rx_sync.specs.Laws.{IsLevel}
-use Rattle.rx_engine.specs.Engine.{IsBounded, IsUnharmedBy, WaitsForPushes}
+use Rattle.rx_engine.specs.Engine.{IsBounded, IsUnharmedBy, IsWellSwept, WaitsForPushes}
 use Rattle.rx_engine.specs.Lines.{task, turns, delivers}
 use Rattle.rx_engine.specs.Standing.{Standing}
 use Rattle.rx_engine.specs.Streams.{Deliver, delivered_by}
@@ -26,6 +26,9 @@ pub record IsTurnKept (line : List ℕ) (s next : Standing) : Type 0 where
       → IsLevel next.session.world d.name
   -- where something of its fork is to be pushed, it writes nothing
   pub waits : WaitsForPushes line s
+  -- where a sweep ends quiet, each collection of its tree equals the root; and so many exchanges a
+  -- turn are enough
+  pub swept : IsWellSwept line s next.session.world
 
 -- of each line that isn't blank
 abbrev pub HoldsOfTurn : ℕ → List ℕ → Standing → Standing → Type 0

@@ -27,7 +27,7 @@ returns-in-Ok-write_all-clause-works g c =
     (sym c.is_blank.ensures ∙ c.if-is_blank.false) (g.K.Sink.written c.args.out.now)
     (g.K.Sink.written c.write_all.new.sink) c.in-Ok.pair c.in-Ok.ensures.plays c.in-Ok.ensures.quiet
     c.in-Ok.ensures.bounded (c.in-Ok.ensures.unharmed (λ is. cc)) c.in-Ok.ensures.level
-    c.in-Ok.ensures.waits
+    c.in-Ok.ensures.waits c.in-Ok.ensures.swept
     (λ k. c.in-Ok-write_all.ensures.ok k
     ∙ ap (λ (bs : List ℕ). g.K.Sink.written c.args.out.now ++ bs) c.as_bytes.ensures.value)
 
@@ -38,7 +38,7 @@ returns-in-Err-write_all-clause-works g c =
     (sym c.is_blank.ensures ∙ c.if-is_blank.false) (g.K.Sink.written c.args.out.now)
     (g.K.Sink.written c.write_all.new.sink) c.in-Ok.pair c.in-Ok.ensures.plays c.in-Ok.ensures.quiet
     c.in-Ok.ensures.bounded (c.in-Ok.ensures.unharmed (λ is. cc)) c.in-Ok.ensures.level
-    c.in-Ok.ensures.waits
+    c.in-Ok.ensures.waits c.in-Ok.ensures.swept
     (λ k. subst (λ (bs : List ℕ). WritesFront (g.K.Sink.written c.args.out.now)
     (g.K.Sink.written c.write_all.new.sink) bs) c.as_bytes.ensures.value
     (c.in-Err-write_all.ensures.err k))
