@@ -17,7 +17,7 @@ import subprocess
 import tempfile
 
 from shared import (HERE, SCHEMA, Server, Wrong, add, answers, ask, checked, collection, command, compact, content,
-                    digest, examples, free_port, insert, insist, main, pull, push, run, text)
+                    digest, examples, free_port, insert, insist, main, pull, push, records, run, text)
 
 KILLED = -9
 KINDS = {"alloc": {6}, "allocs": {6}, "call": {3, 4, 5}, "short": set(), "kill": {KILLED}}
@@ -161,18 +161,6 @@ class Dialled(Play):
         kept = sum(it.get("ok") == "insert" for it in answers(written))
         keys = {row["id"] for row in found["rows"]}
         insist({"a", "b", *"bcd"[:kept]} <= keys, f"an answered insert is lost: {keys}")
-
-
-def records(path):
-    """The bodies of a journal's records, by docs/JOURNAL.md."""
-    bodies, at = [], 8
-    if os.path.exists(path):
-        written = content(path)
-        while len(written) > 9 and written[at] == 1:
-            end = at + 5 + int.from_bytes(written[at + 1:at + 5], "big")
-            bodies.append(written[at + 5:end])
-            at = end
-    return bodies
 
 
 def try_faults(play, kind, folder, env, whole, count):

@@ -10,13 +10,15 @@ import os
 import random
 import re
 import resource
+import shutil
 import subprocess
 import tempfile
 import time
+from collections import Counter
 
 from model import Rules
 from shared import (RX, SCHEMA, SECONDS, SEED, Skipped, Talk, all_there, answers, case, collection, compact, content,
-                    digest, held, insert, inserts, insist, main, room, run, same, text)
+                    digest, held, insert, inserts, insist, main, records, room, run, same, text)
 
 DISK = {"stop": "disk"}
 
@@ -567,6 +569,55 @@ def killed_in_a_turn(folder):
         wrong = {key: (there.get(key), n) for key, n in kept.items() if there.get(key) != n}
         insist(there.keys() == kept.keys() and not wrong, f"found and due: {wrong}")
     return f"{rounds} times, {cut} before the turn's answer: the next is quiet, and no update is lost"
+
+
+SWEEP = compact({"do": "sweep", "name": "m", "batch": 1})
+BELOW = {"f": "m", "g": "f", "h": "f", "i": "m"}
+
+
+@case("kill -9 in a sweep")
+def killed_in_a_sweep(folder):
+    """SIGKILL while a sweep over a master, its two forks and two of one of these is made. Of the records that it
+    makes where it isn't killed the first stand and no other, all where it was answered. Numbers are as in a turn."""
+    journal, whole = os.path.join(folder, "journal"), os.path.join(folder, "whole")
+    moments, kept, rounds, stood, longest, number = random.Random(SEED), {}, 40, Counter(), 0.2, 0
+    begin = [collection(name) for name in "mfghi"]
+    begin += (compact({"do": "replicate", "name": f"{fork}-{master}", "fork": fork, "master": master,
+                       "handler": "greater", "field": "n"}) for fork, master in BELOW.items())
+    for round_ in range(rounds):
+        talk = Talk(journal)
+        insist(all([talk.ask(line) for line in begin]), f"round {round_}: the journal doesn't open")
+        for number in range(number + 1, number + 1 + moments.randint(20, 60)):
+            key, side = f"k{moments.randrange(30)}", moments.choice("mfghi")
+            reply = talk.ask(compact({"do": "upsert", "in": side, "doc": {"id": key, "n": number}}))
+            insist(reply and reply.get("ok") == "upsert", f"round {round_}: {reply}")
+            kept[key] = number
+        before = len(records(journal))
+        shutil.copy(journal, whole)
+        begun = time.monotonic()
+        talk.send([SWEEP])
+        if round_:
+            time.sleep(moments.uniform(0, 1.5 * longest))
+        else:  # how long one takes that isn't killed
+            while b'"turns":' not in talk.child.stdout.readline():
+                pass
+            longest = time.monotonic() - begun
+        is_answered = any("turns" in it for it in answers(talk.kill())) or not round_
+        insist(run(whole, [SWEEP])[0] == 0, f"round {round_}: the whole sweep")
+        # The run over the copy began another epoch.
+        due, stand = records(whole)[before + 1:], records(journal)[before:]
+        insist(stand == due[:len(stand)], f"round {round_}: other records than the first of {len(due)} stand")
+        insist(len(stand) == len(due) or not is_answered, f"round {round_}: what was answered is lost")
+        stood["all" if len(stand) == len(due) else "some" if stand else "none"] += 1
+    status, replies = run(journal, [SWEEP, *(compact({"do": "find", "in": side, "query": {}}) for side in "mfghi")])
+    insist(status == 0, f"the next run ended with {status}")
+    same(replies[-6], {"end": "quiet", "line": 1, "ok": "sweep", "turns": 8}, "the next sweep")
+    for reply in replies[-5:]:
+        there = {row["id"]: row["n"] for row in reply["rows"]}
+        same(there, kept, "the numbers")
+    told = ", ".join(f"{what} {count} times" for what, count in sorted(stood.items()))
+    insist(stood["none"] and stood["all"], told)
+    return f"{rounds} times: of the records {told}; the next is quiet, and no update is lost"
 
 
 DELIVER = compact({"do": "deliver", "name": "r"})

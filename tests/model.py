@@ -1,6 +1,6 @@
 """A model of docs/SCRIPT.md, written apart from the program, as far as collections go that are written,
-migrated, observed by one and the same query, and replicated in one journal, by turns and by streams: what
-each line is answered."""
+migrated, observed by one and the same query, and replicated in one journal, by turns, by sweeps and by
+streams: what each line is answered."""
 import hashlib
 import json
 import os
@@ -587,14 +587,36 @@ class Model:
         self.reopen()
         return {"epoch": self.epoch}
 
-    def turn(self, line, out):
-        replication = self.replications[line["name"]]
-        if not replication.has_handler():
-            return {"code": 19, "refused": "no_handler"}
+    def make_turn(self, name, line, out):
+        """The turn of a replication that a line makes, or one of several: how it ends, and its exchanges."""
         asked = line.get("batch", 100), line.get("budget", 1_000), line.get("link", [])
-        lines, end = replication.turn(*asked, self.moment)
+        lines, end = self.replications[name].turn(*asked, self.moment)
         out += lines
         return {"end": end, "exchanges": len(lines)}
+
+    def turn(self, line, out):
+        if not self.replications[line["name"]].has_handler():
+            return {"code": 19, "refused": "no_handler"}
+        return self.make_turn(line["name"], line, out)
+
+    def below(self, name, way):
+        """The replications of the forks that reach a collection: each fork's behind those below it on the way up,
+        and before them on the way down. The forks of one collection come in the order in which they were made."""
+        forks = {it.fork.name: own for own, it in self.replications.items() if it.master is self.sides[name]}
+        for fork in (it for it in self.sides if it in forks):
+            rest = self.below(fork, way)
+            yield from [*rest, forks[fork]] if way == "up" else [forks[fork], *rest]
+
+    def sweep(self, line, out):
+        if line["name"] not in self.sides:
+            return {"code": 10, "name": line["name"], "refused": "no_collection"}
+        steps = [(way, name) for way in ("up", "down") for name in self.below(line["name"], way)]
+        for number, (way, name) in enumerate(steps, 1):
+            made = self.make_turn(name, line, out)
+            out.append({**made, "pass": way, "replication": name})
+            if made["end"] != "quiet":
+                return {"end": made["end"], "turns": number}
+        return {"end": "quiet", "turns": len(steps)}
 
     def no_replication(self, line):
         return None if line["name"] in self.replications else {"code": 18, "refused": "no_replication"}

@@ -145,6 +145,18 @@ def content(path):
         return file.read()
 
 
+def records(path):
+    """The bodies of a journal's records, by docs/JOURNAL.md."""
+    bodies, at = [], 8
+    if os.path.exists(path):
+        written = content(path)
+        while len(written) > 9 and written[at] == 1:
+            end = at + 5 + int.from_bytes(written[at + 1:at + 5], "big")
+            bodies.append(written[at + 5:end])
+            at = end
+    return bodies
+
+
 def examples():
     """The scripts of examples/: each one's name, its lines, those of the run before, and what comes."""
     names = sorted(it[:-6] for it in os.listdir(EXAMPLES) if it.endswith(".jsonl"))

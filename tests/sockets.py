@@ -12,8 +12,8 @@ import time
 from concurrent.futures import ThreadPoolExecutor
 
 from shared import (HANG_SECONDS, HASH, LONGEST, SCHEMA, SECONDS, SEED, Server, Talk, all_there, answers, ask,
-                    case, collection, command, compact, digest, free_port, held, insist, main, peak_of, pull,
-                    push, reset, room, run, said, said_line, same, text, told)
+                    case, checked, collection, command, compact, digest, free_port, held, insist, main, peak_of,
+                    pull, push, reset, room, run, said, said_line, same, text, told)
 
 
 # A byte comes so often, and a message has a minute; what the test waits besides is the machine's.
@@ -439,6 +439,33 @@ def served_and_migrated(folder):
     rows = [it["rows"] for it in run(fork, find)[1]]
     same(rows, [[{"id": "a", "n": 5}, {"id": "b", "n": 7}], [{"id": "a", "v": 5}, {"id": "b", "v": 1}]], "both forks")
     return "the fork of before loses its turns by `reply`, and keeps its edit; one of the next version goes on"
+
+
+@case("a sweep below a fork of a served master")
+def sweep_below_a_served_master(folder):
+    """It makes what is below the fork equal to it, and dials nobody: the two connections that are served are those of
+    the fork's own turns. The second of them brings the server all that the sweep brought to the fork."""
+    fork, port = os.path.join(folder, "fork"), free_port()
+    server = Server(folder, 2, ["a", "b"], port=port).wait()
+    below = [{"do": "replicate", "name": f"{name}-{master}", "fork": name, "master": master, "handler": "join"}
+             for name, master in ("gf", "hg")]
+    begin = [*fork_of("f", port), collection("g"), collection("h"), *map(compact, below)]
+    sweep = [compact({"do": "sweep", "name": "f"}), *map(digest, "fgh")]
+    status, replies = run(fork, [*begin, turn_of("f"), *sweep])
+    swept, *sides = (it for it in replies if it.get("ok") in ("sweep", "digest"))
+    same((status, swept), (0, {"end": "quiet", "line": 8, "ok": "sweep", "turns": 4}), "the first sweep")
+    same(({it["digest"] for it in sides}, sides[0]["count"]), ({sides[2]["digest"]}, 2), "its collections")
+
+    edits = [{"do": "insert", "in": "h", "doc": {"id": "c", "n": 3}}, {"do": "insert", "in": "f", "doc": {"id": "d"}},
+             {"do": "patch", "in": "g", "key": "a", "set": {"n": 5}}, {"do": "remove", "in": "h", "key": "b"}]
+    status, replies = run(fork, [*map(compact, edits), *sweep, turn_of("f")])
+    swept, *sides, turned = (it for it in replies if it.get("ok") in ("sweep", "digest", "turn"))
+    same((status, swept), (0, {"end": "quiet", "line": 5, "ok": "sweep", "turns": 4}), "the second sweep")
+    same(turned, {"end": "quiet", "exchanges": 2, "line": 9, "ok": "turn"}, "the turn behind it")
+    same(server.end(), (0, [told(1, "peer", 1), told(2, "peer", 2)]), "what was served")
+    of_all = {it["digest"] for it in (*sides, checked(server.journal)[0])}
+    same((of_all, sides[0]["count"]), ({sides[2]["digest"]}, 4), "all that there is")
+    return "what is below the fork is level with it without a dial, and the fork's turn brings it to the server"
 
 
 @case("an output that goes away")

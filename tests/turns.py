@@ -1,35 +1,42 @@
 #!/usr/bin/env python3
-"""Random turns and deliveries of forks and their masters over the built program, beside a model of
+"""Random turns, sweeps and deliveries of forks and their masters over the built program, beside a model of
 docs/SCRIPT.md.
 
 For each of eight seeds a script of 4,000 lines over a master, its fork and a fork of that: writes on all
 sides with hooks before some, now and then more at once than a stream keeps, the moment, restarts,
 migrations of all, of which some are refused, turns of any batch and budget over a link that loses, repeats
-and delays, and streams that are opened and closed, whose events a link loses, repeats and puts off; in four
-runs, one after another on the same journal. The seeds take the handlers in turn. Three things are tried of
-what the program answers:
+and delays, sweeps over each side, and streams that are opened and closed, whose events a link loses, repeats
+and puts off; in four runs, one after another on the same journal. The seeds take the handlers in turn. Four
+things are tried of what the program answers:
 
 - it is the model's answer, byte for byte: replies, exchanges, events, emissions, and after each turn, each
-  delivery and each migration all states of all sides in the order of their places;
+  sweep, each delivery and each migration all states of all sides in the order of their places;
 - a turn that ends quiet, and a delivery that ends level, leave one digest on both sides, and so does a
   migration behind it;
+- a sweep that ends quiet leaves one digest on all collections of its tree, and it ends so where its budget
+  is above three exchanges a key, unless no write time is left;
 - no acknowledged write of a fork is gone: before a pull goes over its key, before an event is taken, and
-  before a turn ends quiet or a delivery level, a push of it was answered, or the fork wrote the key again,
-  or it was no edit, since the master had that state as far as the fork knew, or a migration, or a push of
-  its own fork, made it one that it knew. What counts behind a migration is what its steps made of the
-  write.
+  before a turn ends quiet, also one of a sweep, or a delivery level, a push of it was answered, or the fork
+  wrote the key again, or it was no edit, since the master had that state as far as the fork knew, or a
+  migration, or a push of its own fork, made it one that it knew. What counts behind a migration is what its
+  steps made of the write.
+
+The same is tried of random trees of up to twenty collections that sweeps go over, with a handler of its own
+for each fork; and some sweeps are worked out by hand.
 
 Then commits of many documents, each of which is several events; and a master and three forks, one of them a
 fork of a fork, that migrate with edits pending on each.
 """
+import hashlib
 import json
 import os
 import random
 from collections import Counter
+from itertools import zip_longest
 from typing import NamedTuple
 
 from model import DELIVERIES, MAX_TIME, QUERY, Model, migrated
-from shared import HANDLERS, Wrong, add, case, command, compact, insist, main, same, text
+from shared import HANDLERS, Wrong, add, case, collection, command, compact, content, insist, main, same, text
 
 SEEDS = range(1, 9)
 LINES = 4_000
@@ -56,25 +63,38 @@ def fields(numbers, rules):
     return {name: value for name, value in there.items() if value is not None}
 
 
-def turn(numbers):
-    words = ["ok", "ok", "lose_request", "lose_reply", "twice", "stale"]
-    line = {"do": "turn", "name": numbers.choice("rru")}
+def bounded(numbers, line):
+    """With any batch and budget, or without."""
     if numbers.random() < 0.8:
         line["batch"] = numbers.randint(1, 8)
     if numbers.random() < 0.5:
         line["budget"] = numbers.randint(1, 6)
+    return line
+
+
+def turn(numbers, names="rru"):
+    words = ["ok", "ok", "lose_request", "lose_reply", "twice", "stale"]
+    line = bounded(numbers, {"do": "turn", "name": numbers.choice(names)})
     if numbers.random() < 0.8:
         line["link"] = [numbers.choice([*words, {"late": numbers.randint(1, 16)}])
                         for _ in range(numbers.randint(0, 5))]
     return line
 
 
+def sweep(numbers, name, model):
+    """Now and then one whose budget is just so that it has to end quiet."""
+    line = bounded(numbers, {"do": "sweep", "name": name})
+    if name in model.sides and numbers.random() < 0.3:
+        line["budget"] = 3 * len(model.keys_below(name)) + 1
+    return line
+
+
 NO_LINKS = ["ok", {}, ["OK"], [1], [["ok"]], [{"late": 1}], ["lose_reply"], ["ok", "stale"], [None]]
 
 
-def delivery(numbers):
+def delivery(numbers, names="ru"):
     """Seldom of a replication that has no stream, or with what is no link."""
-    line = {"do": "deliver", "name": numbers.choice("ru" if numbers.random() < 0.98 else "sz")}
+    line = {"do": "deliver", "name": numbers.choice(names if numbers.random() < 0.98 else "sz")}
     if numbers.random() < 0.6:
         line["link"] = [numbers.choice(["ok", "ok", *DELIVERIES]) for _ in range(numbers.randint(0, 5))]
     return {**line, "link": numbers.choice(NO_LINKS)} if numbers.random() < 0.02 else line
@@ -115,9 +135,9 @@ def hooks_at_random(numbers):
             for side in "mfg" for when, hook, field in HOOKS if numbers.random() < 0.25]
 
 
-def line_at_random(numbers, rules, written):
-    """One of the sides that are written is."""
-    into, key, draw = numbers.choice(written), numbers.choice(KEYS), numbers.randrange(80)
+def write(numbers, rules, into, keys=KEYS):
+    """A line that writes a collection."""
+    key, draw = numbers.choice(keys), numbers.randrange(47)
     if draw < 30:
         return {"do": "upsert", "in": into, "doc": {"id": key, **fields(numbers, rules)}}
     if draw < 33:
@@ -126,19 +146,27 @@ def line_at_random(numbers, rules, written):
         return {"do": "remove", "in": into, "key": key}
     if draw < 44:
         return {"do": "patch", "in": into, "key": key, "set": {"n": numbers.randrange(3)}}
+    return {"do": "update", "in": into, "key": key, "update": update(numbers)}
+
+
+def line_at_random(numbers, model, written):
+    """One of the sides that are written is."""
+    draw = numbers.randrange(83)
     if draw < 47:
-        return {"do": "update", "in": into, "key": key, "update": update(numbers)}
+        return write(numbers, model.sides["f"].rules, numbers.choice(written))
     if draw < 50:
         return {"do": "tick", "at": numbers.randrange(3_000)}
     if draw < 51:
         return {"do": "restart"}
     if draw < 53:
-        return {"do": "upsert", "in": "p", "doc": {"id": key, "n": numbers.randrange(3)}}
+        return {"do": "upsert", "in": "p", "doc": {"id": numbers.choice(KEYS), "n": numbers.randrange(3)}}
     if draw < 63:
         return turn(numbers)
     if draw < 77:
         return delivery(numbers)
-    return {"do": "unstream" if draw == 77 else "stream", "name": numbers.choice("rrruuusz")}
+    if draw < 80:
+        return sweep(numbers, numbers.choice("mmmmmffffgpz"), model)
+    return {"do": "unstream" if draw == 80 else "stream", "name": numbers.choice("rrruuusz")}
 
 
 # Each changes the steps of a migration, and the properties and required names that they lead to.
@@ -316,9 +344,9 @@ def script(numbers, how, model, run):
         is_calm = number // 50 % 2 == 1
         if is_calm and number % 50 == 0:
             yield from ({"do": "turn", "name": name, "budget": 100_000} for name in "ur")
-        line = line_at_random(numbers, rules(), "m" if is_calm else "ffmmg")
+        line = line_at_random(numbers, model, "m" if is_calm else "ffmmg")
         yield line
-        if line["do"] in ("turn", "deliver"):
+        if line["do"] in ("turn", "sweep", "deliver"):
             yield from all_sides()
         if line["do"] == "restart":
             yield from streams(numbers, 0.7)
@@ -327,6 +355,7 @@ def script(numbers, how, model, run):
         yield from [{"do": "turn", "name": name, "budget": 100_000}, *all_sides()]
     if run == RUNS - 1:
         yield from [*at_the_end_of_time(*numbers.choice(["mf", "fm"])), *all_sides()]
+        yield from [{"do": "sweep", "name": numbers.choice("mf")}, *all_sides()]
         # It takes no write time.
         yield from [UNOBSERVE, migration(numbers, rules(), "f", [scale]), *all_sides()]
         yield from events_at_the_end_of_time()
@@ -344,11 +373,11 @@ class Audit:
         self.ends, self.took, self.migrations = Counter(), Counter(), Counter()
 
     def follow(self, line, replies, known):
-        """The replies to a line, and the keys of which the fork knows its own state behind it."""
-        do, is_own = line["do"], line.get("name") == self.name
+        """The replies to a line, and the keys of which forks know their own state behind it."""
+        do, is_own, known = line["do"], line.get("name") == self.name, known.get(self.name, set())
         if do not in ("changes", "digest", "migrate"):
             self.digests = None
-        for reply in map(json.loads, replies):
+        for reply in replies:
             if do == "migrate":
                 self.migration(reply, known)
             elif "rev" in reply and "ok" in reply and line["in"] == self.fork:
@@ -398,21 +427,88 @@ class Audit:
             raise Wrong(f"it ended {word} and left what the fork wrote at {sorted(self.unsent)}")
 
 
+class Sweeps:
+    """What the answers say of sweeps: one that ends quiet made two turns of each fork of its tree, and leaves one
+    digest; and no budget was used up that is enough."""
+
+    def __init__(self):
+        self.masters, self.ends, self.turns = {}, Counter(), 0
+        self.unseen = set()
+
+    def follow(self, line, replies, _known):
+        do, reply = line["do"], replies[0]
+        if do == "replicate" and "master" in line:
+            self.masters[line["fork"]] = line["master"]
+        if do == "sweep":
+            self.begin(line, reply)
+        elif do == "changes" and line["in"] in self.unseen:
+            self.keys.update(it["id"] for it in reply["docs"])
+        elif do == "digest" and line["in"] in self.unseen:
+            self.unseen.remove(line["in"])
+            self.digests.add(reply["digest"])
+            if not self.unseen:
+                self.judge()
+        elif do not in ("changes", "digest"):
+            self.unseen = set()
+
+    def begin(self, line, reply):
+        self.ends[reply.get("end") or reply["refused"]] += 1
+        self.turns += reply.get("turns", 0)
+        self.line, self.reply, self.tree = line, reply, {line["name"]} if "ok" in reply else set()
+        while more := {fork for fork, master in self.masters.items() if master in self.tree} - self.tree:
+            self.tree |= more
+        self.unseen, self.keys, self.digests = {*self.tree}, set(), set()
+
+    def judge(self):
+        """Once the states and the digests of all its tree are seen."""
+        end, turns, at = self.reply["end"], self.reply["turns"], f"line {self.reply['line']}: "
+        insist(end in ("quiet", "more", "clock"), f"{at}a sweep ended {end}")
+        is_enough = self.line.get("budget", 1_000) > 3 * len(self.keys)
+        insist(end != "more" or not is_enough, f"{at}no end with {len(self.keys)} keys")
+        if end == "quiet":
+            same(turns, 2 * len(self.tree) - 2, f"{at}the turns of a quiet sweep")
+            same(len(self.digests), 1, f"{at}the digests after a quiet sweep")
+
+
+class Noting(Model):
+    """Notes the keys of which forks know their own state, by their replications: behind each turn that a line
+    makes, and behind the line."""
+
+    def play(self, line):
+        self.notes = []
+        due = super().play(line)
+        self.notes.append(self.known())
+        return due
+
+    def make_turn(self, *asked):
+        made = super().make_turn(*asked)
+        self.notes.append(self.known())
+        return made
+
+    def known(self):
+        return {name: {key for key in it.fork.docs if self.is_known(key, name)}
+                for name, it in self.replications.items() if it.master}
+
+    def tree(self, name):
+        """The names of a collection and of all that reach it."""
+        return [name, *(self.replications[it].fork.name for it in self.below(name, "down"))]
+
+    def keys_below(self, name):
+        return {key for side in self.tree(name) for key in self.sides[side].docs}
+
+
 class Played(NamedTuple):
-    """A line, what it is due to be answered, and by their replications the keys of which forks know their own
-    state behind it."""
+    """A line, what it is due to be answered, and the notes behind its turns and behind it."""
     line: dict
     due: list
-    known: dict
+    notes: list
 
 
 def played(model, lines):
     """The lines of a run, which the model plays one by one before the next is made."""
     for line in lines:
         due = model.play(line)
-        known = {name: {key for key in it.fork.docs if model.is_known(key, name)}
-                 for name, it in model.replications.items() if name in "ru"}
-        yield Played(line, due, known)
+        yield Played(line, due, model.notes)
 
 
 def answers(journal, lines):
@@ -425,13 +521,13 @@ def answers(journal, lines):
 def compare(run, found, follow):
     """Compares what a run answered, line by line of its script."""
     place = 0
-    for number, (line, due, known) in enumerate(run, 1):
+    for number, (line, due, notes) in enumerate(run, 1):
         seen = found[place:place + len(due)]
         place += len(due)
         if seen != due:
             pair = next(((a, b) for a, b in zip(seen, due) if a != b), (seen[-1:], due[-1:]))
             raise Wrong(f"line {number}, {compact(line)}: found {pair[0]}, due {pair[1]}")
-        follow(line, seen, known)
+        follow(line, seen, notes)
     if found[place:]:
         raise Wrong(f"nothing is due for {found[place]}")
 
@@ -440,31 +536,408 @@ def counted(counts):
     return ", ".join(f"{count:,} {what}" for what, count in sorted(counts.items()))
 
 
+def parts_of(line, seen, notes):
+    """A line with its replies and the note behind it. A sweep comes as its turns first, and then with the rest."""
+    replies, behind = [], iter(notes)
+    for reply in map(json.loads, seen):
+        replies.append(reply)
+        if "replication" in reply:
+            yield {"do": "turn", "name": reply["replication"]}, replies, next(behind)
+            replies = []
+    yield line, replies, notes[-1]
+
+
 def try_run(journal, run, audits):
     """One run, whose answers are due and go to the audits."""
-    def follow(line, seen, known):
-        for audit in audits:
-            audit.follow(line, seen, known.get(audit.name, set()))
+    def follow(*played_line):
+        for part in parts_of(*played_line):
+            for audit in audits:
+                audit.follow(*part)
 
     compare(run, answers(journal, [it.line for it in run]), follow)
 
 
 def try_seed(seed, how, folder):
-    numbers, model, audits = random.Random(seed), Model(), [Audit("r", "f", "m"), Audit("u", "g", "f")]
+    numbers, model, sweeps = random.Random(seed), Noting(), Sweeps()
+    first, second = Audit("r", "f", "m"), Audit("u", "g", "f")
     for number in range(RUNS):
         model.open()
         run = [*played(model, script(numbers, how, model, number))]
-        try_run(os.path.join(folder, "journal"), run, audits)
-    first, second = audits
+        try_run(os.path.join(folder, "journal"), run, [first, second, sweeps])
     return (f"{first.exchanges + second.exchanges:,} exchanges, {first.conflicts + second.conflicts:,} conflicts; "
-            f"ends: {counted(first.ends + second.ends)}; events: {counted(first.took + second.took)}; "
-            f"migrations: {counted(first.migrations)}")
+            f"ends: {counted(first.ends + second.ends)}; sweeps: {counted(sweeps.ends)}; "
+            f"events: {counted(first.took + second.took)}; migrations: {counted(first.migrations)}")
 
 
 for number in SEEDS:
     handler = HANDLERS[number % len(HANDLERS)]
     add(f"seed {number}, {handler['handler']}",
         lambda folder, seed=number, how=handler: try_seed(seed, how, folder), seconds=900, in_memory=True)
+
+
+# ---- trees
+
+TREES = range(1, 41)
+TREE_RUNS, TREE_LINES = 2, 120
+MOST_SIDES, MOST_DEPTH = 20, 6
+
+
+def tree_at_random(numbers):
+    """The master of each collection of a tree, the root first, which has none; and how deep it is."""
+    root, *forks = numbers.sample("abcdefghijklmnopqrst", numbers.randint(2, MOST_SIDES))
+    masters, depths = {root: None}, {root: 0}
+    for fork in forks:
+        below = [side for side, depth in depths.items() if depth < MOST_DEPTH]
+        masters[fork] = numbers.choice(below[-numbers.choice([1, 3, MOST_SIDES]):])
+        depths[fork] = depths[masters[fork]] + 1
+    return masters, max(depths.values())
+
+
+def joins(numbers, masters):
+    """What makes the tree of its collections, in any order. Now and then its root is the fork of a port at which
+    nobody is."""
+    lines = [{"do": "replicate", "name": f"{fork}-{master}", "fork": fork, "master": master}
+             for fork, master in masters.items() if master]
+    if numbers.random() < 0.3:
+        lines.append({"do": "replicate", "name": "away", "fork": next(iter(masters)), "port": 1})
+    return [{**line, **numbers.choice(HANDLERS)} for line in numbers.sample(lines, len(lines))]
+
+
+def tree_line(numbers, model, sides, keys):
+    """A write of any side, or what turns, streams, queries and sweeps make of them."""
+    draw, side, query = numbers.randrange(100), numbers.choice(sides), numbers.choice("vwxyz")
+    names = [name for name, it in model.replications.items() if it.master]
+    if draw < 52 or not names:
+        return write(numbers, model.sides[side].rules, side, keys)
+    if draw < 55:
+        return {"do": "tick", "at": numbers.randrange(3_000)}
+    if draw < 57:
+        return {"do": "restart"}
+    if draw < 64:
+        return turn(numbers, names)
+    if draw < 70:
+        return delivery(numbers, names)
+    if draw < 78:
+        return {"do": "unstream" if draw == 77 else "stream", "name": numbers.choice(names)}
+    if draw < 84:
+        return {"do": "unobserve", "name": query} if draw == 83 else {**OBSERVE, "name": query, "in": side}
+    return sweep(numbers, numbers.choice([sides[0], side]), model)
+
+
+def shown_behind(line, model):
+    """The states of all that a line may have brought together."""
+    if line["do"] == "sweep":
+        return all_sides(model.tree(line["name"]))
+    if line["do"] in ("turn", "deliver") and (it := model.replications.get(line["name"])):
+        return all_sides([it.fork.name, it.master.name])
+    return []
+
+
+def tree_lines(numbers, model, masters, run):
+    """One run over a tree, which is made in the first one, while its collections are written. It ends with a sweep
+    that has to end quiet; and in the last run another one finds no write time."""
+    sides, keys, joining = [*masters], KEYS[:numbers.randint(1, 12)], []
+
+    def swept():
+        line = {**sweep(numbers, sides[0], model), "budget": 3 * len(model.keys_below(sides[0])) + 1}
+        return [line, *shown_behind(line, model)]
+
+    if run == 0:
+        order, joining = numbers.sample(sides, len(sides)), joins(numbers, masters)
+        yield from ({"do": "collection", "name": side, "schema": SCHEMA} for side in order)
+    for _ in range(TREE_LINES):
+        is_joining = joining and numbers.random() < 0.4
+        line = joining.pop() if is_joining else tree_line(numbers, model, sides, keys)
+        yield from [line, *shown_behind(line, model)]
+    yield from joining
+    yield from swept()
+    if run == TREE_RUNS - 1:
+        late = {"do": "upsert", "in": numbers.choice(sides), "doc": {"id": "last"}}
+        yield from [{"do": "tick", "at": MAX_TIME}, late, {"do": "tick", "at": 0}]
+        yield from (write(numbers, model.sides[side].rules, side, keys) for side in numbers.choices(sides, k=5))
+        yield from swept()
+
+
+def try_tree(seed, journal):
+    """What the sweeps came to, how many collections there were, and how deep."""
+    numbers, model, sweeps = random.Random(seed), Noting(), Sweeps()
+    masters, depth = tree_at_random(numbers)
+    audits = [Audit(f"{fork}-{master}", fork, master) for fork, master in masters.items() if master]
+    for number in range(TREE_RUNS):
+        model.open()
+        run = [*played(model, tree_lines(numbers, model, masters, number))]
+        try_run(journal, run, [*audits, sweeps])
+    return sweeps, len(masters), depth
+
+
+@case("sweeps of random trees", in_memory=True)
+def sweeps_of_random_trees(folder):
+    ends, turns, most, deepest = Counter(), 0, 0, 0
+    for seed in TREES:
+        try:
+            sweeps, sides, depth = try_tree(seed, os.path.join(folder, f"journal{seed}"))
+        except Wrong as why:
+            raise Wrong(f"tree {seed}: {why}") from why
+        ends, turns, most, deepest = ends + sweeps.ends, turns + sweeps.turns, max(most, sides), max(deepest, depth)
+    insist(ends.keys() == {"quiet", "more", "clock"}, f"sweeps: {counted(ends)}")
+    insist((most, deepest) == (MOST_SIDES, MOST_DEPTH), f"{most} collections at most, {deepest} deep")
+    return f"{len(TREES)} trees of up to {most} collections, {deepest} deep; sweeps: {counted(ends)}; {turns:,} turns"
+
+
+# ---- sweeps that are worked out by hand
+
+def tree_of(sides, *forks):
+    """Collections, and replications by their names, forks, masters, handlers and fields."""
+    names = ("name", "fork", "master", "handler", "field")
+    each = [{"do": "replicate", **dict(zip(names, it.split()))} for it in forks]
+    return [*map(collection, sides.split()), *map(compact, each)]
+
+
+def inserted(side, key, number):
+    return compact({"do": "insert", "in": side, "doc": {"id": key, "n": number}})
+
+
+def migrate(side, version, properties, *steps):
+    schema = {"version": version, "primaryKey": "id", "type": "object", "properties": properties}
+    return compact({"do": "migrate", "in": side, "schema": schema, "steps": steps})
+
+
+CONFLICT = [*tree_of("m f", "r f m fork_wins"), inserted("m", "a", 1), inserted("f", "a", 2)]
+CHAIN = tree_of("m f g", "r f m master_wins", "s g f master_wins")
+DROPPED = [*tree_of("m f g", "s g f join", "r f m greater n"), migrate("m", 1, KEY, {"drop": "n"})]
+# What the first of them leaves.
+JOURNAL_SIZE, JOURNAL_HASH = 1_145, "85ae23ce7ec71749636586a17fca1d0e385bbc7264d7bbc31c95ceb5703f60ea"
+# The lines before, of which each is taken, then others, and what these are answered.
+BY_HAND = {
+    "a document of the last fork": ([*CHAIN, inserted("g", "a", 1)], """
+{"do":"sweep","name":"m"}
+""", """
+{"conflicts":[],"exchange":1,"rows":["a"],"sent":"push"}
+{"exchange":2,"place":{"id":"a","lwt":1},"rows":["a"],"sent":"pull"}
+{"end":"quiet","exchanges":2,"pass":"up","replication":"s"}
+{"conflicts":[],"exchange":1,"rows":["a"],"sent":"push"}
+{"exchange":2,"place":{"id":"a","lwt":1},"rows":["a"],"sent":"pull"}
+{"end":"quiet","exchanges":2,"pass":"up","replication":"r"}
+{"exchange":1,"place":{"id":"a","lwt":1},"rows":[],"sent":"pull"}
+{"end":"quiet","exchanges":1,"pass":"down","replication":"r"}
+{"exchange":1,"place":{"id":"a","lwt":1},"rows":[],"sent":"pull"}
+{"end":"quiet","exchanges":1,"pass":"down","replication":"s"}
+{"end":"quiet","line":7,"ok":"sweep","turns":4}
+"""),
+    "a budget of one exchange too few, and the rest": (CONFLICT, """
+{"do":"sweep","name":"m","batch":1,"budget":3}
+{"do":"sweep","name":"m","batch":1,"budget":1}
+""", """
+{"conflicts":["a"],"exchange":1,"rows":["a"],"sent":"push"}
+{"conflicts":[],"exchange":2,"rows":["a"],"sent":"push"}
+{"exchange":3,"place":{"id":"a","lwt":2},"rows":["a"],"sent":"pull"}
+{"end":"more","exchanges":3,"pass":"up","replication":"r"}
+{"end":"more","line":6,"ok":"sweep","turns":1}
+{"exchange":1,"place":{"id":"a","lwt":2},"rows":[],"sent":"pull"}
+{"end":"quiet","exchanges":1,"pass":"up","replication":"r"}
+{"exchange":1,"place":{"id":"a","lwt":2},"rows":[],"sent":"pull"}
+{"end":"quiet","exchanges":1,"pass":"down","replication":"r"}
+{"end":"quiet","line":7,"ok":"sweep","turns":2}
+"""),
+    "a budget of three exchanges a key and one": (CONFLICT, """
+{"do":"sweep","name":"m","batch":1,"budget":4}
+""", """
+{"conflicts":["a"],"exchange":1,"rows":["a"],"sent":"push"}
+{"conflicts":[],"exchange":2,"rows":["a"],"sent":"push"}
+{"exchange":3,"place":{"id":"a","lwt":2},"rows":["a"],"sent":"pull"}
+{"exchange":4,"place":{"id":"a","lwt":2},"rows":[],"sent":"pull"}
+{"end":"quiet","exchanges":4,"pass":"up","replication":"r"}
+{"exchange":1,"place":{"id":"a","lwt":2},"rows":[],"sent":"pull"}
+{"end":"quiet","exchanges":1,"pass":"down","replication":"r"}
+{"end":"quiet","line":6,"ok":"sweep","turns":2}
+"""),
+    "replications that were made in another order than their forks": (
+        [*tree_of("m f1 g1 f2 g2", "a f2 m join", "b g2 f2 join", "c f1 m join", "d g1 f1 join"),
+         inserted("g1", "x", 1), inserted("g2", "x", 2)], """
+{"do":"sweep","name":"m"}
+{"do":"get","in":"g1","key":"x"}
+{"do":"get","in":"f2","key":"x"}
+""", """
+{"conflicts":[],"exchange":1,"rows":["x"],"sent":"push"}
+{"exchange":2,"place":{"id":"x","lwt":1},"rows":["x"],"sent":"pull"}
+{"end":"quiet","exchanges":2,"pass":"up","replication":"d"}
+{"conflicts":[],"exchange":1,"rows":["x"],"sent":"push"}
+{"exchange":2,"place":{"id":"x","lwt":1},"rows":["x"],"sent":"pull"}
+{"end":"quiet","exchanges":2,"pass":"up","replication":"c"}
+{"conflicts":[],"exchange":1,"rows":["x"],"sent":"push"}
+{"exchange":2,"place":{"id":"x","lwt":1},"rows":["x"],"sent":"pull"}
+{"end":"quiet","exchanges":2,"pass":"up","replication":"b"}
+{"conflicts":["x"],"exchange":1,"rows":["x"],"sent":"push"}
+{"conflicts":[],"exchange":2,"rows":["x"],"sent":"push"}
+{"exchange":3,"place":{"id":"x","lwt":2},"rows":["x"],"sent":"pull"}
+{"end":"quiet","exchanges":3,"pass":"up","replication":"a"}
+{"exchange":1,"place":{"id":"x","lwt":2},"rows":["x"],"sent":"pull"}
+{"end":"quiet","exchanges":1,"pass":"down","replication":"c"}
+{"exchange":1,"place":{"id":"x","lwt":2},"rows":["x"],"sent":"pull"}
+{"end":"quiet","exchanges":1,"pass":"down","replication":"d"}
+{"exchange":1,"place":{"id":"x","lwt":2},"rows":[],"sent":"pull"}
+{"end":"quiet","exchanges":1,"pass":"down","replication":"a"}
+{"exchange":1,"place":{"id":"x","lwt":2},"rows":["x"],"sent":"pull"}
+{"end":"quiet","exchanges":1,"pass":"down","replication":"b"}
+{"end":"quiet","line":12,"ok":"sweep","turns":8}
+{"doc":{"id":"x","n":2},"line":13,"lwt":2,"ok":"get","rev":"2-g1"}
+{"doc":{"id":"x","n":2},"line":14,"lwt":2,"ok":"get","rev":"2-f2"}
+"""),
+    "forks that were made against their names, and before the root": (
+        tree_of("z y x w m", "xm x m join", "zm z m join", "yx y x join", "wz w z join"), """
+{"do":"sweep","name":"m"}
+{"do":"sweep","name":"x"}
+{"do":"sweep","name":"y"}
+""", """
+{"exchange":1,"rows":[],"sent":"pull"}
+{"end":"quiet","exchanges":1,"pass":"up","replication":"wz"}
+{"exchange":1,"rows":[],"sent":"pull"}
+{"end":"quiet","exchanges":1,"pass":"up","replication":"zm"}
+{"exchange":1,"rows":[],"sent":"pull"}
+{"end":"quiet","exchanges":1,"pass":"up","replication":"yx"}
+{"exchange":1,"rows":[],"sent":"pull"}
+{"end":"quiet","exchanges":1,"pass":"up","replication":"xm"}
+{"exchange":1,"rows":[],"sent":"pull"}
+{"end":"quiet","exchanges":1,"pass":"down","replication":"zm"}
+{"exchange":1,"rows":[],"sent":"pull"}
+{"end":"quiet","exchanges":1,"pass":"down","replication":"wz"}
+{"exchange":1,"rows":[],"sent":"pull"}
+{"end":"quiet","exchanges":1,"pass":"down","replication":"xm"}
+{"exchange":1,"rows":[],"sent":"pull"}
+{"end":"quiet","exchanges":1,"pass":"down","replication":"yx"}
+{"end":"quiet","line":10,"ok":"sweep","turns":8}
+{"exchange":1,"rows":[],"sent":"pull"}
+{"end":"quiet","exchanges":1,"pass":"up","replication":"yx"}
+{"exchange":1,"rows":[],"sent":"pull"}
+{"end":"quiet","exchanges":1,"pass":"down","replication":"yx"}
+{"end":"quiet","line":11,"ok":"sweep","turns":2}
+{"end":"quiet","line":12,"ok":"sweep","turns":0}
+"""),
+    "streams, which hear what a sweep writes": (CHAIN, """
+{"do":"stream","name":"r"}
+{"do":"stream","name":"s"}
+{"do":"insert","in":"m","doc":{"id":"a"}}
+{"do":"insert","in":"g","doc":{"id":"b"}}
+{"do":"sweep","name":"m"}
+{"do":"deliver","name":"r"}
+{"do":"deliver","name":"s"}
+""", """
+{"line":6,"ok":"stream"}
+{"line":7,"ok":"stream"}
+{"line":8,"ok":"insert","rev":"1-m"}
+{"line":9,"ok":"insert","rev":"1-g"}
+{"conflicts":[],"exchange":1,"rows":["b"],"sent":"push"}
+{"exchange":2,"place":{"id":"b","lwt":1},"rows":["b"],"sent":"pull"}
+{"end":"quiet","exchanges":2,"pass":"up","replication":"s"}
+{"conflicts":[],"exchange":1,"rows":["b"],"sent":"push"}
+{"exchange":2,"place":{"id":"b","lwt":2},"rows":["a","b"],"sent":"pull"}
+{"end":"quiet","exchanges":2,"pass":"up","replication":"r"}
+{"exchange":1,"place":{"id":"b","lwt":2},"rows":[],"sent":"pull"}
+{"end":"quiet","exchanges":1,"pass":"down","replication":"r"}
+{"exchange":1,"place":{"id":"a","lwt":2},"rows":["a"],"sent":"pull"}
+{"end":"quiet","exchanges":1,"pass":"down","replication":"s"}
+{"end":"quiet","line":10,"ok":"sweep","turns":4}
+{"event":1,"rows":["a"],"took":"old"}
+{"event":2,"rows":["b"],"took":"old"}
+{"level":true,"line":11,"ok":"deliver","resync":false}
+{"event":1,"rows":["b"],"took":"old"}
+{"event":2,"rows":["a"],"took":"old"}
+{"level":true,"line":12,"ok":"deliver","resync":false}
+"""),
+    "a master without a write time": (CHAIN, """
+{"do":"tick","at":9007199254740991}
+{"do":"insert","in":"m","doc":{"id":"a"}}
+{"do":"tick","at":5}
+{"do":"insert","in":"g","doc":{"id":"b"}}
+{"do":"sweep","name":"m"}
+{"do":"get","in":"f","key":"b"}
+""", """
+{"line":6,"ok":"tick"}
+{"line":7,"ok":"insert","rev":"1-m"}
+{"line":8,"ok":"tick"}
+{"line":9,"ok":"insert","rev":"1-g"}
+{"conflicts":[],"exchange":1,"rows":["b"],"sent":"push"}
+{"exchange":2,"place":{"id":"b","lwt":5},"rows":["b"],"sent":"pull"}
+{"end":"quiet","exchanges":2,"pass":"up","replication":"s"}
+{"end":"clock","exchanges":0,"pass":"up","replication":"r"}
+{"end":"clock","line":10,"ok":"sweep","turns":2}
+{"doc":{"id":"b"},"line":11,"lwt":5,"ok":"get","rev":"1-f"}
+"""),
+    "a request of a sweep that comes late": ([*tree_of("m f", "r f m join"), inserted("f", "a", 1)], """
+{"do":"sweep","name":"m"}
+{"do":"patch","in":"f","key":"a","set":{"n":2}}
+{"do":"sweep","name":"m"}
+{"do":"patch","in":"m","key":"a","set":{"n":1}}
+{"do":"turn","name":"r","link":[{"late":3}]}
+{"do":"get","in":"m","key":"a"}
+""", """
+{"conflicts":[],"exchange":1,"rows":["a"],"sent":"push"}
+{"exchange":2,"place":{"id":"a","lwt":1},"rows":["a"],"sent":"pull"}
+{"end":"quiet","exchanges":2,"pass":"up","replication":"r"}
+{"exchange":1,"place":{"id":"a","lwt":1},"rows":[],"sent":"pull"}
+{"end":"quiet","exchanges":1,"pass":"down","replication":"r"}
+{"end":"quiet","line":5,"ok":"sweep","turns":2}
+{"line":6,"ok":"patch","rev":"2-f"}
+{"conflicts":[],"exchange":1,"rows":["a"],"sent":"push"}
+{"exchange":2,"place":{"id":"a","lwt":2},"rows":["a"],"sent":"pull"}
+{"end":"quiet","exchanges":2,"pass":"up","replication":"r"}
+{"exchange":1,"place":{"id":"a","lwt":2},"rows":[],"sent":"pull"}
+{"end":"quiet","exchanges":1,"pass":"down","replication":"r"}
+{"end":"quiet","line":7,"ok":"sweep","turns":2}
+{"line":8,"ok":"patch","rev":"3-m"}
+{"exchange":1,"place":{"id":"a","lwt":4},"rows":["a"],"sent":"pull"}
+{"end":"quiet","exchanges":1,"line":9,"ok":"turn"}
+{"doc":{"id":"a","n":2},"line":10,"lwt":4,"ok":"get","rev":"4-m"}
+"""),
+    "a handler whose field a migration took": (DROPPED, """
+{"do":"turn","name":"r"}
+{"do":"sweep","name":"m"}
+{"do":"sweep","name":"f"}
+""", """
+{"code":19,"line":7,"refused":"no_handler"}
+{"exchange":1,"rows":[],"sent":"pull"}
+{"end":"quiet","exchanges":1,"pass":"up","replication":"s"}
+{"exchange":1,"rows":[],"sent":"pull"}
+{"end":"quiet","exchanges":1,"pass":"up","replication":"r"}
+{"exchange":1,"rows":[],"sent":"pull"}
+{"end":"quiet","exchanges":1,"pass":"down","replication":"r"}
+{"exchange":1,"rows":[],"sent":"pull"}
+{"end":"quiet","exchanges":1,"pass":"down","replication":"s"}
+{"end":"quiet","line":8,"ok":"sweep","turns":4}
+{"exchange":1,"rows":[],"sent":"pull"}
+{"end":"quiet","exchanges":1,"pass":"up","replication":"s"}
+{"exchange":1,"rows":[],"sent":"pull"}
+{"end":"quiet","exchanges":1,"pass":"down","replication":"s"}
+{"end":"quiet","line":9,"ok":"sweep","turns":2}
+"""),
+    "a handler whose field came back": ([*DROPPED, migrate("g", 2, SCHEMA["properties"])], """
+{"do":"sweep","name":"m"}
+""", """
+{"exchange":1,"rows":[],"sent":"pull"}
+{"end":"quiet","exchanges":1,"pass":"up","replication":"s"}
+{"exchange":1,"rows":[],"sent":"pull"}
+{"end":"quiet","exchanges":1,"pass":"up","replication":"r"}
+{"exchange":1,"rows":[],"sent":"pull"}
+{"end":"quiet","exchanges":1,"pass":"down","replication":"r"}
+{"exchange":1,"rows":[],"sent":"pull"}
+{"end":"quiet","exchanges":1,"pass":"down","replication":"s"}
+{"end":"quiet","line":8,"ok":"sweep","turns":4}
+"""),
+}
+
+
+@case("sweeps that are worked out by hand")
+def sweeps_by_hand(folder):
+    for number, (what, (before, lines, due)) in enumerate(BY_HAND.items()):
+        journal, script = os.path.join(folder, f"journal{number}"), text([*before, *lines.strip().splitlines()])
+        found = command("run", journal, script=script)[1].decode().splitlines()
+        same([it for it in found[:len(before)] if '"ok":' not in it], [], f"{what}: refused before it")
+        for reply, it in zip_longest(found[len(before):], due.strip().splitlines()):
+            insist(reply == it, f"{what}: found {reply}, due {it}")
+        if number == 0:
+            left = content(journal)
+            same((len(left), hashlib.sha256(left).hexdigest()), (JOURNAL_SIZE, JOURNAL_HASH), "the journal")
+    return f"{len(BY_HAND)} scripts are answered as it stands there"
 
 
 # ---- commits of many documents
@@ -492,7 +965,7 @@ def commits_of_many(folder):
     """Each is several events, and those that may wait are few."""
     audit = Audit("r", "f", "m")
     for seed in range(10):
-        model = Model()
+        model = Noting()
         model.open()
         run = [*played(model, many_lines(random.Random(seed)))]
         try_run(os.path.join(folder, f"journal{seed}"), run, [audit])
@@ -547,9 +1020,9 @@ def a_group_of_forks(folder):
         model.open()
         run, replies = [], []
         for line in group_lines(random.Random(seed)):
-            run.append(Played(line, model.play(line), {}))
+            run.append(Played(line, model.play(line), []))
         compare(run, answers(journal, [it.line for it in run]),
-                lambda line, seen, _known: replies.append((line, json.loads(seen[-1]))))
+                lambda line, seen, _notes: replies.append((line, json.loads(seen[-1]))))
         ends = [reply["end"] for line, reply in replies if line["do"] == "turn"]
         same(ends, ["quiet"] * 9, f"seed {seed}: the turns")
         migrations = [reply for line, reply in replies if line["do"] == "migrate"]

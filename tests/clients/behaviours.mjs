@@ -217,6 +217,48 @@ export const behaviours = {
     await db.close();
   },
 
+  async 'a sweep of a tree of three: its turns, one emission each, and what is refused'({ open, transport }) {
+    const db = await open(transport());
+    const [server, phone, laptop] = await Promise.all(['server', 'phone', 'laptop'].map((it) => db.collection(it, schema)));
+    const newest = { handler: 'greater', field: 'n' };
+    await db.replicate({ name: 'to_server', fork: 'phone', master: 'server', ...newest });
+    await db.replicate({ name: 'to_phone', fork: 'laptop', master: 'phone', ...newest });
+    await server.bulk([{ id: 'a', n: 1 }, { id: 'd', n: 0 }]);
+    await laptop.bulk([{ id: 'a', n: 2 }, { id: 'b', n: 0 }]);
+    const heard = { server: [], phone: [], laptop: [] };
+    for (const it of [server, phone, laptop]) {
+      const next = (rows) => heard[it.name].push(rows.map(({ id, n }) => id + n).join(' '));
+      await it.observe().subscribe(next).begun;
+    }
+    const { end, turns } = await db.sweep('server');
+    const told = ({ pass, replication, each }) => [pass, replication, ...each.map((it) => `${it.sent} ${it.rows}`)].join(': ');
+    same(turns.map(told), [
+      'up: to_phone: push a,b: pull a,b',
+      'up: to_server: push a,b: push a: pull d,b,a',
+      'down: to_server: pull ',
+      'down: to_phone: pull a,d',
+    ], 'the turns');
+    same([end, turns.map((it) => `${it.end} ${it.exchanges}`)], ['quiet', ['quiet 2', 'quiet 3', 'quiet 1', 'quiet 1']], 'their ends');
+    same(turns[1].each[0], { conflicts: ['a'], exchange: 1, rows: ['a', 'b'], sent: 'push' }, 'an exchange');
+    const place = { id: 'd', lwt: 3 };
+    same(turns[3].each, [{ exchange: 1, place, rows: ['a', 'd'], sent: 'pull' }], 'those of the last turn');
+    const [first, ...others] = await Promise.all([server, phone, laptop].map((it) => it.digest()));
+    same(others, [first, first], 'all three');
+    const all = 'a2 b0 d0';
+    same(heard, { server: ['a1 d0', all], phone: ['', all], laptop: ['a2 b0', all] }, 'emissions');
+
+    await server.bulk([{ id: 'e' }, { id: 'f' }]);
+    const some = await db.sweep('server', { batch: 1, budget: 1 });
+    same([some.end, some.turns.map(told)], ['more', ['up: to_phone: pull ', 'up: to_server: pull e']], 'a budget');
+    same(await db.sweep('laptop'), { end: 'quiet', turns: [] }, 'nothing is below it');
+    same((await db.turn('to_server')).each.map((it) => it.rows), [['f']], 'a turn behind it');
+    const refused = async (...of) => (({ code, subject, message }) => [code, subject, message])(await fault(() => db.sweep(...of)));
+    same(await refused('none'), [10, 'none', 'no_collection (10): there is no collection none'], 'no collection');
+    const batch = [20, 'batch', 'batch (20): batch is 101, and from 1 to 100'];
+    same(await refused('server', { batch: 101 }), batch, 'a batch');
+    await db.close();
+  },
+
   async 'a stream: events that are taken, come twice, late or not at all, and what is refused'({ open, transport }) {
     const db = await open(transport());
     const master = await db.collection('m', schema), fork = await db.collection('f', schema);

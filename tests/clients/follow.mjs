@@ -17,9 +17,9 @@ async function until(isSo, what, seconds = 20) {
   throw new Error(`not in ${seconds} seconds: ${what}`);
 }
 
-/** A program that takes each line, and answers a turn or a delivery as the test tells it to. */
+/** A program that takes each line, and answers a turn, a sweep or a delivery as the test tells it to. */
 class Program {
-  asked = []; // the turns and deliveries that have no answer yet
+  asked = []; // the turns, sweeps and deliveries that have no answer yet
   streams = []; // what was asked of streams
   refused = {}; // of lines, by their word, what they are answered
   turns = []; // the moment of each
@@ -42,7 +42,7 @@ class Program {
     const reply = { line: this.#lines, ok: word, name };
     if (word === 'stream' || word === 'unstream') this.streams.push(word);
     if (this.refused[word]) return this.#say({ line: reply.line, ...this.refused[word] });
-    if (word === 'deliver') return this.asked.push(reply);
+    if (word === 'deliver' || word === 'sweep') return this.asked.push(reply);
     if (word === 'turn' && name !== 'none') return this.turns.push(performance.now()), this.asked.push(reply);
     if (name === 'none') this.#say({ line: reply.line, code: 18, refused: 'no_replication' });
     else this.#say({ ...reply, rev: '1-f' });
@@ -58,6 +58,16 @@ class Program {
     await this.#next('turn');
     const exchanges = each.map((it, at) => ({ exchange: at + 1, ...it }));
     this.#say(...exchanges, { ...this.asked.shift(), end, exchanges: each.length });
+  }
+
+  /** Waits for a sweep and answers it. */
+  async sweep(end, ...turns) {
+    await this.#next('sweep');
+    const lines = turns.flatMap(({ each, ...turn }) => [
+      ...each.map((it, at) => ({ exchange: at + 1, ...it })),
+      { end: 'quiet', exchanges: each.length, ...turn },
+    ]);
+    this.#say(...lines, { ...this.asked.shift(), end, turns: turns.length });
   }
 
   /** Waits for a delivery and answers it. */
@@ -293,6 +303,53 @@ alone('what a turn or a delivery of one fork writes is news of others', async ()
   await missed;
   await are('turn r'); // and nothing was written that others hear of
   await it.answer('quiet', pulled);
+  await db.close();
+});
+
+alone('the turns of a sweep are told of each fork, and what they write is news of others', async () => {
+  const it = new Program();
+  const db = await open(it.transport, { clock: () => 0 });
+  const [, f] = await Promise.all([...'mfgh'].map((name) => db.collection(name, schema)));
+  const states = {};
+  for (const [name, fork, master] of [['r', 'f', 'm'], ['s', 'g', 'm'], ['t', 'h', 'f']]) {
+    await db.replicate({ name, fork, master, handler: 'join' });
+    db.follow(name).subscribe(({ state, pending }) => { states[name] = `${state} ${pending}`; });
+  }
+  for (let n = 0; n < 3; n++) await it.answer('quiet', pulled);
+  const asked = () => it.asked.map(({ ok, name }) => `${ok} ${name}`).sort().join(', ');
+  const are = (due) => until(() => asked() === due, `${due}, but ${asked()}`);
+  const stand = (due) => until(() => text(states) === text(due), `${text(due)}, but ${text(states)}`);
+  const level = { r: 'in sync 0', s: 'in sync 0', t: 'in sync 0' };
+  await stand(level);
+
+  const some = db.sweep('m');
+  await are('sweep m');
+  const [up, down] = ['up', 'down'].map((pass) => (replication, ...each) => ({ pass, replication, each }));
+  await it.sweep('more', up('t', push(['a']), pulled), { ...up('r', push(['a', 'b'], { conflicts: ['b'] })), end: 'more' });
+  await some;
+  await stand({ r: 'syncing 1', s: 'syncing 0', t: 'syncing 0' }); // f has b to push still, and news for t
+  await are('deliver s, deliver t, turn r');
+  const inOrder = () => it.asked.sort((one, other) => one.name.localeCompare(other.name));
+  inOrder();
+  await it.answer('quiet', push(['b']), pulled);
+  for (let n = 0; n < 2; n++) await it.deliver(true);
+  await stand(level);
+  await are('deliver s'); // it has b from r's push
+  await it.deliver(true);
+
+  // A whole sweep leaves all level, whatever was lost before.
+  await f.insert({ id: 'c' });
+  await are('deliver t, turn r');
+  inOrder();
+  const whole = db.sweep('m');
+  await it.answer('clock');
+  await it.deliver(true);
+  await are('sweep m');
+  await stand({ ...level, r: 'offline 1' });
+  const turns = [up('t', pulled), up('r', push(['c']), pulled), up('s', { sent: 'pull', rows: ['c'] })];
+  await it.sweep('quiet', ...turns, down('r', pulled), down('t', pulled), down('s', pulled));
+  same((await whole).turns.length, 6, 'its turns');
+  await stand(level);
   await db.close();
 });
 

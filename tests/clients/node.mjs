@@ -265,6 +265,36 @@ tests['replicate and turn, with the exchanges, over a scripted program'] = async
   }
 };
 
+tests['a sweep, with the exchanges of each turn, over a scripted program'] = async () => {
+  const push = '{"conflicts":["ä"],"exchange":1,"rows":["ä","b"],"sent":"push"}';
+  const pull = (exchange, id) => `{"exchange":${exchange},"place":{"id":"${id}","lwt":3},"rows":["${id}"],"sent":"pull"}`;
+  const made = (end, exchanges, pass, replication) =>
+    `{"end":"${end}","exchanges":${exchanges},"pass":"${pass}","replication":"${replication}"`;
+  const turns = [made('quiet', 2, 'up', 's'), made('quiet', 0, 'up', 'r'), made('more', 1, 'down', 'r')];
+  const each = [[push, pull(2, 'b')], [], [pull(1, 'ä')]];
+  const lines = turns.flatMap((it, at) => [...each[at], `${it}}`]);
+  const answers = {
+    '{"do":"sweep","name":"m","batch":2,"budget":5}': `${lines.join('\n')}\n{"end":"more","line":1,"ok":"sweep","turns":3}\n`,
+    '{"do":"turn","name":"r"}': `${pull(1, 'd')}\n{"end":"quiet","exchanges":1,"line":2,"ok":"turn"}\n`,
+    '{"do":"sweep","name":"m"}': `${turns[1]}}\n{"end":"quiet","line":3,"ok":"sweep","turns":1}\n{"emit":"q","rows":[]}\n`,
+    '{"do":"sweep","name":"l"}': '{"end":"quiet","line":4,"ok":"sweep","turns":0}\n',
+    '{"do":"sweep","name":"k"}': '{"code":19,"line":5,"refused":"no_handler"}\n',
+  };
+  const due = (indexes) => `[${indexes.map((at) => `${turns[at]},"each":[${each[at]}]}`)}]`;
+  for (const pieces of [/[^]/g, /[^]{1,7}/g, /[^]+/g]) {
+    const db = await open(scripted(answers, pieces), { clock: null });
+    const first = await db.sweep('m', { batch: 2, budget: 5 });
+    same(JSON.stringify(first), `{"end":"more","turns":${due([0, 1, 2])}}`, 'a sweep');
+    same(JSON.stringify(await db.turn('r')), `{"end":"quiet","exchanges":1,"each":[${pull(1, 'd')}]}`, 'a turn');
+    const whole = await db.line('{"do":"sweep","name":"m"}');
+    same(JSON.stringify(whole), `{"end":"quiet","line":3,"ok":"sweep","turns":1,"each":${due([1])}}`, 'its line');
+    same(JSON.stringify(await db.sweep('l')), '{"end":"quiet","turns":[]}', 'no turns');
+    const words = "no_handler (19): a turn of k would go by a handler that isn't there";
+    same((await db.sweep('k').catch((it) => it)).message, words, 'no handler');
+    await db.close();
+  }
+};
+
 tests['output that is no answer ends the database'] = async () => {
   const db = await open(scripted({ '{"do":"restart"}': 'Segmentation fault\n' }, /[^]+/g), { clock: null });
   same((await db.restart().catch((it) => it)).stop, 'output', 'output');

@@ -34,6 +34,7 @@ async function play(db, text, observed) {
     case 'restart': return db.restart();
     case 'replicate': return db.replicate(line);
     case 'turn': return db.turn(line.name, line);
+    case 'sweep': return db.sweep(line.name, line);
     case 'stream': return db.stream(line.name);
     case 'deliver': return db.deliver(line.name, line);
     case 'unstream': return db.unstream(line.name);

@@ -91,6 +91,8 @@ def play(db, text, observed):
     if into is None:
         if do == "unobserve":
             return observed.pop(line["name"]).close()
+        if do == "sweep":
+            return db.sweep(line.pop("name"), **line)
         if do in DATABASE:
             return getattr(db, do)(**line)
         return db.call({"do": do, **line})
@@ -758,6 +760,72 @@ def a_fork_and_its_master_with_asyncio(folder):
     asyncio.run(run())
 
 
+TREE = [("to_server", "phone", "server"), ("to_phone", "laptop", "phone")]
+
+
+def swept(turns):
+    """What the turns of a sweep did."""
+    return [(it.pass_, it.replication, [(one["sent"], ",".join(one["rows"])) for one in it.each]) for it in turns]
+
+
+@case()
+def a_sweep_of_a_tree_of_three(folder):
+    with rx.open(new_journal(folder), clock=None) as db:
+        server, phone, laptop = sides = [db.collection(name, SCHEMA) for name in ("server", "phone", "laptop")]
+        for name, fork, master in TREE:
+            db.replicate(name, fork, master, handler="greater", field="n")
+        server.bulk([{"id": "a", "n": 1}, {"id": "d"}])
+        laptop.bulk([{"id": "a", "n": 2}, {"id": "b"}])
+        queries = [it.observe(name=it.name) for it in sides]
+        recorder = Recorder(db._lines)
+        end, turns = db.sweep("server")
+        due = [
+            ("up", "to_phone", [("push", "a,b"), ("pull", "a,b")]),
+            ("up", "to_server", [("push", "a,b"), ("push", "a"), ("pull", "d,b,a")]),
+            ("down", "to_server", [("pull", "")]),
+            ("down", "to_phone", [("pull", "a,d")]),
+        ]
+        same((end, swept(turns)), ("quiet", due))
+        same([(it.end, it.exchanges) for it in turns], [("quiet", len(it)) for _, _, it in due])
+        push = {"conflicts": ["a"], "exchange": 1, "rows": ["a", "b"], "sent": "push"}
+        pull = {"exchange": 1, "place": {"id": "d", "lwt": 3}, "rows": ["a", "d"], "sent": "pull"}
+        same((turns[1].each[0], turns[3]), (push, ("to_phone", "down", "quiet", 1, [pull])))
+        rows = [{"id": "a", "n": 2}, {"id": "b"}, {"id": "d"}]
+        same([it.rows() for it in queries], [rows] * 3)
+        before, _, behind = recorder.output().partition(b'"ok":"sweep"')
+        same(sorted(re.findall(rb'"emit":"(\w+)"', behind)), [b"laptop", b"phone", b"server"])
+        same(b'"emit"' in before, False, "emissions come behind the reply")
+        same(len({it.digest() for it in sides}), 1)
+
+        server.bulk([{"id": "e"}, {"id": "f"}])
+        end, turns = db.sweep("server", batch=1, budget=1)
+        same((end, swept(turns)[1:]), ("more", [("up", "to_server", [("pull", "e")])]))
+        same((db.sweep("laptop"), db.sweep("phone").end, phone.count()), (("quiet", []), "quiet", 4))
+        none, batch = fault(db.sweep, "none"), fault(db.sweep, "server", batch=101)
+        same(str(none), "no_collection (10): there is no collection none")
+        same((members(none)[:4], none.value), ((10, "no_collection", None, "none"), "none"))
+        same((batch.code, batch.value, batch.limit), (20, 101, 100))
+
+
+@case()
+def a_sweep_with_asyncio(folder):
+    async def run():
+        async with rx.open_async(new_journal(folder)) as db:
+            sides = [await db.collection(name, SCHEMA) for name in ("server", "phone", "laptop")]
+            for name, fork, master in TREE:
+                await db.replicate(name, fork, master, handler="join")
+            insert = sides[2].insert({"id": "a"})
+            _, turn, sweep = await asyncio.gather(insert, db.turn("to_phone", budget=1), db.sweep("server"))
+            same(shown(turn), ("more", [("push", ["a"])]))
+            up = [("up", "to_phone", [("pull", "a")]), ("up", "to_server", [("push", "a"), ("pull", "a")])]
+            down = [("down", "to_server", [("pull", "")]), ("down", "to_phone", [("pull", "")])]
+            same((sweep.end, swept(sweep.turns)), ("quiet", up + down))
+            same([await it.count() for it in sides], [1, 1, 1])
+            same((await async_fault(db.sweep("none"))).word, "no_collection")
+
+    asyncio.run(run())
+
+
 @case()
 def a_stream_and_what_becomes_of_its_events(folder):
     def told(link=None):
@@ -1123,6 +1191,61 @@ def replicate_and_turn_over_scripted_lines(folder):
         lines.take(bytes([byte]))
     same((replies[1]["end"], replies[1]["exchanges"], replies[1]["each"]), ("quiet", 1, [push]))
     same((replies[3]["level"], replies[3]["resync"], replies[3]["each"]), (True, False, [event]))
+
+
+class Heard:
+    """Who follows a fork, and keeps what it hears."""
+
+    def __init__(self):
+        self.all = []
+
+    def wrote(self, keys):
+        self.all.append(("wrote", *keys))
+
+    def turned(self, turn):
+        self.all.append((turn["end"], len(turn["each"])))
+
+
+@case(needs=[])
+def a_sweep_over_scripted_lines_is_told_of_each_fork_and_what_it_writes_is_news_of_others(_folder):
+    lines, replies, heard = Lines(None), [], {name: Heard() for name in "rst"}
+    lines.followed.by_name.update(heard)
+    lines.followed.sides.update((name, (fork, master)) for name, fork, master in FORKS)
+
+    def answer(reply, refused):
+        replies.append(refused or reply)
+
+    written = lines.write(calls.sweep("m", 2, 5), answer) + lines.write(calls.turn("s", None, None, None), answer)
+    written += lines.write(calls.sweep("g", None, None), answer) + lines.write(calls.sweep("h", None, None), answer)
+    same(
+        written,
+        b'{"do":"sweep","name":"m","batch":2,"budget":5}\n{"do":"turn","name":"s"}\n'
+        b'{"do":"sweep","name":"g"}\n{"do":"sweep","name":"h"}\n',
+    )
+    push = {"conflicts": [], "exchange": 1, "rows": ["ä", "b"], "sent": "push"}
+    pull = {"exchange": 2, "place": {"id": "b", "lwt": 3}, "rows": ["b"], "sent": "pull"}
+    more = {"conflicts": ["b"], "exchange": 1, "rows": ["ä", "b"], "sent": "push"}
+    turns = [
+        {"end": "quiet", "exchanges": 2, "pass": "up", "replication": "t"},
+        {"end": "more", "exchanges": 1, "pass": "up", "replication": "r"},
+    ]
+    output = [
+        *(push, pull, turns[0], more, turns[1], {"end": "more", "line": 1, "ok": "sweep", "turns": 2}),
+        *({**pull, "exchange": 1}, {"end": "quiet", "exchanges": 1, "line": 2, "ok": "turn"}),
+        {"end": "quiet", "line": 3, "ok": "sweep", "turns": 0},
+        {"code": 19, "line": 4, "refused": "no_handler"},
+    ]
+    for byte in "".join(json.dumps(it, ensure_ascii=False) + "\n" for it in output).encode():
+        lines.take(bytes([byte]))
+    first, turn, none, refused = replies
+    due = [("t", "up", "quiet", 2, [push, pull]), ("r", "up", "more", 1, [more])]
+    same(calls.sweep("m", 2, 5).take(first), ("more", due))
+    same((first["turns"], first["each"][0]), (2, {**turns[0], "each": [push, pull]}), "its line")
+    same((turn["each"], calls.sweep("g", None, None).take(none)), ([{**pull, "exchange": 1}], ("quiet", [])))
+    same(str(refused), "no_handler (19): a turn of h would go by a handler that isn't there")
+    same(heard["t"].all, [("quiet", 2), ("wrote",)], "r resolved a conflict in its master")
+    same(heard["r"].all, [("wrote", "ä", "b"), ("more", 1)], "t pushed to its fork")
+    same(heard["s"].all, [("wrote",), ("quiet", 1)], "r pushed to its master")
 
 
 def run_in(folder, *command, **env):

@@ -9,6 +9,7 @@ import select
 import subprocess
 import sys
 import time
+from types import SimpleNamespace
 
 HERE = os.path.dirname(os.path.abspath(__file__))
 sys.path.insert(0, os.path.dirname(HERE))
@@ -20,6 +21,7 @@ sys.path.insert(0, CLIENT)
 import rx  # noqa: E402
 from rx.shell import transfer  # noqa: E402
 from rx.shell.progress import Interrupt, Progress  # noqa: E402
+from rx.shell.prompt import completions  # noqa: E402
 from rx.shell.statements import Wrong  # noqa: E402
 
 os.environ["RX"] = RX
@@ -182,6 +184,9 @@ def faults_are_in_words_with_the_member_that_is_wrong(folder):
         f"collection myTodos {json.dumps(TODOS)}": 'name (8): name "myTodos" is no name: a lower-case letter',
         '{"do": "fly"}': 'unknown_do (4): do "fly" is no word that is known',
         ".turn sync": "no_replication (18): there is no replication sync",
+        ".sweep todoz": "there is no collection todoz: is it todos?",
+        ".sweep todos 101": "batch (20): batch 101 isn't from 1 to 100",
+        '{"do": "sweep", "name": "none"}': "no_collection (10): there is no collection none",
         ".import none.jsonl todos": "none.jsonl: No such file or directory",
         ".import a.txt todos": "a.txt: it is neither .jsonl nor .csv",
         ".mode x": "mode x is neither table nor json",
@@ -363,6 +368,61 @@ def what_waits_in_a_stream_is_delivered(folder):
     same(all(line in lines for line in due), True, f"{due} in {out}")
     status, _, faults = piped(folder, ".deliver r")
     same((status, "no stream of r is open" in faults), (1, True), faults)
+
+
+@case()
+def a_tree_of_three_is_swept(folder):
+    todos(folder, MILK)
+    by = [{"name": "r", "fork": "phone", "master": "todos"}, {"name": "s", "fork": "laptop", "master": "phone"}]
+    replicate = [json.dumps({"do": "replicate", **it, "handler": "greater", "field": "rank"}) for it in by]
+    out = shown(
+        folder,
+        *(f"collection {name} {json.dumps(TODOS)}" for name in ("phone", "laptop")),
+        *replicate,
+        f"insert laptop {json.dumps({**MILK, 'rank': 1})}",
+        f"insert laptop {json.dumps(TEA)}",
+        ".watch laptop sort id",
+        ".sweep todos",
+        ".sweep laptop",
+        ".sweep phone 1",
+    )
+    same(
+        out.splitlines()[out.splitlines().index("2 rows") + 1 :],
+        [
+            "replication  pass  exchanges  rows  conflicts  end",
+            "s            up            2     4             quiet",
+            "r            up            2     4  milk       quiet",
+            "r            down          1     0             quiet",
+            "s            down          1     1             quiet",
+            "4 turns",
+            "the sweep ended quiet",
+            "watched 1: laptop sort id",
+            "id    done   rank  title",
+            "milk  false     2  Buy milk",
+            "tea                Tee für Zoë",
+            "2 rows",
+            "0 turns",
+            "the sweep ended quiet",
+            "replication  pass  exchanges  rows  conflicts  end",
+            "s            up            1     0             quiet",
+            "s            down          1     0             quiet",
+            "2 turns",
+            "the sweep ended quiet",
+        ],
+    )
+
+
+@case(needs=[])
+def what_may_follow_a_turn_or_a_sweep(_folder):
+    names = SimpleNamespace(schemas={"todos": TODOS, "phone": TODOS}, replications=["to-todos"])
+    for text, due in (
+        (".s", [".schema", ".stream", ".sweep"]),
+        (".turn ", ["to-todos"]),
+        (".sweep ", ["phone", "todos"]),
+        (".sweep to", ["todos"]),
+        (".sweep todos ", []),
+    ):
+        same(completions(SimpleNamespace(names=names), text), due, text)
 
 
 @case()

@@ -72,6 +72,12 @@ const went: string[] = await db.migrate('todos', schema, steps);
 await db.collection<Todo>('todos', constant, { steps, hooks: [{ when: 'save', hook: 'lock', field: 'done' }] });
 await db.collection('any', schema, { steps: [{ set: 'title', value: 'none' }] as const });
 
+const swept = await db.sweep('server', { batch: 10, budget: 100 });
+const ways: ('up' | 'down')[] = swept.turns.map((it) => it.pass);
+const conflicts: string[] = swept.turns.flatMap((it) => it.each).flatMap((it) => it.conflicts ?? []);
+if (swept.end !== 'quiet') console.log(swept.turns.at(-1)?.replication, swept.end === swept.turns.at(-1)?.end);
+await db.sweep('server');
+
 await db.stream('sync');
 const { level, resync, each } = await db.deliver('sync', { link: ['ok', 'later'] });
 if (resync || !level) await db.turn('sync');
@@ -85,6 +91,16 @@ following.close();
 
 // @ts-expect-error
 await db.deliver('sync', { link: [{ late: 1 }] });
+// @ts-expect-error
+await db.sweep('server', { link: ['ok'] });
+// @ts-expect-error
+await db.sweep({ root: 'server' });
+// @ts-expect-error
+console.log(swept.end === 'lost');
+// @ts-expect-error
+swept.turns.filter((it) => it.pass === 'across');
+// @ts-expect-error
+swept.turns.map((it) => it.name);
 // @ts-expect-error
 each.filter((it) => it.took === 'dropped');
 // @ts-expect-error
