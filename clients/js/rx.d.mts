@@ -165,6 +165,27 @@ export interface Turn {
   each: Exchange[];
 }
 
+export interface SweepOptions {
+  /** Of each turn. */
+  readonly batch?: number;
+  readonly budget?: number;
+}
+
+/** A turn of a sweep. No exchange of it is lost, since the masters are of the same journal. */
+export interface SweptTurn extends Turn {
+  end: 'quiet' | 'clock' | 'more';
+  replication: string;
+  /** It is made on the way up to the root, behind those below its fork, or down again, before them. */
+  pass: 'up' | 'down';
+}
+
+export interface Sweep {
+  /** `quiet` where each turn was, and then all collections of the tree have the same documents; else as the last. */
+  end: SweptTurn['end'];
+  /** In the order in which they were made: both ways of the tree, or up to the first that isn't quiet. */
+  turns: SweptTurn[];
+}
+
 /** An event that was given, with the keys of its documents. */
 export interface Given {
   event: number;
@@ -334,6 +355,8 @@ export interface Database {
   migrate(collection: string, schema: Schema, steps: readonly Step[]): Promise<string[]>;
   replicate(replication: Replication): Promise<void>;
   turn(name: string, options?: TurnOptions): Promise<Turn>;
+  /** Brings a collection, its forks and theirs together, by a turn of each on the way up and one on the way down. */
+  sweep(root: string, options?: SweepOptions): Promise<Sweep>;
   /** Has what is written to a fork's master, which is of the same journal, wait for the fork from now on. */
   stream(name: string): Promise<void>;
   /** Gives a fork what waits for it. */

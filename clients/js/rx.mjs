@@ -57,7 +57,7 @@ export async function open(transport, { clock = Date.now, waiting } = {}) {
   }
 }
 
-const writes = new Set(['insert', 'bulk', 'upsert', 'patch', 'update', 'remove', 'turn', 'deliver']);
+const writes = new Set(['insert', 'bulk', 'upsert', 'patch', 'update', 'remove', 'turn', 'sweep', 'deliver']);
 const room = 1 << 18; // so many characters of lines may be unanswered before one waits for the program
 
 class Database {
@@ -77,7 +77,8 @@ class Database {
   #followed = new Map(); // by the name of their replication
   #names = 0; // how many were made up
   #rest = ''; // the front of a line of output
-  #each = []; // exchanges of the turn, or events of the delivery, that is answered next
+  #each = []; // exchanges of the turn, or events of the delivery, that is told or answered next
+  #turns = []; // those of the sweep that is answered next, each with its exchanges
   #stop = null; // the program's stop line
   #end = null; // why no line is taken any more
   #isOver = false; // the program has ended
@@ -163,6 +164,15 @@ class Database {
   async turn(name, { batch, budget, link } = {}) {
     const { end, exchanges, each } = await this.call({ do: 'turn', name, batch, budget, link });
     return { end, exchanges, each };
+  }
+
+  /**
+   * Brings a collection, its forks and theirs together: a turn for each of their replications on the way up to it
+   * and one on the way down, until one isn't quiet. Its answer has those that were made.
+   */
+  async sweep(root, { batch, budget } = {}) {
+    const { end, each } = await this.call({ do: 'sweep', name: root, batch, budget });
+    return { end, turns: each };
   }
 
   /** Has what is written to a fork's master, which is of the same journal, wait for the fork from now on. */
@@ -349,6 +359,7 @@ class Database {
     if ('emit' in it) this.#emit(it.emit, it.rows);
     else if ('stop' in it) this.#stop = it;
     else if ('exchange' in it || 'event' in it) this.#each.push(it);
+    else if ('pass' in it) this.#turns.push({ ...it, each: this.#each.splice(0) });
     else this.#answer(it);
   }
 
@@ -363,6 +374,7 @@ class Database {
     this.#unanswered -= length;
     if (this.#unanswered <= room) for (const it of this.#drained.splice(0)) it.resolve();
     if (reply.ok === 'turn' || reply.ok === 'deliver') reply.each = this.#each.splice(0);
+    if (reply.ok === 'sweep') reply.each = this.#turns.splice(0);
     if (reply.ok === 'migrate') this.#migrated(reply.collections, membersOf(request).schema);
     if (this.#followed.size && writes.has(reply.ok)) this.#tellFollowed(reply, membersOf(request));
     if ('refused' in reply) reject(this.#refusal(reply, request));
@@ -379,14 +391,19 @@ class Database {
 
   #tellFollowed(reply, request) {
     if (!reply.each) return this.#tellWritten(request.in, this.#keysOf(request));
-    const it = this.#followed.get(request.name);
-    if (reply.ok === 'turn') it?.turned(reply, request.batch);
-    else it?.delivered(reply);
-    // It wrote to the master what was pushed, and to the fork what came.
-    const { fork, master, port } = this.#replications.get(request.name) ?? {};
-    const [up, down] = [pushed, brought].map((keys) => reply.each.flatMap(keys));
-    if (up.length && port === undefined) this.#tellWritten(master, up, request.name);
-    if (down.length) this.#tellWritten(fork, down, request.name);
+    if (reply.ok !== 'sweep') return this.#tellMade(request.name, reply, request.batch);
+    for (const turn of reply.each) this.#tellMade(turn.replication, turn, request.batch);
+  }
+
+  // A turn or a delivery was made. It wrote to the master what was pushed, and to the fork what came.
+  #tellMade(name, made, batch) {
+    const it = this.#followed.get(name);
+    if ('end' in made) it?.turned(made, batch);
+    else it?.delivered(made);
+    const { fork, master, port } = this.#replications.get(name) ?? {};
+    const [up, down] = [pushed, brought].map((keys) => made.each.flatMap(keys));
+    if (up.length && port === undefined) this.#tellWritten(master, up, name);
+    if (down.length) this.#tellWritten(fork, down, name);
   }
 
   // Of a write those hear whose fork or master it is, and all of which the client wasn't told.
@@ -1029,6 +1046,7 @@ function detail({ refused, cause, name, rev, row }, request, schema) {
     case 'no_query': return out(`no query of the name ${request.name} is observed`, request.name);
     case 'no_replication': return out(`there is no replication ${request.name}`, request.name);
     case 'no_handler':
+      if (request.do !== 'replicate') return out(`a turn of ${request.name} would go by a handler that isn't there`);
       return out(`no handler ${request.handler} with ${request.field === undefined ? 'no field' : request.field}:`
         + ' those are master_wins, fork_wins, join, and greater with a field of whole numbers', request.handler);
     case 'batch': return out(`${name} is ${own}, and from 1 to ${limits[name]}`, own, limits[name]);

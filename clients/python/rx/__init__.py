@@ -11,7 +11,7 @@ The two have the same calls. A database of `open` may be shared by threads, one 
 """
 from typing import TYPE_CHECKING, Any
 
-from .calls import Changes, Delivery, Digest, Document, Fields, Json, Object, Stored, Turn, Value
+from .calls import Changes, Delivery, Digest, Document, Fields, Json, Object, Stored, Sweep, SweptTurn, Turn, Value
 from .database import Collection, Database, Following, Observed, open
 from .faults import Refused, Stopped
 from .following import SyncStatus
@@ -40,6 +40,8 @@ __all__ = [
     "Refused",
     "Stopped",
     "Stored",
+    "Sweep",
+    "SweptTurn",
     "SyncStatus",
     "Turn",
     "Value",

@@ -43,6 +43,23 @@ class Turn(NamedTuple):
     each: list[Json]
 
 
+class SweptTurn(NamedTuple):
+    """A turn of a sweep. `pass_` is `up` or `down`: its way to the root, or back."""
+
+    replication: str
+    pass_: str
+    end: str
+    exchanges: int
+    each: list[Json]
+
+
+class Sweep(NamedTuple):
+    """How the last of these turns ended, `quiet` where each was: then the whole tree has the same documents."""
+
+    end: str
+    turns: list[SweptTurn]
+
+
 class Delivery(NamedTuple):
     """Whether the fork has all of its master and nothing to push, whether a turn is due, and each event."""
 
@@ -253,6 +270,20 @@ def turn(name: str, batch: int | None, budget: int | None, link: Sequence[Any] |
         budget=budget,
         link=link,
     )
+
+
+def sweep(root: str, batch: int | None, budget: int | None) -> Call[Sweep]:
+    return _call(
+        lambda reply: Sweep(reply["end"], [_swept(it) for it in reply["each"]]),
+        "sweep",
+        name=root,
+        batch=batch,
+        budget=budget,
+    )
+
+
+def _swept(it: Json) -> SweptTurn:
+    return SweptTurn(it["replication"], it["pass"], it["end"], it["exchanges"], it["each"])
 
 
 def stream(name: str) -> Call[None]:

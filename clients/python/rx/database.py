@@ -8,7 +8,7 @@ from collections.abc import Iterable, Iterator, Sequence
 from typing import Any, TypeVar
 
 from . import calls, program as programs
-from .calls import Call, Changes, Delivery, Digest, Document, Fields, Hook, Json, Object, Stored, Turn
+from .calls import Call, Changes, Delivery, Digest, Document, Fields, Hook, Json, Object, Stored, Sweep, Turn
 from .faults import Refused, Stopped
 from .following import Account, SyncStatus
 from .lines import Answer, Clock, Lines, Newest, closed, now
@@ -167,6 +167,11 @@ class Database:
     ) -> Turn:
         """Syncs a fork with its master, exchange after exchange."""
         return self.ask(calls.turn(name, batch, budget, link))
+
+    def sweep(self, root: str, *, batch: int | None = None, budget: int | None = None) -> Sweep:
+        """Brings a collection, its forks and theirs together: a turn for each of their replications on the way up
+        to it and one on the way down, until one isn't quiet. Its answer has those that were made."""
+        return self.ask(calls.sweep(root, batch, budget))
 
     def stream(self, name: str) -> None:
         """Has what is written to a fork's master, of the same journal, wait for the fork from now on."""

@@ -127,18 +127,23 @@ class Followed:
         return name in self.sides and self.sides[name][1] is None
 
     def hear(self, line: bytes, reply: Json, schemas: dict[str, Json]) -> None:
-        """Hears of a write, a turn or a delivery that was answered."""
+        """Hears of a write, a turn, a sweep or a delivery that was answered."""
         request = json.loads(line)
         if "each" not in reply:
             into = request["in"]
             self._tell(into, keys_of(request, schemas.get(into)))
-            return
-        name = request["name"]
+        elif reply["ok"] == "sweep":
+            for turn in reply["each"]:
+                self._made(turn["replication"], turn)
+        else:
+            self._made(request["name"], reply)
+
+    def _made(self, name: str, made: Json) -> None:
+        """A turn or a delivery wrote to the master what was pushed, and to the fork what came."""
         if it := self.by_name.get(name):
-            (it.turned if reply["ok"] == "turn" else it.delivered)(reply)
-        # It wrote to the master what was pushed, and to the fork what came.
+            (it.turned if "end" in made else it.delivered)(made)
         fork, master = self.sides.get(name, (None, None))
-        up, down = ([key for one in reply["each"] for key in of(one)] for of in (pushed, brought))
+        up, down = ([key for one in made["each"] for key in of(one)] for of in (pushed, brought))
         if up and not self.is_elsewhere(name):
             self._tell(master, up, name)
         if down:

@@ -14,7 +14,7 @@ from .following import Followed
 Answer = Callable[[Json, Exception | None], None]
 # What tells the present moment, in milliseconds.
 Clock = Callable[[], int]
-WRITES = {"insert", "bulk", "upsert", "patch", "update", "remove", "turn", "deliver"}
+WRITES = {"insert", "bulk", "upsert", "patch", "update", "remove", "turn", "sweep", "deliver"}
 
 
 def now() -> int:
@@ -83,6 +83,7 @@ class Lines:
         self._hooked: set[str] = set()
         self._rest = b""
         self._each: list[Json] = []
+        self._turns: list[Json] = []
         self._stop: Json | None = None
 
     def first(self) -> Call[None]:
@@ -144,6 +145,9 @@ class Lines:
             self._stop = it
         elif "exchange" in it or "event" in it:
             self._each.append(it)
+        elif "pass" in it:
+            it["each"], self._each = self._each, []
+            self._turns.append(it)
         else:
             line, answer = self._waiting.pop(it["line"])
             if "refused" in it:
@@ -151,6 +155,8 @@ class Lines:
                 return
             if it["ok"] in ("turn", "deliver"):
                 it["each"], self._each = self._each, []
+            elif it["ok"] == "sweep":
+                it["each"], self._turns = self._turns, []
             elif it["ok"] == "collection":
                 made = json.loads(line)
                 self._schemas[made["name"]] = made["schema"]

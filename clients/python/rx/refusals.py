@@ -289,6 +289,8 @@ def update(it: Told) -> Refusal:
 
 
 def no_handler(it: Told) -> Refusal:
+    if it.line.get("do") != "replicate":
+        return Refusal(f"a turn of {it.line.get('name')} would go by a handler that isn't there")
     handler, field = it.line.get("handler"), it.line.get("field")
     if handler == "greater":
         return Refusal(

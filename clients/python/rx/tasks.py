@@ -7,7 +7,7 @@ from collections.abc import AsyncIterator, Generator, Iterable, Sequence
 from typing import Any, TypeVar
 
 from . import calls, program as programs
-from .calls import Call, Changes, Delivery, Digest, Document, Fields, Hook, Json, Object, Stored, Turn
+from .calls import Call, Changes, Delivery, Digest, Document, Fields, Hook, Json, Object, Stored, Sweep, Turn
 from .faults import Refused, Stopped
 from .following import Account, SyncStatus
 from .lines import Answer, Clock, Lines, Newest, closed, now
@@ -113,6 +113,9 @@ class AsyncDatabase:
         link: Sequence[Any] | None = None,
     ) -> Turn:
         return await self.ask(calls.turn(name, batch, budget, link))
+
+    async def sweep(self, root: str, *, batch: int | None = None, budget: int | None = None) -> Sweep:
+        return await self.ask(calls.sweep(root, batch, budget))
 
     async def stream(self, name: str) -> None:
         await self.ask(calls.stream(name))

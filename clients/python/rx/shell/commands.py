@@ -10,7 +10,7 @@ from collections.abc import Callable
 from typing import TextIO
 
 from .. import calls
-from ..calls import Json
+from ..calls import Json, SweptTurn
 from ..database import Collection, Database, Observed
 from ..faults import Refused
 from ..journal import Names
@@ -319,6 +319,26 @@ def turn(shell: Shell, text: str) -> None:
     ]
     shell.show.rows(rows, ["exchange", "sent", "rows", "conflicts", "lost"], "exchanges")
     shell.show.words(f"the turn ended {end}")
+
+
+@command(".sweep", "COLLECTION [BATCH]")
+def sweep(shell: Shell, text: str) -> None:
+    """brings a collection, its forks and theirs together"""
+    root, rest = shell.collection(text)
+    batch = value(rest, "the batch") if rest else None
+    end, turns = shell.db.sweep(root.name, batch=batch)
+    shell.show.rows([turned(it) for it in turns], TURNED, "turns")
+    shell.show.words(f"the sweep ended {end}")
+
+
+TURNED = ["replication", "pass", "exchanges", "rows", "conflicts", "end"]
+
+
+def turned(it: SweptTurn) -> Json:
+    """A turn, with how many rows went over it."""
+    rows = sum(len(one["rows"]) for one in it.each)
+    conflicts = " ".join(key for one in it.each for key in one.get("conflicts", []))
+    return dict(zip(TURNED, (it.replication, it.pass_, it.exchanges, rows, conflicts, it.end)))
 
 
 @command(".stream", "REPLICATION")

@@ -13,7 +13,7 @@ from .transfer import FORMATS
 
 FIRST, MORE = "rx> ", "..> "
 FILES = (".import", ".export")
-WRITING = ("insert", "upsert", "patch", "update", "remove", "get", ".schema", ".import")
+WRITING = ("insert", "upsert", "patch", "update", "remove", "get", ".schema", ".import", ".sweep")
 NAMED = (*WRITING, "count", ".watch")
 WORD = re.compile(r"[^\s,]*$")
 HISTORY = 1_000
