@@ -21,6 +21,7 @@ since on either side. Where it was, the fork's own edits go up, those that the m
 meanwhile, and then what is new in the master comes down, all of it by a few statements over whole sets. A sweep
 is one transaction, in WAL mode with synchronous=FULL.
 """
+import itertools
 import json
 import os
 import sqlite3
@@ -60,6 +61,10 @@ def upwards(masters, at=0):
 def downwards(masters, at=0):
     """The forks of a tree, each before those below it."""
     return [it for fork in below(masters, at) for it in (fork, *downwards(masters, fork))]
+
+
+# Each edit writes another number, and none that a document began with.
+NUMBERS = itertools.count(1_000_000)
 
 
 def keys_of(number, rows, count):
@@ -286,7 +291,7 @@ def edited_of(played, at, rows, count):
             seconds = 0
             for _ in range(EDITS[rows]):
                 number += rows
-                played.edit(at, keys_of(number, rows, count), number)
+                played.edit(at, keys_of(number, rows, count), next(NUMBERS))
                 took, made[way] = call()
                 seconds += took
             seen[way] = min(seconds / EDITS[rows], seen.get(way, seconds))
