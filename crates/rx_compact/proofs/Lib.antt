@@ -1,0 +1,17 @@
+pub mod Parts
+pub mod Rows
+pub mod Behind
+pub mod Among
+pub mod KnownStates
+pub mod Turns
+pub mod Begun
+pub mod Bodies
+pub mod Whole
+pub mod Tokens
+pub mod Adding
+pub mod Ongoing
+pub mod Left
+pub mod Staging
+pub mod Taking
+pub mod Copies
+pub mod Filling
