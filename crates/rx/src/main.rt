@@ -47,8 +47,9 @@ fn main(rt: HostRuntime) -> ExitCode {
         return ExitCode::from(3);
     }
     let played = match command(&rt) {
-        Ok((words, path)) => {
+        Ok(Asked { words, path, copy }) => {
             let mut disk = FileDisk::new(&rt, path);
+            let mut copy = FileDisk::new(&rt, copy);
             let mut door = TcpDoor::new(&rt);
             let mut dial = TcpDial::new(&rt);
             let mut clock = SystemClock::new(&rt);
@@ -61,6 +62,7 @@ fn main(rt: HostRuntime) -> ExitCode {
                 &mut door,
                 &mut dial,
                 &mut clock,
+                &mut copy,
             )
         }
         Err(refused) => Err(HandlerFault::from(refused)),
@@ -76,7 +78,7 @@ fn main(rt: HostRuntime) -> ExitCode {
 
 // Runs the command with the handlers that a replication may name. They are made where they are used:
 // what makes a closure and gives it away would hide what it does.
-fn play<S: Source, K: Sink, D: Disk, L: Listen, N: Dial, C: Clock>(
+fn play<S: Source, K: Sink, D: Disk, L: Listen, N: Dial, C: Clock, E: Disk>(
     alloc: Global,
     words: &Words,
     source: &mut S,
@@ -85,6 +87,7 @@ fn play<S: Source, K: Sink, D: Disk, L: Listen, N: Dial, C: Clock>(
     door: &mut L,
     dial: &mut N,
     clock: &mut C,
+    copy: &mut E,
 ) -> Result<u8, HandlerFault> {
     let mut handlers = Handlers::new(alloc);
     for (name, kind) in HANDLERS {
@@ -100,7 +103,7 @@ fn play<S: Source, K: Sink, D: Disk, L: Listen, N: Dial, C: Clock>(
         }
     }
     match play_hooked(
-        alloc, words, source, out, disk, door, dial, clock, &handlers,
+        alloc, words, source, out, disk, door, dial, clock, &handlers, copy,
     ) {
         Ok(status) => Ok(status),
         // The names of the hooks differ, so want of memory alone is left.
@@ -109,7 +112,7 @@ fn play<S: Source, K: Sink, D: Disk, L: Listen, N: Dial, C: Clock>(
 }
 
 // And with the hooks that a collection may have.
-fn play_hooked<S: Source, K: Sink, D: Disk, L: Listen, N: Dial, C: Clock>(
+fn play_hooked<S: Source, K: Sink, D: Disk, L: Listen, N: Dial, C: Clock, E: Disk>(
     alloc: Global,
     words: &Words,
     source: &mut S,
@@ -119,6 +122,7 @@ fn play_hooked<S: Source, K: Sink, D: Disk, L: Listen, N: Dial, C: Clock>(
     dial: &mut N,
     clock: &mut C,
     handlers: &Handlers,
+    copy: &mut E,
 ) -> Result<u8, HookFault> {
     let mut hooks = Hooks::new(alloc);
     for (name, kind) in HOOKS {
@@ -134,7 +138,7 @@ fn play_hooked<S: Source, K: Sink, D: Disk, L: Listen, N: Dial, C: Clock>(
         }
     }
     Ok(rx(
-        alloc, words, source, out, disk, door, dial, clock, handlers, &hooks,
+        alloc, words, source, out, disk, door, dial, clock, handlers, &hooks, copy,
     ))
 }
 
@@ -152,14 +156,30 @@ fn fill_streams<R: Files<File = File>>(rt: &R) -> io::Result<()> {
     Ok(())
 }
 
-// The words after the program's name, and the path that they name, or none.
-fn command<R: Env + AllocGlobal>(rt: &R) -> Result<(Words, RxText), AllocError> {
+// The words after the program's name, and the paths that they name, each empty where there is none.
+#[derive(Drop)]
+struct Asked {
+    words: Words,
+    path: RxText,
+    copy: RxText,
+}
+
+fn command<R: Env + AllocGlobal>(rt: &R) -> Result<Asked, AllocError> {
     let words = words(rt)?;
-    let path = match command_of(rt.alloc(), &words)? {
-        Some(command) => command.path().copy(rt.alloc())?,
-        None => RxText::new(rt.alloc(), "")?,
-    };
-    Ok((words, path))
+    let command = command_of(rt.alloc(), &words)?;
+    let path = text_of(rt.alloc(), command.as_ref().map(|command| command.path()))?;
+    let copy = text_of(
+        rt.alloc(),
+        command.as_ref().and_then(|command| command.copy()),
+    )?;
+    Ok(Asked { words, path, copy })
+}
+
+fn text_of(alloc: Global, text: Option<&RxText>) -> Result<RxText, AllocError> {
+    match text {
+        Some(text) => text.copy(alloc),
+        None => RxText::new(alloc, ""),
+    }
 }
 
 // Words that are no text are no command, so none are given.

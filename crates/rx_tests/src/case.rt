@@ -14,12 +14,15 @@
 //     & {"docs":[],..}                           a line that peers are sent, and then masters
 //     ! 8                                        the status, where it isn't 1 after a refused line and 0 after none
 //     = 52584a4f55524e31 00                      bytes that the journal holds afterwards
+//     % 52584a4f55524e32 00                      bytes that the copy holds afterwards
+//     /                                          the copy is the journal from here on
 //
 // Without a `$` the words are `run journal`. Bytes are in hex, and texts between apostrophes. The
 // journal that the last run leaves has to open again, unless it was no journal before.
 use crate::run::{MASTER, PEER, RUN, Ran, Setting, run};
 use crate::short::{add_due_line, add_script_line, journal_bytes};
 use std::alloc::{AllocError, Global};
+use std::mem;
 use std::test::Fail;
 
 /// How much of a script a read gives.
@@ -60,8 +63,10 @@ struct Case<'a> {
     replies: String,
     status: u8,
     after: Vec<u8>,
-    // The status of the last run.
+    copied: Vec<u8>,
+    // The status of the last run, and the copy that it left.
     ended: u8,
+    copy: Vec<u8>,
 }
 
 /// Plays one case, with its script in pieces of so many bytes.
@@ -86,7 +91,9 @@ impl<'a> Case<'a> {
             replies: String::new(alloc),
             status: 0,
             after: Vec::new(alloc),
+            copied: Vec::new(alloc),
             ended: 0,
+            copy: Vec::new(alloc),
         }
     }
 
@@ -107,6 +114,8 @@ impl<'a> Case<'a> {
             "!" => self.read_status(rest),
             "^" => journal_bytes(alloc, rest, &mut self.journal),
             "=" => journal_bytes(alloc, rest, &mut self.after),
+            "%" => journal_bytes(alloc, rest, &mut self.copied),
+            "/" => self.go_on_with_copy(alloc),
             "" => Ok(()),
             _ => self.read_outside(mark, rest),
         }
@@ -181,6 +190,13 @@ impl<'a> Case<'a> {
         Ok(())
     }
 
+    // The run that was read is made, and what it copied is the journal of the next one.
+    fn go_on_with_copy(&mut self, alloc: Global) -> Result<(), Fail> {
+        self.run(alloc)?;
+        mem::swap(&mut self.journal, &mut self.copy);
+        Ok(())
+    }
+
     /// Makes the run that was read, and begins another.
     fn run(&mut self, alloc: Global) -> Result<(), Fail> {
         let ran = self.ran(alloc)?;
@@ -200,9 +216,12 @@ impl<'a> Case<'a> {
         self.replies.clear();
         self.status = 0;
         self.after.clear();
+        self.copied.clear();
         self.ended = last.status;
         self.journal.clear();
         self.journal.extend_from_slice(last.disk.bytes())?;
+        self.copy.clear();
+        self.copy.extend_from_slice(last.copy.bytes())?;
         Ok(())
     }
 
@@ -211,6 +230,7 @@ impl<'a> Case<'a> {
             piece: self.piece,
             peers: self.peers.as_str(),
             masters: self.masters.as_str(),
+            copy: self.copy.as_slice(),
             ..Setting::PLAIN
         };
         let script = self.script.as_str().as_bytes();
@@ -247,6 +267,8 @@ impl<'a> Case<'a> {
             "the journal is changed"
         } else if !self.after.is_empty() && journal != self.after.as_slice() {
             "another journal"
+        } else if !self.copied.is_empty() && ran.copy.bytes() != self.copied.as_slice() {
+            "another copy"
         } else {
             ""
         }

@@ -1,7 +1,12 @@
-// Journals that begin with a copy: the second version of the format. What a run takes and goes on
-// from, and what it refuses and leaves alone.
+// Journals that begin with a copy: the second version of the format. What a compaction makes, what a
+// run takes and goes on from, and what it refuses and leaves alone.
 use crate::case::play_all;
 use std::test::Fail;
+
+#[test]
+fn a_journal_is_compacted(rt: HostRuntime) -> Result<(), Fail> {
+    play_all(rt.alloc(), COMPACTED)
+}
 
 #[test]
 fn a_copy_is_played_on(rt: HostRuntime) -> Result<(), Fail> {
@@ -12,6 +17,98 @@ fn a_copy_is_played_on(rt: HostRuntime) -> Result<(), Fail> {
 fn what_is_no_copy_is_left_alone(rt: HostRuntime) -> Result<(), Fail> {
     play_all(rt.alloc(), NO_COPIES)
 }
+
+const COMPACTED: &str = r#"
+== a journal without records
+$ compact journal copy
+< {"bytes":23,"from":9,"records":1}
+% 'RXJOURN2' 01 00000009 09 0000000000000000 00
+
+== the journal of an empty run, and a run on its copy
+^ 'RXJOURN1' 01 00000009 05 0000000000000001 00
+$ compact journal copy
+< {"bytes":23,"from":23,"records":1}
+= 'RXJOURN1' 01 00000009 05 0000000000000001 00
+% 'RXJOURN2' 01 00000009 09 0000000000000001 00
+$ compact journal copy
+< {"stop":"exists"}
+! 11
+% 'RXJOURN2' 01 00000009 09 0000000000000001 00
+/
+$ run journal
+= 'RXJOURN2' 01 00000009 09 0000000000000001 01 00000009 05 0000000000000002 00
+
+== what is outdated is left out; revisions, write times and tombstones stay
+> C(c)
+< made
+> I(c,a,1)
+< insert 1-c
+> I(c,b,1)
+< insert 1-c
+> {"do":"upsert","in":"c","doc":{"id":"a","n":2}}
+< {"line":L,"ok":"upsert","rev":"2-c"}
+> {"do":"remove","in":"c","key":"b"}
+< {"line":L,"ok":"remove","rev":"2-c"}
+$ compact journal copy --max-journal 311
+< {"bytes":311,"from":460,"records":3}
+% COPY 01 00000072 07 00000001 'c' 00000002
+% 0000000000000003 0000000000000002 00000001 'a' 00 00000002 00000002 'id' 02 00000001 'a' 00000001 'n' 01 0000000000000002
+% 0000000000000004 0000000000000002 00000001 'b' 01 00000002 00000002 'id' 02 00000001 'b' 00000001 'n' 01 0000000000000001
+% 01 00000009 09 0000000000000001 00
+/
+$ run journal
+> {"do":"get","in":"c","key":"a"}
+< {"doc":{"id":"a","n":2},"line":L,"lwt":3,"ok":"get","rev":"2-c"}
+> I(c,b,5)
+< insert 3-c
+
+== a copy that would end past the limit, which is no journal as far as it was written
+^ 'RXJOURN1' 01 00000009 05 0000000000000001 01 000000a4 01 00000001 'c' 0000009a '{"indexes":[],"primaryKey":"id","properties":{"id":{"maxLength":20,"type":"string"},"n":{"type":"integer"}},"required":["id"],"type":"object","version":0}' 00
+$ compact journal copy --max-journal 191
+< {"limit":191,"stop":"full","would":192}
+! 8
+% COPY 00
+/
+$ run journal
+< {"stop":"not_journal"}
+! 7
+
+== records come in their order: collections and replications, and what is in them
+^ 'RXJOURN2' 01 000000a4 01 00000001 'f' 0000009a '{"indexes":[],"primaryKey":"id","properties":{"id":{"maxLength":20,"type":"string"},"n":{"type":"integer"}},"required":["id"],"type":"object","version":0}'
+^ 01 000000a4 01 00000001 'm' 0000009a '{"indexes":[],"primaryKey":"id","properties":{"id":{"maxLength":20,"type":"string"},"n":{"type":"integer"}},"required":["id"],"type":"object","version":0}'
+^ 01 0000003e 07 00000001 'm' 00000001 0000000000000001 0000000000000001 00000001 'a' 00 00000002 00000002 'id' 02 00000001 'a' 00000001 'n' 01 0000000000000001
+^ 01 0000003e 07 00000001 'f' 00000001 0000000000000001 0000000000000001 00000001 'a' 00 00000002 00000002 'id' 02 00000001 'a' 00000001 'n' 01 0000000000000001
+^ 01 00000021 03 00000001 'r' 00000001 'f' 00 00000001 'm' 0000000b 'master_wins' 00
+^ 01 0000004a 08 00000001 'r' 00000001 00000001 'a' 00 00000002 00000002 'id' 02 00000001 'a' 00000001 'n' 01 0000000000000001 01 0000000000000001 00000001 'a' 01 0000000000000001 00000001 'a'
+^ 01 00000009 09 0000000000000001 00
+$ compact journal copy
+< {"bytes":612,"from":612,"records":7}
+% 'RXJOURN2' 01 000000a4 01 00000001 'f' 0000009a '{"indexes":[],"primaryKey":"id","properties":{"id":{"maxLength":20,"type":"string"},"n":{"type":"integer"}},"required":["id"],"type":"object","version":0}'
+% 01 000000a4 01 00000001 'm' 0000009a '{"indexes":[],"primaryKey":"id","properties":{"id":{"maxLength":20,"type":"string"},"n":{"type":"integer"}},"required":["id"],"type":"object","version":0}'
+% 01 00000021 03 00000001 'r' 00000001 'f' 00 00000001 'm' 0000000b 'master_wins' 00
+% 01 0000003e 07 00000001 'f' 00000001 0000000000000001 0000000000000001 00000001 'a' 00 00000002 00000002 'id' 02 00000001 'a' 00000001 'n' 01 0000000000000001
+% 01 0000003e 07 00000001 'm' 00000001 0000000000000001 0000000000000001 00000001 'a' 00 00000002 00000002 'id' 02 00000001 'a' 00000001 'n' 01 0000000000000001
+% 01 0000004a 08 00000001 'r' 00000001 00000001 'a' 00 00000002 00000002 'id' 02 00000001 'a' 00000001 'n' 01 0000000000000001 01 0000000000000001 00000001 'a' 01 0000000000000001 00000001 'a'
+% 01 00000009 09 0000000000000001 00
+
+== the greatest epoch of a copy, and one that is too great
+^ 'RXJOURN2' 01 00000009 09 0010000000000000 00
+$ compact journal copy
+< {"bytes":23,"from":23,"records":1}
+% 'RXJOURN2' 01 00000009 09 0010000000000000 00
+$ run journal
+= 'RXJOURN2' 01 00000009 09 0010000000000000 01 00000009 05 0010000000000001 00
+$ compact journal copy
+< {"stop":"epoch"}
+! 12
+% 'RXJOURN2' 01 00000009 09 0010000000000000 00
+
+== what is no journal isn't copied
+^ 'RXJOURN3' 00 00
+$ compact journal copy
+< {"stop":"not_journal"}
+! 7
+"#;
 
 const COPIES: &str = r#"
 == a copy of a collection with a document, and records behind its end

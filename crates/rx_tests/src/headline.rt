@@ -82,12 +82,14 @@ fn play(
         × IsPlayed (host_of handlers.now hooks.now) (source_left source.old) heard result
         (sink_written sink.new) (content_of disk.new) }
 {
-    // A run leaves the door and the clock alone, and this dial gives no wire.
+    // A run leaves the door, the clock and the file for a copy alone, and this dial gives no wire.
     let mut door = MemoryDoor::new(alloc, Vec::new(alloc), Vec::new(alloc));
     let mut dial = MemoryDial::new(alloc, Vec::new(alloc), Vec::new(alloc));
     let mut clock = MemoryClock::new(Vec::new(alloc));
+    let mut copy = MemoryDisk::new(alloc, Vec::new(alloc), Vec::new(alloc));
     rx(
         alloc, words, source, sink, disk, &mut door, &mut dial, &mut clock, handlers, hooks,
+        &mut copy,
     )
 }
 

@@ -26,8 +26,8 @@ pub const PEER: &str = "*\n";
 pub const MASTER: &str = "→\n";
 
 /// What stands around a command: the most bytes that a read gives, the numbers of the reads, the
-/// writes and the calls of the disk that fail, what the peers send that dial, each behind `PEER`, and
-/// what the masters send that are dialled.
+/// writes and the calls of the disk that fail, what the peers send that dial, each behind `PEER`,
+/// what the masters send that are dialled, and what the file for a copy holds.
 ///
 /// A master's text stands behind `MASTER`, and a line of the numbers of the calls of its wire that
 /// fail. Each of its characters stands for the byte of that number, so that what is no UTF-8 can be
@@ -40,6 +40,7 @@ pub struct Setting<'a> {
     pub disk_fails: &'a [u64],
     pub peers: &'a str,
     pub masters: &'a str,
+    pub copy: &'a [u8],
 }
 
 impl<'a> Setting<'a> {
@@ -51,6 +52,7 @@ impl<'a> Setting<'a> {
         disk_fails: &[],
         peers: "",
         masters: "",
+        copy: &[],
     };
 
     /// The same, where no two lines are read together.
@@ -61,13 +63,14 @@ impl<'a> Setting<'a> {
 }
 
 /// The status of a run, what it wrote, what its peers and then its masters were sent, and the disk
-/// after it.
+/// and that of a copy after it.
 #[derive(Drop)]
 pub struct Ran {
     pub status: u8,
     pub output: Vec<u8>,
     pub sent: Vec<u8>,
     pub disk: MemoryDisk,
+    pub copy: MemoryDisk,
 }
 
 impl Ran {
@@ -150,6 +153,7 @@ pub fn run_from<S: Source>(
         output: Vec::new(alloc),
         sent: Vec::new(alloc),
         disk: MemoryDisk::new(alloc, held.to_vec(alloc)?, fails),
+        copy: MemoryDisk::new(alloc, setting.copy.to_vec(alloc)?, Vec::new(alloc)),
     };
     play(alloc, setting, words, source, &mut ran)?;
     Ok(ran)
@@ -180,7 +184,8 @@ fn play_wired<S: Source>(
     let mut door = MemoryDoor::new(alloc, wires_of(alloc, setting.peers)?, Vec::new(alloc));
     let mut dial = MemoryDial::new(alloc, masters_of(alloc, setting.masters)?, Vec::new(alloc));
     let disk = &mut ran.disk;
-    match play_handled(alloc, words, source, sink, disk, &mut door, &mut dial) {
+    let copy = &mut ran.copy;
+    match play_handled(alloc, words, source, sink, disk, &mut door, &mut dial, copy) {
         Ok(status) => ran.status = status,
         Err(_) => return Err(AllocError),
     }
@@ -260,6 +265,7 @@ fn play_handled<S: Source>(
     disk: &mut MemoryDisk,
     door: &mut MemoryDoor,
     dial: &mut MemoryDial,
+    copy: &mut MemoryDisk,
 ) -> Result<u8, HandlerFault> {
     let mut handlers = Handlers::new(alloc);
     for (name, kind) in HANDLERS.iter() {
@@ -276,7 +282,9 @@ fn play_handled<S: Source>(
             Err(refused) => return Err(AllocError::from(refused).into()),
         }
     }
-    match play_hooked(alloc, words, source, sink, disk, door, dial, &handlers) {
+    match play_hooked(
+        alloc, words, source, sink, disk, door, dial, copy, &handlers,
+    ) {
         Ok(status) => Ok(status),
         Err(_) => Err(AllocError.into()),
     }
@@ -291,6 +299,7 @@ fn play_hooked<S: Source>(
     disk: &mut MemoryDisk,
     door: &mut MemoryDoor,
     dial: &mut MemoryDial,
+    copy: &mut MemoryDisk,
     handlers: &Handlers,
 ) -> Result<u8, HookFault> {
     let mut hooks = Hooks::new(alloc);
@@ -309,7 +318,7 @@ fn play_hooked<S: Source>(
         }
     }
     Ok(status_of(
-        alloc, words, source, sink, disk, door, dial, handlers, &hooks,
+        alloc, words, source, sink, disk, door, dial, copy, handlers, &hooks,
     ))
 }
 
@@ -322,12 +331,13 @@ fn status_of<S: Source>(
     disk: &mut MemoryDisk,
     door: &mut MemoryDoor,
     dial: &mut MemoryDial,
+    copy: &mut MemoryDisk,
     handlers: &Handlers,
     hooks: &Hooks,
 ) -> u8 {
     let mut clock = MemoryClock::new(Vec::new(alloc));
     rx(
-        alloc, words, source, sink, disk, door, dial, &mut clock, handlers, hooks,
+        alloc, words, source, sink, disk, door, dial, &mut clock, handlers, hooks, copy,
     )
 }
 

@@ -253,8 +253,12 @@ fn none_comes_twice(windows: &mut Windows, disk: &mut MemoryDisk) -> Result<bool
 fn a_long_text_is_there_in_the_next_run(rt: HostRuntime) -> Result<(), Fail> {
     let alloc = rt.alloc();
     let text = "x".repeat(alloc, 100_000)?;
-    let first = insert_text(alloc, text.as_str())?;
-    compare_next(alloc, text.as_str(), &first)
+    try_text(alloc, text.as_str())
+}
+
+fn try_text(alloc: Global, text: &str) -> Result<(), Fail> {
+    let first = insert_text(alloc, text)?;
+    compare_next(alloc, text, &first)
 }
 
 fn compare_next(alloc: Global, text: &str, first: &Ran) -> Result<(), Fail> {

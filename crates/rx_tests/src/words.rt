@@ -112,7 +112,10 @@ $ trial j 1 1000001
 $ trial j -1 0
 < {"stop":"usage"}
 ! 2
-$ compact j k
+$ compact j
+< {"stop":"usage"}
+! 2
+$ compact j k l
 < {"stop":"usage"}
 ! 2
 $ --help

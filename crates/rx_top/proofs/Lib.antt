@@ -14,6 +14,7 @@ pub mod Settling
 pub mod Work
 pub mod Heads
 pub mod Stopping
+pub mod Faults
 pub mod Statuses
 pub mod GoingOn
 pub mod ServedHeads

@@ -68,9 +68,9 @@ three old one two new a b c e f h =
     ∙ append_assoc old a (b ++ c)
 
 -- memory was wanting, and nothing was done but to write the line that says so
-pub lacks_memory : {S D L N C : Type 0} {T E : Type 0} (tells : Type 0) (f0 f1 : ℕ)
+pub lacks_memory : {S D L N C F : Type 0} {T E : Type 0} (tells : Type 0) (f0 f1 : ℕ)
     (old new : List ℕ)
-    (r : Result T E) (reach : Reach S D L N C)
+    (r : Result T E) (reach : Reach S D L N C F)
     → (tells → OnOk r (new ≡ old ++ stop_line (codes "memory")))
     → (tells → OnErr r (WritesFront old new (stop_line (codes "memory"))))
     → OnErr r (Rises f0 f1) → LacksMemory 6 tells f0 f1 old new reach reach

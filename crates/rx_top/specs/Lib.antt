@@ -19,3 +19,5 @@ pub mod Tells
 pub mod Tally
 pub mod TriesScript
 pub mod ReportsJournal
+pub mod CopiesJournal
+pub mod Alike

@@ -85,7 +85,8 @@ fn write_full<K: Sink>(out: &mut K, would: u64, limit: u64) -> Result<(), Failed
     write_all(out, b"}\n")
 }
 
-fn write_number<K: Sink>(out: &mut K, label: &[u8], number: u64) -> Result<(), Failed>
+/// Writes a label and a number behind it.
+pub(crate) fn write_number<K: Sink>(out: &mut K, label: &[u8], number: u64) -> Result<(), Failed>
     ensures ok { K.tells
         → OnOk result (K.written out.new ≡ K.written out.old ++ (label.now ++ decimal number)) }
     ensures err { K.tells → OnErr result

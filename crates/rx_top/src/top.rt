@@ -3,7 +3,8 @@ ghost use Rattle.std.specs.Prelude.{◌≡◌, ◌⊎◌, List, ℕ, None, Some,
 ghost use Rattle.rx_engine.specs.Opening.{host_of};
 ghost use Rattle.rx_sync.specs.Remote.{Heard};
 ghost use Rattle.rx_words.specs.Words.{command_of};
-ghost use Rattle.rx_words.specs.declared.command.Command.TheVariants.{Run, Serve, Check, Trial};
+ghost use Rattle.rx_words.specs.declared.command.Command.TheVariants.{Run, Serve, Check, Trial, Compact};
+ghost use Rattle.rx_top.specs.CopiesJournal.{CopiesJournal};
 ghost use Rattle.rx_top.specs.PlaysScript.{PlaysScript};
 ghost use Rattle.rx_top.specs.ReportsJournal.{ReportsJournal};
 ghost use Rattle.rx_top.specs.ServesCollection.{ServesCollection};
@@ -12,6 +13,7 @@ ghost use Rattle.rx_top.specs.TriesScript.{TriesScript};
 ghost use Rattle.rx_top.specs.Untouched.{LacksMemory, OnlyWrites, reach};
 
 use crate::check::check;
+use crate::compact::compact;
 use crate::run::run;
 use crate::serve::{Offer, serve};
 use crate::trial::trial;
@@ -37,6 +39,9 @@ use std::alloc::Global;
 /// `trial JOURNAL SEED COUNT` plays a script that is drawn from the seed over the journal, and sums
 /// it up in one line.
 ///
+/// `compact JOURNAL OUT` copies what the journal holds into an empty file, the copy, and leaves the
+/// journal as it is.
+///
 /// | status | what it says |
 /// |---|---|
 /// | 0 | the work was done to its end |
@@ -50,9 +55,11 @@ use std::alloc::Global;
 /// | 8 | a record would end past the limit of the journal |
 /// | 9 | the source gave more than 4,294,967,296 bytes |
 /// | 10 | the collection to be served isn't held, or is a fork |
+/// | 11 | the file for a copy holds a byte |
+/// | 12 | the journal's epoch is too great for a copy |
 ///
 /// From 2 on but for 5, the last line written tells the cause.
-pub fn rx<S: Source, K: Sink, D: Disk, L: Listen, N: Dial, C: Clock>(
+pub fn rx<S: Source, K: Sink, D: Disk, L: Listen, N: Dial, C: Clock, E: Disk>(
     alloc: Global,
     words: &Words,
     source: &mut S,
@@ -63,6 +70,7 @@ pub fn rx<S: Source, K: Sink, D: Disk, L: Listen, N: Dial, C: Clock>(
     clock: &mut C,
     handlers: &Handlers,
     hooks: &Hooks,
+    copy: &mut E,
 ) -> u8
     // The command `run`, by what was heard of masters elsewhere, unless memory was wanting for its
     // words.
@@ -73,8 +81,8 @@ pub fn rx<S: Source, K: Sink, D: Disk, L: Listen, N: Dial, C: Clock>(
         result source.old source.new out.old out.new disk.old disk.new dial.old dial.new)
         ⊎ LacksMemory result K.tells (K.faults out.old) (K.faults out.new) (K.written out.old)
         (K.written out.new)
-        (reach source.old disk.old door.old dial.old clock.old)
-        (reach source.new disk.new door.new dial.new clock.new) }
+        (reach source.old disk.old door.old dial.old clock.old copy.old)
+        (reach source.new disk.new door.new dial.new clock.new copy.new) }
 
     // The command `serve`, likewise.
     ensures serves { (path name : List ℕ) (port connections limit : ℕ)
@@ -83,8 +91,8 @@ pub fn rx<S: Source, K: Sink, D: Disk, L: Listen, N: Dial, C: Clock>(
         out.old out.new disk.old disk.new door.old door.new clock.old clock.new
         ⊎ LacksMemory result K.tells (K.faults out.old) (K.faults out.new) (K.written out.old)
         (K.written out.new)
-        (reach source.old disk.old door.old dial.old clock.old)
-        (reach source.new disk.new door.new dial.new clock.new) }
+        (reach source.old disk.old door.old dial.old clock.old copy.old)
+        (reach source.new disk.new door.new dial.new clock.new copy.new) }
 
     // The command `check`, likewise.
     ensures reports { (path : List ℕ)
@@ -92,8 +100,8 @@ pub fn rx<S: Source, K: Sink, D: Disk, L: Listen, N: Dial, C: Clock>(
         → ReportsJournal K.Sink D.Disk result out.old out.new disk.old disk.new
         ⊎ LacksMemory result K.tells (K.faults out.old) (K.faults out.new) (K.written out.old)
         (K.written out.new)
-        (reach source.old disk.old door.old dial.old clock.old)
-        (reach source.new disk.new door.new dial.new clock.new) }
+        (reach source.old disk.old door.old dial.old clock.old copy.old)
+        (reach source.new disk.new door.new dial.new clock.new copy.new) }
 
     // The command `trial`, likewise.
     ensures tries { (path : List ℕ) (seed count limit : ℕ)
@@ -103,31 +111,46 @@ pub fn rx<S: Source, K: Sink, D: Disk, L: Listen, N: Dial, C: Clock>(
         result out.old out.new disk.old disk.new dial.old dial.new)
         ⊎ LacksMemory result K.tells (K.faults out.old) (K.faults out.new) (K.written out.old)
         (K.written out.new)
-        (reach source.old disk.old door.old dial.old clock.old)
-        (reach source.new disk.new door.new dial.new clock.new) }
+        (reach source.old disk.old door.old dial.old clock.old copy.old)
+        (reach source.new disk.new door.new dial.new clock.new copy.new) }
+
+    // The command `compact`, likewise.
+    ensures copies { (path out_path : List ℕ) (limit : ℕ)
+        → command_of words.now.words.items ≡ Some (Compact path out_path limit)
+        → CopiesJournal K.Sink D.Disk E.Disk limit result out.old out.new disk.old disk.new
+        copy.old copy.new
+        ⊎ LacksMemory result K.tells (K.faults out.old) (K.faults out.new) (K.written out.old)
+        (K.written out.new)
+        (reach source.old disk.old door.old dial.old clock.old copy.old)
+        (reach source.new disk.new door.new dial.new clock.new copy.new) }
 
     // What a command doesn't need it leaves alone.
     ensures run_alone { (path : List ℕ) (limit : ℕ)
         → command_of words.now.words.items ≡ Some (Run path limit)
-        → (door.new ≡ door.old) × (clock.new ≡ clock.old) }
+        → (door.new ≡ door.old) × (clock.new ≡ clock.old) × (copy.new ≡ copy.old) }
     ensures serve_alone { (path name : List ℕ) (port connections limit : ℕ)
         → command_of words.now.words.items ≡ Some (Serve path name port connections limit)
-        → (source.new ≡ source.old) × (dial.new ≡ dial.old) }
+        → (source.new ≡ source.old) × (dial.new ≡ dial.old) × (copy.new ≡ copy.old) }
     ensures check_alone { (path : List ℕ)
         → command_of words.now.words.items ≡ Some (Check path)
         → (source.new ≡ source.old) × (door.new ≡ door.old) × (dial.new ≡ dial.old)
-        × (clock.new ≡ clock.old) }
+        × (clock.new ≡ clock.old) × (copy.new ≡ copy.old) }
     ensures trial_alone { (path : List ℕ) (seed count limit : ℕ)
         → command_of words.now.words.items ≡ Some (Trial path seed count limit)
-        → (source.new ≡ source.old) × (door.new ≡ door.old) × (clock.new ≡ clock.old) }
+        → (source.new ≡ source.old) × (door.new ≡ door.old) × (clock.new ≡ clock.old)
+        × (copy.new ≡ copy.old) }
+    ensures compact_alone { (path out_path : List ℕ) (limit : ℕ)
+        → command_of words.now.words.items ≡ Some (Compact path out_path limit)
+        → (source.new ≡ source.old) × (door.new ≡ door.old) × (dial.new ≡ dial.old)
+        × (clock.new ≡ clock.old) }
 
     // The words are no command: nothing is read, opened or asked, and a line says so.
     ensures usage { result ≡ 2 → command_of words.now.words.items ≡ None }
     ensures usage_only { command_of words.now.words.items ≡ None → (result ≡ 2) ⊎ (result ≡ 6) }
     ensures usage_line { result ≡ 2 → OnlyWrites K.tells (K.faults out.old) (K.faults out.new)
         (K.written out.old) (K.written out.new)
-        (reach source.old disk.old door.old dial.old clock.old)
-        (reach source.new disk.new door.new dial.new clock.new)
+        (reach source.old disk.old door.old dial.old clock.old copy.old)
+        (reach source.new disk.new door.new dial.new clock.new copy.new)
         (stop_line (codes "usage")) }
 {
     match command_of(alloc, words) {
@@ -156,6 +179,7 @@ pub fn rx<S: Source, K: Sink, D: Disk, L: Listen, N: Dial, C: Clock>(
                 limit,
                 ..
             } => trial(alloc, limit, seed, count, out, disk, dial, handlers, hooks),
+            Command::Compact { limit, .. } => compact(alloc, limit, out, disk, copy),
         },
         Ok(None) => write_usage(out),
         Err(_) => {

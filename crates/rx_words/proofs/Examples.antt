@@ -2,7 +2,7 @@
 use Rattle.std.proofs.Common.{◌≡◌, refl, [], ◌∷◌, None, Some}
 use Rattle.std.specs.Prelude.{codes}
 use Rattle.rx_words.specs.Words.{command_of}
-use Rattle.rx_words.specs.declared.command.Command.TheVariants.{Run, Serve, Check, Trial}
+use Rattle.rx_words.specs.declared.command.Command.TheVariants.{Run, Serve, Check, Trial, Compact}
 
 run_alone : command_of (codes "run" ∷ codes "j" ∷ [])
     ≡ Some (Run (codes "j") 268435456)
@@ -49,6 +49,10 @@ greatest_seed = refl
 path_named_as_a_command : command_of (codes "run" ∷ codes "run" ∷ [])
     ≡ Some (Run (codes "run") 268435456)
 path_named_as_a_command = refl
+
+compact_alone : command_of (codes "compact" ∷ codes "j" ∷ codes "k" ∷ [])
+    ≡ Some (Compact (codes "j") (codes "k") 268435456)
+compact_alone = refl
 
 -- no command
 

@@ -8,9 +8,9 @@ use Rattle.std.specs.Cmp.{first_so, second_so}
 use Rattle.rx_value.specs.Name.{is_name}
 use Rattle.rx_words.specs.Given.{Given, given}
 use Rattle.rx_words.specs.Number.{is_numeral, is_within, number_within}
-use Rattle.rx_words.specs.Words.{check_of, command_by, command_of, limit_of, run_of, serve_of, serve_with, trial_of, trial_with}
+use Rattle.rx_words.specs.Words.{check_of, command_by, command_of, compact_of, limit_of, run_of, serve_of, serve_with, trial_of, trial_with}
 use Rattle.rx_words.specs.declared.command.Command.{Command}
-use Rattle.rx_words.specs.declared.command.Command.TheVariants.{Run, Serve, Check, Trial}
+use Rattle.rx_words.specs.declared.command.Command.TheVariants.{Run, Serve, Check, Trial, Compact}
 
 abbrev pub IsGranted : ℕ → Type 0
 IsGranted n = (9 ≤ n) × (n < 2 ^ 32)
@@ -20,6 +20,7 @@ HasLimit (Run path limit) = IsGranted limit
 HasLimit (Serve path collection port connections limit) = IsGranted limit
 HasLimit (Check path) = Unit
 HasLimit (Trial path seed count limit) = IsGranted limit
+HasLimit (Compact path copy limit) = IsGranted limit
 
 choice : {A : Type 0} (P : A → Type 0) (b : Bool) (x y : Option A) → (b ≡ true → IfSome x P)
     → IfSome y P → IfSome (cond b x y) P
@@ -85,6 +86,14 @@ trials_good (a ∷ b ∷ c ∷ []) limit h =
     trial_good a (number_within 0 18446744073709551615 b) (number_within 0 1000000 c) limit h
 trials_good (a ∷ b ∷ c ∷ d ∷ more) limit h = tt
 
+compact_good : (values : List (List ℕ)) (limit : Option ℕ) → IfSome limit IsGranted
+    → IfSome (compact_of values limit) HasLimit
+compact_good [] limit h = tt
+compact_good (a ∷ []) limit h = tt
+compact_good (a ∷ b ∷ []) (Some limit) h = h
+compact_good (a ∷ b ∷ []) None h = tt
+compact_good (a ∷ b ∷ c ∷ more) limit h = tt
+
 by_good : (name : List ℕ) (g : Given) → IfSome (command_by name g) HasLimit
 by_good name g =
     let limit = limit_of g.limit in
@@ -95,8 +104,10 @@ by_good name g =
     (λ _. serves_good g.values limit good)
     (choice HasLimit (bytes_eq name (codes "check")) (check_of g.values g.limit) _
     (λ _. check_good g.values g.limit)
-    (choice HasLimit (bytes_eq name (codes "trial")) (trial_of g.values limit) None
-    (λ _. trials_good g.values limit good) tt)))
+    (choice HasLimit (bytes_eq name (codes "trial")) (trial_of g.values limit) _
+    (λ _. trials_good g.values limit good)
+    (choice HasLimit (bytes_eq name (codes "compact")) (compact_of g.values limit) None
+    (λ _. compact_good g.values limit good) tt))))
 
 given_good : (name : List ℕ) (g : Option Given)
     → IfSome (option_and_then (command_by name) g) HasLimit

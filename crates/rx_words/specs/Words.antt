@@ -5,7 +5,7 @@ use Rattle.rx_value.specs.Name.{is_name}
 use Rattle.rx_words.specs.Given.{Given, given}
 use Rattle.rx_words.specs.Number.{number_within}
 use Rattle.rx_words.specs.declared.command.Command.{Command}
-use Rattle.rx_words.specs.declared.command.Command.TheVariants.{Run, Serve, Check, Trial}
+use Rattle.rx_words.specs.declared.command.Command.TheVariants.{Run, Serve, Check, Trial, Compact}
 
 -- the numbers that the words may give: a limit, which is of a journal's length, and the limit of a
 -- command that gives none; a port; connections; a seed; and lines of a trial
@@ -65,6 +65,10 @@ trial_of (path ∷ seed ∷ count ∷ []) limit =
     trial_with path (number_within 0 most_seed seed) (number_within 0 most_lines count) limit
 trial_of _ limit = None
 
+abbrev pub compact_of : List (List ℕ) → Option ℕ → Option Command
+compact_of (path ∷ copy ∷ []) (Some limit) = Some (Compact path copy limit)
+compact_of _ _ = None
+
 -- the command of a name, and what the words behind it give
 abbrev pub command_by : List ℕ → Given → Option Command
 command_by name g =
@@ -72,6 +76,7 @@ command_by name g =
     else if bytes_eq name (codes "serve") then serve_of g.values (limit_of g.limit)
     else if bytes_eq name (codes "check") then check_of g.values g.limit
     else if bytes_eq name (codes "trial") then trial_of g.values (limit_of g.limit)
+    else if bytes_eq name (codes "compact") then compact_of g.values (limit_of g.limit)
     else None
 
 -- the command that words are, or none
@@ -84,10 +89,20 @@ path_of (Run path limit) = path
 path_of (Serve path collection port connections limit) = path
 path_of (Check path) = path
 path_of (Trial path seed count limit) = path
+path_of (Compact path copy limit) = path
 
--- the length that a command grants its journal, where it may write to it
+-- the path of the journal that a command makes, if it makes one
+abbrev pub copy_of : Command → Option (List ℕ)
+copy_of (Run path limit) = None
+copy_of (Serve path collection port connections limit) = None
+copy_of (Check path) = None
+copy_of (Trial path seed count limit) = None
+copy_of (Compact path copy limit) = Some copy
+
+-- the length that a command grants the journal that it writes, where it writes one
 abbrev pub limit_granted : Command → Option ℕ
 limit_granted (Run path limit) = Some limit
 limit_granted (Serve path collection port connections limit) = Some limit
 limit_granted (Check path) = None
 limit_granted (Trial path seed count limit) = Some limit
+limit_granted (Compact path copy limit) = Some limit

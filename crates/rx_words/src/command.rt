@@ -1,6 +1,6 @@
 // A command.
-ghost use Rattle.std.specs.Prelude.{◌≡◌};
-ghost use Rattle.rx_words.specs.Words.{limit_granted, path_of};
+ghost use Rattle.std.specs.Prelude.{◌≡◌, option_map};
+ghost use Rattle.rx_words.specs.Words.{copy_of, limit_granted, path_of};
 
 use rx_value::RxText;
 
@@ -31,6 +31,12 @@ pub enum Command {
         count: u32,
         limit: u64,
     },
+    /// To make a journal of the same world, which may have so many bytes.
+    Compact {
+        path: RxText,
+        copy: RxText,
+        limit: u64,
+    },
 }
 
 impl Command {
@@ -43,10 +49,11 @@ impl Command {
             Command::Serve { path, .. } => path,
             Command::Check { path } => path,
             Command::Trial { path, .. } => path,
+            Command::Compact { path, .. } => path,
         }
     }
 
-    /// The limit, of a command that writes to its journal.
+    /// The limit, of a command that writes a journal.
     pub fn limit(&self) -> Option<u64>
         ensures { result ≡ limit_granted self.now }
     {
@@ -55,6 +62,20 @@ impl Command {
             Command::Serve { limit, .. } => Some(*limit),
             Command::Check { .. } => None,
             Command::Trial { limit, .. } => Some(*limit),
+            Command::Compact { limit, .. } => Some(*limit),
+        }
+    }
+
+    /// The path of the journal that it makes, if it makes one.
+    pub fn copy(&self) -> Option<&RxText>
+        ensures { option_map (λ t. t.now) result ≡ copy_of self.now }
+    {
+        match self {
+            Command::Compact { copy, .. } => Some(copy),
+            Command::Run { .. }
+            | Command::Serve { .. }
+            | Command::Check { .. }
+            | Command::Trial { .. } => None,
         }
     }
 }

@@ -1,7 +1,7 @@
 // The words of a command.
 ghost use Rattle.std.specs.Prelude.{◌≡◌, ◌≤◌, IfOk, IfSome, map};
 ghost use Rattle.std.specs.Option.{option_copied};
-ghost use Rattle.rx_words.specs.Words.{check_of, command_by, command_of, limit_of, run_of, serve_of, serve_with, trial_of, trial_with};
+ghost use Rattle.rx_words.specs.Words.{check_of, command_by, command_of, compact_of, limit_of, run_of, serve_of, serve_with, trial_of, trial_with};
 ghost use Rattle.rx_words.specs.Parsed.{given_in};
 
 use crate::command::Command;
@@ -70,6 +70,7 @@ fn command_by(
         "serve" => serve_of(alloc, values, limit_of(limit)),
         "check" => check_of(alloc, values, limit),
         "trial" => trial_of(alloc, values, limit_of(limit)),
+        "compact" => compact_of(alloc, values, limit_of(limit)),
         _ => Ok(None),
     }
 }
@@ -197,6 +198,23 @@ fn trial_with(
                 limit,
             }))
         }
+        _ => Ok(None),
+    }
+}
+
+fn compact_of(
+    alloc: Global,
+    values: &[&str],
+    limit: Option<u64>,
+) -> Result<Option<Command>, AllocError>
+    ensures { IfOk result (λ c. c ≡ compact_of (map (λ v. v.now) values.now) limit) }
+{
+    match (values, limit) {
+        ([path, copy], Some(limit)) => Ok(Some(Command::Compact {
+            path: RxText::new(alloc, path)?,
+            copy: RxText::new(alloc, copy)?,
+            limit,
+        })),
         _ => Ok(None),
     }
 }

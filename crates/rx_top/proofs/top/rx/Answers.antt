@@ -34,6 +34,16 @@ trial-requires-clause-high g c =
     let is : command_of c.args.words.now.words.items ≡ Some c.in-Ok-Some.command = search rules in
     (subst HasLimit c.in-Trial.is (granted c.args.words.now.words.items c.in-Ok-Some.command is)).1
 
+pub compact-requires-clause-low : goal.compact-requires-clause-low
+compact-requires-clause-low g c =
+    let is : command_of c.args.words.now.words.items ≡ Some c.in-Ok-Some.command = search rules in
+    (subst HasLimit c.in-Compact.is (granted c.args.words.now.words.items c.in-Ok-Some.command is)).0
+
+pub compact-requires-clause-high : goal.compact-requires-clause-high
+compact-requires-clause-high g c =
+    let is : command_of c.args.words.now.words.items ≡ Some c.in-Ok-Some.command = search rules in
+    (subst HasLimit c.in-Compact.is (granted c.args.words.now.words.items c.in-Ok-Some.command is)).1
+
 pub returns-clause-runs : goal.returns-clause-runs
 returns-clause-runs g c =
     λ path limit is. inr (lacks_memory g.K.Sink.tells _ _ _ _ c.write_all.result _
@@ -52,4 +62,9 @@ returns-clause-reports g c =
 pub returns-clause-tries : goal.returns-clause-tries
 returns-clause-tries g c =
     λ path seed count limit is. inr (lacks_memory g.K.Sink.tells _ _ _ _ c.write_all.result _
+    c.write_all.ensures.ok c.write_all.ensures.err c.write_all.ensures.failed)
+
+pub returns-clause-copies : goal.returns-clause-copies
+returns-clause-copies g c =
+    λ path out_path limit is. inr (lacks_memory g.K.Sink.tells _ _ _ _ c.write_all.result _
     c.write_all.ensures.ok c.write_all.ensures.err c.write_all.ensures.failed)
