@@ -42,8 +42,13 @@ function record(read, told) {
     read.each(() => read.skipState()); // what became known
     replication.up = read.option(() => read.place());
     replication.down = read.option(() => read.place());
-  } else if (kind === 5) {
+  } else if (kind === 5 || kind === 9) {
     told.epoch = read.number();
+  } else if (kind === 8) {
+    const replication = told.replications.get(read.text());
+    read.each(() => read.skipState()); // what is known
+    replication.up = read.option(() => read.place());
+    replication.down = read.option(() => read.place());
   } else if (kind === 6) {
     const group = groupOf(read.text(), told.replications), schema = JSON.parse(read.text());
     for (const name of group) told.collections.get(name).schema = schema;

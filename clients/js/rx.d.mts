@@ -413,6 +413,20 @@ export function open(transport: Transport, options?: Options): Promise<Database>
 
 /** `program` is what RX names, or `rx` on the path, if it is left out; `maxJournal` is a number of bytes. */
 export function child(journal: string, options?: { program?: string; maxJournal?: number }): Transport;
+
+/** What a journal has now, and the bytes that it had. */
+export interface Compacted {
+  bytes: number;
+  from: number;
+  records: number;
+}
+
+/**
+ * Of Node: puts a copy that holds the same in fewer bytes in the place of a journal, which nobody may have open.
+ * Where that can't be it rejects with `Stopped`, and the journal is as it was.
+ */
+export function compact(journal: string, options?: { program?: string; maxJournal?: number }): Promise<Compacted>;
+
 /** The masters that a page may dial: by the port of a replication, where its WebSocket leads. */
 export type Masters = { readonly [port: number]: string | { readonly url: string; readonly token?: string } };
 export function wasm(

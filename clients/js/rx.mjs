@@ -1166,17 +1166,11 @@ const leaveAll = () => running.forEach((leave) => leave());
 
 /** The program as a child process of Node: what `program` or RX names, or rx on the path. */
 export function child(journal, { program, maxJournal } = {}) {
-  if (typeof journal !== 'string') throw new TypeError(`a journal is named by its path, and not by ${journal}`);
+  insistOnPath(journal);
   const start = async ({ output, ended, leave }) => {
-    const { spawn } = await builtIn('child_process');
     if ((await lockOf(journal)).isLocked) throw new Stopped(inUse(journal));
-    const command = program || process.env.RX || 'rx';
-    const words = wordsOf(maxJournal);
-    const it = spawn(command, ['run', journal, ...words], { stdio: ['pipe', 'pipe', 'inherit'] });
-    await new Promise((begun, fail) => it.once('spawn', begun).once('error', fail)).catch(({ code }) => {
-      const where = command.includes('/') ? `no program at ${command}` : `no ${command} on the path`;
-      throw new Stopped({ stop: 'start', said: `${where} (${code}): ${howToGet}` });
-    });
+    const words = ['run', journal, ...wordsOf(maxJournal)];
+    const it = await started(program, words, 'pipe');
     it.stdout.setEncoding('utf8').on('data', output);
     it.stdin.on('error', () => {}); // the end is told by 'close', once all output is read
     if (!running.size) process.on('beforeExit', leaveAll);
@@ -1197,11 +1191,26 @@ export function child(journal, { program, maxJournal } = {}) {
   return Object.assign(start, { free: () => new Promise((go) => setTimeout(go, 200)) });
 }
 
+function insistOnPath(journal) {
+  if (typeof journal !== 'string') throw new TypeError(`a journal is named by its path, and not by ${journal}`);
+}
+
+async function started(program, words, stdin) {
+  const { spawn } = await builtIn('child_process');
+  const command = program || process.env.RX || 'rx';
+  const it = spawn(command, words, { stdio: [stdin, 'pipe', 'inherit'] });
+  await new Promise((begun, fail) => it.once('spawn', begun).once('error', fail)).catch(({ code }) => {
+    const where = command.includes('/') ? `no program at ${command}` : `no ${command} on the path`;
+    throw new Stopped({ stop: 'start', said: `${where} (${code}): ${howToGet}` });
+  });
+  return it;
+}
+
 const inUse = (journal) => ({ stop: 'in_use', said: `another process has ${journal}` });
 
 // What there is to say of a status. Of 3 there are two causes: the disk failed, or another has the journal.
-async function ofStatus(status, journal, words) {
-  if (status === 2) return { said: [`run ${show(journal)}`, ...words].join(' ') };
+async function ofStatus(status, journal, [command, , ...words]) {
+  if (status === 2) return { said: [command, show(journal), ...words].join(' ') };
   if (status === 7) return { said: `${journal} is none` };
   if (status !== 3) return {};
   const { isLocked, fault } = await lockOf(journal);
@@ -1221,6 +1230,83 @@ async function lockOf(journal) {
     return { isLocked: locks.includes(` ${id} `) };
   } catch (fault) {
     return { isLocked: false, fault };
+  }
+}
+
+/**
+ * Of Node: puts a copy that holds the same in fewer bytes in the place of a journal, which nobody may have open.
+ * Where that can't be it rejects, and the journal is as it was: by `in_use` where another process has it, or had
+ * it since the copy was begun. A process that opens it while the files change places isn't noticed.
+ */
+export async function compact(journal, { program, maxJournal } = {}) {
+  insistOnPath(journal);
+  const fs = await builtIn('fs');
+  let file;
+  try {
+    file = fs.openSync(journal, 'r+');
+    return await compacted(fs, file, fs.realpathSync(journal), program, maxJournal);
+  } catch (fault) {
+    throw fault.syscall ? new Stopped({ stop: 'disk', said: fault.message }) : fault;
+  } finally {
+    if (file !== undefined) fs.closeSync(file);
+  }
+}
+
+async function compacted(fs, file, path, program, maxJournal) {
+  const [{ basename, dirname, join }, { randomBytes }] = [await builtIn('path'), await builtIn('crypto')];
+  const folder = dirname(path), name = basename(path);
+  if ((await lockOf(path)).isLocked) throw new Stopped(inUse(path));
+  for (const it of fs.readdirSync(folder)) if (isCopy(it, name)) fs.rmSync(join(folder, it), { force: true });
+  const copy = `${path}.compact-${randomBytes(8).toString('hex')}`;
+  fs.closeSync(fs.openSync(copy, 'wx', 0o600));
+  try {
+    const made = await copied(path, copy, program, maxJournal);
+    const { isLocked } = await lockOf(path);
+    if (isLocked || !fs.existsSync(copy)) throw new Stopped(inUse(path));
+    fs.chmodSync(copy, fs.fstatSync(file).mode & 0o7777);
+    syncPath(fs, copy);
+    if (!isAsCopied(fs, file, path, made.from)) throw new Stopped(inUse(path));
+    fs.renameSync(copy, path);
+    syncPath(fs, folder);
+    return made;
+  } finally {
+    fs.rmSync(copy, { force: true });
+  }
+}
+
+// No two copies have the same name, so none is renamed half done. Those whose makers were killed are removed.
+const isCopy = (it, name) => it.startsWith(name) && /^\.compact-[0-9a-f]{16}$/.test(it.slice(name.length));
+
+async function copied(path, copy, program, maxJournal) {
+  const words = ['compact', path, copy, ...wordsOf(maxJournal)];
+  const it = await started(program, words, 'ignore');
+  let text = '';
+  it.stdout.setEncoding('utf8').on('data', (more) => { text += more; });
+  const [status, signal] = await new Promise((go) => it.on('close', (...how) => go(how)));
+  if (signal) throw new Stopped({ stop: 'killed', said: signal });
+  let told = { stop: 'ended' };
+  try {
+    if (text) told = JSON.parse(text);
+  } catch {
+    throw new Stopped({ stop: 'output', said: text.slice(0, 200) });
+  }
+  if (told.stop) throw new Stopped({ status, ...told, ...(await ofStatus(status, path, words)) });
+  return told;
+}
+
+// Whether the path leads to this file still, and no record was added, which opens the gate at its end.
+function isAsCopied(fs, file, path, end) {
+  const [here, there] = [fs.fstatSync(file), fs.statSync(path)], gate = new Uint8Array(1);
+  fs.readSync(file, gate, 0, 1, end - 1);
+  return here.dev === there.dev && here.ino === there.ino && gate[0] !== 1;
+}
+
+function syncPath(fs, path) {
+  const file = fs.openSync(path, 'r');
+  try {
+    fs.fsyncSync(file);
+  } finally {
+    fs.closeSync(file);
   }
 }
 

@@ -1,9 +1,12 @@
 // The client for JavaScript over a child process.
 import { spawn, spawnSync } from 'node:child_process';
-import { cpSync, mkdirSync, readFileSync, symlinkSync, writeFileSync } from 'node:fs';
+import {
+  chmodSync, cpSync, existsSync, mkdirSync, readFileSync, readdirSync, readlinkSync, renameSync, statSync, symlinkSync,
+  writeFileSync,
+} from 'node:fs';
 import { connect, createServer } from 'node:net';
 import { join } from 'node:path';
-import { child as childOf, open as openWith, wasm } from '../../clients/js/rx.mjs';
+import { child as childOf, compact as compactWith, open as openWith, wasm } from '../../clients/js/rx.mjs';
 import { behaviours } from './behaviours.mjs';
 import { emissionsOf, playScript } from './play.mjs';
 import { schema } from './schema.mjs';
@@ -316,6 +319,121 @@ tests['an observer that throws disturbs no other'] = async (folder) => {
     await new Promise((go) => setTimeout(go, 20));
     console.log(heard, faults.join());`, { cwd: folder });
   same(stdout, '2 its own,its own\n', stderr);
+};
+
+/** A master and a fork with an edit to be pushed, in more bytes than that takes. */
+async function longJournal(path) {
+  const db = await open(child(path), { clock: Date.now });
+  const [master, fork] = [await db.collection('m', schema), await db.collection('f', schema)];
+  await db.replicate({ name: 'r', fork: 'f', master: 'm', handler: 'fork_wins' });
+  await Promise.all(Array.from({ length: 200 }, (_, n) => master.upsert({ id: `k${n % 3}`, n })));
+  await master.remove('k0');
+  await db.turn('r');
+  await fork.patch('k1', { n: 1000 });
+  await db.close();
+  return readFileSync(path, 'latin1');
+}
+
+/** What a report tells of a journal but for its bytes and its records, and its epoch. */
+function report(path) {
+  const { stdout, status } = spawnSync(program, ['check', path], { encoding: 'utf8' });
+  same(status, 0, stdout);
+  return stdout.replace(/"end":\d+/, '').replace(/"records":\d+/, '');
+}
+
+/** A program in the place of rx, by lines of a shell: $1 is `compact`, $2 the journal and $3 its copy. */
+function standIn(folder, ...lines) {
+  const path = join(folder, journalName());
+  writeFileSync(path, ['#!/bin/sh', ...lines, ''].join('\n'), { mode: 0o755 });
+  return path;
+}
+
+const compact = (journal, options) => compactWith(journal, { program, ...options });
+const stopOf = (call) => call.then(() => 'made', (it) => it.stop ?? it);
+
+tests['a compacted journal holds the same in fewer bytes, and is played on'] = async (folder) => {
+  const path = join(folder, 'journal');
+  const before = await longJournal(path), told = report(path);
+  chmodSync(path, 0o640);
+  const made = await compact(path), size = statSync(path).size;
+  same(JSON.stringify(made), JSON.stringify({ bytes: size, from: before.length, records: made.records }), 'the answer');
+  same(`${size < before.length / 5} ${statSync(path).mode & 0o777} ${readdirSync(folder)}`, 'true 416 journal', 'the file');
+  same(report(path), told, 'what it holds');
+  const db = await open(child(path), { clock: Date.now });
+  const [master, fork] = [await db.collection('m', schema), await db.collection('f', schema)];
+  same(`${master.isNew} ${await master.count()} ${(await fork.get('k1')).doc.n}`, 'false 2 1000', 'documents');
+  const { each } = await db.turn('r');
+  same(each.map((it) => `${it.sent} ${it.rows}`).join(), 'push k1,pull k1', 'the fork goes on');
+  same(JSON.stringify(await master.digest()), JSON.stringify(await fork.digest()), 'both sides');
+  await db.close();
+  same((await compact(path)).from > size, true, 'what was written since');
+};
+
+tests['a journal that can not be compacted is left as it is'] = async (folder) => {
+  const path = join(folder, 'journal'), text = join(folder, 'text');
+  await longJournal(path);
+  writeFileSync(text, 'something else than a journal');
+  const db = await open(child(path));
+  const opened = readFileSync(path, 'latin1');
+  const fault = await compact(path).catch((it) => it);
+  same(fault.message, `in_use: another process has ${path}`, 'in use');
+  same(readFileSync(path, 'latin1'), opened, 'as it was');
+  await db.close();
+  const before = readFileSync(path, 'latin1');
+  const full = await compact(path, { maxJournal: 100 }).catch((it) => it);
+  same(`${full.stop} ${full.status} ${full.limit} ${full.would > 100}`, 'full 8 100 true', 'full');
+  const cases = [
+    [text, 'not_journal 7', `not_journal: ${text} is none`],
+    [join(folder, 'absent'), 'disk null', 'disk: ENOENT'],
+    [join(folder, 'none/journal'), 'disk null', 'disk: ENOENT'],
+    [folder, 'disk null', 'disk: EISDIR'],
+    ['', 'disk null', 'disk: ENOENT'],
+  ];
+  for (const [journal, due, words] of cases) {
+    const { stop, status, message } = await compact(journal).catch((it) => it);
+    same(`${stop} ${status} ${message.slice(0, words.length)}`, `${due} ${words}`, journal);
+  }
+  same(await stopOf(compact(path, { program: join(folder, 'none') })), 'start', 'no program');
+  same((await compact(5).catch((it) => it)).name, 'TypeError', 'no path');
+  same(`${readdirSync(folder)} ${readFileSync(text)}`, 'journal,text something else than a journal', 'the files');
+  same(readFileSync(path, 'latin1'), before, 'as it was');
+};
+
+tests['what a killed compaction left is removed by the next, and a link stays one'] = async (folder) => {
+  const [real, links] = ['real', 'links'].map((it) => join(folder, it));
+  for (const it of [real, links]) mkdirSync(it);
+  const path = join(real, 'journal'), link = join(links, 'link');
+  symlinkSync('../real/journal', link);
+  const before = await longJournal(path);
+  const killed = standIn(folder, 'printf x > "$3"; kill -9 $$');
+  same(await stopOf(compact(link, { program: killed })), 'killed', 'killed');
+  same(readFileSync(path, 'latin1'), before, 'as it was');
+  const others = ['journal-2', 'journal.compact', 'journal.compact-notes'];
+  for (const it of [...others, 'journal.compact-0123456789abcdef']) writeFileSync(join(real, it), before.slice(0, 50));
+  const { from, bytes } = await compact(link);
+  same(`${from} ${bytes}`, `${before.length} ${statSync(path).size}`, 'the journal');
+  same(`${readlinkSync(link)} ${readdirSync(links)}`, '../real/journal link', 'the link');
+  same(readdirSync(real).sort().join(), ['journal', ...others].sort().join(), 'the files');
+};
+
+tests['a journal that another process had meanwhile keeps what that wrote'] = async (folder) => {
+  const path = join(folder, 'journal');
+  await longJournal(path);
+  const cases = [
+    [`${program} run "$2" < /dev/null`, 'in_use', 14],
+    ['cp "$2" "$2.new"; mv "$2.new" "$2"', 'in_use', 0],
+    ['rm "$3"', 'in_use', 0],
+    ['mv "$2" "$2.old"', 'disk', 0],
+  ];
+  for (const [meanwhile, due, more] of cases) {
+    const before = readFileSync(path, 'latin1').slice(0, -1);
+    const other = standIn(folder, `${program} "$@"`, meanwhile);
+    same(await stopOf(compact(path, { program: other })), due, meanwhile);
+    if (existsSync(`${path}.old`)) renameSync(`${path}.old`, path);
+    const after = readFileSync(path, 'latin1');
+    same(`${after.startsWith(before)} ${after.length - before.length - 1}`, `true ${more}`, meanwhile);
+    same(readdirSync(folder).filter((it) => it.includes('compact')).join(), '', meanwhile);
+  }
 };
 
 /** What a quickstart of clients/README.md says in two runs, beside a copy of the client. */

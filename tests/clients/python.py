@@ -14,13 +14,16 @@ import tracemalloc
 
 HERE = os.path.dirname(os.path.abspath(__file__))
 sys.path.insert(0, os.path.dirname(HERE))
-from shared import DEBIANS_PYTHON, ROOT, RX, SCHEMA, Server, case, examples, main, same, told  # noqa: E402
+from shared import (  # noqa: E402
+    DEBIANS_PYTHON, ROOT, RX, SCHEMA, Server, case, checked, content, examples, main, same, told,
+)
 
 CLIENT = os.path.join(ROOT, "clients", "python")
 sys.path.insert(0, CLIENT)
 import rx  # noqa: E402
 from rx import calls  # noqa: E402
 from rx.following import Account  # noqa: E402
+from rx.journal import Names  # noqa: E402
 from rx.lines import Lines  # noqa: E402
 
 os.environ["RX"] = RX
@@ -945,6 +948,151 @@ def followed_forks_of_one_journal_with_asyncio(folder):
             await db.unstream("r")
 
     asyncio.run(run())
+
+
+def stand_in(folder, *lines):
+    """A program in the place of rx, by lines of a shell: $1 is `compact`, $2 the journal and $3 its copy."""
+    path = os.path.join(folder, f"program-{next(NUMBERS)}")
+    with open(path, "w", encoding="utf-8") as file:
+        file.write("\n".join(["#!/bin/sh", *lines, ""]))
+    os.chmod(path, 0o755)
+    return path
+
+
+def a_long_journal(path):
+    """A master and a fork with an edit to be pushed, in more bytes than that takes."""
+    with rx.open(path) as db:
+        master, fork = db.collection("m", SCHEMA), db.collection("f", SCHEMA)
+        db.replicate("r", "f", "m", handler="fork_wins")
+        for n in range(40):
+            master.upsert({"id": f"k{n % 3}", "n": n})
+        master.remove("k0")
+        db.turn("r")
+        fork.patch("k1", {"n": 1000})
+    return content(path)
+
+
+def is_as_before(path, folder, before, names):
+    same((content(path), os.listdir(folder)), (before, names), "as it was")
+
+
+@case()
+def a_compacted_journal_holds_the_same_in_fewer_bytes_and_is_played_on(folder):
+    inner = os.path.join(folder, "inner")
+    os.mkdir(inner)
+    path = os.path.join(inner, "journal")
+    before = a_long_journal(path)
+    os.chmod(path, 0o640)
+    told_before = checked(path)
+    made = rx.compact(path)
+    same((made.bytes, made.from_), (os.path.getsize(path), len(before)))
+    same(made.bytes < len(before) // 2, True, str(made))
+    same((os.listdir(inner), os.stat(path).st_mode & 0o777), (["journal"], 0o640))
+    *there, end = checked(path)
+    same(there, told_before[:-1])
+    same(end, {"end": made.bytes, "epoch": told_before[-1]["epoch"], "records": made.records})
+    same(rx.compact(path), made._replace(from_=made.bytes), "a copy of the copy")
+    same(sorted(Names(path).read().schemas), ["f", "m"], "what a shell reads")
+    with rx.open(path) as db:
+        master, fork = db.collection("m", SCHEMA), db.collection("f", SCHEMA)
+        same((master.new, master.count(), fork.get("k1").doc["n"]), (False, 2, 1000))
+        same([(it["sent"], it["rows"]) for it in db.turn("r").each], [("push", ["k1"]), ("pull", ["k1"])])
+        same((master.digest(), master.get("k1").doc["n"]), (fork.digest(), 1000))
+    same(rx.compact(path).from_ > made.bytes, True, "what was written since")
+
+
+@case()
+def a_journal_that_can_not_be_compacted_is_left_as_it_is(folder):
+    path = os.path.join(folder, "journal")
+    a_long_journal(path)
+    with rx.open(path):
+        before = content(path)
+        same(fault(rx.compact, path).stop, "in_use")
+        is_as_before(path, folder, before, ["journal"])
+    stopped = fault(rx.compact, path, max_journal=100)
+    same((stopped.stop, stopped.status, stopped.limit, stopped.would > 100), ("full", 8, 100, True))
+    same(fault(rx.compact, path, program=os.path.join(folder, "none")).stop, "start")
+    is_as_before(path, folder, before, ["journal"])
+    for bad, stop, status in no_journals(folder):
+        stopped = fault(rx.compact, bad)
+        same((stopped.stop, stopped.status), (stop, 7) if stop == "not_journal" else ("disk", None))
+        same(bad in str(stopped), True, str(stopped))
+    same(fault(rx.compact, os.path.join(folder, "absent")).stop, "disk")
+    is_as_before(path, folder, before, ["journal", "text"])
+
+
+@case()
+def what_a_killed_compaction_left_is_removed_by_the_next(folder):
+    path = os.path.join(folder, "journal")
+    before = a_long_journal(path)
+    killed = stand_in(folder, 'printf x > "$3"; kill -9 $$')
+    stopped = fault(rx.compact, path, program=killed)
+    same((stopped.stop, stopped.status, content(path)), ("killed", None, before))
+    others = ["journal-2", "journal.compact-notes", "journal.compact", os.path.basename(killed)]
+    for name in (*others[:3], "journal.compact-0123456789abcdef"):
+        with open(os.path.join(folder, name), "wb") as file:
+            file.write(before[:50])
+    same(rx.compact(path).from_, len(before))
+    same(sorted(os.listdir(folder)), sorted([*others, "journal"]))
+
+
+@case()
+def a_link_to_a_journal_stays_one_when_that_is_compacted(folder):
+    for name in ("links", "real"):
+        os.mkdir(os.path.join(folder, name))
+    path, link = os.path.join(folder, "real", "journal"), os.path.join(folder, "links", "link")
+    os.symlink(os.path.join("..", "real", "journal"), link)
+    before = a_long_journal(path)
+    made = rx.compact(link)
+    same((made.from_, os.path.getsize(path)), (len(before), made.bytes))
+    same((os.readlink(link), os.listdir(os.path.dirname(link))), ("../real/journal", ["link"]))
+    same(os.listdir(os.path.dirname(path)), ["journal"])
+
+
+@case()
+def a_journal_that_another_process_had_meanwhile_keeps_what_that_wrote(folder):
+    path = os.path.join(folder, "journal")
+    a_long_journal(path)
+    lock = f"{sys.executable} -c 'import fcntl; fcntl.flock(9, fcntl.LOCK_EX)'"
+    for meanwhile, stop in (
+        (f'{RX} run "$2" < /dev/null', "in_use"),
+        ('cp "$2" "$2.new"; mv "$2.new" "$2"', "in_use"),
+        ('rm "$3"', "in_use"),
+        ('mv "$2" "$2.old"', "disk"),
+        (f'exec 9< "$2"; {lock}; sleep 9 > /dev/null &', "in_use"),
+    ):
+        before = content(path)
+        program = stand_in(folder, f'{RX} "$@"', meanwhile)
+        same(fault(rx.compact, path, program=program).stop, stop, meanwhile)
+        if os.path.exists(f"{path}.old"):
+            os.rename(f"{path}.old", path)
+        same(content(path)[: len(before) - 1], before[:-1], meanwhile)
+        same(len(content(path)) - len(before), 14 if " run " in meanwhile else 0, "an epoch")
+        same([it for it in os.listdir(folder) if "compact" in it], [], meanwhile)
+
+
+@case()
+def of_many_compactions_at_once_none_loses_anything(folder):
+    path = os.path.join(folder, "journal")
+    a_long_journal(path)
+    before, ends = checked(path)[:-1], []
+
+    def compacted():
+        for _ in range(3):
+            try:
+                ends.append("made" if rx.compact(path).bytes else "")
+            except rx.Stopped as stopped:
+                ends.append(stopped.stop)
+
+    threads = [threading.Thread(target=compacted) for _ in range(4)]
+    for it in threads:
+        it.start()
+    for it in threads:
+        it.join()
+    same((len(ends), set(ends) <= {"made", "in_use", "disk"}), (12, True), str(ends))
+    rx.compact(path)
+    same((checked(path)[:-1], os.listdir(folder)), (before, ["journal"]))
+    return ", ".join(f"{ends.count(it)} {it}" for it in sorted(set(ends)))
 
 
 def served(folder, docs):

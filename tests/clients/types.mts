@@ -1,5 +1,5 @@
 // What users write, for tsc --strict: it has to take all but the lines that say that it mustn't.
-import { child, open, Refused, Stopped, wasm } from './rx.mjs';
+import { child, compact, open, Refused, Stopped, wasm } from './rx.mjs';
 import type { Database, DocumentOf, Query, Schema } from './rx.mjs';
 
 const schema = {
@@ -127,6 +127,10 @@ await db.migrate('todos', schema, [{ set: 'rank', value: null }]);
 db.stopped.then(({ stop, limit }) => console.log(stop, limit));
 await db.drained();
 await db.close();
+const { bytes, from, records } = await compact('todos.journal', { maxJournal: 1000 });
+const saved: number = from - bytes + 0 * records;
+// @ts-expect-error
+await compact(child('todos.journal'));
 open(wasm('out', 'x')).catch((fault: unknown) => {
   if (fault instanceof Refused) console.log(fault.limit, fault.value, fault.subject);
   if (fault instanceof Stopped) console.log(fault.stop, fault.would);

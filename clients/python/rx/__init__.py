@@ -7,11 +7,13 @@
         todos = await db.collection("todos", schema)
 
 The two have the same calls. A database of `open` may be shared by threads, one of `open_async` by tasks.
+`rx.compact("todos.journal")` makes a journal smaller that nobody has open.
 `python3 -m rx todos.journal` is a shell.
 """
 from typing import TYPE_CHECKING, Any
 
 from .calls import Changes, Delivery, Digest, Document, Fields, Json, Object, Stored, Sweep, SweptTurn, Turn, Value
+from .compaction import Compacted, compact
 from .database import Collection, Database, Following, Observed, open
 from .faults import Refused, Stopped
 from .following import SyncStatus
@@ -28,6 +30,7 @@ __all__ = [
     "Changes",
     "Clock",
     "Collection",
+    "Compacted",
     "Database",
     "Delivery",
     "Digest",
@@ -45,6 +48,7 @@ __all__ = [
     "SyncStatus",
     "Turn",
     "Value",
+    "compact",
     "now",
     "open",
     "open_async",

@@ -15,6 +15,7 @@ STOPS = {
     "not_journal": "the file is no journal",
     "full": "the next record would make the journal {would:,} bytes long, and its limit is {limit:,}",
     "too_long": "more lines were written than a script may have",
+    "epoch": "the journal's epoch is too great for a copy",
     "closed": "the database was closed",
     "killed": "the program was killed",
     "start": "the program doesn't start",

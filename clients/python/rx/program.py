@@ -41,5 +41,9 @@ def is_in_use(journal: str) -> bool:
 
 def words(journal: str, program: str | None, max_journal: int | None) -> list[str]:
     """The command of a run."""
-    limit = [] if max_journal is None else ["--max-journal", str(max_journal)]
-    return [find(program), "run", os.fspath(journal), *limit]
+    return [find(program), "run", os.fspath(journal), *limit(max_journal)]
+
+
+def limit(max_journal: int | None) -> list[str]:
+    """The words for the most bytes of a journal."""
+    return [] if max_journal is None else ["--max-journal", str(max_journal)]
