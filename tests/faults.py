@@ -1,7 +1,7 @@
 #!/usr/bin/env python3
 """Each allocation and each call of a file or a socket of the built program refused in turn.
 
-It plays every script of examples/, a migration by itself, a trial, a report, a served connection with
+It plays every script of examples/, a migration by itself, a trial, a report, a copy, a served connection with
 pulls and pushes, and turns with a served master. At each fault the status is the one that the fault may
 cause, what was written is a front of the whole output and then the stop line, the journal opens, and it
 holds what was answered. A socket that fails loses a turn with a served master at most, and after any fault
@@ -17,7 +17,8 @@ import subprocess
 import tempfile
 
 from shared import (HERE, SCHEMA, Server, Wrong, add, answers, ask, checked, collection, command, compact, content,
-                    digest, examples, free_port, insert, insist, main, pull, push, records, run, text)
+                    digest, examples, free_port, insert, insist, main, pull, push, records, run, stand_of, text,
+                    world_of)
 
 KILLED = -9
 KINDS = {"alloc": {6}, "allocs": {6}, "call": {3, 4, 5}, "short": set(), "kill": {KILLED}}
@@ -70,6 +71,35 @@ class Play:
                     command("run", path, script=script)
                 self.counts[answered] = len(records(path))
         return self.counts[answered]
+
+
+class Copied(Play):
+    """A copy of a journal, which stays as it is. What is left of the copy is refused, has no record, or is whole."""
+
+    def __init__(self, *, before):
+        super().__init__("compact", before=before)
+        self.kept = None
+
+    def journal(self, folder):
+        """It is made once, and by no faulty program."""
+        if self.kept is None:
+            self.kept = content(super().journal(folder))
+            self.world = world_of(checked(os.path.join(folder, "journal")))
+        path = os.path.join(folder, "journal")
+        with open(path, "wb") as file:
+            file.write(self.kept)
+        return path
+
+    def play(self, folder, env):
+        journal, self.copy = self.journal(folder), os.path.join(folder, "copy")
+        if os.path.exists(self.copy):
+            os.remove(self.copy)
+        return command(self.word, journal, self.copy, env=env)
+
+    def compare(self, folder, written, whole):
+        insist(content(os.path.join(folder, "journal")) == self.kept, "the journal was changed")
+        stand = stand_of(self.copy, self.world)
+        insist(stand == "whole" or not written, f"a copy is told, and is {stand}")
 
 
 class Served(Play):
@@ -208,6 +238,15 @@ def group():
         yield compact({"do": "patch", "in": side, "key": key, "set": {"n": 2}})
 
 
+def edited_group():
+    """The same with conflicts that a turn settled, a document that was removed, and a fork of a port."""
+    yield from group()
+    yield compact({"do": "remove", "in": "f", "key": "c"})
+    yield compact({"do": "turn", "name": "f", "budget": 3})
+    yield collection("p")
+    yield compact({"do": "replicate", "name": "p", "fork": "p", "port": 1, "handler": "join"})
+
+
 def migration():
     """The line that takes the group to its next schema, and what tells that it did."""
     properties = {"id": SCHEMA["properties"]["id"], "v": {"type": "integer"}, "t": {"type": "string"}}
@@ -223,6 +262,7 @@ def plays():
     yield "a migration", Play("run", script=text(migration()), before=text(group()))
     yield "a trial", Play("trial", "7", "40")
     yield "a report", Play("check", before=text([collection(), *map(insert, "abc")]))
+    yield "a copy", Copied(before=text(edited_group()))
     yield "a served connection", Served()
     yield "turns with a served master", Dialled()
 

@@ -8,7 +8,6 @@ killed run leaves to the system all that it wrote, synced or not.
 import json
 import os
 import random
-import re
 import resource
 import shutil
 import subprocess
@@ -17,8 +16,9 @@ import time
 from collections import Counter
 
 from model import Rules
-from shared import (RX, SCHEMA, SECONDS, SEED, Skipped, Talk, all_there, answers, case, collection, compact, content,
-                    digest, held, insert, inserts, insist, main, records, room, run, same, text)
+from shared import (RX, SCHEMA, SECONDS, SEED, Talk, all_there, answers, calls_in, case, collection, compact, content,
+                    digest, held, insert, inserts, insist, main, needs_trace, number, packed, packed_state,
+                    packed_value, records, room, run, same, text, tracing, written)
 
 DISK = {"stop": "disk"}
 
@@ -154,22 +154,12 @@ def closed_streams(folder):
     return "input fails with 4, output with 5, and the journal never stands in their place"
 
 
-def needs_trace():
-    if subprocess.run(["strace", "-qq", "-o", os.devnull, "true"], check=False,
-                      stderr=subprocess.DEVNULL).returncode:
-        raise Skipped("strace may not trace here")
-
-
 def trace(folder, journal, lines):
-    """The system calls of a run, in order, each as its name, its words and its answer."""
+    """The system calls of a run."""
     out = os.path.join(folder, "trace")
-    command = ["strace", "-qq", "-o", out, "-e",
-               "trace=openat,fsync,fdatasync,flock,pread64,pwrite64,write,close", RX]
-    status, _ = run(journal, lines, command=command, cwd=folder)
+    status, _ = run(journal, lines, command=[*tracing(out), RX], cwd=folder)
     insist(status == 0, f"the traced run ended with {status}")
-    with open(out, encoding="utf-8", errors="replace") as file:
-        calls = (re.match(r"(\w+)\((.*)\)\s+= (-?\d+)", line) for line in file)
-        return [(call[1], call[2], int(call[3])) for call in calls if call]
+    return calls_in(out)
 
 
 @case("the lock and the folder's sync", needs=["strace"])
@@ -265,26 +255,6 @@ def no_journal(folder):
 
 # ---- the records of migrations, byte by byte as docs/JOURNAL.md has them
 
-def number(value, size=4):
-    return value.to_bytes(size, "big", signed=value < 0)
-
-
-def packed(it):
-    return number(len(it.encode())) + it.encode()
-
-
-def packed_value(it):
-    if isinstance(it, bool):
-        return b"\0" + bytes([it])
-    return b"\2" + packed(it) if isinstance(it, str) else b"\1" + number(it, 8)
-
-
-def packed_state(state):
-    names = sorted(state)
-    return packed(state["id"]) + b"\0" + number(len(names)) + b"".join(
-        packed(name) + packed_value(state[name]) for name in names)
-
-
 def commit(name, docs):
     """The first write of a collection."""
     rows = (number(1, 8) + packed_state(it) for it in sorted(docs, key=lambda it: it["id"]))
@@ -316,14 +286,6 @@ def migration(steps, schema=None, name="c", text=None, count=None):
     text = Rules(schema or NEXT).text if text is None else text
     count = len(steps) if count is None else count
     return b"\6" + packed(name) + packed(text) + number(count) + b"".join(steps)
-
-
-def written(path, *bodies):
-    """Writes a journal of these records, and answers its bytes."""
-    content = b"RXJOURN1" + b"".join(b"\1" + number(len(it)) + it for it in bodies) + b"\0"
-    with open(path, "wb") as file:
-        file.write(content)
-    return content
 
 
 NEXT = {**SCHEMA, "version": 1, "properties": {**SCHEMA["properties"], "t": {"type": "string"}}}

@@ -7,6 +7,7 @@ A file of tests prints its cases, or tries the one that is its word:
 """
 import json
 import os
+import re
 import resource
 import signal
 import socket
@@ -157,6 +158,42 @@ def records(path):
     return bodies
 
 
+# ---- the parts of a record, byte by byte as docs/JOURNAL.md has them
+
+def number(value, size=4):
+    return value.to_bytes(size, "big", signed=value < 0)
+
+
+def packed(it):
+    return number(len(it.encode())) + it.encode()
+
+
+def packed_value(it):
+    if isinstance(it, bool):
+        return b"\0" + bytes([it])
+    return b"\2" + packed(it) if isinstance(it, str) else b"\1" + number(it, 8)
+
+
+def packed_state(state, is_deleted=False):
+    names = sorted(state)
+    return packed(state["id"]) + bytes([is_deleted]) + number(len(names)) + b"".join(
+        packed(name) + packed_value(state[name]) for name in names)
+
+
+def journal_of(*bodies, header=b"RXJOURN1"):
+    return header + b"".join(b"\1" + number(len(it)) + it for it in bodies) + b"\0"
+
+
+def written(path, *bodies):
+    """Writes a journal of these records, and answers its bytes."""
+    content = journal_of(*bodies)
+    with open(path, "wb") as file:
+        file.write(content)
+    return content
+
+
+# ---- the scripts of examples/
+
 def examples():
     """The scripts of examples/: each one's name, its lines, those of the run before, and what comes."""
     names = sorted(it[:-6] for it in os.listdir(EXAMPLES) if it.endswith(".jsonl"))
@@ -202,6 +239,27 @@ def checked(journal):
     status, written = command("check", journal)
     insist(status == 0, f"a report: {status} {written}")
     return answers(written)
+
+
+def world_of(told):
+    """What such a report tells of the world, and not of the file."""
+    return [*told[:-1], {"epoch": told[-1]["epoch"]}]
+
+
+def stand_of(copy, world):
+    """How far a journal came that was to make a world by `compact`: `absent`, `bare` without a record, `refused`,
+    or `whole`. Nothing else may be left."""
+    if not os.path.exists(copy):
+        return "absent"
+    before = content(copy)
+    if len(before) <= 9:
+        return "bare"
+    if command("check", copy)[0] == 7:
+        same(run(copy, []), (7, [{"stop": "not_journal"}]), "a run over what was left")
+        insist(content(copy) == before, "a refused copy was changed")
+        return "refused"
+    same(world_of(checked(copy)), world, "the world of a copy")
+    return "whole"
 
 
 class Talk:
@@ -256,6 +314,26 @@ def peak_of(child):
     """The most memory in bytes that a running program had."""
     with open(f"/proc/{child.pid}/status", encoding="ascii") as status:
         return int(next(line for line in status if line.startswith("VmHWM")).split()[1]) << 10
+
+
+# ---- system calls
+
+def needs_trace():
+    if subprocess.run(["strace", "-qq", "-o", os.devnull, "true"], check=False,
+                      stderr=subprocess.DEVNULL).returncode:
+        raise Skipped("strace may not trace here")
+
+
+def tracing(out):
+    """What stands before a command so that its system calls of files go to a file."""
+    return ["strace", "-qq", "-o", out, "-e", "trace=openat,fsync,fdatasync,flock,pread64,pwrite64,write,close"]
+
+
+def calls_in(out):
+    """The system calls there, in order, each as its name, its words and its answer."""
+    with open(out, encoding="utf-8", errors="replace") as file:
+        calls = (re.match(r"(\w+)\((.*)\)\s+= (-?\d+)", line) for line in file)
+        return [(call[1], call[2], int(call[3])) for call in calls if call]
 
 
 # ---- sockets
