@@ -1,16 +1,20 @@
 -- Chunks: where a name belongs, and what becomes of the run where one of them changes.
-use Rattle.std.proofs.Common.{◌≡◌, ℕ, zero, suc, add-one, ◌+◌, ◌-◌, ◌<◌, ◌≤◌, true, false, true≢false, List, [], ◌∷◌, ◌++◌, length, get_or, set, take, drop, Option, Some, option_map, slice_get, refl, sym, ap, ◌∙◌, subst, arith, append_assoc, append-nil, length-append}
+use Rattle.std.proofs.Common.{◌≡◌, ℕ, zero, suc, add-one, ◌+◌, ◌-◌, ◌<◌, ◌≤◌, true, false, true≢false, List, [], ◌∷◌, ◌++◌, length, get_or, set, take, drop, Option, Some, Err, option_map, slice_get, refl, sym, ap, ◌∙◌, subst, arith, append_assoc, append-nil, length-append}
 use Rattle.std.proofs.lemmas.List.{take-append-drop}
+use Rattle.std.proofs.lemmas.Option.{get_or_from_slice_get}
 use Rattle.std.proofs.lemmas.Cmp.{alike_right}
 use Rattle.std.specs.List.{AllByRecursion, insert, remove}
 use Rattle.std.specs.List.Sorted.{IsStrictlySortedBy, IsPartitionedBy, IsPartitionPoint}
 use Rattle.std.specs.Map.{keys_of}
-use Rattle.std.specs.Ordering.{is_le}
+use Rattle.std.specs.Ordering.{is_le, ordering_index}
+use Rattle.std.specs.declared.cmp.Ordering.{Ordering}
 use Rattle.std.specs.declared.cmp.Ordering.TheVariants.{Less, Equal, Greater}
 use Rattle.rx_value.specs.Named.{named, put_in_order, without, AreRising}
 use Rattle.rx_value.specs.Order.{text_cmp}
+use Rattle.rx_value.specs.Place.{BelongsAt}
 use Rattle.rx_value.proofs.Named.{put_in_order-rising}
 use Rattle.rx_value.proofs.Ordered.{text_total}
+use Rattle.rx_value.proofs.Places.{searched}
 use Rattle.rx_value.proofs.Removed.{all_without, without_rising}
 use Rattle.rx_runs.specs.Run.{flat, AllAbove, AllBelow, AllFrom, AreParted, IsRooted, AreChunks, IsIn, from_name, below_name, between}
 use Rattle.rx_runs.proofs.Joined.{turned, below_greater, all_parts, all_joined, all_at, all_put, rising_parts, below_second, none_rising, one_rising, named-first, put-first, named-second, put-second, without-first, without-second, from-parts, from-above, from-below, all_from, below-parts, below-below, below-above}
@@ -59,6 +63,12 @@ itself k =
       | Equal ↦ (λ is. refl)
       | Greater ↦ (λ is. let back : text_cmp k k ≡ Less = turned k k Greater is in cc)
     ] refl
+
+-- a comparison that comes no later than the least is the least
+no_later : (o : Ordering) → ordering_index o ≤ 0 → o ≡ Less
+no_later Less le = refl
+no_later Equal le = absurd (omega arith)
+no_later Greater le = absurd (omega arith)
 
 -- ---- what holds of all names
 
@@ -119,6 +129,36 @@ module _ {X : Type 0} where
     low = λ j d le. point.0 j d (omega arith) (omega arith);
     high = λ j d lt in_range. point.1 j d (omega arith) in_range;
   }
+
+  -- a name that is at least the last head is in the last chunk
+  pub is_in_last : (k : List ℕ) (cs : List (List ℕ × List (List ℕ × X)))
+      (last : List ℕ × List (List ℕ × X)) → AreRising cs → 1 ≤ length cs
+      → slice_get cs (length cs - 1) ≡ Some last → is_le (text_cmp last.0 k) ≡ true
+      → IsIn cs k (length cs - 1)
+  is_in_last k cs last rising some there le =
+      let at = λ (d : List ℕ × List (List ℕ × X)).
+      ap (λ (c : List ℕ × List (List ℕ × X)). is_le (text_cmp c.0 k))
+      (get_or_from_slice_get cs (length cs - 1) last d there) ∙ le in
+      is_in k cs (length cs) some (omega arith) (
+        (λ j d low lt. partitioned k cs rising j (length cs - 1) d (omega arith) (omega arith)
+            (at d)),
+        (λ j d from lt. absurd (omega arith)),
+      )
+
+  -- a name above the last one belongs behind it
+  pub belongs_last : (k : List ℕ) (es : List (List ℕ × X)) (last : List ℕ × X) → AreRising es
+      → slice_get es (length es - 1) ≡ Some last → text_cmp last.0 k ≡ Less
+      → BelongsAt es k (length es)
+  belongs_last k es last rising there less =
+      let least = λ (d : List ℕ × X).
+      ap (λ (e : List ℕ × X). ordering_index (text_cmp e.0 k))
+      (get_or_from_slice_get es (length es - 1) last d there) ∙ ap ordering_index less in
+      (searched es k (Err (length es)) rising (omega arith)
+      (λ rises. (
+        (λ j d low lt. no_later (text_cmp (get_or es j d).0 k)
+            (omega (arith, rises j (length es - 1) d (omega arith) (omega arith), least d))),
+        (λ j d from lt. absurd (omega arith)),
+      ))).1
 
   -- names from a head on are above what the head is above
   from_above : (k h : List ℕ) (es : List (List ℕ × X)) → text_cmp k h ≡ Less → AllFrom h es

@@ -35,6 +35,12 @@ fn place<V>(pairs: &[(Name, V)], name: &[u8]) -> Result<usize, usize>
     ensures found { IfOk result (StandsAt pairs.now name.now) }
     ensures absent { IfErr result (BelongsAt pairs.now name.now) }
 {
+    // Names mostly rise.
+    if let Some(last) = pairs.last() {
+        if last.0.compare(name).is_lt() {
+            return Err(pairs.len());
+        }
+    }
     pairs.binary_search_by(|pair| pair.0.compare(name))
 }
 

@@ -37,6 +37,12 @@ fn chunk_of<V>(chunks: &[(Name, Chunk<V>)], name: &[u8]) -> usize
     requires lawful { AreChunks chunks.now }
     ensures { IsIn chunks.now name.now result }
 {
+    // Names mostly rise.
+    if let Some(last) = chunks.last() {
+        if last.0.compare(name).is_le() {
+            return chunks.len() - 1;
+        }
+    }
     chunks.partition_point(|chunk| chunk.0.compare(name).is_le()) - 1
 }
 
