@@ -6,11 +6,14 @@ ghost use Rattle.rx_value.specs.Fields.{AreFields};
 ghost use Rattle.rx_value.specs.Named.{named, put_in_order, without};
 ghost use Rattle.rx_value.specs.Value.{is_value};
 
-use crate::place::place;
+use crate::place::{named_among, place};
 use crate::rx_text::RxText;
 use crate::value::Value;
 use std::alloc::{AllocError, Global};
 use std::marker::Model;
+
+// So many pairs are looked through for a name, and more are searched.
+const FEW: usize = 8;
 
 /// The fields of a document: pairs of name and value, by rising name.
 #[derive(Debug, Drop)]
@@ -64,8 +67,12 @@ impl Fields {
     pub fn get(&self, name: &str) -> Option<&Value>
         ensures { option_map (λ v. v.now) result ≡ named self.now name.now }
     {
-        match place(self.pairs.as_slice(), name) {
-            Ok(i) => Some(&self.pairs[i].1),
+        let pairs = self.pairs.as_slice();
+        if pairs.len() <= FEW {
+            return named_among(pairs, name);
+        }
+        match place(pairs, name) {
+            Ok(i) => Some(&pairs[i].1),
             Err(_) => None,
         }
     }
