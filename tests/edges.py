@@ -21,23 +21,34 @@ from shared import (HERE, ROOT, RX, SECONDS, Server, Skipped, Talk, all_there, a
 
 NOBODY = 65_534
 DISK = {"stop": "disk"}
+RESTART = compact({"do": "restart"})
 
 
 # ---- a disk behind a cache
 
+def cache(folder):
+    """The library that puts a cache between a run and its disk."""
+    library, source = os.path.join(folder, "cache.so"), os.path.join(HERE, "cache.c")
+    subprocess.run(["cc", "-shared", "-fPIC", "-O2", "-o", library, source, "-ldl"], check=True)
+    return library
+
+
+def cached(library, journal, disk, fail=0, **more):
+    """The environment of a run whose journal is the cache of that disk. Its sync of that number fails."""
+    told_to = {"LD_PRELOAD": library, "RX_JOURNAL": journal, "RX_DISK": disk, "RX_FAIL": str(fail)}
+    return {**os.environ, **told_to, **more}
+
+
 @case("a sync that fails, and a cache that is lost with it", needs=["cc"])
 def failing_sync(folder):
     """What the disk has then is what the last good sync left: the run ends there, and tries no sync again."""
-    library = os.path.join(folder, "cache.so")
-    source = os.path.join(HERE, "cache.c")
-    subprocess.run(["cc", "-shared", "-fPIC", "-O2", "-o", library, source, "-ldl"], check=True)
+    library = cache(folder)
     keys = [f"k{n}" for n in range(30)]
     ends, number = [], 0
     while not ends or ends[-1] != 0:
         number += 1
         journal, disk = (os.path.join(folder, f"{name}{number}") for name in ("journal", "disk"))
-        told_to = {"LD_PRELOAD": library, "RX_JOURNAL": journal, "RX_DISK": disk, "RX_FAIL": str(number)}
-        status, replies = run(journal, inserts(keys), env={**os.environ, **told_to})
+        status, replies = run(journal, inserts(keys), env=cached(library, journal, disk, number))
         insist(status in (0, 3), f"sync {number}: status {status}")
         insist(status == 0 or replies[-1] == DISK, f"sync {number}: {replies[-1:]}")
         kept = {keys[it["line"] - 2] for it in replies if it.get("ok") == "insert"}
@@ -46,6 +57,58 @@ def failing_sync(folder):
         ends.append(status)
     insist(len(ends) > 2, f"{len(ends)} syncs")
     return f"each of {len(ends) - 1} syncs: 3, and all that was acknowledged is on the disk"
+
+
+# The record of a group takes more than a page, so what comes behind it doesn't stand in the page of the
+# gate before it.
+GROUPS = [[f"{group}{n:019}" for n in range(60)] for group in "ab"]
+LATER = [f"later{n}" for n in range(3)]
+
+
+def bulk(keys):
+    return compact({"do": "bulk", "in": "c", "docs": [{"id": key, "n": 1} for key in keys]})
+
+
+def first_run(journal, env):
+    """Its status, and what it acknowledged."""
+    lines, due = [collection()], {}
+    for keys in GROUPS:
+        lines += [bulk(keys), RESTART]
+        due[len(lines) - 1] = keys
+    status, replies = run(journal, lines, env=env)
+    return status, {key for it in replies if it.get("ok") == "bulk" for key in due[it["line"]]}
+
+
+def next_run(journal, env, seen):
+    """It plays line after line, and ends well."""
+    talk = Talk(journal, env=env)
+    for line in inserts(LATER):
+        reply = talk.ask(line)
+        insist(reply and "ok" in reply, f"{seen}: the next run says {reply}")
+    same(talk.end(), 0, f"{seen}: the next run's status")
+
+
+@case("a sync that fails, a run that goes on, and a cache that is lost then", needs=["cc"])
+def failing_sync_and_next_run(folder):
+    """The next run goes on from what the first one acknowledged, whatever the failing sync took to the
+    disk, and the disk has what both acknowledged and nothing else."""
+    library, numbers = cache(folder), []
+    for taken in ({}, {"RX_TAKEN": "1"}):
+        status, number = 3, 0
+        while status == 3:
+            number += 1
+            seen = f"sync {number}{', taken' if taken else ''}"
+            journal, disk = (os.path.join(folder, f"{name}{number}{len(taken)}") for name in ("journal", "disk"))
+            status, kept = first_run(journal, cached(library, journal, disk, number, **taken))
+            insist(status in (0, 3), f"{seen}: status {status}")
+            next_run(journal, cached(library, journal, disk), seen)
+            found, due = held(disk), kept.union(LATER)
+            insist(due <= found, f"{seen}: {len(due - found)} of {len(due)} acknowledged writes are lost")
+            insist(found <= due, f"{seen}: {len(found - due)} writes are there that nobody acknowledged")
+        same(len(kept), sum(map(len, GROUPS)), f"{seen}: the writes of a run without a failing sync")
+        numbers.append(number - 1)
+    insist(numbers[0] == numbers[1] > 2 * len(GROUPS), f"{numbers} syncs")
+    return f"each of {numbers[0]} syncs, taken or not: the disk has what was acknowledged before and behind it"
 
 
 # ---- an input that comes in pieces
@@ -71,7 +134,6 @@ def input_that_halts(folder):
 # ---- an output that ends
 
 MOST = 1 << 16
-RESTART = compact({"do": "restart"})
 
 
 def cut_short(journal, script, out, count):

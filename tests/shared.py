@@ -265,9 +265,9 @@ def stand_of(copy, world):
 class Talk:
     """A run that gets one line at a time, and whose replies are read."""
 
-    def __init__(self, journal, *more):
+    def __init__(self, journal, *more, env=None):
         self.child = subprocess.Popen([RX, "run", journal, *more], stdin=subprocess.PIPE,
-                                      stdout=subprocess.PIPE, stderr=subprocess.DEVNULL)
+                                      stdout=subprocess.PIPE, stderr=subprocess.DEVNULL, env=env)
 
     def send(self, lines):
         self.child.stdin.write(text(lines))
