@@ -61,21 +61,30 @@ module _ (steps : List Step) where
       → shown (map (stored_after steps) rows) names ≡ documents_after steps (shown rows names)
   shown_after rows [] = refl
   shown_after rows (e ∷ names) =
-      ap (λ es. with_value e.0 (slice_get (map (stored_after steps) rows) e.1) es) (shown_after rows names)
-      ∙ ap (λ o. with_value e.0 o (documents_after steps (shown rows names))) (slice_get-map (stored_after steps) rows e.1)
-      ∙ (elim (slice_get rows e.1) as (λ o. with_value e.0 (option_map (stored_after steps) o) (documents_after steps (shown rows names))
-      ≡ documents_after steps (with_value e.0 o (shown rows names))) [ None ↦ refl | Some d ↦ refl ])
+      ap (λ es. with_value e.0 (slice_get (map (stored_after steps) rows) e.1) es)
+      (shown_after rows names)
+      ∙ ap (λ o. with_value e.0 o (documents_after steps (shown rows names)))
+      (slice_get-map (stored_after steps) rows e.1)
+      ∙ (elim (slice_get rows e.1) as (λ o.
+      with_value e.0 (option_map (stored_after steps) o) (documents_after steps (shown rows names))
+      ≡ documents_after steps (with_value e.0 o (shown rows names))) [
+        | None ↦ refl
+        | Some d ↦ refl
+      ])
 
   places_after : (rows : List Stored) (log : List (ℕ × ℕ))
       → places (map (stored_after steps) rows) log ≡ places rows log
   places_after rows [] = refl
   places_after rows (l ∷ log) =
-      ap (λ ps. with_place l.0 (slice_get (map (stored_after steps) rows) l.1) ps) (places_after rows log)
+      ap (λ ps. with_place l.0 (slice_get (map (stored_after steps) rows) l.1) ps)
+      (places_after rows log)
       ∙ ap (λ o. with_place l.0 o (places rows log)) (slice_get-map (stored_after steps) rows l.1)
-      ∙ (elim (slice_get rows l.1) as (λ o. with_place l.0 (option_map (stored_after steps) o) (places rows log)
+      ∙ (elim (slice_get rows l.1)
+      as (λ o. with_place l.0 (option_map (stored_after steps) o) (places rows log)
       ≡ with_place l.0 o (places rows log)) [
         | None ↦ refl
-        | Some d ↦ ap (λ (k : List ℕ). record { lwt = l.0; id = k } ∷ places rows log) (key_after d.state)
+        | Some d ↦
+            ap (λ (k : List ℕ). record { lwt = l.0; id = k } ∷ places rows log) (key_after d.state)
       ])
 
   writes_after : (rows : List Stored) (log : List (ℕ × ℕ)) → AllByRecursion (IsWrite rows) log
@@ -84,16 +93,19 @@ module _ (steps : List Step) where
   writes_after rows (l ∷ log) all = (
     record {
       row = stored_after steps all.0.row;
-      there = slice_get-map (stored_after steps) rows l.1 ∙ ap (option_map (stored_after steps)) all.0.there;
+      there = slice_get-map (stored_after steps) rows l.1
+          ∙ ap (option_map (stored_after steps)) all.0.there;
       no_later = all.0.no_later;
     },
     writes_after rows log all.1,
   )
 
-  row_was : (rows : List Stored) (s : ℕ) (d : Stored) → slice_get (map (stored_after steps) rows) s ≡ Some d
+  row_was : (rows : List Stored) (s : ℕ) (d : Stored)
+      → slice_get (map (stored_after steps) rows) s ≡ Some d
       → WasThere (stored_after steps) (slice_get rows s) d
   row_was rows s d at =
-      was_there (stored_after steps) (slice_get rows s) d (sym (slice_get-map (stored_after steps) rows s) ∙ at)
+      was_there (stored_after steps) (slice_get rows s) d
+      (sym (slice_get-map (stored_after steps) rows s) ∙ at)
 
   log_after : (rows : List Stored) (names log : _) → IsLog rows names log
       → IsLog (map (stored_after steps) rows) names log
@@ -117,7 +129,8 @@ module _ (steps : List Step) where
 
   held_after : (schema : Shape) (primary : List ℕ) (es : Documents) → CarryAfter schema steps es
       → AllByRecursion (λ e. IsHeldAt primary e.0 e.1) es
-      → AllByRecursion (λ (e : List ℕ × Stored). IsHeldAt schema.primary e.0 e.1) (documents_after steps es)
+      → AllByRecursion (λ (e : List ℕ × Stored). IsHeldAt schema.primary e.0 e.1)
+      (documents_after steps es)
   held_after schema primary [] carried held = tt
   held_after schema primary (e ∷ es) carried held = (
     record {
@@ -136,14 +149,17 @@ module _ (steps : List Step) where
       → IsWhole name schema (map (stored_after steps) rows) names log
   whole_after name old schema rows names log whole carried = record {
     lawful =
-        subst (λ (es : Documents). IsLawful (held_with name schema es)) (sym (shown_after rows names))
+        subst (λ (es : Documents). IsLawful (held_with name schema es))
+        (sym (shown_after rows names))
         (record {
-          rising = subst (IsStrictlySortedBy text_cmp) (sym (keys_after (shown rows names))) whole.lawful.rising;
+          rising = subst (IsStrictlySortedBy text_cmp)
+              (sym (keys_after (shown rows names))) whole.lawful.rising;
           each = held_after schema old.primary (shown rows names) carried whole.lawful.each;
         });
     slots = record {
       rising = whole.slots.rising;
-      within = subst (λ n. AllUnder n names) (sym (length-map rows (stored_after steps))) whole.slots.within;
+      within = subst (λ n. AllUnder n names)
+          (sym (length-map rows (stored_after steps))) whole.slots.within;
       apart = whole.slots.apart;
     };
     logged = log_after rows names log whole.logged;

@@ -66,7 +66,8 @@ module _ {D : Type 0} (d : Ghosts D) where
         subst (λ (l : List Content). LeavesOnly d start new (IsFront l)) (append_assoc cs xs ys)
         (then.moments told start (cs ++ xs) (first.written told start cs had));
     full = λ told start cs had would most is.
-        let past = then.full told start (cs ++ xs) (first.written told start cs had) would most is in (
+        let past = then.full told start (cs ++ xs)
+        (first.written told start cs had) would most is in (
           past.0 ∙ first.limit,
           subst (λ (l : List Content). IsPast l would most) (append_assoc cs xs ys) past.1,
         );

@@ -230,7 +230,8 @@ module _ {D : Type 0} {d : Ghosts D} {first : D} {limit : ℕ} where
       subst (λ (m : ℕ). Comes d first now copy limit (before_end w ++ end m ∷ [])) is so
 
   -- the first call stopped, as it does by the disk alone
-  pub never_begun : (w : World) {new : D} {stop : Stop} → (d.tells → LeavesOnly d first new (IsFront []))
+  pub never_begun : (w : World) {new : D} {stop : Stop}
+      → (d.tells → LeavesOnly d first new (IsFront []))
       → ((other : Stop) → IsErrOf {T = Copying} (Err stop) other → other ≡ Disk)
       → HasDiskCause {A = Copying} (d.faults first) (d.faults new) (Err stop)
       → (result : Result Copied Stop) → result ≡ Err stop

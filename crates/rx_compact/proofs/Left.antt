@@ -110,7 +110,8 @@ module _ {X Y : Type 0} (f : X → Y) (old new : List X) (made : List Y)
   -- and each leaves less
   pub made_less : new ≡ drop most_in_part old → made ≢ [] → length new < length old
   made_less rest some =
-      part_less old new rest (λ none. some (is ∙ ap (λ (l : List X). map f (take most_in_part l)) none))
+      part_less old new rest
+      (λ none. some (is ∙ ap (λ (l : List X). map f (take most_in_part l)) none))
 
 -- ---- documents by rising place
 

@@ -43,7 +43,8 @@ module _ {D : Type 0} (d : Ghosts D) (disk : D) (copy : Copying) (entry : Conten
       had.moments
 
   -- it is staged
-  module _ (journal : Journal) (staged : Stages {A = Unit {0}} copy.journal journal entry (Ok (tt {0}))) (next : Copying)
+  module _ (journal : Journal)
+      (staged : Stages {A = Unit {0}} copy.journal journal entry (Ok (tt {0}))) (next : Copying)
       (journal_is : next.journal ≡ journal) (one_more : next.records ≡ copy.records + 1) where
     pub staged_one : (first : D) (cs : List Content) → HasWritten d first disk copy cs
         → HasWritten d first disk next (cs ++ entry ∷ [])
@@ -237,7 +238,8 @@ module _ {D : Type 0} (d : Ghosts D) (first old new : D) (copy : Copying) (cs : 
     more = [];
     split = had.split ∙ sym (append-nil (bodies ++ had.more));
     staged = ready;
-    second = leaves_now d old new (BeginsWith second_header) keeps_second counts (d.content new) reads;
+    second =
+        leaves_now d old new (BeginsWith second_header) keeps_second counts (d.content new) reads;
     read = had.read;
     counted = same ∙ had.counted;
     moments = committed_moments;

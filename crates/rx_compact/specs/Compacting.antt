@@ -20,8 +20,8 @@ pub record IsEmptyDisk {D : Type 0} (d : Ghosts D) (disk : D) : Type 0 where
   pub content : d.content disk ≡ []
   pub images : (c : List ℕ) → d.image disk c → length c ≤ shortest
 
--- A call was to write the copy of a world, whose journal has so many bytes, into a file that may not
--- be empty, wherever it ended.
+-- A call was to write the copy of a world, whose journal has so many bytes, into a file that may
+-- not be empty, wherever it ended.
 pub record Fills {D : Type 0} (d : Ghosts D) (old new : D) (w : World) (bytes limit : ℕ)
     (result : Result Compacted CompactFault) : Type 0 where
   pub copied : d.tells → AreTokened w

@@ -18,8 +18,8 @@ use Rattle.rx_world.specs.declared.replication.Replication.{Replication}
 abbrev pub most_in_part : ℕ
 most_in_part = 100
 
--- at most so many parts of a list, each of the most that a part has, but for the last one, which has
--- what is left
+-- at most so many parts of a list, each of the most that a part has, but for the last one, which
+-- has what is left
 abbrev pub some_parts : {X : Type 0} → ℕ → List X → List (List X)
 some_parts zero xs = []
 some_parts (suc n) [] = []
@@ -62,8 +62,8 @@ known_by r (known ∷ more) = map (known_record r) (known ∷ more)
 abbrev pub known_records : Replication → List Content
 known_records r = known_by r (in_parts (values_of r.side.known))
 
--- All collections, all replications, the documents of each collection, what each fork knows, and the
--- epoch: the first four in the order of making.
+-- All collections, all replications, the documents of each collection, what each fork knows, and
+-- the epoch: the first four in the order of making.
 abbrev pub plan : World → List Content
 plan w =
     map (λ e. collection_record e.1) w.collections

@@ -34,9 +34,10 @@ IsFront cs c =
     × AllByRecursion IsRead front × StandsFor c (map content_bytes front)
     × (end_of (map content_bytes front) < 2 ^ 32) × BeginsWith second_header c)
 
--- These records are on a disk or to be written, in a file of the second version, and counted. At each
--- moment from the first on an image is a front of them.
-pub record HasWritten {D : Type 0} (d : Ghosts D) (first now : D) (copy : Copying) (cs : List Content)
+-- These records are on a disk or to be written, in a file of the second version, and counted. At
+-- each moment from the first on an image is a front of them.
+pub record HasWritten {
+    D : Type 0} (d : Ghosts D) (first now : D) (copy : Copying) (cs : List Content)
     : Type 0 where
   pub bodies : List (List ℕ)
   pub more : List (List ℕ)
@@ -82,9 +83,10 @@ pub record Adds {D : Type 0} (d : Ghosts D) (old new : D) (copy : Copying) (more
 
 -- ---- once it is written
 
--- the disk holds a copy of a world, and each image of it has the same records; these are counted, and
--- so are its bytes
-pub record IsCopied {D : Type 0} (d : Ghosts D) (disk : D) (w : World) (made : Copied) : Type 0 where
+-- the disk holds a copy of a world, and each image of it has the same records; these are counted,
+-- and so are its bytes
+pub record IsCopied {
+    D : Type 0} (d : Ghosts D) (disk : D) (w : World) (made : Copied) : Type 0 where
   pub content : IsLegalFile (d.content disk) (map content_bytes (plan w)) w
   pub images : ImagesStandFor d disk (map content_bytes (plan w))
   pub records : made.records ≡ length (plan w)

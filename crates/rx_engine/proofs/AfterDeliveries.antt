@@ -181,9 +181,11 @@ module _ (d : Deliver) (e : Engine) (b : Begun) (is : IsBegun d e b) where
           here = subst (λ (w : World). HasMasterHere w d.name) (sym world_then) next.here;
           none = none;
           good = subst (AllByRecursion (IsGoodFor m.play.playing.world d.name)) (sym kept_is)
-              (subst (λ (w : World). AllByRecursion (IsGoodFor w d.name) (delivered_by d begins).kept)
+              (subst
+              (λ (w : World). AllByRecursion (IsGoodFor w d.name) (delivered_by d begins).kept)
               (sym world_then) next.good);
-          remembers = subst (λ (w : World). AreRemembered w (by_bytes b.aside.remembered.asks.entries))
+          remembers =
+              subst (λ (w : World). AreRemembered w (by_bytes b.aside.remembered.asks.entries))
               (sym world_then)
               (remembered_delivered d begins good.made good.sound good.streamed is_open
               (by_bytes b.aside.remembered.asks.entries)

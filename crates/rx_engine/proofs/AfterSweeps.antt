@@ -34,7 +34,8 @@ module _ (v : Sweep) (s : Standing) (session : Session) (now : ℕ) (asks : List
       sessions
       ∙ ap (λ (n : ℕ). sweep (sweep_terms v.batch v.budget n s.kinds) v.steps s.session.world asks)
       moments
-      ∙ ap (sweep (sweep_terms v.batch v.budget s.session.moment s.kinds) v.steps s.session.world) same
+      ∙ ap (sweep (sweep_terms v.batch v.budget s.session.moment s.kinds) v.steps s.session.world)
+      same
 
 -- ---- a line that sweeps, or doesn't
 

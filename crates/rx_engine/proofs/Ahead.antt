@@ -117,7 +117,8 @@ module _ (e next : Engine) (due : List Emission) where
       }
 
 -- what is done within a session leaves what is remembered of requests
-asks_stay : (x : Done) (w : World) (asks : List (List ℕ × Asks)) → asks_kept (done_by x) w asks ≡ asks
+asks_stay : (x : Done) (w : World) (asks : List (List ℕ × Asks))
+    → asks_kept (done_by x) w asks ≡ asks
 asks_stay done.Nothing w asks = refl
 asks_stay (done.SetClock at) w asks = refl
 asks_stay (done.Write entry) w asks = refl

@@ -327,7 +327,8 @@ module _ {D : Type 0} (t : Terms) (batch : ℕ) (d : Ghosts D) (old : D) (first 
         ∙ joined_twice done c.records requests (request_made asked) es (as_list c.came) (tail later)
 
     -- after them
-    module _ (new : D) (then_play : Play) (session : then_play.playing ≡ written c.records play.playing)
+    module _ (new : D) (then_play : Play)
+        (session : then_play.playing ≡ written c.records play.playing)
         (limit : then_play.journal.limit ≡ play.journal.limit)
         (safe : d.tells → (bodies : List (List ℕ)) → IsPlayAt d now play bodies
         → IsCrashSafe d now new bodies (bodies_of c.records) play.journal.limit (IsPlayAt d new)
@@ -409,7 +410,8 @@ module _ {D : Type 0} (t : Terms) (batch : ℕ) (d : Ghosts D) (old : D) (first 
         let hears : Hears (request_text schema x.0.request) (line l) wire wire' =
         subst (λ (h : Heard). Hears (request_text schema x.0.request) h wire wire') is
         (x.2 schema (same ∙ at)) in
-        subst (λ (texts : List (List ℕ)). HasHeard texts (map (λ l. line l) (lines ++ l ∷ [])) wire')
+        subst (λ (texts : List (List ℕ)).
+        HasHeard texts (map (λ l. line l) (lines ++ l ∷ [])) wire')
         (texts_then schema x.0 x.1)
         (subst (λ (hs : List Heard).
         HasHeard (texts_of schema requests ++ request_text schema x.0.request ∷ []) hs wire')
@@ -638,7 +640,8 @@ module _ {D : Type 0} (t : Terms) (batch : ℕ) (d : Ghosts D) (old : D) (first 
       kept = on.kept;
       whole = λ later. on.whole later
           ∙ ap (λ (n : ℕ). joined on.done on.requests es
-          (remote_turn t batch n later play.playing.world a)) (none_left on.left i budget on.span past);
+          (remote_turn t batch n later play.playing.world a))
+          (none_left on.left i budget on.span past);
       over = record {
         each = on.each ∙ sym (length-map on.lines (λ l. line l));
         got = lines_got on.lines;
@@ -673,7 +676,8 @@ module _ {D : Type 0} (t : Terms) (batch : ℕ) (d : Ghosts D) (old : D) (first 
   }
 
   -- the turn is made, and its records are on the disk
-  pub call_made : {b : Bool} (now : D) (play : Play) (a : Asks) (es : List Exchanged) (end : TurnEnd)
+  pub call_made : {b : Bool} (now : D) (play : Play) (a : Asks) (es : List Exchanged)
+      (end : TurnEnd)
       (wire : WireStanding) → IsCallOver now play a es end wire
       → TurnsRemotely d old now first.journal.limit (IsPlayAt d old first)
       (λ (m : Made). IsPlayAt d now m.play) total (IsRemoteMade first.playing a)
@@ -705,7 +709,8 @@ module _ {D : Type 0} (t : Terms) (batch : ℕ) (d : Ghosts D) (old : D) (first 
         ∙ ap (λ (u : RemoteTurned). u.turned.records) (sym (over.whole later)))
         (answered d old now bodies (bodies_of over.done) first.journal.limit (IsPlayAt d now)
         (λ (m : Made). IsPlayAt d now m.play) play
-        (record { play = play; exchanges = es; ended = end; pulled = b }) (over.kept.safe told bodies at)
+        (record { play = play; exchanges = es; ended = end; pulled = b })
+        (over.kept.safe told bodies at)
         (λ held. held));
     asked = λ other later. (
       [],

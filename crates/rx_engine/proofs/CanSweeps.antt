@@ -93,7 +93,8 @@ swept_by kinds name batch budget s v is = found (collection_at name s) is
 
     checked : (b : Bool) → list_all (is_handled kinds s.world) steps ≡ b
         → ((demand b (Refused NoHandler) >> λ _.
-        Ok (record { steps = steps; batch = batch; budget = budget })) >> λ (v : ToSweep). Ok (sweeps v))
+        Ok (record { steps = steps; batch = batch; budget = budget })) >> λ (v : ToSweep).
+        Ok (sweeps v))
         ≡ Ok (sweeps v) → IsSweptAt kinds name s v
     checked true all is = record {
       steps = let same : v ≡ record { steps = steps; batch = batch; budget = budget } = cc in
@@ -104,7 +105,8 @@ swept_by kinds name batch budget s v is = found (collection_at name s) is
 
     found : (r : Result Held Fault)
         → ((r >> λ _. demand (list_all (is_handled kinds s.world) steps) (Refused NoHandler) >> λ _.
-        Ok (record { steps = steps; batch = batch; budget = budget })) >> λ (v : ToSweep). Ok (sweeps v))
+        Ok (record { steps = steps; batch = batch; budget = budget })) >> λ (v : ToSweep).
+        Ok (sweeps v))
         ≡ Ok (sweeps v) → IsSweptAt kinds name s v
     found (Ok c) is = checked (list_all (is_handled kinds s.world) steps) refl is
     found (Err fault) is = absurd (cc)
@@ -135,7 +137,8 @@ no_turn_line_sweep (Err fault) name batch budget link v is = cc
 
 sweep_ask : (kinds : Kinds) (ask : Asked) (s : Session) (v : ToSweep)
     → asked_task kinds ask s ≡ Ok (sweeps v) → IsSwept kinds s v
-sweep_ask kinds (Deliver name link) s v is = absurd (no_delivery_sweep (stream_at name s) (deliver_over name link) v is)
+sweep_ask kinds (Deliver name link) s v is =
+    absurd (no_delivery_sweep (stream_at name s) (deliver_over name link) v is)
 sweep_ask kinds (Turn name batch budget link) s v is =
     absurd (no_turn_line_sweep (turned_at kinds name s) name batch budget link v is)
 sweep_ask kinds (Collection name schema) s v is = absurd (no_outcome_sweep _ v is)

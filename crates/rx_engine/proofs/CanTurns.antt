@@ -102,15 +102,18 @@ can_by : (kinds : Kinds) (name : List ℕ) (batch budget : ℕ) (link : Option (
     (s : Session) (u : ToTurn) → turn_line kinds name batch budget link s ≡ Ok (turns u)
     → CanTurn kinds s u.name
 can_by kinds name batch budget link s u is =
-    let a = then_is (turned_at kinds name s) (λ r. turn_to r.master name batch budget link) (turns u)
+    let a = then_is (turned_at kinds name s)
+    (λ r. turn_to r.master name batch budget link) (turns u)
     is in
-    here_by kinds name batch budget link s a.0 (turned_so kinds name s a.0 a.1) a.0.master refl u a.2
+    here_by kinds name batch budget link s a.0
+    (turned_so kinds name s a.0 a.1) a.0.master refl u a.2
 
 call_by : (kinds : Kinds) (name : List ℕ) (batch budget : ℕ) (link : Option (List Happening))
     (s : Session) (c : ToCall) → turn_line kinds name batch budget link s ≡ Ok (calls c)
     → CanCall kinds s c.name
 call_by kinds name batch budget link s c is =
-    let a = then_is (turned_at kinds name s) (λ r. turn_to r.master name batch budget link) (calls c)
+    let a = then_is (turned_at kinds name s)
+    (λ r. turn_to r.master name batch budget link) (calls c)
     is in
     there_by kinds name batch budget link s a.0 (turned_so kinds name s a.0 a.1) a.0.master refl c
     a.2
@@ -139,11 +142,13 @@ no_call_delivery (Ok st) d c is = cc
 no_call_delivery (Err fault) d c is = cc
 
 -- nor is a sweep
-no_turn_sweep : (r : Result ToSweep Fault) (u : ToTurn) → (r >> λ v. Ok (sweeps v)) ≡ Ok (turns u) → ⊥
+no_turn_sweep : (r : Result ToSweep Fault) (u : ToTurn) → (r >> λ v. Ok (sweeps v)) ≡ Ok (turns u)
+    → ⊥
 no_turn_sweep (Ok v) u is = cc
 no_turn_sweep (Err fault) u is = cc
 
-no_call_sweep : (r : Result ToSweep Fault) (c : ToCall) → (r >> λ v. Ok (sweeps v)) ≡ Ok (calls c) → ⊥
+no_call_sweep : (r : Result ToSweep Fault) (c : ToCall) → (r >> λ v. Ok (sweeps v)) ≡ Ok (calls c)
+    → ⊥
 no_call_sweep (Ok v) c is = cc
 no_call_sweep (Err fault) c is = cc
 
@@ -166,9 +171,11 @@ can_ask kinds (Observe name coll query) s u is = absurd (no_outcome _ u is)
 can_ask kinds (Unobserve name) s u is = absurd (no_outcome _ u is)
 can_ask kinds (Explain name) s u is = absurd (no_outcome _ u is)
 can_ask kinds (Replicate name fork master handler field) s u is = absurd (no_outcome _ u is)
-can_ask kinds (Sweep name batch budget) s u is = absurd (no_turn_sweep (swept_at kinds name batch budget s) u is)
+can_ask kinds (Sweep name batch budget) s u is =
+    absurd (no_turn_sweep (swept_at kinds name batch budget s) u is)
 can_ask kinds (Stream name) s u is = absurd (no_outcome _ u is)
-can_ask kinds (Deliver name link) s u is = absurd (no_outcome_delivery (stream_at name s) (deliver_over name link) u is)
+can_ask kinds (Deliver name link) s u is =
+    absurd (no_outcome_delivery (stream_at name s) (deliver_over name link) u is)
 can_ask kinds (Unstream name) s u is = absurd (no_outcome _ u is)
 can_ask kinds (Changes coll since batch) s u is = absurd (no_outcome _ u is)
 can_ask kinds (Tick at) s u is = absurd (no_outcome (asked_outcome kinds (Tick at) s) u is)
@@ -194,9 +201,11 @@ call_ask kinds (Observe name coll query) s c is = absurd (no_call _ c is)
 call_ask kinds (Unobserve name) s c is = absurd (no_call _ c is)
 call_ask kinds (Explain name) s c is = absurd (no_call _ c is)
 call_ask kinds (Replicate name fork master handler field) s c is = absurd (no_call _ c is)
-call_ask kinds (Sweep name batch budget) s c is = absurd (no_call_sweep (swept_at kinds name batch budget s) c is)
+call_ask kinds (Sweep name batch budget) s c is =
+    absurd (no_call_sweep (swept_at kinds name batch budget s) c is)
 call_ask kinds (Stream name) s c is = absurd (no_call _ c is)
-call_ask kinds (Deliver name link) s c is = absurd (no_call_delivery (stream_at name s) (deliver_over name link) c is)
+call_ask kinds (Deliver name link) s c is =
+    absurd (no_call_delivery (stream_at name s) (deliver_over name link) c is)
 call_ask kinds (Unstream name) s c is = absurd (no_call _ c is)
 call_ask kinds (Changes coll since batch) s c is = absurd (no_call _ c is)
 call_ask kinds (Tick at) s c is = absurd (no_call (asked_outcome kinds (Tick at) s) c is)
@@ -263,13 +272,16 @@ no_turn_line (Err fault) name batch budget link d is = cc
 deliver_by : (name : List ℕ) (link : Option (List Delivery)) (s : Session) (d : ToDeliver)
     → deliver_line name link s ≡ Ok (delivers d) → IsSome (stream_of d.name s)
 deliver_by name link s d is =
-    let at = then_is (stream_at name s) (λ st. Ok (delivers (deliver_over name link))) (delivers d) is in
-    let r = then_is (replication_at name s) (λ r. or_fault (Refused NoStream) (stream_of name s)) at.0 at.1 in
+    let at = then_is (stream_at name s) (λ st. Ok (delivers (deliver_over name link)))
+    (delivers d) is in
+    let r = then_is (replication_at name s)
+    (λ r. or_fault (Refused NoStream) (stream_of name s)) at.0 at.1 in
     let same : deliver_over name link ≡ d = let x = at.2 in cc in
     subst (λ (n : List ℕ). IsSome (stream_of n s)) (ap (λ (x : ToDeliver). x.name) same)
     (some_of_fault (stream_of name s) at.0 r.2)
   where
-    some_of_fault : {A : Type 0} (o : Option A) (x : A) → or_fault (Refused NoStream) o ≡ Ok x → IsSome o
+    some_of_fault : {A : Type 0} (o : Option A) (x : A) → or_fault (Refused NoStream) o ≡ Ok x
+        → IsSome o
     some_of_fault (Some y) x is = refl
     some_of_fault None x is = absurd (cc)
 
@@ -293,12 +305,15 @@ deliver_ask kinds (Count coll query) s d is = absurd (no_outcome_deliver _ d is)
 deliver_ask kinds (Observe name coll query) s d is = absurd (no_outcome_deliver _ d is)
 deliver_ask kinds (Unobserve name) s d is = absurd (no_outcome_deliver _ d is)
 deliver_ask kinds (Explain name) s d is = absurd (no_outcome_deliver _ d is)
-deliver_ask kinds (Replicate name fork master handler field) s d is = absurd (no_outcome_deliver _ d is)
-deliver_ask kinds (Sweep name batch budget) s d is = absurd (no_sweep_deliver (swept_at kinds name batch budget s) d is)
+deliver_ask kinds (Replicate name fork master handler field) s d is =
+    absurd (no_outcome_deliver _ d is)
+deliver_ask kinds (Sweep name batch budget) s d is =
+    absurd (no_sweep_deliver (swept_at kinds name batch budget s) d is)
 deliver_ask kinds (Stream name) s d is = absurd (no_outcome_deliver _ d is)
 deliver_ask kinds (Unstream name) s d is = absurd (no_outcome_deliver _ d is)
 deliver_ask kinds (Changes coll since batch) s d is = absurd (no_outcome_deliver _ d is)
-deliver_ask kinds (Tick at) s d is = absurd (no_outcome_deliver (asked_outcome kinds (Tick at) s) d is)
+deliver_ask kinds (Tick at) s d is =
+    absurd (no_outcome_deliver (asked_outcome kinds (Tick at) s) d is)
 deliver_ask kinds Restart s d is = absurd (no_outcome_deliver (asked_outcome kinds Restart s) d is)
 deliver_ask kinds (Digest coll) s d is = absurd (no_outcome_deliver _ d is)
 

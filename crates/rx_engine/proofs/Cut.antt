@@ -22,9 +22,11 @@ too_long line long =
     (lt-leb (length line) max_line_bytes long)
 
 -- a front that is too long reads as the line does
-same_when_long : (k : ℕ) → max_line_bytes < k → (line : List ℕ) → line_of (take k line) ≡ line_of line
+same_when_long : (k : ℕ) → max_line_bytes < k
+    → (line : List ℕ) → line_of (take k line) ≡ line_of line
 same_when_long k above line =
-    elim (leb (length line) k) as (λ b. leb (length line) k ≡ b → line_of (take k line) ≡ line_of line) [
+    elim (leb (length line) k)
+    as (λ b. leb (length line) k ≡ b → line_of (take k line) ≡ line_of line) [
       | true ↦ (λ is. ap line_of (take_all k line (leb-true (length line) k is)))
       | false ↦ (λ is.
           let long = leb-false (length line) k is in

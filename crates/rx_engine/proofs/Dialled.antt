@@ -74,7 +74,8 @@ module _ {D : Type 0} (d : Ghosts D) (disk : D)
       → TurnsRemotely d disk disk play.journal.limit (IsPlayAt d disk play)
       (λ (m : Made). IsPlayAt d disk m.play)
       (λ heard. remote_turn t batch budget heard play.playing.world a)
-      (IsRemoteMade play.playing b) (IsDialledBy tells play.playing.world t.name dial dial') (Ok made)
+      (IsRemoteMade play.playing b)
+      (IsDialledBy tells play.playing.world t.name dial dial') (Ok made)
   missed_so made is some rises broken talks =
       let whole : (later : List Heard)
       → remote_turn t batch budget (no_dial ∷ later) play.playing.world a

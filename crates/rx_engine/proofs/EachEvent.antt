@@ -233,7 +233,8 @@ lifted_ok P f (Ok x) is = is
 lifted_ok P f (Err e) is = tt
 
 module _ (name k : List ℕ) (other : k ≢ name) (now : ℕ) where
-  apart_by : (e : Event) (r : Replication) (fork : Held) → IfOk (event_by k now e r fork) (AreApart name)
+  apart_by : (e : Event) (r : Replication) (fork : Held)
+      → IfOk (event_by k now e r fork) (AreApart name)
   apart_by e r fork =
       let plan = page_plan fork.documents r.side e.states (Some e.place) in
       let due = length (pending fork.documents r.side.known) in
@@ -283,6 +284,7 @@ module _ (name k : List ℕ) (other : k ≢ name) (now : ℕ) where
   apart_delivered i ls (e ∷ es) w =
       let d = one_delivered k now i (next_delivery ls) e w in
       let v = world_after d.records w in
-      each_both (IsApart name) d.records (delivered k now (i + 1) (later_deliveries ls) es v).records
+      each_both (IsApart name) d.records
+      (delivered k now (i + 1) (later_deliveries ls) es v).records
       (apart_one i (next_delivery ls) e w)
       (apart_delivered (i + 1) (later_deliveries ls) es v)

@@ -29,12 +29,16 @@ use Rattle.rx_engine.specs.Outcome.{Outcome}
 module _ (G : List ℕ → Bool) where
   -- with one behind them
   names_step : (cs : Collections) (i : ℕ) (e : List ℕ × Held) → slice_get cs i ≡ Some e
-      → names_of_group G (take (suc i) cs) ≡ names_of_group G (take i cs) ++ names_of_group G (e ∷ [])
+      → names_of_group G (take (suc i) cs)
+      ≡ names_of_group G (take i cs) ++ names_of_group G (e ∷ [])
   names_step [] i e at = not_none at
-  names_step (c ∷ cs) zero e at = ap (λ (x : List ℕ × Held). names_of_group G (x ∷ [])) (some_same at)
+  names_step (c ∷ cs) zero e at =
+      ap (λ (x : List ℕ × Held). names_of_group G (x ∷ [])) (some_same at)
   names_step (c ∷ cs) (suc i) e at =
-      elim (G c.0) as (λ b. map (λ (x : List ℕ × Held). x.0) (cond b (c ∷ filter (λ x. G x.0) (take (suc i) cs)) (filter (λ x. G x.0) (take (suc i) cs)))
-      ≡ map (λ (x : List ℕ × Held). x.0) (cond b (c ∷ filter (λ x. G x.0) (take i cs)) (filter (λ x. G x.0) (take i cs))) ++ names_of_group G (e ∷ [])) [
+      elim (G c.0) as (λ b. map (λ (x : List ℕ × Held). x.0)
+      (cond b (c ∷ filter (λ x. G x.0) (take (suc i) cs)) (filter (λ x. G x.0) (take (suc i) cs)))
+      ≡ map (λ (x : List ℕ × Held). x.0) (cond b (c ∷ filter (λ x. G x.0) (take i cs))
+      (filter (λ x. G x.0) (take i cs))) ++ names_of_group G (e ∷ [])) [
         | true ↦ ap (λ ns. c.0 ∷ ns) (names_step cs i e at)
         | false ↦ names_step cs i e at
       ]
@@ -45,7 +49,8 @@ module _ (G : List ℕ → Bool) where
       → new ≡ names_of_group G (take (suc i) cs)
   next_name cs i old new within is added =
       let e = entry_at cs i within in
-      added e.0 e.1 ∙ ap (λ ns. ns ++ names_of_group G (e.0 ∷ [])) is ∙ sym (names_step cs i e.0 e.1)
+      added e.0 e.1 ∙ ap (λ ns. ns ++ names_of_group G (e.0 ∷ [])) is
+      ∙ sym (names_step cs i e.0 e.1)
 
 -- ---- queries
 
@@ -75,18 +80,24 @@ pub may_migrate_it : (coll : List ℕ) (c : Content) (s : Session) → legal c s
     → Migrates coll c → first_observed (is_in_group s.world.replications coll) s.queries ≡ None
     → MayDo (migrate c) s
 may_migrate_it coll c s may is none =
-    subst (λ (x : Content). (legal x s.world ≡ true) × IsMigration x × IsUnobserved (touch x s.world) s.queries)
-    (sym is.2)
-    (subst (λ (x : Content). legal x s.world ≡ true) is.2 may, tt, none_observed coll is.0 is.1 s none)
+    subst (λ (x : Content).
+    (legal x s.world ≡ true) × IsMigration x × IsUnobserved (touch x s.world) s.queries)
+    (sym is.2) (
+      subst (λ (x : Content). legal x s.world ≡ true) is.2 may,
+      tt,
+      none_observed coll is.0 is.1 s none,
+    )
 
 -- ---- what is planned
 
 -- the record is that of its collection
-pub migrates_it : (coll : List ℕ) (shape : Shape) (steps : List Step) (held : Held) (w : World) (c : Content)
+pub migrates_it : (coll : List ℕ) (shape : Shape) (steps : List Step) (held : Held)
+    (w : World) (c : Content)
     → migration_of coll shape steps held w ≡ Ok c → Migrates coll c
 migrates_it coll shape steps held w c is =
     (elim (group_fits (is_in_group w.replications coll) shape steps held w)
-    as (λ (r : Result ⊤ MigrateFault). (r >> λ _. Ok (migration coll (canonical_text shape) steps)) ≡ Ok c → Migrates coll c) [
+    as (λ (r : Result ⊤ MigrateFault).
+    (r >> λ _. Ok (migration coll (canonical_text shape) steps)) ≡ Ok c → Migrates coll c) [
       | Ok x ↦ (λ at. (canonical_text shape, steps, cc))
       | Err e ↦ (λ at. absurd (cc))
     ]) is
@@ -101,16 +112,19 @@ written coll c s = record {
 
 -- a query is observed
 pub observed_is : (coll : List ℕ) (c : Content) (s : Session) (name : List ℕ) (e : Fault)
-    → Some name ≡ first_observed (is_in_group s.world.replications coll) s.queries → e ≡ of_observed name
+    → Some name ≡ first_observed (is_in_group s.world.replications coll) s.queries
+    → e ≡ of_observed name
     → unless_observed coll c s ≡ Err e
 observed_is coll c s name e at is =
-    ap (λ (o : Option (List ℕ)). unless of_observed o (Ok (written coll c s))) (sym at) ∙ ap (λ x. Err x) (sym is)
+    ap (λ (o : Option (List ℕ)). unless of_observed o (Ok (written coll c s))) (sym at)
+    ∙ ap (λ x. Err x) (sym is)
 
 -- none is
 pub unobserved_is : (coll : List ℕ) (c : Content) (s : Session)
     → None ≡ first_observed (is_in_group s.world.replications coll) s.queries
     → unless_observed coll c s ≡ Ok (written coll c s)
-unobserved_is coll c s at = ap (λ (o : Option (List ℕ)). unless of_observed o (Ok (written coll c s))) (sym at)
+unobserved_is coll c s at =
+    ap (λ (o : Option (List ℕ)). unless of_observed o (Ok (written coll c s))) (sym at)
 
 -- one refusal after another
 pub refused_then : (r : Result Content Fault) (f : Content → Result Outcome Fault) (m e : Fault)

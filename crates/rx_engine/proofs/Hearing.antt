@@ -54,22 +54,26 @@ module _ {D : Type 0} (d : Ghosts D) (tells : Type 0) (kinds : Kinds) (number : 
   pub shown_printed : (o : Outcome) → to_do ≡ answered o → dial' ≡ dial
       → IsShownBy tells to_do (standing []) dial dial' [] (IsOk r)
   shown_printed o is same =
-      subst (λ (t : Task). IsShownBy tells t (standing []) dial dial' [] (IsOk r)) (sym is) (refl, same)
+      subst (λ (t : Task). IsShownBy tells t (standing []) dial dial' [] (IsOk r))
+      (sym is) (refl, same)
 
   pub shown_turn : (u : ToTurn) → to_do ≡ turns u → dial' ≡ dial
       → IsShownBy tells to_do (standing []) dial dial' [] (IsOk r)
   shown_turn u is same =
-      subst (λ (t : Task). IsShownBy tells t (standing []) dial dial' [] (IsOk r)) (sym is) (refl, same)
+      subst (λ (t : Task). IsShownBy tells t (standing []) dial dial' [] (IsOk r))
+      (sym is) (refl, same)
 
   pub shown_sweep : (v : Sweep) → to_do ≡ sweeps v → dial' ≡ dial
       → IsShownBy tells to_do (standing []) dial dial' [] (IsOk r)
   shown_sweep v is same =
-      subst (λ (t : Task). IsShownBy tells t (standing []) dial dial' [] (IsOk r)) (sym is) (refl, same)
+      subst (λ (t : Task). IsShownBy tells t (standing []) dial dial' [] (IsOk r))
+      (sym is) (refl, same)
 
   pub shown_delivery : (u : Deliver) → to_do ≡ delivers u → dial' ≡ dial
       → IsShownBy tells to_do (standing []) dial dial' [] (IsOk r)
   shown_delivery u is same =
-      subst (λ (t : Task). IsShownBy tells t (standing []) dial dial' [] (IsOk r)) (sym is) (refl, same)
+      subst (λ (t : Task). IsShownBy tells t (standing []) dial dial' [] (IsOk r))
+      (sym is) (refl, same)
 
   -- it made one
   module _ (c : Call) (is : to_do ≡ calls c)
@@ -108,7 +112,8 @@ module _ {D : Type 0} (d : Ghosts D) (tells : Type 0) (kinds : Kinds) (number : 
           subst (λ (m : Meaning). IsCrashSafe d old new bodies (bodies_of m.records) (limit_of e)
           (λ p. IsAt d new p.0) r) (here later) (made.safe later told bodies at);
       shown = λ other.
-          subst (λ (t : Task). IsShownBy tells t (standing []) dial dial' made.heard (IsOk r)) (sym is)
+          subst (λ (t : Task). IsShownBy tells t (standing []) dial dial' made.heard (IsOk r))
+          (sym is)
           (record {
             requests = made.requests;
             made = λ later. made.asked other later;

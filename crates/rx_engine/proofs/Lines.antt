@@ -27,7 +27,8 @@ module _ (coll : List ℕ) (d : Data) (s : Session) (c : Held) (q : QuerySpec) (
       ∙ ap (λ (r : Result QuerySpec Fault). r >> λ q. does c q) asked ∙ is
 
   -- the rows are found
-  pub found_line : (rows : List Pairs) → rows ≡ rows_found q c.documents → o ≡ answer_alone (find rows)
+  pub found_line : (rows : List Pairs) → rows ≡ rows_found q c.documents
+      → o ≡ answer_alone (find rows)
       → find_line coll d s ≡ Ok o
   found_line rows are is =
       let says : List Pairs → Result Outcome Fault = λ rows. Ok (answer_alone (find rows)) in
@@ -59,8 +60,10 @@ pub listed_line : (coll : List ℕ) (asked : Option Since) (batch : ℕ) (s : Se
     → o ≡ answer_alone (changes (states_of docs) place) → changes_line coll asked batch s ≡ Ok o
 listed_line coll asked batch s c o docs place at are up is =
     let from : Option Place = option_map place_named asked in
-    let lists : List Stored → Result Outcome Fault = λ page. Ok (answer_alone (changes_answer from page)) in
-    let says : List State → Option Place → Result Outcome Fault = λ ss p. Ok (answer_alone (changes ss p)) in
+    let lists : List Stored → Result Outcome Fault =
+    λ page. Ok (answer_alone (changes_answer from page)) in
+    let says : List State → Option Place → Result Outcome Fault =
+    λ ss p. Ok (answer_alone (changes ss p)) in
     let does : Outcome → Result Outcome Fault = λ o. Ok o in
     ap (λ (r : Result Held Fault). r >> λ c. lists (since c.documents from batch)) at
     ∙ ap lists (sym are)

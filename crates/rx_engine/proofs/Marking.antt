@@ -236,11 +236,13 @@ marked_put w marks but mark others here name lwt at =
 
 -- after what a line does within a session, but a turn
 pub marked_doing : (d : Doing) (s : Session) (marks : List (List ℕ × Option ℕ)) → IsInSession d
-    → MayDo d s → WritesNoExchange d → AreMarked s.world marks → AreMarked (doing.session_after d s).world marks
+    → MayDo d s → WritesNoExchange d → AreMarked s.world marks
+    → AreMarked (doing.session_after d s).world marks
 marked_doing nothing s marks inside may plain all = all
 marked_doing (set_clock at) s marks inside may plain all = all
 marked_doing (write c) s marks inside may plain all = λ name lwt at.
-    marked_after (c ∷ []) s.world name lwt (record { lawful = may.0; ordered = may.1; no_migration = may.2 }, tt)
+    marked_after (c ∷ []) s.world name lwt
+    (record { lawful = may.0; ordered = may.1; no_migration = may.2 }, tt)
     (plain_apart name c plain, tt) (all name lwt at)
 marked_doing (migrate c) s marks inside may plain all = absurd inside
 marked_doing (watch name coll q) s marks inside may plain all = all

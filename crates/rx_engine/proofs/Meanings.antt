@@ -442,7 +442,8 @@ module _ (number : ℕ) (line : List ℕ) (s : Standing) (v : ToSweep)
     in_time = λ t at. absurd (cc);
   }
 
-  pub sweep_no_delivery : (r : Result (Engine × Output) Stop) → IfOk r (λ x. LevelIsEqual line s x.0)
+  pub sweep_no_delivery : (r : Result (Engine × Output) Stop)
+      → IfOk r (λ x. LevelIsEqual line s x.0)
   sweep_no_delivery (Err stop) = tt
   sweep_no_delivery (Ok x) = λ d at level. absurd (cc)
 
@@ -470,12 +471,15 @@ delivered_so number d s m e o made here text emitted refused end =
           (ap (λ (x : Engine). session_of x) here ∙ made.session)
           (ap (λ (x : Engine). asks_in x) here ∙ made.asks);
       reply = text
-          ∙ ap (λ (gs : List Given). answer_lines number (deliver gs m.level m.resync) ++ due) made.given
-          ∙ ap (λ (b : Bool). answer_lines number (deliver (delivered_by d s.session).given b m.resync)
+          ∙ ap (λ (gs : List Given). answer_lines number (deliver gs m.level m.resync) ++ due)
+          made.given
+          ∙ ap (λ (b : Bool).
+          answer_lines number (deliver (delivered_by d s.session).given b m.resync)
           ++ due) made.level
           ∙ ap (λ (b : Bool). answer_lines number (deliver (delivered_by d s.session).given level b)
           ++ due) made.resync
-          ∙ ap (λ (es : List Emission). answer_lines number (deliver (delivered_by d s.session).given
+          ∙ ap (λ (es : List Emission).
+          answer_lines number (deliver (delivered_by d s.session).given
           level (is_resync (has_lost d.name s.session) (delivered_by d s.session).given))
           ++ lines_of es) made.due;
       emissions = emitted ∙ ap (λ (es : List Emission). length es) made.due;
@@ -522,7 +526,8 @@ module _ (number : ℕ) (line : List ℕ) (s : Standing) (d : ToDeliver)
       subst (λ (e : ToDeliver). IsLevel (session_of x.0).world e.name) same
       (subst (λ (w : World). IsLevel w d.name) (sym then)
       (equal (ap (λ (e : ToDeliver).
-      is_level (world_after (delivered_by e s.session).records s.session.world) e.name) same ∙ level)))
+      is_level (world_after (delivered_by e s.session).records s.session.world) e.name) same
+      ∙ level)))
 
   -- it isn't idle
   pub delivering_so : IsIdleTask (task s.kinds line s.session) → ⊥

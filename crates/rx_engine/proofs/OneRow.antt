@@ -33,7 +33,8 @@ rows_made (Some lwt) coll row made is =
     let same : rows coll lwt (row ∷ []) ≡ made = cc in ap rows_in (sym same)
 
 -- that of one state has one row, of the next height of its key
-pub one_row : (coll : List ℕ) (s : State) (now : ℕ) (c : Held) (made : Content) (states : List State)
+pub one_row : (coll : List ℕ) (s : State) (now : ℕ) (c : Held) (made : Content)
+    (states : List State)
     → states ≡ s ∷ [] → commit_to coll states now c ≡ Some made
     → rows_in made ≡ record { height = next_height (named c.documents s.key); state = s } ∷ []
 one_row coll s now c made states one is =
@@ -56,7 +57,8 @@ no_other _ row is other = cc
 -- ---- a line that writes one state
 
 module _ (coll : List ℕ) (reads : Held → Result State Fault) (answer : List ℕ → Answer)
-    (s : Session) (c : Held) (state : State) (at : collection_at coll s ≡ Ok c) (called : c.name ≡ coll)
+    (s : Session) (c : Held) (state : State) (at : collection_at coll s ≡ Ok c)
+    (called : c.name ≡ coll)
     (read : reads c ≡ Ok state) where
   abbrev one_state : Result Outcome Fault
   one_state = collection_at coll s >> λ c. reads c >> λ state. commit_one coll answer c state s

@@ -35,17 +35,21 @@ pub begun_safely : {D A : Type 0} (d : Ghosts D) (old mid new : D) (journal : Jo
     (bodies : List (List ℕ)) (w : World) (n limit : ℕ) (P : A → List (List ℕ) → Type 0) (x : A)
     (r : Result Journal Stop) → IsCrashSafe d old mid bodies [] limit P (Ok x)
     → Holds d mid journal (bodies ++ []) w → journal.limit ≡ limit → n ≡ w.epoch + 1
-    → (legal (epoch n) w ≡ true → IsCrashSafe d mid new (bodies ++ []) (content_bytes (epoch n) ∷ [])
+    → (legal (epoch n) w ≡ true
+    → IsCrashSafe d mid new (bodies ++ []) (content_bytes (epoch n) ∷ [])
     journal.limit (λ kept all. Holds d new kept all (step (epoch n) w)) r)
     → IsCrashSafe d old new bodies (epoch_body w ∷ []) limit
     (λ kept all. Holds d new kept all (next_epoch w)) r
 begun_safely d old mid new journal bodies w n limit P x r opened holds limits is kept =
     let fits : legal (epoch n) w ≡ true = ap (λ (k : ℕ). legal (epoch k) w) is ∙ epoch_legal w in
-    let here = subst (λ (l : ℕ). IsCrashSafe d mid new (bodies ++ []) (content_bytes (epoch n) ∷ []) l
+    let here =
+    subst (λ (l : ℕ). IsCrashSafe d mid new (bodies ++ []) (content_bytes (epoch n) ∷ []) l
     (λ kept all. Holds d new kept all (step (epoch n) w)) r) limits (kept fits) in
-    let next = subst (λ (k : ℕ). IsCrashSafe d mid new (bodies ++ []) (content_bytes (epoch k) ∷ []) limit
+    let next =
+    subst (λ (k : ℕ). IsCrashSafe d mid new (bodies ++ []) (content_bytes (epoch k) ∷ []) limit
     (λ kept all. Holds d new kept all (step (epoch k) w)) r) is here in
-    then d old mid new bodies [] (epoch_body w ∷ []) limit P (λ kept all. Holds d new kept all (next_epoch w))
+    then d old mid new bodies [] (epoch_body w ∷ []) limit P
+    (λ kept all. Holds d new kept all (next_epoch w))
     x r opened (held_alike d mid journal (bodies ++ []) w holds) next
 
 -- the record of the next epoch, by any number that is the next one
@@ -54,7 +58,8 @@ pub by_number : {D A : Type 0} (d : Ghosts D) (old new : D) (bodies : List (List
     → IsCrashSafe d old new bodies (epoch_body w ∷ []) limit P r
     → IsCrashSafe d old new bodies (content_bytes (epoch n) ∷ []) limit P r
 by_number d old new bodies w n limit is P r safe =
-    subst (λ (k : ℕ). IsCrashSafe d old new bodies (content_bytes (epoch k) ∷ []) limit P r) (sym is) safe
+    subst (λ (k : ℕ). IsCrashSafe d old new bodies (content_bytes (epoch k) ∷ []) limit P r)
+    (sym is) safe
 
 -- ---- nothing was done yet
 

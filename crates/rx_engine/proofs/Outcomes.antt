@@ -233,9 +233,11 @@ module _ (coll : List ℕ) (schema : Data) (steps : List Step) (s : Session) whe
       (λ c. lifted of_schema (schema_of schema) >> λ shape. planned c shape)
       (λ c. after (lifted of_schema (schema_of schema)) (λ shape. planned c shape)
       (λ shape. after (lifted (of_migration coll) (migration_of coll shape steps c s.world))
-      (λ content. unless of_observed (first_observed (is_in_group s.world.replications coll) s.queries)
+      (λ content.
+      unless of_observed (first_observed (is_in_group s.world.replications coll) s.queries)
       (Ok (migrates content)))
-      (λ content. unless_plain (first_observed (is_in_group s.world.replications coll) s.queries) content)))
+      (λ content.
+      unless_plain (first_observed (is_in_group s.world.replications coll) s.queries) content)))
 
 -- a replication begins, once all that it needs was seen
 module _ (kinds : Kinds) (name fork : List ℕ) (master : MasterName) (handler : List ℕ)
@@ -418,7 +420,8 @@ no_turn (Ok r) name batch budget link o is =
     turn_no_outcome r.master name batch budget link o is
 no_turn (Err fault) name batch budget link o is = cc
 
-no_sweep : (r : Result ToSweep Fault) (o : Outcome) → (r >> λ v. Ok (sweeps v)) ≡ Ok (answered o) → ⊥
+no_sweep : (r : Result ToSweep Fault) (o : Outcome) → (r >> λ v. Ok (sweeps v)) ≡ Ok (answered o)
+    → ⊥
 no_sweep (Ok v) o is = cc
 no_sweep (Err fault) o is = cc
 
@@ -447,7 +450,8 @@ answered_is kinds (Explain name) s o is = does_is _ o is
 answered_is kinds (Replicate name fork master handler field) s o is = does_is _ o is
 answered_is kinds (Turn name batch budget link) s o is =
     absurd (no_turn (turned_at kinds name s) name batch budget link o is)
-answered_is kinds (Sweep name batch budget) s o is = absurd (no_sweep (swept_at kinds name batch budget s) o is)
+answered_is kinds (Sweep name batch budget) s o is =
+    absurd (no_sweep (swept_at kinds name batch budget s) o is)
 answered_is kinds (Stream name) s o is = does_is _ o is
 answered_is kinds (Deliver name link) s o is =
     absurd (no_delivery (stream_at name s) (deliver_over name link) o is)

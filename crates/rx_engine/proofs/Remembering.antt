@@ -84,12 +84,14 @@ remembered_put w asks name a r fork at held lawful all =
     }) all
 
 -- after what a line does within a session
-pub remembered_doing : (d : Doing) (s : Session) (asks : List (List ℕ × Asks)) → IsInSession d → MayDo d s
+pub remembered_doing : (d : Doing) (s : Session) (asks : List (List ℕ × Asks)) → IsInSession d
+    → MayDo d s
     → AreRemembered s.world asks → AreRemembered (doing.session_after d s).world asks
 remembered_doing nothing s asks inside may all = all
 remembered_doing (set_clock at) s asks inside may all = all
 remembered_doing (write c) s asks inside may all =
-    remembered_after (c ∷ []) s.world asks (record { lawful = may.0; ordered = may.1; no_migration = may.2 }, tt) all
+    remembered_after (c ∷ []) s.world asks
+    (record { lawful = may.0; ordered = may.1; no_migration = may.2 }, tt) all
 remembered_doing (migrate c) s asks inside may all = absurd inside
 remembered_doing (watch name coll q) s asks inside may all = all
 remembered_doing (unwatch name) s asks inside may all = all

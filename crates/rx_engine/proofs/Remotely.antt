@@ -47,9 +47,11 @@ module _ {D A : Type 0} (d : Ghosts D) (old new : D) (limit : ℕ) (IsFirst : Li
         subst (λ (u : RemoteTurned). IsCrashSafe d old new bodies (bodies_of u.turned.records) limit
         IsThen' r) (same (is.heard ++ later)) (record {
           moments = s.moments;
-          at = if_ok r (λ x. IsThen x (bodies ++ bodies_of (turn (is.heard ++ later)).turned.records))
+          at = if_ok r
+              (λ x. IsThen x (bodies ++ bodies_of (turn (is.heard ++ later)).turned.records))
               (λ x. IsThen' x (bodies ++ bodies_of (turn (is.heard ++ later)).turned.records)) s.at
-              (λ x held. then x (bodies ++ bodies_of (turn (is.heard ++ later)).turned.records) held);
+              (λ x held.
+              then x (bodies ++ bodies_of (turn (is.heard ++ later)).turned.records) held);
           fits = s.fits;
           full = s.full;
           not_journal = s.not_journal;

@@ -11,7 +11,8 @@ use Rattle.rx_reply.specs.Emission.{rows_fields}
 use Rattle.rx_engine.specs.Queries.{rows_found}
 
 -- the fields of lent documents are those of their rows
-lent_fields : (docs : List (Bor Stored)) → rows_of docs ≡ rows_fields (map row_of (map (λ d. d.now) docs))
+lent_fields : (docs : List (Bor Stored))
+    → rows_of docs ≡ rows_fields (map row_of (map (λ d. d.now) docs))
 lent_fields [] = refl
 lent_fields (d ∷ ds) = ap (λ rows. d.now.state.fields ∷ rows) (lent_fields ds)
 

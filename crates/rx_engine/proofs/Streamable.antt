@@ -22,7 +22,8 @@ record HasReached (w : World) (r : Replication) (o : MasterName) (m : List ℕ) 
   pub held : named w.collections m ≡ Some documents
   pub reached : Reach documents.documents r.side.down
 
-reached_at : (w : World) (r : Replication) (fork : Held) (schema : Shape) (o : MasterName) (m : List ℕ)
+reached_at : (w : World) (r : Replication) (fork : Held) (schema : Shape)
+    (o : MasterName) (m : List ℕ)
     → HasMaster w.collections r.fork schema o → IsSoundWith w.collections o fork r.side
     → local_name o ≡ Some m → HasReached w r o m
 reached_at w r fork schema (Local n) m has sound is =

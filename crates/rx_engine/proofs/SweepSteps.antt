@@ -113,7 +113,8 @@ module _ (kinds : Kinds) (batch budget now : ℕ) (some : 1 ≤ batch) (p : Play
 
 -- ---- turns, one after another
 
-module _ (kinds : Kinds) (batch budget now : ℕ) (first : Play) (steps : List Step) (total : Swept) where
+module _ (kinds : Kinds) (batch budget now : ℕ) (first : Play) (steps : List Step)
+    (total : Swept) where
   abbrev rest_of : ℕ → Play → Remembered → Swept
   rest_of i p r =
       sweep (sweep_terms batch budget now kinds) (drop i steps) p.playing.world
@@ -192,12 +193,14 @@ module _ (kinds : Kinds) (batch budget now : ℕ) (first : Play) (steps : List S
       ended = tail.ended;
     }
     rest_is =
-        ap (λ (xs : List Step). sweep (sweep_terms batch budget now kinds) xs p.playing.world asks_now)
+        ap (λ (xs : List Step).
+        sweep (sweep_terms batch budget now kinds) xs p.playing.world asks_now)
         here
 
     module _ (q : Play) (made : SweptTurn) (then : Remembered)
         (stepped : IsStepped step made_turn p q made asks_now (by_bytes then.asks.entries))
-        (good : IsGoodPlay q then) (more : List SweptTurn) (pushed : more ≡ turns ++ made ∷ []) where
+        (good : IsGoodPlay q then) (more : List SweptTurn)
+        (pushed : more ≡ turns ++ made ∷ []) where
       ends_so : made.end ≡ made_turn.ended
       ends_so = ap (λ (x : SweptTurn). x.end) stepped.made_so
 
@@ -209,13 +212,15 @@ module _ (kinds : Kinds) (batch budget now : ℕ) (first : Play) (steps : List S
       swept_further quiet =
           let on : tail ≡ rest_of (i + 1) q then =
           ap (λ (e : TurnEnd). swept_on e then_asks behind) (sym ends_so ∙ quiet_is made.end quiet)
-          ∙ ap (λ (v : World). sweep (sweep_terms batch budget now kinds) (drop (i + 1) steps) v then_asks)
+          ∙ ap (λ (v : World).
+          sweep (sweep_terms batch budget now kinds) (drop (i + 1) steps) v then_asks)
           (sym (world_of p q made_turn.records stepped.follows))
           ∙ ap (sweep (sweep_terms batch budget now kinds) (drop (i + 1) steps) q.playing.world)
           (sym stepped.asks) in
           record {
             good = good;
-            can = can_all_then kinds batch budget now some p r is.good step.name can_step q stepped.follows
+            can = can_all_then kinds batch budget now some p r is.good step.name can_step q
+                stepped.follows
                 (drop (i + 1) steps) can_here.1;
             done = is.done ++ made_turn.records;
             follows = so_far;
@@ -245,7 +250,8 @@ module _ (kinds : Kinds) (batch budget now : ℕ) (first : Play) (steps : List S
           → IsSwept total first last (by_bytes then.asks.entries)
       swept_last not last plays last_turns ends =
           let on : tail ≡ swept_with made.end then_asks =
-          ap (λ (e : TurnEnd). swept_on e then_asks behind) (sym ends_so) ∙ none_behind made.end not in
+          ap (λ (e : TurnEnd). swept_on e then_asks behind) (sym ends_so)
+          ∙ none_behind made.end not in
           record {
             follows = subst (λ (cs : List Content). Follows first cs last.play)
                 (sym (is.records
@@ -254,14 +260,16 @@ module _ (kinds : Kinds) (batch budget now : ℕ) (first : Play) (steps : List S
                 ∙ ap (λ (cs : List Content). is.done ++ cs) (append-nil made_turn.records)))
                 (subst (Follows first (is.done ++ made_turn.records)) (sym plays) so_far);
             asks = stepped.asks
-                ∙ sym (is.asks ∙ ap (λ (s : Swept). s.asks) rest_is ∙ ap (λ (s : Swept). s.asks) on);
+                ∙ sym (is.asks ∙ ap (λ (s : Swept). s.asks) rest_is
+                ∙ ap (λ (s : Swept). s.asks) on);
             turns = last_turns ∙ pushed
                 ∙ sym (is.turns
                 ∙ ap (λ (s : Swept). turns ++ s.turns) rest_is
                 ∙ ap (λ (x : SweptTurn). turns ++ x ∷ tail.turns) (sym stepped.made_so)
                 ∙ ap (λ (s : Swept). turns ++ made ∷ s.turns) on);
             ended = ends
-                ∙ sym (is.ended ∙ ap (λ (s : Swept). s.ended) rest_is ∙ ap (λ (s : Swept). s.ended) on);
+                ∙ sym (is.ended ∙ ap (λ (s : Swept). s.ended) rest_is
+                ∙ ap (λ (s : Swept). s.ended) on);
           }
         where
           none_behind : (e : TurnEnd) → is_quiet e ≡ false

@@ -76,8 +76,8 @@ pub record HasGoodWorld (e : Engine) (r : Remembered) : Type 0 where
   pub remembers : AreRemembered (session_of e).world (asks_in e)
   pub marked : AreMarked (session_of e).world r.marks
 
--- a delivery that was made may end: the world is sound, what is kept is good, and what is remembered
--- is of that world, but for the delivery's own mark
+-- a delivery that was made may end: the world is sound, what is kept is good, and what is
+-- remembered is of that world, but for the delivery's own mark
 pub record MayEnd (name : List ℕ) (m : Made) (r : Remembered) : Type 0 where
   pub made : IsMadeWorld m.play.playing.world
   pub sound : IsSoundWorld m.play.playing.world

@@ -141,8 +141,8 @@ WaitsForPushes line s =
     (d : Deliver) → task s.kinds line s.session ≡ delivers d
     → pending_in s.session.world d.name ≢ Some 0 → (delivered_by d s.session).records ≡ []
 
--- an engine is as it is after a delivery, the emissions are those due then, and its lines and its end
--- are the delivery's
+-- an engine is as it is after a delivery, the emissions are those due then, and its lines and its
+-- end are the delivery's
 pub record IsAfterDelivery (d : Deliver) (s : Standing) (m : AfterDelivery) : Type 0 where
   pub session : session_of m.engine ≡ settled_session (session_delivered d s.session)
   pub asks : asks_in m.engine ≡ s.asks
@@ -153,8 +153,8 @@ pub record IsAfterDelivery (d : Deliver) (s : Standing) (m : AfterDelivery) : Ty
   pub resync : m.resync
       ≡ is_resync (has_lost d.name s.session) (delivered_by d s.session).given
 
--- an engine is as it is after a sweep, the emissions are those due then, and the turns and the end are
--- the sweep's
+-- an engine is as it is after a sweep, the emissions are those due then, and the turns and the end
+-- are the sweep's
 pub record IsAfterSweep (t : Swept) (s : Standing) (m : AfterSweep) : Type 0 where
   pub session : session_of m.engine ≡ settled_session (written t.records s.session)
   pub asks : asks_in m.engine ≡ t.asks
@@ -207,5 +207,6 @@ pub record IsBounded (line : List ℕ) (s : Standing) : Type 0 where
 abbrev pub IsUnharmedBy : List ℕ → Standing → Type 0
 IsUnharmedBy line s =
     (c : Call) → task s.kinds line s.session ≡ calls c
-    → EachIsUnharmed (terms c.name s.session.moment s.kinds) c.batch c.budget s.heard s.session.world
+    → EachIsUnharmed (terms c.name s.session.moment s.kinds) c.batch c.budget s.heard
+    s.session.world
     (asks_of c.name s.asks)

@@ -44,8 +44,8 @@ IsJudged number (judged.Sweeps v) (turns u) = ⊥
 IsJudged number (judged.Sweeps v) (calls c) = ⊥
 IsJudged number (judged.Sweeps v) (delivers e) = ⊥
 
--- it may be done in a session; an exchange is of one document at least, a turn to a master elsewhere
--- has one at least, and a stream that delivers is open
+-- it may be done in a session; an exchange is of one document at least, a turn to a master
+-- elsewhere has one at least, and a stream that delivers is open
 abbrev pub MayDoJudged : Judged → Session → Type 0
 MayDoJudged (judged.Printed p) s = MayDo (doing_of p.doing) s
 MayDoJudged (judged.Turns t) s = 1 ≤ t.batch

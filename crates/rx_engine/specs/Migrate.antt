@@ -1,5 +1,5 @@
--- The line that takes a collection, with all that local replications join to it, to the next version
--- of its schema.
+-- The line that takes a collection, with all that local replications join to it, to the next
+-- version of its schema.
 use Rattle.std.specs.Prelude.{◌≡◌, ℕ, List, filter, map, Bool, Result, Ok}
 use Rattle.serde_json.specs.Data.{Data}
 use Rattle.rx_collection.specs.Held.{Held}

@@ -54,8 +54,8 @@ task_of (Calls c) = calls (call_of c)
 task_of (Sweeps v) = sweeps (sweep_of v)
 task_of (Delivers d) = delivers (deliver_of d)
 
--- it may be done in a session; an exchange is of one document at least, a turn to a master elsewhere
--- has one at least, and a stream that delivers is open
+-- it may be done in a session; an exchange is of one document at least, a turn to a master
+-- elsewhere has one at least, and a stream that delivers is open
 abbrev pub MayDoTask : ToDo → Session → Type 0
 MayDoTask (Answered p) s = MayDo (doing_of p.doing) s
 MayDoTask (Turns t) s = 1 ≤ t.batch

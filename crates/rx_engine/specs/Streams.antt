@@ -53,7 +53,8 @@ deliver_over name link = record { name = name; link = unwrap_or link [] }
 abbrev pub delivered_by : Deliver → Session → Delivered
 delivered_by d s = delivered d.name s.moment 1 d.link (queued_in d.name s) s.world
 
--- the session after it: the queue was taken, the records were written, and what is kept was put back
+-- the session after it: the queue was taken, the records were written,
+-- and what is kept was put back
 abbrev pub session_delivered : Deliver → Session → Session
 session_delivered d s =
     let m = delivered_by d s in

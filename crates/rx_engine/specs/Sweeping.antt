@@ -30,12 +30,13 @@ abbrev pub is_handled : Kinds → World → Step → Bool
 is_handled kinds w step =
     option_map_or (λ r. is_some (named kinds r.handler)) (named w.replications step.name) false
 
--- the sweep over the tree of a collection, which is to be held, as is the handler of each replication
--- of the tree
+-- the sweep over the tree of a collection, which is to be held, as is the handler of each
+-- replication of the tree
 abbrev pub swept_at : Kinds → List ℕ → ℕ → ℕ → Session → Result Sweep Fault
 swept_at kinds name batch budget s =
     collection_at name s >> λ _.
-    demand (list_all (is_handled kinds s.world) (sweep_steps s.world name)) (Refused NoHandler) >> λ _.
+    demand (list_all (is_handled kinds s.world) (sweep_steps s.world name)) (Refused NoHandler)
+    >> λ _.
     Ok (record { steps = sweep_steps s.world name; batch = batch; budget = budget })
 
 -- ---- what it does

@@ -27,8 +27,8 @@ plan_of t = record {
   down = t.down;
 }
 
--- What a page of the master's states comes to, which leads to a place: the fork writes those that it
--- doesn't hold, and knows each of them.
+-- What a page of the master's states comes to, which leads to a place: the fork writes those that
+-- it doesn't hold, and knows each of them.
 abbrev pub page_plan : Documents → Side → List State → Option Place → ExchangePlan
 page_plan fork side ss to = record {
   rows = differences fork ss;

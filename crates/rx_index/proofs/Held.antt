@@ -33,7 +33,8 @@ same_values x y (f ∷ fs) h =
     → map (λ field. named x field) (f ∷ fs) ≡ map (λ field. named y field) (f ∷ fs)) [
       | true ↦ (λ is rest.
           let first : named x f ≡ named y f =
-          (order_ties (named x f) (named y f)).0 ((Equal-is (order_of (named x f) (named y f))).0 is) in
+          (order_ties (named x f) (named y f)).0
+          ((Equal-is (order_of (named x f) (named y f))).0 is) in
           let others = same_values x y fs rest in
           λ i. first i ∷ others i)
       | false ↦ (λ is rest. absurd (false≢true rest))
@@ -47,7 +48,8 @@ same_tests x y (f ∷ fs) h =
     let first : named x f ≡ named y f = cc in
     let others : map (λ field. named x field) fs ≡ map (λ field. named y field) fs = cc in
     let is : is_eq (order_of (named x f) (named y f)) ≡ true =
-    (Equal-is (order_of (named x f) (named y f))).1 ((order_ties (named x f) (named y f)).1 first) in
+    (Equal-is (order_of (named x f) (named y f))).1
+    ((order_ties (named x f) (named y f)).1 first) in
     ap (λ b. b && list_all (λ field. is_eq (order_of (named x field) (named y field))) fs) is
     ∙ same_tests x y fs others
 
@@ -119,8 +121,10 @@ module _ (fields : List (List ℕ)) (documents : Documents) (new : Stored) (befo
   key = new.state.key
 
   -- what is named then
-  named_then : (k : Position) → is_key_of fields (named (put_in_order documents key new) (id_of k)) k
-      ≡ cond (bytes_eq (id_of k) key) (is_eq (position_cmp (key_of fields new) k)) (has_key before k)
+  named_then : (k : Position)
+      → is_key_of fields (named (put_in_order documents key new) (id_of k)) k
+      ≡ cond (bytes_eq (id_of k) key) (is_eq (position_cmp (key_of fields new) k))
+      (has_key before k)
   named_then k =
       ap (λ o. is_key_of fields o k) (named-put_in_order documents key (id_of k) new)
       ∙ key_if fields (bytes_eq (id_of k) key) new (named documents (id_of k)) k

@@ -26,7 +26,8 @@ use Rattle.rx_index.proofs.Positions.{tied, itself, position_eq-Decides}
 -- ---- one key
 
 -- a text at the end
-ends-append : (xs : List (Option Value)) (t : List ℕ) → ends_in_text (xs ++ Some (Text t) ∷ []) ≡ true
+ends-append : (xs : List (Option Value)) (t : List ℕ)
+    → ends_in_text (xs ++ Some (Text t) ∷ []) ≡ true
 ends-append [] t = refl
 ends-append (x ∷ []) t = refl
 ends-append (x ∷ y ∷ ys) t = ends-append (y ∷ ys) t
@@ -211,7 +212,8 @@ take_key (e ∷ es) name k key ks h =
     ]) refl
   where
     other : (q : List ℕ) → IsKey q → bytes_eq name q ≡ false
-        → is_eq (position_cmp k (unpacked name)) ≡ true → is_eq (position_cmp k (unpacked q)) ≡ false
+        → is_eq (position_cmp k (unpacked name)) ≡ true
+        → is_eq (position_cmp k (unpacked q)) ≡ false
     other q l is t = (elim (is_eq (position_cmp k (unpacked q)))
         as (λ b. is_eq (position_cmp k (unpacked q)) ≡ b → b ≡ false) [
           | true ↦ (λ u. absurd (false≢true (sym is ∙ (bytes_eq-Decides name q).1

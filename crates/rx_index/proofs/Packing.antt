@@ -18,7 +18,8 @@ use Rattle.rx_index.proofs.Digits.{low_bytes, raised_alike, raised_below, raised
 
 -- a value decides before what follows it
 first_value : (x y : Option Value) (r q : List ℕ) → is_lawful x ≡ true → is_lawful y ≡ true
-    → text_cmp (value_bytes x ++ r) (value_bytes y ++ q) ≡ ordering_then (order_of x y) (text_cmp r q)
+    → text_cmp (value_bytes x ++ r) (value_bytes y ++ q)
+    ≡ ordering_then (order_of x y) (text_cmp r q)
 first_value None None r q h k = refl
 first_value None (Some (Flag true)) r q h k = refl
 first_value None (Some (Flag false)) r q h k = refl
@@ -84,8 +85,10 @@ packed_alike p q h k = values_alike p.values p.after q.values q.after h k
 
 not_end : (n : ℕ) → (n + 6 == 0) ≡ false
 not_end n =
-    (elim (n + 6 == 0) as (λ b. (n + 6 == 0) ≡ b → b ≡ false)
-    [ true ↦ (λ h. absurd (omega (arith, (Decides-eqb (n + 6) 0).0 h))) | false ↦ (λ h. refl) ]) refl
+    (elim (n + 6 == 0) as (λ b. (n + 6 == 0) ≡ b → b ≡ false) [
+      | true ↦ (λ h. absurd (omega (arith, (Decides-eqb (n + 6) 0).0 h)))
+      | false ↦ (λ h. refl)
+    ]) refl
 
 text_back : (s r : List ℕ) → (text_first (raised_text s ++ 0 ∷ [] ++ r) ≡ s)
     × (behind_text (raised_text s ++ 0 ∷ [] ++ r) ≡ r)
@@ -198,7 +201,8 @@ next_made v f xs i x h at =
     (sym (ap (map f) (take_more xs i x h ∙ ap (λ y. take i xs ++ y ∷ []) (sym at))
     ∙ map-append f (take i xs) (x ∷ [])))
 
-pub made_bytes : {X : Type 0} (v : Option Value) (f : X → Option Value) (xs : List X) (i : ℕ) (x : X)
+pub made_bytes : {X : Type 0} (v : Option Value) (f : X → Option Value) (xs : List X)
+    (i : ℕ) (x : X)
     (so all : List ℕ) → i < length xs → x ≡ get_or xs i x
     → so ≡ values_bytes (v ∷ map f (take i xs)) false → all ≡ so ++ value_bytes (f x)
     → all ≡ values_bytes (v ∷ map f (take (i + 1) xs)) false
@@ -206,7 +210,8 @@ made_bytes v f xs i x so all h at is more =
     more_bytes (v ∷ map f (take i xs)) (f x) so all is more
     ∙ ap (λ ys. values_bytes ys false) (next_made v f xs i x h at)
 
-pub made_lawful : {X : Type 0} (v : Option Value) (f : X → Option Value) (xs : List X) (i : ℕ) (x : X)
+pub made_lawful : {X : Type 0} (v : Option Value) (f : X → Option Value) (xs : List X)
+    (i : ℕ) (x : X)
     → i < length xs → x ≡ get_or xs i x → AreLawful (v ∷ map f (take i xs))
     → is_lawful (f x) ≡ true → AreLawful (v ∷ map f (take (i + 1) xs))
 made_lawful v f xs i x h at so now =

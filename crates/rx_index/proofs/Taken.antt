@@ -23,7 +23,8 @@ pub has_so : (there : Bool) (bs : List ℕ) (i j : Indexed) (p : Position) → u
     → Has there bs i j → (k : Position)
     → has_key j.keys k ≡ cond (is_eq (position_cmp p k)) there (has_key i.keys k)
 has_so there bs i j p is has k =
-    subst (λ q. has_key j.keys k ≡ cond (is_eq (position_cmp q k)) there (has_key i.keys k)) is (has k)
+    subst (λ q. has_key j.keys k ≡ cond (is_eq (position_cmp q k)) there (has_key i.keys k)) is
+    (has k)
 
 -- where there was no document of the key
 pub made_fresh : (i j : Indexed) (new : Stored) (bs : List ℕ) → IsKeyOf i.fields new bs

@@ -33,7 +33,8 @@ all_below [] last key up less = refl
 all_below (e ∷ es) last key up less =
     let P = λ (q : String Global). is_lt (text_cmp (string_bytes last) (string_bytes q)) ≡ false in
     and_from (is_lt (text_cmp (string_bytes e.0) key)) (is_above_known (by_bytes es) key)
-    (ap is_lt (below_too (string_bytes e.0) (string_bytes last) key (All-head P e.0 (keys_of es) up) less))
+    (ap is_lt
+    (below_too (string_bytes e.0) (string_bytes last) key (All-head P e.0 (keys_of es) up) less))
     (all_below es last key (All-tail P e.0 (keys_of es) up) less)
 
 -- what isn't above one of them isn't
@@ -42,9 +43,13 @@ pub one_not_below : (es : List (String Global × State)) (i : ℕ) (e : String G
     → is_above_known (by_bytes es) key ≡ false
 one_not_below [] i e key at isnt = not_none at
 one_not_below (f ∷ es) zero e key at isnt =
-    ap (λ (x : String Global × State). is_lt (text_cmp (string_bytes x.0) key) && is_above_known (by_bytes es) key)
+    ap (λ (x : String Global × State).
+    is_lt (text_cmp (string_bytes x.0) key) && is_above_known (by_bytes es) key)
     (some_same at)
     ∙ ap (λ b. b && is_above_known (by_bytes es) key) isnt
 one_not_below (f ∷ es) (suc i) e key at isnt =
     ap (λ b. is_lt (text_cmp (string_bytes f.0) key) && b) (one_not_below es i e key at isnt)
-    ∙ (elim (is_lt (text_cmp (string_bytes f.0) key)) as (λ b. (b && false) ≡ false) [ true ↦ refl | false ↦ refl ])
+    ∙ (elim (is_lt (text_cmp (string_bytes f.0) key)) as (λ b. (b && false) ≡ false) [
+      | true ↦ refl
+      | false ↦ refl
+    ])

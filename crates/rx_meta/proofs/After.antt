@@ -24,12 +24,14 @@ module _ {X : Type 0} where
   within P (d ∷ es) rest e all = within P es rest e all.1
 
   -- among rising names the next one goes behind those before it
-  pub put_last : (es rest : List (List ℕ × X)) (k : List ℕ) (x : X) → AreRising (es ++ (k, x) ∷ rest)
+  pub put_last : (es rest : List (List ℕ × X)) (k : List ℕ) (x : X)
+      → AreRising (es ++ (k, x) ∷ rest)
       → put_in_order es k x ++ rest ≡ es ++ (k, x) ∷ rest
   unfolding IsStrictlySortedBy
   put_last [] rest k x rising = refl
   put_last (e ∷ es) rest k x rising =
-      let below : text_cmp e.0 k ≡ Less = within (λ l. text_cmp e.0 l ≡ Less) es rest (k, x) rising.0 in
+      let below : text_cmp e.0 k ≡ Less =
+      within (λ l. text_cmp e.0 l ≡ Less) es rest (k, x) rising.0 in
       ap (λ o. match_ordering o ((k, x) ∷ e ∷ es) ((e.0, x) ∷ es) (e ∷ put_in_order es k x) ++ rest)
       (text_total.antisymm k e.0 ∙ ap ordering_reverse below)
       ∙ ap (λ l. e ∷ l) (put_last es rest k x rising.1)
@@ -41,7 +43,8 @@ module _ (steps : List Step) where
       elim (migrated steps s) as (λ o. migrated steps s ≡ o → (unwrap_or o s).key ≡ s.key)
       [ None ↦ (λ at. refl) | Some t ↦ (λ at. key steps s t at) ] refl
 
-  pub keys_stay : (known : List (List ℕ × State)) → keys_of (known_after steps known) ≡ keys_of known
+  pub keys_stay : (known : List (List ℕ × State))
+      → keys_of (known_after steps known) ≡ keys_of known
   keys_stay [] = refl
   keys_stay (e ∷ known) = ap (λ ks. e.0 ∷ ks) (keys_stay known)
 
@@ -59,7 +62,8 @@ module _ (steps : List Step) where
   }
 
   -- one state more goes behind those before it
-  pub one_more : (all all' left known : List (String Global × State)) (e : String Global × State) (next : State)
+  pub one_more : (all all' left known : List (String Global × State)) (e : String Global × State)
+      (next : State)
       → by_bytes all ++ known_after steps (by_bytes (e ∷ left)) ≡ known_after steps (by_bytes known)
       → AreKnownByKey (by_bytes known) → next ≡ unwrap_or (migrated steps e.1) e.1
       → by_bytes all' ≡ put_in_order (by_bytes all) (string_bytes e.0) next

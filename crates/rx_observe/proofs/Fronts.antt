@@ -357,7 +357,8 @@ followed q c limit f g left rows kept leaves is few cut old new col col' differ 
     let left_is = leaves old new f.whole skip col col' differ change front.first in
     record {
       first = cut all
-          (subst (λ rs. IsFrontOf rs f.whole all) (sym (is ∙ ap (entered q c f.whole) left_is)) first);
+          (subst (λ rs. IsFrontOf rs f.whole all)
+          (sym (is ∙ ap (entered q c f.whole) left_is)) first);
       few = kept_few q limit (length g.rows) kept few;
       none = λ none. let bad : Some limit ≡ None = sym kept ∙ none in cc;
     }
@@ -452,7 +453,8 @@ limit_back q limit most kept =
 
 module _ (q : QuerySpec) (limit most : ℕ) (documents : Documents) (rows : List Row) (whole : Bool)
     (kept : kept_limit q ≡ Some limit) (le : most ≤ most_kept limit) (window : limit ≤ most)
-    (is : rows ≡ fresh_rows (with_limit most q) documents) (whole_is : whole ≡ ltb (length rows) most)
+    (is : rows ≡ fresh_rows (with_limit most q) documents)
+    (whole_is : whole ≡ ltb (length rows) most)
   where
     -- the first rows, so many
     first_are : rows ≡ take most (fresh_rows (unlimited q) documents)
@@ -473,7 +475,8 @@ module _ (q : QuerySpec) (limit most : ℕ) (documents : Documents) (rows : List
           };
           few =
               kept_few q limit (length rows) kept
-              (let long = ap length first_are ∙ length-take most (fresh_rows (unlimited q) documents)
+              (let long = ap length first_are
+              ∙ length-take most (fresh_rows (unlimited q) documents)
               in
               omega arith);
           none = λ none. let bad : Some limit ≡ None = sym kept ∙ none in cc;

@@ -22,7 +22,8 @@ module _ {X : Type 0} (before : X → X → Bool) where
   take_placed zero x xs = refl
   take_placed (suc n) x [] = refl
   take_placed (suc n) x (y ∷ ys) =
-      elim (before x y) as (λ b. take (suc n) (cond b (x ∷ y ∷ take n ys) (y ∷ insert_in_order before x (take n ys)))
+      elim (before x y)
+      as (λ b. take (suc n) (cond b (x ∷ y ∷ take n ys) (y ∷ insert_in_order before x (take n ys)))
       ≡ take (suc n) (cond b (x ∷ y ∷ ys) (y ∷ insert_in_order before x ys))) [
         | true ↦ ap (λ zs. x ∷ zs) (front n y ys)
         | false ↦ ap (λ zs. y ∷ zs) (take_placed n x ys)
@@ -41,4 +42,5 @@ cut_front None xs ys ids full none =
     sym (append-nil xs) ∙ ap (λ zs. xs ++ zs) (sym (none full))
 cut_front (Some m) xs ys ids (inl is) none = sym (take_at xs ys m is)
 cut_front (Some m) xs ys ids (inr h) none =
-    sym (take_all m xs h.0) ∙ ap (take m) (sym (append-nil xs) ∙ ap (λ zs. xs ++ zs) (sym (none h.1)))
+    sym (take_all m xs h.0)
+    ∙ ap (take m) (sym (append-nil xs) ∙ ap (λ zs. xs ++ zs) (sym (none h.1)))

@@ -90,7 +90,8 @@ distinct_pairwise same [] h = tt
 distinct_pairwise same (x ∷ xs) h = (h.0, distinct_pairwise same xs h.1)
 
 -- the first ones of distinct ones
-pub distinct_front : {X : Type 0} (same : X → X → Bool) (xs ys : List X) → IsDistinct same (xs ++ ys)
+pub distinct_front : {X : Type 0} (same : X → X → Bool) (xs ys : List X)
+    → IsDistinct same (xs ++ ys)
     → IsDistinct same xs
 unfolding IsDistinct
 distinct_front same [] ys h = tt

@@ -160,12 +160,14 @@ placed_sorted q xs ds h =
 -- ---- a sort
 
 distinct_lent : (same : Stored → Stored → Bool) (rows : List (Bor Stored))
-    → IsDistinct same (map (λ r. r.now) rows) → IsDistinct (λ (a b : Bor Stored). same a.now b.now) rows
+    → IsDistinct same (map (λ r. r.now) rows)
+    → IsDistinct (λ (a b : Bor Stored). same a.now b.now) rows
 unfolding IsDistinct
 distinct_lent same [] h = tt
 distinct_lent same (r ∷ rs) h = (others rs h.0, distinct_lent same rs h.1)
   where
-    others : (xs : List (Bor Stored)) → AllByRecursion (λ y. same r.now y ≡ false) (map (λ x. x.now) xs)
+    others : (xs : List (Bor Stored))
+        → AllByRecursion (λ y. same r.now y ≡ false) (map (λ x. x.now) xs)
         → AllByRecursion (λ (y : Bor Stored). same r.now y.now ≡ false) xs
     others [] k = tt
     others (x ∷ xs) k = (k.0, others xs k.1)
@@ -177,7 +179,8 @@ unfolding IsStrictlySortedBy
 strict_lent cmp [] h = tt
 strict_lent cmp (r ∷ rs) h = (others rs h.0, strict_lent cmp rs h.1)
   where
-    others : (xs : List (Bor Stored)) → AllByRecursion (λ (y : Bor Stored). cmp r.now y.now ≡ Less) xs
+    others : (xs : List (Bor Stored))
+        → AllByRecursion (λ (y : Bor Stored). cmp r.now y.now ≡ Less) xs
         → AllByRecursion (λ y. cmp r.now y ≡ Less) (map (λ x. x.now) xs)
     others [] k = tt
     others (x ∷ xs) k = (k.0, others xs k.1)

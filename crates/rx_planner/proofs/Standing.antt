@@ -72,7 +72,8 @@ module _ (q : QuerySpec) where
         | false ↦ (λ _. refl)
         | true ↦ (λ is. absurd (false≢true (sym (last e)
             ∙ upward (stored_cmp q) (stored_total q) d rows k (length rows - 1) e
-            (rising_strict (stored_cmp q) (stored_total q) rows up) (omega arith) (omega arith) is)))
+            (rising_strict (stored_cmp q) (stored_total q) rows up) (omega arith)
+            (omega arith) is)))
       ]) refl
 
   -- rows in front and some behind them, as all of them
@@ -106,7 +107,8 @@ module _ (q : QuerySpec) where
       subst (λ xs. differ q (d ∷ xs)) (sym is) with_it in
       let without_it : differ q (first ++ others) =
       distinct_without (eq_by_cmp (stored_cmp q)) [] (d ∷ []) (first ++ others) with_parts in
-      let alone : differ q first = distinct_front (eq_by_cmp (stored_cmp q)) first others without_it in
+      let alone : differ q first =
+      distinct_front (eq_by_cmp (stored_cmp q)) first others without_it in
       let already : sorted before first ≡ first = sorted_already q first up alone in
       let cut : take n (insert_in_order before d first) ≡ first =
       subst (λ k. take k (insert_in_order before d first) ≡ first) long

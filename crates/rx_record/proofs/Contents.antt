@@ -15,25 +15,32 @@ use Rattle.rx_record.proofs.PartFormats.{part_rows_format}
 collection_is_kind : IsKind content_bytes IsWritable (collection_kind, collection_of)
 collection_is_kind =
     next content_bytes IsWritable text_format (λ l. collection_kind ∷ l) _ (λ name name_fits.
-    last content_bytes IsWritable text_format (λ l. collection_kind ∷ (text_bytes name ++ l)) (collection name)
+    last content_bytes IsWritable text_format (λ l. collection_kind ∷ (text_bytes name ++ l))
+    (collection name)
     (λ schema. refl) (λ schema schema_fits. (name_fits, schema_fits)))
 
 rows_is_kind : IsKind content_bytes IsWritable (rows_kind, written_of)
 rows_is_kind =
     next content_bytes IsWritable text_format (λ l. rows_kind ∷ l) _ (λ name name_fits.
     next content_bytes IsWritable long_format (λ l. rows_kind ∷ (text_bytes name ++ l)) _ (λ lwt _.
-    last content_bytes IsWritable rows_format (λ l. rows_kind ∷ (text_bytes name ++ (number_bytes w64 lwt ++ l)))
+    last content_bytes IsWritable rows_format
+    (λ l. rows_kind ∷ (text_bytes name ++ (number_bytes w64 lwt ++ l)))
     (rows name lwt) (λ written. refl) (λ written all. (name_fits, all))))
 
 replication_is_kind : IsKind content_bytes IsWritable (replication_kind, replication_of)
 replication_is_kind =
     let front : List ℕ → List ℕ = λ l. replication_kind ∷ l in
     next content_bytes IsWritable text_format front _ (λ name name_fits.
-    next content_bytes IsWritable text_format (λ l. front (text_bytes name ++ l)) _ (λ fork fork_fits.
-    next content_bytes IsWritable master_format (λ l. front (text_bytes name ++ (text_bytes fork ++ l))) _ (λ master master_fits.
-    next content_bytes IsWritable text_format (λ l. front (text_bytes name ++ (text_bytes fork ++ (master_bytes master ++ l)))) _ (λ handler handler_fits.
+    next content_bytes IsWritable text_format (λ l. front (text_bytes name ++ l)) _
+    (λ fork fork_fits.
+    next content_bytes IsWritable master_format
+    (λ l. front (text_bytes name ++ (text_bytes fork ++ l))) _ (λ master master_fits.
+    next content_bytes IsWritable text_format
+    (λ l. front (text_bytes name ++ (text_bytes fork ++ (master_bytes master ++ l)))) _
+    (λ handler handler_fits.
     last content_bytes IsWritable (option_format text_format)
-    (λ l. front (text_bytes name ++ (text_bytes fork ++ (master_bytes master ++ (text_bytes handler ++ l)))))
+    (λ l. front (text_bytes name
+    ++ (text_bytes fork ++ (master_bytes master ++ (text_bytes handler ++ l)))))
     (replication name fork master handler) (λ field. refl)
     (λ field field_fits. record {
       name_fits = name_fits;
@@ -48,12 +55,18 @@ exchange_is_kind =
     let front : List ℕ → List ℕ = λ l. exchange_kind ∷ l in
     next content_bytes IsWritable text_format front _ (λ name name_fits.
     next content_bytes IsWritable long_format (λ l. front (text_bytes name ++ l)) _ (λ lwt _.
-    next content_bytes IsWritable rows_format (λ l. front (text_bytes name ++ (number_bytes w64 lwt ++ l))) _ (λ written written_rows.
-    next content_bytes IsWritable states_format (λ l. front (text_bytes name ++ (number_bytes w64 lwt ++ (rows_bytes written ++ l)))) _ (λ known known_states.
+    next content_bytes IsWritable rows_format
+    (λ l. front (text_bytes name ++ (number_bytes w64 lwt ++ l))) _ (λ written written_rows.
+    next content_bytes IsWritable states_format
+    (λ l. front (text_bytes name ++ (number_bytes w64 lwt ++ (rows_bytes written ++ l)))) _
+    (λ known known_states.
     next content_bytes IsWritable (option_format place_format)
-    (λ l. front (text_bytes name ++ (number_bytes w64 lwt ++ (rows_bytes written ++ (states_bytes known ++ l))))) _ (λ up up_place.
+    (λ l. front (text_bytes name
+    ++ (number_bytes w64 lwt ++ (rows_bytes written ++ (states_bytes known ++ l)))))
+    _ (λ up up_place.
     last content_bytes IsWritable (option_format place_format)
-    (λ l. front (text_bytes name ++ (number_bytes w64 lwt ++ (rows_bytes written ++ (states_bytes known ++ (option_bytes place_bytes up ++ l))))))
+    (λ l. front (text_bytes name ++ (number_bytes w64 lwt
+    ++ (rows_bytes written ++ (states_bytes known ++ (option_bytes place_bytes up ++ l))))))
     (exchange name lwt written known up) (λ down. refl)
     (λ down down_place. record {
       name_fits = name_fits;
@@ -64,14 +77,17 @@ exchange_is_kind =
     }))))))
 
 epoch_is_kind : IsKind content_bytes IsWritable (epoch_kind, epoch_of)
-epoch_is_kind = last content_bytes IsWritable long_format (λ l. epoch_kind ∷ l) epoch (λ number. refl) (λ number _. tt)
+epoch_is_kind = last content_bytes IsWritable long_format (λ l. epoch_kind ∷ l) epoch
+    (λ number. refl) (λ number _. tt)
 
 migration_is_kind : IsKind content_bytes IsWritable (migration_kind, migration_of)
 migration_is_kind =
     let front : List ℕ → List ℕ = λ l. migration_kind ∷ l in
     next content_bytes IsWritable text_format front _ (λ name name_fits.
-    next content_bytes IsWritable text_format (λ l. front (text_bytes name ++ l)) _ (λ schema schema_fits.
-    last content_bytes IsWritable steps_format (λ l. front (text_bytes name ++ (text_bytes schema ++ l)))
+    next content_bytes IsWritable text_format (λ l. front (text_bytes name ++ l)) _
+    (λ schema schema_fits.
+    last content_bytes IsWritable steps_format
+    (λ l. front (text_bytes name ++ (text_bytes schema ++ l)))
     (migration name schema) (λ steps. refl)
     (λ steps written_steps. record {
       name_fits = name_fits;
@@ -82,14 +98,16 @@ migration_is_kind =
 part_is_kind : IsKind content_bytes IsWritable (part_kind, part_of)
 part_is_kind =
     next content_bytes IsWritable text_format (λ l. part_kind ∷ l) _ (λ name name_fits.
-    last content_bytes IsWritable part_rows_format (λ l. part_kind ∷ (text_bytes name ++ l)) (part name)
+    last content_bytes IsWritable part_rows_format
+    (λ l. part_kind ∷ (text_bytes name ++ l)) (part name)
     (λ written. refl) (λ written all. (name_fits, all)))
 
 known_part_is_kind : IsKind content_bytes IsWritable (known_part_kind, known_part_of)
 known_part_is_kind =
     let front : List ℕ → List ℕ = λ l. known_part_kind ∷ l in
     next content_bytes IsWritable text_format front _ (λ name name_fits.
-    next content_bytes IsWritable states_format (λ l. front (text_bytes name ++ l)) _ (λ known known_states.
+    next content_bytes IsWritable states_format (λ l. front (text_bytes name ++ l)) _
+    (λ known known_states.
     next content_bytes IsWritable (option_format place_format)
     (λ l. front (text_bytes name ++ (states_bytes known ++ l))) _ (λ up up_place.
     last content_bytes IsWritable (option_format place_format)
@@ -103,7 +121,8 @@ known_part_is_kind =
     }))))
 
 end_is_kind : IsKind content_bytes IsWritable (end_kind, end_epoch_of)
-end_is_kind = last content_bytes IsWritable long_format (λ l. end_kind ∷ l) end (λ number. refl) (λ number _. tt)
+end_is_kind = last content_bytes IsWritable long_format (λ l. end_kind ∷ l) end (λ number. refl)
+    (λ number _. tt)
 
 all_are_kinds : AllByRecursion (IsKind content_bytes IsWritable) kinds
 all_are_kinds = (

@@ -20,20 +20,24 @@ use Rattle.rx_record.proofs.Within.{IsWithin, grows, either, flag_within, number
 use Rattle.rx_record.proofs.Kept.{value_keeps, state_keeps, states_writable, rows_writable}
 
 -- a fault stands within the bytes, and what was read stands in them and keeps K
-pub record IsFormat {A : Type 0} (bytes : A → List ℕ) (of : List ℕ → Reading A) (K : A → Type 0) : Type 0 where
+pub record IsFormat {
+    A : Type 0} (bytes : A → List ℕ) (of : List ℕ → Reading A) (K : A → Type 0) : Type 0 where
   pub within : (bs : List ℕ) → AreBytes bs → IsWithin (of bs) (length bs)
-  pub read : (bs : List ℕ) (x : A) (rest : List ℕ) → AreBytes bs → of bs ≡ Ok (x, rest) → IsRead bytes of bs x rest
+  pub read : (bs : List ℕ) (x : A) (rest : List ℕ) → AreBytes bs → of bs ≡ Ok (x, rest)
+      → IsRead bytes of bs x rest
   pub keeps : (bs : List ℕ) (x : A) (rest : List ℕ) → AreBytes bs → of bs ≡ Ok (x, rest) → K x
 
 -- the first part, and then the others, which may go by what it read
 pub step_within : {A B : Type 0} (m : Reading A) (f : A → List ℕ → Reading B) (n : ℕ) → IsWithin m n
-    → ((x : A) (more : List ℕ) → m ≡ Ok (x, more) → length more ≤ n → IsWithin (f x more) n) → IsWithin (m ▸ f) n
+    → ((x : A) (more : List ℕ) → m ≡ Ok (x, more) → length more ≤ n → IsWithin (f x more) n)
+    → IsWithin (m ▸ f) n
 step_within (Ok p) f n h g = g p.0 p.1 refl h
 step_within (Err left) f n h g = h
 
 module _ {B : Type 0} (all : B → List ℕ) (K : B → Type 0) where
   -- what was read behind a front is the rest of the whole's bytes, and the whole keeps K
-  pub record Follows (front : List ℕ → List ℕ) (of : List ℕ → Reading B) (bs : List ℕ) (y : B) (rest : List ℕ) : Type 0 where
+  pub record Follows (front : List ℕ → List ℕ) (of : List ℕ → Reading B) (bs : List ℕ) (y : B)
+      (rest : List ℕ) : Type 0 where
     pub tail : List ℕ
     pub spelled : bs ≡ tail ++ rest
     pub whole : all y ≡ front tail
@@ -43,12 +47,15 @@ module _ {B : Type 0} (all : B → List ℕ) (K : B → Type 0) where
   -- so it is of each reading of what is behind that front
   pub record IsBehind (front : List ℕ → List ℕ) (of : List ℕ → Reading B) : Type 0 where
     pub within : (bs : List ℕ) → AreBytes bs → IsWithin (of bs) (length bs)
-    pub read : (bs : List ℕ) (y : B) (rest : List ℕ) → AreBytes bs → of bs ≡ Ok (y, rest) → Follows front of bs y rest
+    pub read : (bs : List ℕ) (y : B) (rest : List ℕ) → AreBytes bs → of bs ≡ Ok (y, rest)
+        → Follows front of bs y rest
 
   -- a part, and the others behind it
-  pub next : {A : Type 0} {bytes : A → List ℕ} {of : List ℕ → Reading A} {P : A → Type 0} → IsFormat bytes of P
+  pub next : {A : Type 0} {bytes : A → List ℕ} {of : List ℕ → Reading A} {P : A → Type 0}
+      → IsFormat bytes of P
       → (front : List ℕ → List ℕ) (f : A → List ℕ → Reading B)
-      → ((x : A) → P x → IsBehind (λ l. front (bytes x ++ l)) (f x)) → IsBehind front (λ bs. of bs ▸ f)
+      → ((x : A) → P x → IsBehind (λ l. front (bytes x ++ l)) (f x))
+      → IsBehind front (λ bs. of bs ▸ f)
   next {bytes = bytes} {of = of} part front f others = record {
     within = λ bs small. step_within (of bs) f (length bs) (part.within bs small)
         (λ x more is less. grows (f x more) (length more) (length bs) less
@@ -58,7 +65,8 @@ module _ {B : Type 0} (all : B → List ℕ) (K : B → Type 0) where
         let p = parted (of bs) f (y, rest) h in
         let one = part.read bs p.part p.more small p.first in
         let behind = bytes_behind (bytes p.part) p.more bs one.spelled small in
-        let t = (others p.part (part.keeps bs p.part p.more small p.first)).read p.more y rest behind p.second in
+        let t = (others p.part (part.keeps bs p.part p.more small p.first)).read p.more y rest
+        behind p.second in
         record {
           tail = bytes p.part ++ t.tail;
           spelled = joined (bytes p.part) t.tail rest p.more bs one.spelled t.spelled;
@@ -70,11 +78,14 @@ module _ {B : Type 0} (all : B → List ℕ) (K : B → Type 0) where
   }
 
   -- the last part
-  pub last : {A : Type 0} {bytes : A → List ℕ} {of : List ℕ → Reading A} {P : A → Type 0} → IsFormat bytes of P
-      → (front : List ℕ → List ℕ) (made : A → B) → ((x : A) → all (made x) ≡ front (bytes x)) → ((x : A) → P x → K (made x))
+  pub last : {A : Type 0} {bytes : A → List ℕ} {of : List ℕ → Reading A} {P : A → Type 0}
+      → IsFormat bytes of P
+      → (front : List ℕ → List ℕ) (made : A → B) → ((x : A) → all (made x) ≡ front (bytes x))
+      → ((x : A) → P x → K (made x))
       → IsBehind front (λ bs. of bs ▸ λ x rest. Ok (made x, rest))
   last {bytes = bytes} {of = of} part front made is keeps = record {
-    within = λ bs small. step_within (of bs) (λ x rest. Ok (made x, rest)) (length bs) (part.within bs small) (λ x more was less. less);
+    within = λ bs small. step_within (of bs) (λ x rest. Ok (made x, rest)) (length bs)
+        (part.within bs small) (λ x more was less. less);
     read = λ bs y rest small h.
         let p = parted (of bs) (λ x more. Ok (made x, more)) (y, rest) h in
         let one = part.read bs p.part p.more small p.first in
@@ -83,7 +94,8 @@ module _ {B : Type 0} (all : B → List ℕ) (K : B → Type 0) where
           tail = bytes p.part;
           spelled = one.spelled ∙ ap (λ l. bytes p.part ++ l) same.1;
           whole = ap all (sym same.0) ∙ is p.part;
-          again = λ more. ap (λ m. m ▸ λ x rest. Ok (made x, rest)) (one.again more) ∙ ap (λ z. Ok (z, more)) same.0;
+          again = λ more. ap (λ m. m ▸ λ x rest. Ok (made x, rest)) (one.again more)
+              ∙ ap (λ z. Ok (z, more)) same.0;
           kept = subst K same.0 (keeps p.part (part.keeps bs p.part p.more small p.first));
         };
   }
@@ -143,17 +155,20 @@ rows_format = record {
 
 -- one of two, by a flag before it
 module _ {B : Type 0} (all : B → List ℕ) (K : B → Type 0) (set unset : List ℕ → Reading B) where
-  pub by_flag : IsBehind all K (λ l. flag_bytes true ++ l) set → IsBehind all K (λ l. flag_bytes false ++ l) unset
+  pub by_flag : IsBehind all K (λ l. flag_bytes true ++ l) set
+      → IsBehind all K (λ l. flag_bytes false ++ l) unset
       → IsFormat all (λ bs. flag_of bs ▸ λ b more. if b then set more else unset more) K
   by_flag if_set if_unset = whole_format all K
       (next all K flag_format (λ l. l) (λ b more. if b then set more else unset more) either_way)
     where
-      either_way : (b : Bool) → Unit {0} → IsBehind all K (λ l. flag_bytes b ++ l) (λ more. if b then set more else unset more)
+      either_way : (b : Bool) → Unit {0}
+          → IsBehind all K (λ l. flag_bytes b ++ l) (λ more. if b then set more else unset more)
       either_way true _ = if_set
       either_way false _ = if_unset
 
 -- nothing is read
-nothing : {B : Type 0} (all : B → List ℕ) (K : B → Type 0) (front : List ℕ → List ℕ) (y : B) → all y ≡ front [] → K y
+nothing : {B : Type 0} (all : B → List ℕ) (K : B → Type 0) (front : List ℕ → List ℕ) (y : B)
+    → all y ≡ front [] → K y
     → IsBehind all K front (λ bs. Ok (y, bs))
 nothing all K front y is kept = record {
   within = λ bs small. omega arith;
@@ -168,23 +183,30 @@ nothing all K front y is kept = record {
       };
 }
 
-pub option_format : {A : Type 0} {bytes : A → List ℕ} {of : List ℕ → Reading A} {P : A → Type 0} → IsFormat bytes of P
+pub option_format : {A : Type 0} {bytes : A → List ℕ} {of : List ℕ → Reading A} {P : A → Type 0}
+    → IsFormat bytes of P
     → IsFormat (option_bytes bytes) (option_of of) (λ o. IfSome o P)
 option_format {bytes = bytes} {of = of} {P = P} part =
-    by_flag (option_bytes bytes) (λ o. IfSome o P) (λ bs. of bs ▸ λ x rest. Ok (Some x, rest)) (λ bs. Ok (None, bs))
-    (last (option_bytes bytes) (λ o. IfSome o P) part (λ l. flag_bytes true ++ l) (λ x. Some x) (λ x. refl) (λ x p. p))
+    by_flag (option_bytes bytes) (λ o. IfSome o P) (λ bs. of bs ▸ λ x rest. Ok (Some x, rest))
+    (λ bs. Ok (None, bs))
+    (last (option_bytes bytes) (λ o. IfSome o P) part (λ l. flag_bytes true ++ l) (λ x. Some x)
+    (λ x. refl) (λ x p. p))
     (nothing (option_bytes bytes) (λ o. IfSome o P) (λ l. flag_bytes false ++ l) None refl tt)
 
 -- a part that passes a test
-pub tested_format : {A : Type 0} {bytes : A → List ℕ} {of : List ℕ → Reading A} {P : A → Type 0} → IsFormat bytes of P
+pub tested_format : {A : Type 0} {bytes : A → List ℕ} {of : List ℕ → Reading A} {P : A → Type 0}
+    → IsFormat bytes of P
     → (test : A → Bool) (K : A → Type 0) → ((x : A) → test x ≡ true → P x → K x)
     → IsFormat bytes (λ bs. of bs ▸ λ x more. if test x then Ok (x, more) else Err (length bs)) K
 tested_format {bytes = bytes} {of = of} part test K keeps = record {
-  within = λ bs small. step_within (of bs) (λ x more. if test x then Ok (x, more) else Err (length bs)) (length bs)
+  within = λ bs small.
+      step_within (of bs) (λ x more. if test x then Ok (x, more) else Err (length bs)) (length bs)
       (part.within bs small)
-      (λ x more was less. either (test x) (Ok (x, more)) (Err (length bs)) (length bs) less (omega arith));
+      (λ x more was less.
+      either (test x) (Ok (x, more)) (Err (length bs)) (length bs) less (omega arith));
   read = λ bs x rest small h.
-      let p = parted (of bs) (λ y more. if test y then Ok (y, more) else Err (length bs)) (x, rest) h in
+      let p = parted (of bs) (λ y more. if test y then Ok (y, more) else Err (length bs))
+      (x, rest) h in
       let held = tested (test p.part) (Ok (p.part, p.more)) (length bs) (x, rest) p.second in
       let one = part.read bs p.part p.more small p.first in
       read_as p.part x p.more rest
@@ -194,9 +216,11 @@ tested_format {bytes = bytes} {of = of} part test K keeps = record {
       })
       held.1;
   keeps = λ bs x rest small h.
-      let p = parted (of bs) (λ y more. if test y then Ok (y, more) else Err (length bs)) (x, rest) h in
+      let p = parted (of bs) (λ y more. if test y then Ok (y, more) else Err (length bs))
+      (x, rest) h in
       let held = tested (test p.part) (Ok (p.part, p.more)) (length bs) (x, rest) p.second in
-      subst K (same_parts p.part x p.more rest held.1).0 (keeps p.part held.0 (part.keeps bs p.part p.more small p.first));
+      subst K (same_parts p.part x p.more rest held.1).0
+      (keeps p.part held.0 (part.keeps bs p.part p.more small p.first));
 }
 
 -- a write time
@@ -213,7 +237,8 @@ count_format = record {
 
 -- a value
 pub value_format : IsFormat value_bytes value_of (λ v. (is_value v ≡ true) × ValueFits v)
-value_format = record { within = λ bs small. value_within bs; read = value_is_read; keeps = value_keeps }
+value_format =
+    record { within = λ bs small. value_within bs; read = value_is_read; keeps = value_keeps }
 
 -- a state
 pub state_format : IsFormat state_bytes (state_of None) IsWritableState
@@ -227,11 +252,14 @@ pub place_format : IsFormat place_bytes read_place IsWritablePlace
 place_format = whole_format place_bytes IsWritablePlace
     (next place_bytes IsWritablePlace time_format (λ l. l) _ (λ lwt time.
     last place_bytes IsWritablePlace text_format (λ l. number_bytes w64 lwt ++ l)
-    (λ id. let p : Place = record { lwt = lwt; id = id } in p) (λ id. refl) (λ id fits. record { time = time; id = fits })))
+    (λ id. let p : Place = record { lwt = lwt; id = id } in p) (λ id. refl)
+    (λ id fits. record { time = time; id = fits })))
 
 pub master_format : IsFormat master_bytes master_of MasterFits
 master_format =
     by_flag master_bytes MasterFits (λ bs. number_of w16 bs ▸ λ port rest. Ok (Port port, rest))
     (λ bs. text_of bs ▸ λ name rest. Ok (Local name, rest))
-    (last master_bytes MasterFits short_format (λ l. flag_bytes true ++ l) (λ port. Port port) (λ port. refl) (λ port _. tt))
-    (last master_bytes MasterFits text_format (λ l. flag_bytes false ++ l) (λ name. Local name) (λ name. refl) (λ name fits. fits))
+    (last master_bytes MasterFits short_format (λ l. flag_bytes true ++ l) (λ port. Port port)
+    (λ port. refl) (λ port _. tt))
+    (last master_bytes MasterFits text_format (λ l. flag_bytes false ++ l) (λ name. Local name)
+    (λ name. refl) (λ name fits. fits))

@@ -6,7 +6,8 @@ use Rattle.rx_record.specs.Fields.{all_bytes, rising_of, list_bytes, list_of}
 use Rattle.rx_record.proofs.Steps.{parted, joined, same_parts, read_as, IsRead, AreBytes, bytes_behind}
 use Rattle.rx_record.proofs.Numbers.{digits_32, number_is_read}
 
-module _ {A L : Type 0} (bytes : A → List ℕ) (name : A → L) (part : Option L → List ℕ → Reading A) where
+module _ {A L : Type 0} (bytes : A → List ℕ) (name : A → L)
+    (part : Option L → List ℕ → Reading A) where
   -- what stands before does not change the end
   after_cons : (x : A) (m : Reading (List A)) → rest_after (m ▸ λ xs rest. Ok (x ∷ xs, rest))
       ≡ rest_after m
@@ -43,7 +44,8 @@ module _ {A L : Type 0} (bytes : A → List ℕ) (name : A → L) (part : Option
   pub next_read : (n : ℕ) (last : Option L) (bs : List ℕ) (x : A) (more : List ℕ) (k : L) → 0 < n
       → part last bs ≡ Ok (x, more) → name x ≡ k → is_read (rising_of name part n last bs) ≡ true
       → (is_read (rising_of name part (n - 1) (Some k) more) ≡ true)
-      × (read_or [] (rising_of name part n last bs) ≡ x ∷ read_or [] (rising_of name part (n - 1) (Some k) more))
+      × (read_or [] (rising_of name part n last bs)
+      ≡ x ∷ read_or [] (rising_of name part (n - 1) (Some k) more))
   next_read zero last bs x more k some h named all = absurd (omega arith)
   next_read (suc n) last bs x more k some h named all =
       let less : suc n - 1 ≡ n = omega arith in

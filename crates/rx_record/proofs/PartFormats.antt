@@ -17,20 +17,27 @@ some_part_row_format : IsFormat part_row_bytes some_part_row_of HasWritableState
 some_part_row_format = whole_format part_row_bytes HasWritableState
     (next part_row_bytes HasWritableState long_format (λ l. l) _ (λ lwt _.
     next part_row_bytes HasWritableState long_format (λ l. number_bytes w64 lwt ++ l) _ (λ height _.
-    last part_row_bytes HasWritableState state_format (λ l. number_bytes w64 lwt ++ (number_bytes w64 height ++ l))
-    (λ state. let r : PartRow = record { lwt = lwt; height = height; state = state } in r) (λ state. refl) (λ state writable. writable))))
+    last part_row_bytes HasWritableState state_format
+    (λ l. number_bytes w64 lwt ++ (number_bytes w64 height ++ l))
+    (λ state. let r : PartRow = record { lwt = lwt; height = height; state = state } in r)
+    (λ state. refl) (λ state writable. writable))))
 
 pub part_row_format : (last : Option Place)
-    → IsFormat part_row_bytes (part_row_of last) (λ r. (is_above_by place_cmp last (row_place r) ≡ true) × HasWritableState r)
+    → IsFormat part_row_bytes (part_row_of last)
+    (λ r. (is_above_by place_cmp last (row_place r) ≡ true) × HasWritableState r)
 part_row_format last =
-    tested_format some_part_row_format (λ r. is_above_by place_cmp last (row_place r)) _ (λ r above writable. (above, writable))
+    tested_format some_part_row_format (λ r. is_above_by place_cmp last (row_place r)) _
+    (λ r above writable. (above, writable))
 
 pub part_rows_format : IsFormat part_rows_bytes part_rows_of AreWritablePartRows
 part_rows_format =
-    list_format part_row_bytes row_place part_row_of (is_above_by place_cmp) HasWritableState part_row_format
+    list_format part_row_bytes row_place part_row_of
+    (is_above_by place_cmp) HasWritableState part_row_format
     (number_of w32) count_format AreWritablePartRows
     (λ rs few chain. record {
       count = few;
-      rising = chain_rises part_row_bytes row_place part_row_of place_cmp place_total HasWritableState None rs chain;
-      states = chain_keeps part_row_bytes row_place part_row_of (is_above_by place_cmp) HasWritableState None rs chain;
+      rising = chain_rises part_row_bytes row_place part_row_of place_cmp place_total
+          HasWritableState None rs chain;
+      states = chain_keeps part_row_bytes row_place part_row_of
+          (is_above_by place_cmp) HasWritableState None rs chain;
     })

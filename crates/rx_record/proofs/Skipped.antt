@@ -63,12 +63,14 @@ states_lent bs rest n small h =
     rest small read).read) h
 
 -- and rows of a part
-pub part_rows_lent : (bs rest : List ℕ) (n : ℕ) → AreBytes bs → rest_after (part_rows_from n None bs)
+pub part_rows_lent : (bs rest : List ℕ) (n : ℕ) → AreBytes bs
+    → rest_after (part_rows_from n None bs)
     ≡ Ok rest
     → IsLent [] (part_rows_from n None) bs rest
 part_rows_lent bs rest n small h =
     lent [] (all_bytes part_row_bytes) (part_rows_from n None) bs rest
-    (λ rows read. (rising_are_read part_row_bytes row_place part_row_of (λ last. (part_row_format last).read) n None bs rows
+    (λ rows read. (rising_are_read part_row_bytes row_place part_row_of
+    (λ last. (part_row_format last).read) n None bs rows
     rest small read).read) h
 
 -- and steps, by their bytes

@@ -20,21 +20,26 @@ fields_are_read = list_is_read pair_bytes (λ p. p.0) pair_of pair_is_read
 
 -- a state is read back where its key and fields are
 pub state_back : (last : Option (List ℕ)) (s : State) (more : List ℕ)
-    → text_above last (text_bytes s.key ++ (flag_bytes s.deleted ++ (fields_bytes s.fields ++ more)))
+    → text_above last
+    (text_bytes s.key ++ (flag_bytes s.deleted ++ (fields_bytes s.fields ++ more)))
     ≡ Ok (s.key, flag_bytes s.deleted ++ (fields_bytes s.fields ++ more))
     → fields_of (fields_bytes s.fields ++ more) ≡ Ok (s.fields, more)
     → state_of last (state_bytes s ++ more) ≡ Ok (s, more)
 state_back last s more key fields =
-    let split : state_bytes s ++ more ≡ text_bytes s.key ++ (flag_bytes s.deleted ++ (fields_bytes s.fields ++ more)) =
+    let split : state_bytes s ++ more
+    ≡ text_bytes s.key ++ (flag_bytes s.deleted ++ (fields_bytes s.fields ++ more)) =
     append_assoc (text_bytes s.key) (flag_bytes s.deleted ++ fields_bytes s.fields) more
-    ∙ ap (λ l. text_bytes s.key ++ l) (append_assoc (flag_bytes s.deleted) (fields_bytes s.fields) more) in
-    ap (state_of last) split ∙ rw (key, flag_back s.deleted (fields_bytes s.fields ++ more), fields) refl
+    ∙ ap (λ l. text_bytes s.key ++ l)
+    (append_assoc (flag_bytes s.deleted) (fields_bytes s.fields) more) in
+    ap (state_of last) split
+    ∙ rw (key, flag_back s.deleted (fields_bytes s.fields ++ more), fields) refl
 
 -- and one that was read stands in the bytes
 pub state_is_read : (last : Option (List ℕ)) (bs : List ℕ) (s : State) (rest : List ℕ) → AreBytes bs
     → state_of last bs ≡ Ok (s, rest) → IsRead state_bytes (state_of last) bs s rest
 state_is_read last bs s rest small h =
-    let made : List ℕ → Bool → Pairs → State = λ key deleted fields. record { key = key; fields = fields; deleted = deleted } in
+    let made : List ℕ → Bool → Pairs → State =
+    λ key deleted fields. record { key = key; fields = fields; deleted = deleted } in
     let a = parted (text_above last bs) _ (s, rest) h in
     let b = parted (flag_of a.more) _ (s, rest) a.second in
     let d = parted (fields_of b.more) _ (s, rest) b.second in
@@ -45,8 +50,10 @@ state_is_read last bs s rest small h =
     let fields = fields_are_read b.more d.part d.more small_b d.first in
     read_as (made a.part b.part d.part) s d.more rest
     (record {
-      spelled = joined (text_bytes a.part) (flag_bytes b.part ++ fields_bytes d.part) d.more a.more bs key.spelled
-          (joined (flag_bytes b.part) (fields_bytes d.part) d.more b.more a.more deleted.spelled fields.spelled);
+      spelled = joined (text_bytes a.part)
+          (flag_bytes b.part ++ fields_bytes d.part) d.more a.more bs key.spelled
+          (joined (flag_bytes b.part)
+          (fields_bytes d.part) d.more b.more a.more deleted.spelled fields.spelled);
       again = λ more. state_back last (made a.part b.part d.part) more
           (key.again (flag_bytes b.part ++ (fields_bytes d.part ++ more))) (fields.again more);
     })
@@ -54,7 +61,8 @@ state_is_read last bs s rest small h =
 
 -- a row is read back where its parts are
 pub row_back : (last : Option (List ℕ)) (r : RowOut) (more : List ℕ)
-    → number_of w64 (number_bytes w64 r.height ++ (state_bytes r.state ++ more)) ≡ Ok (r.height, state_bytes r.state ++ more)
+    → number_of w64 (number_bytes w64 r.height ++ (state_bytes r.state ++ more))
+    ≡ Ok (r.height, state_bytes r.state ++ more)
     → state_of last (state_bytes r.state ++ more) ≡ Ok (r.state, more)
     → row_of last (row_bytes r ++ more) ≡ Ok (r, more)
 row_back last r more height state =
@@ -73,7 +81,9 @@ row_is_read last bs r rest small h =
     (bytes_behind (number_bytes w64 a.part) a.more bs height.spelled small) b.first in
     read_as (made a.part b.part) r b.more rest
     (record {
-      spelled = joined (number_bytes w64 a.part) (state_bytes b.part) b.more a.more bs height.spelled state.spelled;
-      again = λ more. row_back last (made a.part b.part) more (height.again (state_bytes b.part ++ more)) (state.again more);
+      spelled = joined (number_bytes w64 a.part)
+          (state_bytes b.part) b.more a.more bs height.spelled state.spelled;
+      again = λ more. row_back last (made a.part b.part) more
+          (height.again (state_bytes b.part ++ more)) (state.again more);
     })
     b.second

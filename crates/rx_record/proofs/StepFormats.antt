@@ -32,7 +32,8 @@ both a b is also = rw (is, also) refl
 rename_is_kind : IsStepKind (rename_kind, rename_of)
 rename_is_kind =
     next step_bytes IsWritableStep field_format (λ l. rename_kind ∷ l) _ (λ field first.
-    last step_bytes IsWritableStep field_format (λ l. rename_kind ∷ (text_bytes field ++ l)) (λ to. Rename field to)
+    last step_bytes IsWritableStep field_format (λ l. rename_kind ∷ (text_bytes field ++ l))
+    (λ to. Rename field to)
     (λ to. refl) (λ to second. record {
       step = both (is_field_name field) (is_field_name to) first.0 second.0;
       fits = (first.1, second.1);
@@ -41,18 +42,22 @@ rename_is_kind =
 set_is_kind : IsStepKind (set_kind, set_of)
 set_is_kind =
     next step_bytes IsWritableStep field_format (λ l. set_kind ∷ l) _ (λ field first.
-    last step_bytes IsWritableStep value_format (λ l. set_kind ∷ (text_bytes field ++ l)) (λ v. Set field v)
-    (λ v. refl) (λ v second. record { step = rw (first.0, second.0) refl; fits = (first.1, second.1) }))
+    last step_bytes IsWritableStep value_format (λ l. set_kind ∷ (text_bytes field ++ l))
+    (λ v. Set field v)
+    (λ v. refl)
+    (λ v second. record { step = rw (first.0, second.0) refl; fits = (first.1, second.1) }))
 
 drop_is_kind : IsStepKind (drop_kind, drop_of)
 drop_is_kind =
-    last step_bytes IsWritableStep field_format (λ l. drop_kind ∷ l) (λ field. Unset field) (λ field. refl)
+    last step_bytes IsWritableStep field_format (λ l. drop_kind ∷ l) (λ field. Unset field)
+    (λ field. refl)
     (λ field first. record { step = first.0; fits = first.1 })
 
 scale_is_kind : IsStepKind (scale_kind, scale_of)
 scale_is_kind =
     next step_bytes IsWritableStep field_format (λ l. scale_kind ∷ l) _ (λ field first.
-    last step_bytes IsWritableStep factor_format (λ l. scale_kind ∷ (text_bytes field ++ l)) (λ by. Scale field by)
+    last step_bytes IsWritableStep factor_format (λ l. scale_kind ∷ (text_bytes field ++ l))
+    (λ by. Scale field by)
     (λ by. refl) (λ by second. record {
       step =
           let parts = and_parts (leb 1 by) (leb by most_by) second in
@@ -68,7 +73,8 @@ step_format = kinds_format step_bytes IsWritableStep step_kinds all_are_steps
 
 -- how many there are
 steps_count_format : IsFormat (number_bytes w32) steps_count_of (λ n. n ≤ most_steps)
-steps_count_format = tested_format count_format (λ n. leb n most_steps) _ (λ n few _. leb-true n most_steps few)
+steps_count_format =
+    tested_format count_format (λ n. leb n most_steps) _ (λ n few _. leb-true n most_steps few)
 
 -- a step follows any other
 abbrev pub always_above : Option (Unit {0}) → Unit {0} → Bool

@@ -4,7 +4,8 @@ use Rattle.std.proofs.Math.Seq.{take-append_seam}
 use Rattle.rx_record.specs.Reading.{Reading, ◌▸◌, read_or}
 
 -- both parts were read
-pub record Parted {A B : Type 0} (m : Reading A) (f : A → List ℕ → Reading B) (r : B × List ℕ) : Type 0 where
+pub record Parted {
+    A B : Type 0} (m : Reading A) (f : A → List ℕ → Reading B) (r : B × List ℕ) : Type 0 where
   pub part : A
   pub more : List ℕ
   pub first : m ≡ Ok (part, more)
@@ -22,7 +23,8 @@ tested true m left r h = (refl, h)
 tested false m left r h = cc
 
 -- what was read stands at the front, and is read from there again whatever stands behind it
-pub record IsRead {A : Type 0} (bytes : A → List ℕ) (of : List ℕ → Reading A) (bs : List ℕ) (x : A) (rest : List ℕ) : Type 0 where
+pub record IsRead {A : Type 0} (bytes : A → List ℕ) (of : List ℕ → Reading A) (bs : List ℕ) (x : A)
+    (rest : List ℕ) : Type 0 where
   pub spelled : bs ≡ bytes x ++ rest
   pub again : (more : List ℕ) → of (bytes x ++ more) ≡ Ok (x, more)
 
@@ -33,9 +35,12 @@ AreBytes bs = (i : ℕ) → get_or bs i 0 < 256
 -- so are those behind a part
 pub bytes_behind : (xs rest bs : List ℕ) → bs ≡ xs ++ rest → AreBytes bs → AreBytes rest
 bytes_behind xs rest bs is small i =
-    subst (λ (n : ℕ). n < 256) (ap (λ (l : List ℕ). get_or l (length xs + i) 0) is ∙ get_or-append-add xs rest i 0) (small (length xs + i))
+    subst (λ (n : ℕ). n < 256)
+    (ap (λ (l : List ℕ). get_or l (length xs + i) 0) is ∙ get_or-append-add xs rest i 0)
+    (small (length xs + i))
 
-module _ {A : Type 0} {bytes : A → List ℕ} {of : List ℕ → Reading A} {bs : List ℕ} {x : A} {rest : List ℕ} where
+module _ {A : Type 0} {bytes : A → List ℕ} {of : List ℕ → Reading A} {bs : List ℕ} {x : A}
+    {rest : List ℕ} where
   -- the bytes behind it are no more than all
   pub rest_within : IsRead bytes of bs x rest → length rest ≤ length bs
   rest_within read = omega (arith, ap length read.spelled, length-append (bytes x) rest)
@@ -46,7 +51,8 @@ module _ {A : Type 0} {bytes : A → List ℕ} {of : List ℕ → Reading A} {bs
       let long : length bs - length rest ≡ length (bytes x) =
       omega (arith, ap length read.spelled, length-append (bytes x) rest) in
       let front : take (length bs - length rest) bs ≡ bytes x =
-      ap (λ n. take n bs) long ∙ ap (take (length (bytes x))) read.spelled ∙ take-append_seam (bytes x) rest in
+      ap (λ n. take n bs) long ∙ ap (take (length (bytes x))) read.spelled
+      ∙ take-append_seam (bytes x) rest in
       ap of (front ∙ sym (append-nil (bytes x))) ∙ read.again []
 
 -- so are those of a front
@@ -70,7 +76,8 @@ pub same_parts : {A : Type 0} (x y : A) (r s : List ℕ) → done x r ≡ done y
 same_parts x y r s h = (ap (read_or x) h, ap (behind_or r) h)
 
 -- what was read stands in the bytes as its equal does
-pub read_as : {A : Type 0} {bytes : A → List ℕ} {of : List ℕ → Reading A} {bs : List ℕ} (x y : A) (r s : List ℕ)
+pub read_as : {A : Type 0} {bytes : A → List ℕ} {of : List ℕ → Reading A} {bs : List ℕ} (x y : A)
+    (r s : List ℕ)
     → IsRead bytes of bs x r → done x r ≡ done y s → IsRead bytes of bs y s
 read_as {bytes = bytes} {of = of} {bs = bs} x y r s read same =
     let parts = same_parts x y r s same in

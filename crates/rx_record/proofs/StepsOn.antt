@@ -6,7 +6,8 @@ use Rattle.rx_record.specs.Steps.{step_bytes, step_of, no_name, any_step_of, ste
 use Rattle.rx_record.proofs.Lists.{after_step, next_read}
 
 -- no step goes by the one before
-any_last : (n : ℕ) (last other : Option (Unit {0})) (bs : List ℕ) → steps_from n last bs ≡ steps_from n other bs
+any_last : (n : ℕ) (last other : Option (Unit {0})) (bs : List ℕ)
+    → steps_from n last bs ≡ steps_from n other bs
 any_last zero last other bs = refl
 any_last (suc n) last other bs = refl
 
@@ -31,12 +32,15 @@ moved ss s (Ok p) = ap (λ xs. Ok (xs, p.1)) (sym (append_assoc ss (s ∷ []) p.
 moved ss s (Err left) = refl
 
 -- a step is read behind those before
-pub front_on : (n : ℕ) (ss : List Step) (bs : List ℕ) (s : Step) (more : List ℕ) → 0 < n → step_of bs ≡ Ok (s, more)
-    → with_front ss (steps_from n None bs) ≡ with_front (ss ++ s ∷ []) (steps_from (n - 1) None more)
+pub front_on : (n : ℕ) (ss : List Step) (bs : List ℕ) (s : Step) (more : List ℕ) → 0 < n
+    → step_of bs ≡ Ok (s, more)
+    → with_front ss (steps_from n None bs)
+    ≡ with_front (ss ++ s ∷ []) (steps_from (n - 1) None more)
 front_on zero ss bs s more some h = absurd (omega arith)
 front_on (suc n) ss bs s more some h =
     let less : suc n - 1 ≡ n = omega arith in
-    rw (h, less) (moved ss s (steps_from n (Some tt) more) ∙ ap (with_front (ss ++ s ∷ [])) (any_last n (Some tt) None more))
+    rw (h, less) (moved ss s (steps_from n (Some tt) more)
+    ∙ ap (with_front (ss ++ s ∷ [])) (any_last n (Some tt) None more))
 
 -- what was read of all is read behind the first
 pub read_on : (n : ℕ) (bs : List ℕ) (s : Step) (more : List ℕ) → 0 < n → step_of bs ≡ Ok (s, more)

@@ -22,7 +22,11 @@ not_utf8 bs false is _ = is
 pub text_foreign : (bs more : List ℕ) (n : ℕ) → number_of w32 bs ≡ Ok (n, more) → n ≤ length more
     → (IsUtf8 (take n more) → ⊥) → text_of bs ≡ Err (length bs)
 text_foreign bs more n size long never =
-    rw (size, le-leb n (length more) long, not_utf8 (take n more) (is_utf8 (take n more)) refl never) refl
+    rw (
+      size,
+      le-leb n (length more) long,
+      not_utf8 (take n more) (is_utf8 (take n more)) refl never,
+    ) refl
 
 -- a text is read back where its length is
 pub text_back : (t more : List ℕ) → is_utf8 t ≡ true
@@ -53,7 +57,8 @@ text_is_read bs t rest small h =
     let left = parts.1 in
     let long : n ≡ length t =
     sym (length-take-le n p.more (leb-true n (length p.more) passed.0)) ∙ ap length cut in
-    let whole : p.more ≡ t ++ rest = sym (take-append-drop n p.more) ∙ ap₂ (λ a b. a ++ b) cut left in
+    let whole : p.more ≡ t ++ rest =
+    sym (take-append-drop n p.more) ∙ ap₂ (λ a b. a ++ b) cut left in
     record {
       spelled =
           joined (number_bytes w32 (length t)) t rest p.more bs
@@ -66,7 +71,8 @@ text_is_read bs t rest small h =
 
 -- a text above the last is read where the text is
 pub above_back : (last : Option (List ℕ)) (t more : List ℕ) → is_above last t ≡ true
-    → text_of (text_bytes t ++ more) ≡ Ok (t, more) → text_above last (text_bytes t ++ more) ≡ Ok (t, more)
+    → text_of (text_bytes t ++ more) ≡ Ok (t, more)
+    → text_above last (text_bytes t ++ more) ≡ Ok (t, more)
 above_back last t more above read = rw (read, above) refl
 
 -- and one that was read stands in the bytes
@@ -103,5 +109,7 @@ pub above_fits : (last : Option (List ℕ)) (bs t rest : List ℕ) → AreBytes 
 above_fits last bs t rest small h =
     let p = parted (text_of bs) _ (t, rest) h in
     let held = tested (is_above last p.part) (Ok (p.part, p.more)) (length bs) (t, rest) p.second in
-    let same = (same_parts p.part t p.more rest held.1).0 in
-    (ap (is_above last) (sym same) ∙ held.0, subst Fits same (text_fits bs p.part p.more small p.first))
+    let same = (same_parts p.part t p.more rest held.1).0 in (
+      ap (is_above last) (sym same) ∙ held.0,
+      subst Fits same (text_fits bs p.part p.more small p.first),
+    )

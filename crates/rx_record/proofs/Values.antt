@@ -32,16 +32,19 @@ flag_is_read (suc zero ∷ bs) b rest h =
 flag_is_read (suc (suc k) ∷ bs) b rest h = cc (flag_foreign (suc (suc k)) bs (omega arith), h)
 
 -- a number of a field
-integer_is_read : (bs : List ℕ) (v : Value) (rest : List ℕ) → AreBytes bs → integer_of bs ≡ Ok (v, rest)
+integer_is_read : (bs : List ℕ) (v : Value) (rest : List ℕ) → AreBytes bs
+    → integer_of bs ≡ Ok (v, rest)
     → IsRead value_bytes value_of (1 ∷ bs) v rest
 integer_is_read bs v rest small h =
     let p = parted (number_of w64 bs) _ (v, rest) h in
-    let held = tested (is_number (cast_signed w64 p.part)) (Ok (Int (cast_signed w64 p.part), p.more)) (length bs) (v, rest) p.second in
+    let held = tested (is_number (cast_signed w64 p.part))
+    (Ok (Int (cast_signed w64 p.part), p.more)) (length bs) (v, rest) p.second in
     let number = number_is_read w64 digits_64 bs p.part p.more small p.first in
     let same = of_z-to_z w64 p.part (number_below_64 bs p.part p.more small p.first) in
     read_as (Int (cast_signed w64 p.part)) v p.more rest
     (record {
-      spelled = ap (λ l. 1 ∷ l) (number.spelled ∙ ap (λ n. number_bytes w64 n ++ p.more) (sym same));
+      spelled =
+          ap (λ l. 1 ∷ l) (number.spelled ∙ ap (λ n. number_bytes w64 n ++ p.more) (sym same));
       again = λ more. rw (same, number.again more, held.0) refl;
     })
     held.1
@@ -52,7 +55,8 @@ value_foreign k bs above =
     rw (ne_eqb k 0 (omega arith), ne_eqb k 1 (omega arith), ne_eqb k 2 (omega arith)) refl
 
 -- a value
-pub value_is_read : (bs : List ℕ) (v : Value) (rest : List ℕ) → AreBytes bs → value_of bs ≡ Ok (v, rest)
+pub value_is_read : (bs : List ℕ) (v : Value) (rest : List ℕ) → AreBytes bs
+    → value_of bs ≡ Ok (v, rest)
     → IsRead value_bytes value_of bs v rest
 value_is_read [] v rest small h = cc
 value_is_read (zero ∷ bs) v rest small h =
@@ -68,11 +72,13 @@ value_is_read (suc (suc zero) ∷ bs) v rest small h =
     read_as (Text p.part) v p.more rest
     (record { spelled = ap (λ l. 2 ∷ l) text.spelled; again = λ more. rw (text.again more) refl })
     p.second
-value_is_read (suc (suc (suc k)) ∷ bs) v rest small h = cc (value_foreign (suc (suc (suc k))) bs (omega arith), h)
+value_is_read (suc (suc (suc k)) ∷ bs) v rest small h =
+    cc (value_foreign (suc (suc (suc k))) bs (omega arith), h)
 
 -- a name and its value are read back
 pub pair_back : (last : Option (List ℕ)) (p : Pair) (more : List ℕ)
-    → text_above last (text_bytes p.0 ++ (value_bytes p.1 ++ more)) ≡ Ok (p.0, value_bytes p.1 ++ more)
+    → text_above last (text_bytes p.0 ++ (value_bytes p.1 ++ more))
+    ≡ Ok (p.0, value_bytes p.1 ++ more)
     → value_of (value_bytes p.1 ++ more) ≡ Ok (p.1, more)
     → pair_of last (pair_bytes p ++ more) ≡ Ok (p, more)
 pair_back last p more name value =
@@ -85,10 +91,13 @@ pair_is_read last bs p rest small h =
     let a = parted (text_above last bs) _ (p, rest) h in
     let b = parted (value_of a.more) _ (p, rest) a.second in
     let name = above_is_read last bs a.part a.more small a.first in
-    let value = value_is_read a.more b.part b.more (bytes_behind (text_bytes a.part) a.more bs name.spelled small) b.first in
+    let value = value_is_read a.more b.part b.more
+    (bytes_behind (text_bytes a.part) a.more bs name.spelled small) b.first in
     read_as (a.part, b.part) p b.more rest
     (record {
-      spelled = joined (text_bytes a.part) (value_bytes b.part) b.more a.more bs name.spelled value.spelled;
-      again = λ more. pair_back last (a.part, b.part) more (name.again (value_bytes b.part ++ more)) (value.again more);
+      spelled = joined (text_bytes a.part)
+          (value_bytes b.part) b.more a.more bs name.spelled value.spelled;
+      again = λ more. pair_back last (a.part, b.part) more (name.again (value_bytes b.part ++ more))
+          (value.again more);
     })
     b.second

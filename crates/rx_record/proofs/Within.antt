@@ -31,7 +31,8 @@ onward (Ok p) f n h g = g p.0 p.1 h
 onward (Err left) f n h g = h
 
 -- a part of the bytes behind
-pub behind : {A : Type 0} (of : List ℕ → Reading A) → Bounded of → (more : List ℕ) (n : ℕ) → length more ≤ n
+pub behind : {A : Type 0} (of : List ℕ → Reading A) → Bounded of
+    → (more : List ℕ) (n : ℕ) → length more ≤ n
     → IsWithin (of more) n
 behind of b more n less = grows (of more) (length more) n less (b more)
 
@@ -46,9 +47,11 @@ byte_within (b ∷ bs) = omega arith
 
 pub flag_within : Bounded flag_of
 flag_within bs = onward (byte_of bs) (λ b more.
-    if b == 0 then Ok (false, more) else if b == 1 then Ok (true, more) else Err (length bs)) (length bs)
+    if b == 0 then Ok (false, more) else if b == 1 then Ok (true, more) else Err (length bs))
+    (length bs)
     (byte_within bs)
-    (λ b more less. either (b == 0) (Ok (false, more)) (if b == 1 then Ok (true, more) else Err (length bs)) (length bs)
+    (λ b more less. either (b == 0) (Ok (false, more))
+    (if b == 1 then Ok (true, more) else Err (length bs)) (length bs)
     less (either (b == 1) (Ok (true, more)) (Err (length bs)) (length bs) less (omega arith)))
 
 pub number_within : (w : Width) → Bounded (number_of w)
@@ -60,21 +63,27 @@ number_within w bs =
 
 pub text_within : Bounded text_of
 text_within bs = onward (number_of w32 bs) (λ n more.
-    if leb n (length more) && is_utf8 (take n more) then Ok (take n more, drop n more) else Err (length bs)) (length bs)
+    if leb n (length more)
+    && is_utf8 (take n more) then Ok (take n more, drop n more) else Err (length bs)) (length bs)
     (number_within w32 bs)
-    (λ n more less. either (leb n (length more) && is_utf8 (take n more)) (Ok (take n more, drop n more)) (Err (length bs)) (length bs)
+    (λ n more less. either (leb n (length more) && is_utf8 (take n more))
+    (Ok (take n more, drop n more)) (Err (length bs)) (length bs)
     (omega (arith, length-drop n more)) (omega arith))
 
 above_within : (last : Option (List ℕ)) → Bounded (text_above last)
-above_within last bs = onward (text_of bs) (λ t more. if is_above last t then Ok (t, more) else Err (length bs)) (length bs)
+above_within last bs = onward (text_of bs)
+    (λ t more. if is_above last t then Ok (t, more) else Err (length bs)) (length bs)
     (text_within bs)
-    (λ t more less. either (is_above last t) (Ok (t, more)) (Err (length bs)) (length bs) less (omega arith))
+    (λ t more less.
+    either (is_above last t) (Ok (t, more)) (Err (length bs)) (length bs) less (omega arith))
 
 integer_within : Bounded integer_of
 integer_within bs = onward (number_of w64 bs) (λ n more.
-    if is_number (cast_signed w64 n) then Ok (Int (cast_signed w64 n), more) else Err (length bs)) (length bs)
+    if is_number (cast_signed w64 n) then Ok (Int (cast_signed w64 n), more) else Err (length bs))
+    (length bs)
     (number_within w64 bs)
-    (λ n more less. either (is_number (cast_signed w64 n)) (Ok (Int (cast_signed w64 n), more)) (Err (length bs)) (length bs) less (omega arith))
+    (λ n more less. either (is_number (cast_signed w64 n)) (Ok (Int (cast_signed w64 n), more))
+    (Err (length bs)) (length bs) less (omega arith))
 
 pub value_within : Bounded value_of
 value_within bs = onward (byte_of bs) (λ kind more.
@@ -84,18 +93,24 @@ value_within bs = onward (byte_of bs) (λ kind more.
     else Err (length bs)) (length bs)
     (byte_within bs)
     (λ kind more less.
-    either (kind == 0) (flag_of more ▸ λ b rest. Ok (Flag b, rest)) (if kind == 1 then integer_of more
-    else if kind == 2 then (text_of more ▸ λ t rest. Ok (Text t, rest)) else Err (length bs)) (length bs)
-    (onward (flag_of more) (λ b rest. Ok (Flag b, rest)) (length bs) (behind flag_of flag_within more (length bs) less) (λ b rest fewer. fewer))
+    either (kind == 0) (flag_of more ▸ λ b rest. Ok (Flag b, rest))
+    (if kind == 1 then integer_of more
+    else if kind == 2 then (text_of more ▸ λ t rest. Ok (Text t, rest)) else Err (length bs))
+    (length bs)
+    (onward (flag_of more) (λ b rest. Ok (Flag b, rest)) (length bs)
+    (behind flag_of flag_within more (length bs) less) (λ b rest fewer. fewer))
     (either (kind == 1) (integer_of more)
-    (if kind == 2 then (text_of more ▸ λ t rest. Ok (Text t, rest)) else Err (length bs)) (length bs)
+    (if kind == 2 then (text_of more ▸ λ t rest. Ok (Text t, rest)) else Err (length bs))
+    (length bs)
     (behind integer_of integer_within more (length bs) less)
     (either (kind == 2) (text_of more ▸ λ t rest. Ok (Text t, rest)) (Err (length bs)) (length bs)
-    (onward (text_of more) (λ t rest. Ok (Text t, rest)) (length bs) (behind text_of text_within more (length bs) less) (λ t rest fewer. fewer))
+    (onward (text_of more) (λ t rest. Ok (Text t, rest)) (length bs)
+    (behind text_of text_within more (length bs) less) (λ t rest fewer. fewer))
     (omega arith))))
 
 pair_within : (last : Option (List ℕ)) → Bounded (pair_of last)
-pair_within last bs = onward (text_above last bs) (λ name more. value_of more ▸ λ v rest. Ok ((name, v), rest)) (length bs)
+pair_within last bs = onward (text_above last bs)
+    (λ name more. value_of more ▸ λ v rest. Ok ((name, v), rest)) (length bs)
     (above_within last bs)
     (λ name more less. onward (value_of more) (λ v rest. Ok ((name, v), rest)) (length bs)
     (behind value_of value_within more (length bs) less) (λ v rest fewer. fewer))
@@ -105,23 +120,30 @@ module _ {A L : Type 0} (name : A → L) (part : Option L → List ℕ → Readi
   pub rising_within : (n : ℕ) (last : Option L) → Bounded (rising_of name part n last)
   rising_within zero last bs = omega arith
   rising_within (suc n) last bs =
-      onward (part last bs) (λ x more. rising_of name part n (Some (name x)) more ▸ λ xs rest. Ok (x ∷ xs, rest)) (length bs)
+      onward (part last bs)
+      (λ x more. rising_of name part n (Some (name x)) more ▸ λ xs rest. Ok (x ∷ xs, rest))
+      (length bs)
       (part_within last bs)
-      (λ x more less. onward (rising_of name part n (Some (name x)) more) (λ xs rest. Ok (x ∷ xs, rest)) (length bs)
-      (behind (rising_of name part n (Some (name x))) (rising_within n (Some (name x))) more (length bs) less)
+      (λ x more less.
+      onward (rising_of name part n (Some (name x)) more) (λ xs rest. Ok (x ∷ xs, rest)) (length bs)
+      (behind (rising_of name part n (Some (name x))) (rising_within n (Some (name x))) more
+      (length bs) less)
       (λ xs rest fewer. fewer))
 
   pub list_within : Bounded (list_of name part)
   list_within bs = onward (number_of w32 bs) (λ n more. rising_of name part n None more) (length bs)
       (number_within w32 bs)
-      (λ n more less. behind (rising_of name part n None) (rising_within n None) more (length bs) less)
+      (λ n more less.
+      behind (rising_of name part n None) (rising_within n None) more (length bs) less)
 
 pub state_within : (last : Option (List ℕ)) → Bounded (state_of last)
 state_within last bs = onward (text_above last bs) _ (length bs)
     (above_within last bs)
-    (λ key more less. onward (flag_of more) _ (length bs) (behind flag_of flag_within more (length bs) less)
+    (λ key more less.
+    onward (flag_of more) _ (length bs) (behind flag_of flag_within more (length bs) less)
     (λ deleted more fewer. onward (list_of (λ p. p.0) pair_of more) _ (length bs)
-    (behind (list_of (λ p. p.0) pair_of) (list_within (λ p. p.0) pair_of pair_within) more (length bs) fewer)
+    (behind (list_of (λ p. p.0) pair_of) (list_within (λ p. p.0) pair_of pair_within) more
+    (length bs) fewer)
     (λ fields rest left. left)))
 
 row_within : (last : Option (List ℕ)) → Bounded (row_of last)

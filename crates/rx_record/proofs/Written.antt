@@ -124,7 +124,8 @@ module _ {A L : Type 0} (bytes : A → List ℕ) (name : A → L) (part : Option
 module _ {A L : Type 0} (bytes : A → List ℕ) (name : A → L) (part : Option L → List ℕ → Reading A)
     (cmp : L → L → Ordering) where
   after_first : (x : A) (xs : List A) → AllByRecursion (λ k. cmp (name x) k ≡ Less) (map name xs)
-      → IsStrictlySortedBy cmp (map name xs) → AreAbove bytes name part (is_above_by cmp) (Some (name x)) xs
+      → IsStrictlySortedBy cmp (map name xs)
+      → AreAbove bytes name part (is_above_by cmp) (Some (name x)) xs
   unfolding IsStrictlySortedBy
   after_first x [] all rising = tt
   after_first x (y ∷ ys) all rising = (ap is_lt all.0, after_first y ys rising.0 rising.1)
@@ -136,10 +137,12 @@ module _ {A L : Type 0} (bytes : A → List ℕ) (name : A → L) (part : Option
   above_each (x ∷ xs) rising = (refl, after_first x xs rising.0 rising.1)
 
 -- one more thing is written
-pub one_more : {A : Type 0} (bytes : A → List ℕ) (xs : List A) (i : ℕ) (x : A) → slice_get xs i ≡ Some x
+pub one_more : {A : Type 0} (bytes : A → List ℕ) (xs : List A) (i : ℕ) (x : A)
+    → slice_get xs i ≡ Some x
     → all_bytes bytes (take (i + 1) xs) ≡ all_bytes bytes (take i xs) ++ bytes x
 one_more bytes [] i x h = cc
-one_more bytes (w ∷ xs) zero x h = let e : w ≡ x = cc in ap (λ v. bytes v ++ []) e ∙ append-nil (bytes x)
+one_more bytes (w ∷ xs) zero x h = let e : w ≡ x = cc in
+    ap (λ v. bytes v ++ []) e ∙ append-nil (bytes x)
 one_more bytes (w ∷ xs) (suc i) x h =
     let n : suc i + 1 ≡ suc (i + 1) = omega arith in
     rw n (ap (λ l. bytes w ++ l) (one_more bytes xs i x h)
@@ -166,7 +169,8 @@ fields_read_back ps i long rising back =
           (number_bytes w32 (length p.0)) p.0,
       length-append (text_bytes p.0) (value_bytes p.1),
     ))
-    ps (above_each pair_bytes (λ p. p.0) pair_of text_cmp ps rising) (subst (AllByRecursion PairReadsBack) (take_all i ps long) back)
+    ps (above_each pair_bytes (λ p. p.0) pair_of text_cmp ps rising)
+    (subst (AllByRecursion PairReadsBack) (take_all i ps long) back)
 
 -- rows
 pub rows_read_back : (rs : List RowOut) (i : ℕ) → length rs ≤ i → KeysRise rs
@@ -179,7 +183,8 @@ rows_read_back rs i long rising back =
       length-append (number_bytes w64 r.height)
           (state_bytes r.state),
     ))
-    rs (above_each row_bytes key_of row_of text_cmp rs rising) (subst (AllByRecursion RowReadsBack) (take_all i rs long) back)
+    rs (above_each row_bytes key_of row_of text_cmp rs rising)
+    (subst (AllByRecursion RowReadsBack) (take_all i rs long) back)
 
 -- states
 pub states_read_back : (ss : List State) (i : ℕ) → length ss ≤ i → StatesRise ss
@@ -192,7 +197,8 @@ states_read_back ss i long rising back =
       length-append (number_bytes w32 (length s.key)) s.key,
       length-append (text_bytes s.key) (flag_bytes s.deleted ++ fields_bytes s.fields),
     ))
-    ss (above_each state_bytes state_key state_of text_cmp ss rising) (subst (AllByRecursion StateReadsBack) (take_all i ss long) back)
+    ss (above_each state_bytes state_key state_of text_cmp ss rising)
+    (subst (AllByRecursion StateReadsBack) (take_all i ss long) back)
 
 -- ---- parts one after another
 

@@ -20,9 +20,9 @@ use Rattle.rx_record.specs.declared.record.RowOut.{RowOut}
 -- a collection's name and schema; a collection's name, the write time and the rows; a replication's
 -- name, fork, master, handler and field; a replication's name, the write time and rows of its fork,
 -- the states that became known, and the checkpoints up and down; an epoch; a collection's name, the
--- schema of its next version and the steps to it; or, of a journal that is a copy of another's world,
--- a part of a collection's documents, a part of a replication's known states with the checkpoints,
--- and the end of the copy with its epoch
+-- schema of its next version and the steps to it; or, of a journal that is a copy of another's
+-- world, a part of a collection's documents, a part of a replication's known states with the
+-- checkpoints, and the end of the copy with its epoch
 pub data Content : Type 0 where
   collection : List ℕ → List ℕ → Content
   rows : List ℕ → ℕ → List RowOut → Content

@@ -13,7 +13,8 @@ use Rattle.rx_record.specs.declared.record_view.RecordView.TheVariants as lent
 abbrev pub content : Record → Content
 content (owned.Collection name schema) = collection name schema
 content (owned.Rows name lwt written) = rows name lwt written.items
-content (owned.Replication name fork master handler field) = replication name fork master handler field
+content (owned.Replication name fork master handler field) =
+    replication name fork master handler field
 content (owned.Exchange name lwt written known up down) =
     exchange name lwt written.items known.items up down
 content (owned.Epoch number) = epoch number

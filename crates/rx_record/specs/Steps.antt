@@ -23,8 +23,8 @@ drop_kind = 2
 abbrev pub scale_kind : ℕ
 scale_kind = 3
 
--- a step: the byte of its kind, the name of its field, and the name of another, a value, nothing, or
--- the factor in two bytes
+-- a step: the byte of its kind, the name of its field, and the name of another, a value, nothing,
+-- or the factor in two bytes
 abbrev pub step_bytes : Step → List ℕ
 step_bytes (Rename field to) = rename_kind ∷ (text_bytes field ++ text_bytes to)
 step_bytes (Set field v) = set_kind ∷ (text_bytes field ++ value_bytes v)
@@ -55,7 +55,8 @@ scale_of bs = field_of bs ▸ λ field more. factor_of more ▸ λ by rest. Ok (
 
 abbrev pub step_kinds : List (Kind Step)
 step_kinds =
-    (rename_kind, rename_of) ∷ (set_kind, set_of) ∷ (drop_kind, drop_of) ∷ (scale_kind, scale_of) ∷ []
+    (rename_kind, rename_of) ∷ (set_kind, set_of) ∷ (drop_kind, drop_of)
+    ∷ (scale_kind, scale_of) ∷ []
 
 abbrev pub step_of : List ℕ → Reading Step
 step_of = by_kind step_kinds

@@ -17,8 +17,8 @@ use Rattle.rx_reply.specs.declared.turn.TurnEnd.{TurnEnd}
 
 -- a collection is there, new or not; a document is written; a hook is attached; collections went to
 -- another schema; documents are written, read, found, counted; a query is observed, no more
--- observed, explained; a replication begins; a turn made these exchanges and ended so; a sweep made these turns,
--- and the last one ended so; a stream is
+-- observed, explained; a replication begins; a turn made these exchanges and ended so; a sweep made
+-- these turns, and the last one ended so; a stream is
 -- opened; that came of its events, whether the fork is level, and whether it is to pull; a stream
 -- is closed; states are listed up to a place; the clock is set; an epoch begins; states are
 -- counted and have that digest; or the line is refused

@@ -99,8 +99,9 @@ answer_data line (digest n text) = object
     (member (codes "line") (number_data line) (ok_members (codes "digest") no_members))))
 answer_data line (refused refusal) = form_data line (form_of refusal)
 
--- A turn has a line for each of its exchanges before its own, numbered from 1, a sweep those of each
--- of its turns, and a delivery one for each giving of an event; every other answer is one line.
+-- A turn has a line for each of its exchanges before its own, numbered from 1, a sweep those of
+-- each of its turns, and a delivery one for each giving of an event;
+-- every other answer is one line.
 abbrev pub lines_before : Answer → List ℕ
 lines_before (turn exchanges ended) = exchange_lines 1 exchanges
 lines_before (sweep turns ended) = swept_lines turns

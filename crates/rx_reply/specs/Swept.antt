@@ -23,4 +23,5 @@ swept_data t = object
 -- of each turn a line for each of its exchanges, numbered from 1, and then its own
 abbrev pub swept_lines : List Swept → List ℕ
 swept_lines [] = []
-swept_lines (t ∷ ts) = (exchange_lines 1 t.exchanges ++ output_line (swept_data t)) ++ swept_lines ts
+swept_lines (t ∷ ts) =
+    (exchange_lines 1 t.exchanges ++ output_line (swept_data t)) ++ swept_lines ts

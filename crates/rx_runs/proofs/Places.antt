@@ -26,7 +26,8 @@ module _ {X : Type 0} where
       omega (arith, rest, length-append c.1 (flat (take n cs)), length-append c.1 (flat cs))
 
   -- behind those of the first chunks
-  place_read : (cs : List (List ℕ × List (List ℕ × X))) (k left : ℕ) (d : List ℕ × List (List ℕ × X)) (p : List ℕ × X)
+  place_read : (cs : List (List ℕ × List (List ℕ × X))) (k left : ℕ)
+      (d : List ℕ × List (List ℕ × X)) (p : List ℕ × X)
       → k < length cs → left < length (get_or cs k d).1
       → get_or (flat cs) (length (flat (take k cs)) + left) p ≡ get_or (get_or cs k d).1 left p
   place_read [] k left d p lt inside = absurd (omega arith)
@@ -41,7 +42,8 @@ module _ {X : Type 0} where
       ∙ get_or-append-add c.1 (flat cs) (length (flat (take k cs)) + left) p
       ∙ place_read cs k left d p (omega arith) inside
 
-  pub found_in : (cs : List (List ℕ × List (List ℕ × X))) (k left i : ℕ) (d : List ℕ × List (List ℕ × X))
+  pub found_in : (cs : List (List ℕ × List (List ℕ × X))) (k left i : ℕ)
+      (d : List ℕ × List (List ℕ × X))
       (es : List (List ℕ × X)) (p : List ℕ × X)
       → k < length cs → es ≡ (get_or cs k d).1 → left < length es → p ≡ get_or es left p
       → i ≡ length (flat (take k cs)) + left → slice_get (flat cs) i ≡ Some p
@@ -55,7 +57,8 @@ module _ {X : Type 0} where
       ∙ sym (place_read cs k left d p lt (omega (arith, many)))
       ∙ ap (λ n. get_or (flat cs) n p) (sym is))
 
-  pub found_back_in : (cs : List (List ℕ × List (List ℕ × X))) (k end left i : ℕ) (d : List ℕ × List (List ℕ × X))
+  pub found_back_in : (cs : List (List ℕ × List (List ℕ × X))) (k end left i : ℕ)
+      (d : List ℕ × List (List ℕ × X))
       (es : List (List ℕ × X)) (p : List ℕ × X)
       → k < length cs → end ≡ k + 1 → es ≡ (get_or cs k d).1 → left < length es
       → p ≡ get_or es (length es - 1 - left) p

@@ -171,12 +171,19 @@ module _ (old new : Holders Observing)
   carried_quiet quiet =
       subst (AllByRecursion IsQuiet) (sym lives) (moved_quiet (holders_in old) quiet)
 
-module _ (old : Holders Observing) (moment : ℕ) (hooks : Hooking) (streams : List Stream) (number : ℕ) (ps : List QueryPlace)
+module _ (old : Holders Observing) (moment : ℕ) (hooks : Hooking) (streams : List Stream)
+    (number : ℕ) (ps : List QueryPlace)
     (quiet : AllByRecursion IsQuiet (holders_in old)) where
   -- the session before
   abbrev before : Session
   before =
-      record { world = world_of old; moment = moment; hooks = hooks; streams = streams; queries = queries_of (holders_in old) ps }
+      record {
+        world = world_of old;
+        moment = moment;
+        hooks = hooks;
+        streams = streams;
+        queries = queries_of (holders_in old) ps;
+      }
 
   -- the world in another epoch
   abbrev again : World
@@ -201,7 +208,13 @@ module _ (old : Holders Observing) (moment : ℕ) (hooks : Hooking) (streams : L
   pub carried_session : (new : Holders Observing)
       → holders_in new ≡ each_live with_cooled (holders_in old)
       → new.replications ≡ old.replications → new.epoch ≡ number
-      → record { world = world_of new; moment = moment; hooks = hooks; streams = []; queries = queries_of (holders_in new) ps }
+      → record {
+        world = world_of new;
+        moment = moment;
+        hooks = hooks;
+        streams = [];
+        queries = queries_of (holders_in new) ps;
+      }
       ≡ settled_session (session_after (restart number) before)
   carried_session new lives replications epoch =
       let moved = each_live with_cooled (holders_in old) in

@@ -347,7 +347,8 @@ pub none_found : {X : Type 0} (test : X → Bool) (xs : List X) → find test xs
     → list_any test xs ≡ false
 none_found test [] none = refl
 none_found test (x ∷ xs) none =
-    elim (test x) as (λ b. cond b (Some x) (find test xs) ≡ None → (b || list_any test xs) ≡ false) [
+    elim (test x)
+    as (λ b. cond b (Some x) (find test xs) ≡ None → (b || list_any test xs) ≡ false) [
       | true ↦ (λ h. absurd (cc))
       | false ↦ (λ h. none_found test xs h)
     ] none

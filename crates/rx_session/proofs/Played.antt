@@ -68,8 +68,10 @@ now_noted coll written none =
     ] refl none
 
 -- a record leaves all quiet but the collections that were written, with its own
-quiet_noted : (w : World) (ps : List QueryPlace) (t : Touch) (written : List (List ℕ)) (ls new : Lives)
-    → IsUnheld w ps t → IsAfter t ls new → AreQuietUnless written ls → AreQuietUnless (add_written (coll_written t) written) new
+quiet_noted : (w : World) (ps : List QueryPlace) (t : Touch) (written : List (List ℕ))
+    (ls new : Lives)
+    → IsUnheld w ps t → IsAfter t ls new → AreQuietUnless written ls
+    → AreQuietUnless (add_written (coll_written t) written) new
 quiet_noted w ps no_collection written ls new unheld session_after quiet =
     subst (AreQuietUnless written) (sym session_after) quiet
 quiet_noted w ps (new_collection name schema) written ls new unheld session_after quiet =
@@ -130,7 +132,8 @@ pub record IsPlayed (content : Content) (old new : Holders Observing) (ps : List
   pub is_made : IsMadeWorld (world_of new)
   pub applied : IsAfter (touch content (world_of old)) (holders_in old) (holders_in new)
 
-module _ (content : Content) (old new : Holders Observing) (moment : ℕ) (hooks : Hooking) (streams : List Stream) (ps : List QueryPlace)
+module _ (content : Content) (old new : Holders Observing) (moment : ℕ) (hooks : Hooking)
+    (streams : List Stream) (ps : List QueryPlace)
     (written : List (List ℕ)) (so : IsPlayed content old new ps written) where
   unheld : IsUnheld (world_of old) ps (touch content (world_of old))
   unheld = legal_unheld content (world_of old) (holders_in old) ps so.placed so.allowed so.apart
@@ -201,7 +204,8 @@ pub record IsTaken (old new : Holders Observing) (ps : List QueryPlace)
   pub replications : new.replications ≡ old.replications
   pub epochs : new.epoch ≡ old.epoch
 
-module _ (old new : Holders Observing) (moment : ℕ) (hooks : Hooking) (streams : List Stream) (ps : List QueryPlace) (written : List (List ℕ))
+module _ (old new : Holders Observing) (moment : ℕ) (hooks : Hooking) (streams : List Stream)
+    (ps : List QueryPlace) (written : List (List ℕ))
     (so : IsTaken old new ps written) where
   taken_world : world_of new ≡ world_of old
   taken_world =
@@ -224,7 +228,8 @@ module _ (old new : Holders Observing) (moment : ℕ) (hooks : Hooking) (streams
       subst (AllByRecursion IsQuiet) (sym so.emitted)
       (quiet_each written (holders_in old) (distinct_in old so.distinct) so.quiet)
 
-  pub taken_due : due_in_all written ps (holders_in old) ≡ emissions (session_of old moment hooks streams ps)
+  pub taken_due : due_in_all written ps (holders_in old)
+      ≡ emissions (session_of old moment hooks streams ps)
   taken_due =
       taken_is_due written (world_of old) (holders_in old) (world_colls old) ps so.placed
       (distinct_in old so.distinct) so.quiet
@@ -235,9 +240,16 @@ module _ (old new : Holders Observing) (moment : ℕ) (hooks : Hooking) (streams
       ap (λ ls. queries_of ls ps) so.emitted
       ∙ queries_each written (world_of old) (holders_in old) (world_colls old) ps so.quiet
 
-  pub taken_session : session_of new moment hooks streams ps ≡ settled_session (session_of old moment hooks streams ps)
+  pub taken_session : session_of new moment hooks streams ps
+      ≡ settled_session (session_of old moment hooks streams ps)
   taken_session =
-      λ i. record { world = taken_world i; moment = moment; hooks = hooks; streams = streams; queries = taken_queries i }
+      λ i. record {
+        world = taken_world i;
+        moment = moment;
+        hooks = hooks;
+        streams = streams;
+        queries = taken_queries i;
+      }
 
 -- where all is quiet, it is where none was written
 pub none_written : (ls : Lives) → AllByRecursion IsQuiet ls → AreQuietUnless [] ls

@@ -55,14 +55,16 @@ module _ (in_group : List ℕ → Bool) (schema : Shape) (steps : List Step) whe
 
   -- what holds of all, and of one without queries at each name of the group, holds of all then
   pub remade_each : (P : List ℕ → Observing → Type 0)
-      → ((name : List ℕ) (c : Held) (l : Observing) → in_group name ≡ true → IsMadeFor c l → P name l)
+      → ((name : List ℕ) (c : Held) (l : Observing) → in_group name ≡ true
+      → IsMadeFor c l → P name l)
       → (old new : Lives) → AllByRecursion (λ e. P e.0 e.1) old → Remade old new
       → AllByRecursion (λ e. P e.0 e.1) new
   remade_each P fresh [] [] all after = tt
   remade_each P fresh (e ∷ es) (f ∷ fs) all after = (
     subst (λ n. P n f.1) (sym after.0.called)
         (elim (in_group e.0) as (λ b. in_group e.0 ≡ b → P e.0 f.1) [
-          | true ↦ (λ is. fresh e.0 (migrated_collection schema steps e.1.collection) f.1 is (after.0.made is))
+          | true ↦ (λ is.
+              fresh e.0 (migrated_collection schema steps e.1.collection) f.1 is (after.0.made is))
           | false ↦ (λ is. subst (P e.0) (sym (after.0.stays is)) all.0)
         ] refl),
     remade_each P fresh es fs all.1 after.1,
@@ -71,7 +73,8 @@ module _ (in_group : List ℕ → Bool) (schema : Shape) (steps : List Step) whe
   remade_each P fresh (e ∷ es) [] all after = absurd after
 
 -- after any record
-pub after_so : (M : Held → Observing → Type 0) → ((c : Held) (l : Observing) → M c l → IsMadeFor c l)
+pub after_so : (M : Held → Observing → Type 0)
+    → ((c : Held) (l : Observing) → M c l → IsMadeFor c l)
     → (t : Touch) (old new : Lives)
     → After (λ (l : Observing). l.collection) put_all M t old new → IsAfter t old new
 after_so M made no_collection old new after = after
@@ -84,5 +87,6 @@ after_so M made (remade in_group schema steps) old new after =
 -- what was made without queries is whole
 pub made_whole : {E : Type 0} (c : Held) (r : Result Observing E) → IfOk r (IsMadeFor c)
     → IfOk r (λ (l : Observing). (l.collection ≡ c) × (l.broken ≡ false))
-made_whole c (Ok l) made = (ap (λ (l : Observing). l.collection) made, ap (λ (l : Observing). l.broken) made)
+made_whole c (Ok l) made =
+    (ap (λ (l : Observing). l.collection) made, ap (λ (l : Observing). l.broken) made)
 made_whole c (Err e) made = tt

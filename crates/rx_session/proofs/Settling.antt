@@ -57,7 +57,13 @@ unwatched_in lives t ls (Err e) session_after none = tt
 -- a session by its parts
 abbrev pub session_of : Holders Observing → ℕ → Hooking → List Stream → List QueryPlace → Session
 session_of h moment hooks streams ps =
-    record { world = world_of h; moment = moment; hooks = hooks; streams = streams; queries = queries_of (holders_in h) ps }
+    record {
+      world = world_of h;
+      moment = moment;
+      hooks = hooks;
+      streams = streams;
+      queries = queries_of (holders_in h) ps;
+    }
 
 -- worlds of the same collections and replications, and of the same epoch
 pub same_world : (h g : Holders Observing) → colls (holders_in h) ≡ colls (holders_in g)
@@ -79,9 +85,16 @@ module _ (h : Holders Observing) (ps : List QueryPlace)
     none_due = quiet_due (world_of h) (holders_in h) (world_colls h) ps quiet
 
     -- so the session is settled
-    pub is_settled : (moment : ℕ) (hooks : Hooking) (streams : List Stream) → IsSettled (session_of h moment hooks streams ps)
+    pub is_settled : (moment : ℕ) (hooks : Hooking) (streams : List Stream)
+        → IsSettled (session_of h moment hooks streams ps)
     is_settled moment hooks streams = record {
-      same = ap (λ qs. record { world = world_of h; moment = moment; hooks = hooks; streams = streams; queries = qs }) all_settled;
+      same = ap (λ qs. record {
+        world = world_of h;
+        moment = moment;
+        hooks = hooks;
+        streams = streams;
+        queries = qs;
+      }) all_settled;
       quiet = none_due;
     }
 
@@ -90,7 +103,13 @@ module _ (h : Holders Observing) (ps : List QueryPlace)
         → session_of h at hooks streams ps
         ≡ settled_session (session_after (set_clock at) (session_of h moment hooks streams ps))
     at_session moment hooks streams at =
-        ap (λ qs. record { world = world_of h; moment = at; hooks = hooks; streams = streams; queries = qs }) (sym all_settled)
+        ap (λ qs. record {
+          world = world_of h;
+          moment = at;
+          hooks = hooks;
+          streams = streams;
+          queries = qs;
+        }) (sym all_settled)
 
     -- so it is with one hook more
     pub attached_session : (moment : ℕ) (hooks : Hooking) (streams : List Stream) (one : Attached)
@@ -113,7 +132,8 @@ module _ (h : Holders Observing) (ps : List QueryPlace)
     (streams : List Stream) where
   pub opened_session : (name master : List ℕ)
       → session_of h moment hooks (streams ++ new_stream (world_of h) name master ∷ []) ps
-      ≡ settled_session (session_after (open_stream name master) (session_of h moment hooks streams ps))
+      ≡ settled_session (session_after (open_stream name master)
+      (session_of h moment hooks streams ps))
   opened_session name master =
       ap (λ qs. record {
         world = world_of h;
@@ -138,10 +158,12 @@ module _ (h : Holders Observing) (ps : List QueryPlace)
 -- ---- once a query is observed
 
 -- no place has a name that no query has
-pub free_place : (name : List ℕ) (h : Holders Observing) (moment : ℕ) (hooks : Hooking) (streams : List Stream) (ps : List QueryPlace)
+pub free_place : (name : List ℕ) (h : Holders Observing) (moment : ℕ) (hooks : Hooking)
+    (streams : List Stream) (ps : List QueryPlace)
     → ArePlaced (holders_in h) ps → is_observed name (session_of h moment hooks streams ps) ≡ false
     → list_any (λ p. bytes_eq name p.name) ps ≡ false
-free_place name h moment hooks streams ps placed free = sym (any-queries_of name (holders_in h) ps placed) ∙ free
+free_place name h moment hooks streams ps placed free =
+    sym (any-queries_of name (holders_in h) ps placed) ∙ free
 
 -- a query was observed in settled collections, and the emissions that are due were written
 pub record IsWatched (name coll : List ℕ) (q : QuerySpec) (old last : Holders Observing)
@@ -156,7 +178,8 @@ pub record IsWatched (name coll : List ℕ) (q : QuerySpec) (old last : Holders 
   pub replications : last.replications ≡ old.replications
   pub epochs : last.epoch ≡ old.epoch
 
-module _ (name coll : List ℕ) (q : QuerySpec) (old last : Holders Observing) (moment : ℕ) (hooks : Hooking) (streams : List Stream)
+module _ (name coll : List ℕ) (q : QuerySpec) (old last : Holders Observing) (moment : ℕ)
+    (hooks : Hooking) (streams : List Stream)
     (ps : List QueryPlace)
     (so : IsWatched name coll q old last ps) where
   -- the collections with the query
@@ -220,7 +243,13 @@ module _ (name coll : List ℕ) (q : QuerySpec) (old last : Holders Observing) (
   pub watched_session : session_of last moment hooks streams (ps ++ place_in coll name ∷ [])
       ≡ settled_session (session_after (watch name coll q) (session_of old moment hooks streams ps))
   watched_session =
-      λ i. record { world = watched_world i; moment = moment; hooks = hooks; streams = streams; queries = watched_queries i }
+      λ i. record {
+        world = watched_world i;
+        moment = moment;
+        hooks = hooks;
+        streams = streams;
+        queries = watched_queries i;
+      }
 
   pub watched_placed : ArePlaced (holders_in last) (ps ++ place_in coll name ∷ [])
   watched_placed =
@@ -250,7 +279,8 @@ pub record IsLeft (name : List ℕ) (old new : Holders Observing)
   pub replications : new.replications ≡ old.replications
   pub epochs : new.epoch ≡ old.epoch
 
-module _ (name : List ℕ) (old new : Holders Observing) (moment : ℕ) (hooks : Hooking) (streams : List Stream) (ps : List QueryPlace)
+module _ (name : List ℕ) (old new : Holders Observing) (moment : ℕ) (hooks : Hooking)
+    (streams : List Stream) (ps : List QueryPlace)
     (so : IsLeft name old new ps) where
   -- by its place
   left_colls : (o : Option QueryPlace) → colls (without_observed name o (holders_in old))
@@ -303,7 +333,8 @@ module _ (name : List ℕ) (old new : Holders Observing) (moment : ℕ) (hooks :
   pub without_quiet : AllByRecursion IsQuiet (holders_in new)
   without_quiet = subst (AllByRecursion IsQuiet) (sym so.dropped) (left_quiet (place_named name ps))
 
-  pub without_due : emissions (session_after (unwatch name) (session_of old moment hooks streams ps)) ≡ []
+  pub without_due :
+      emissions (session_after (unwatch name) (session_of old moment hooks streams ps)) ≡ []
   without_due =
       sym (ap (λ qs. flat_map (emission_due (world_of old)) qs) without_queries)
       ∙ sym (ap (λ w. flat_map (emission_due w) (queries_of (holders_in new) (rest_of name ps)))
@@ -323,4 +354,10 @@ module _ (name : List ℕ) (old new : Holders Observing) (moment : ℕ) (hooks :
   pub without_session : session_of new moment hooks streams (rest_of name ps)
       ≡ settled_session (session_after (unwatch name) (session_of old moment hooks streams ps))
   without_session =
-      λ i. record { world = without_world i; moment = moment; hooks = hooks; streams = streams; queries = without_settled i }
+      λ i. record {
+        world = without_world i;
+        moment = moment;
+        hooks = hooks;
+        streams = streams;
+        queries = without_settled i;
+      }

@@ -91,7 +91,8 @@ open_apart other w sts = all_apart w sts
 open_left : (content : Content) (w : World) (sts : List Stream) → AreStreamed w sts
     → AreStreamed w (still_open content w sts)
 open_left (migration name text steps) w sts all =
-    all_left (IsStreamed w) (λ (st : Stream). not (is_in_group w.replications name st.master)) sts all
+    all_left (IsStreamed w)
+    (λ (st : Stream). not (is_in_group w.replications name st.master)) sts all
 open_left other w sts all = all
 
 -- a stream whose master isn't made anew has what it had
@@ -107,7 +108,8 @@ stream_stays content w is ordered made st apart s =
       local = f.master ∙ s.local;
       documents = g.new;
       master_held = g.held;
-      good = subst (λ (schema : Shape). IsGoodQueue (is_valid_state schema) g.new.documents st.queue)
+      good =
+          subst (λ (schema : Shape). IsGoodQueue (is_valid_state schema) g.new.documents st.queue)
           (sym g.grown.schema)
           (stays_good (is_valid_state s.documents.schema) s.documents.documents g.new.documents
           g.grown.states g.grown.wrote st.queue s.good);
@@ -162,7 +164,8 @@ each_goes_on content w is ordered made then coll (st ∷ sts) apart all = (
 pub streamed_step : (content : Content) (w : World) → legal content w ≡ true → IsOrdered content
     → IsMadeWorld w → IsMadeWorld (step content w) → (sts : List Stream) → AreStreamed w sts
     → AreStreamed (step content w)
-    (map (stream_after (step content w) (coll_written (touch content w))) (still_open content w sts))
+    (map (stream_after (step content w) (coll_written (touch content w)))
+    (still_open content w sts))
 streamed_step content w is ordered made then sts all =
     each_goes_on content w is ordered made then (coll_written (touch content w))
     (still_open content w sts) (open_apart content w sts) (open_left content w sts all)
@@ -186,7 +189,8 @@ new_streamed w made name master s =
     let c = s.documents in
     let r = s.replication in
     let lawful = (lawful_at w master c made.lawful s.master_held).lawful in
-    let l = at_name (λ k x. IsLinked w.collections k x) w.replications name r made.linked.each s.held in
+    let l = at_name (λ k x. IsLinked w.collections k x) w.replications name r
+    made.linked.each s.held in
     record {
       replication = r;
       held = s.held;
@@ -196,7 +200,8 @@ new_streamed w made name master s =
       good = subst (λ (o : Option Held). IsGoodQueue (is_valid_state c.schema) c.documents
           (new_queue (pulled_to name w) (documents_at o))) (sym s.master_held)
           (subst (λ (o : Option Replication). IsGoodQueue (is_valid_state c.schema) c.documents
-          (new_queue (option_and_then (λ (x : Replication). x.side.down) o) c.documents)) (sym s.held)
+          (new_queue (option_and_then (λ (x : Replication). x.side.down) o) c.documents))
+          (sym s.held)
           (new_good (is_valid_state c.schema) c lawful r.side.down s.reached l.down_has_time));
     }
 
@@ -317,7 +322,8 @@ module _ (name : List ℕ) where
   stream_there w (x ∷ sts) all st is =
       (elim (is_called x) as (λ b. is_called x ≡ b → cond b (Some x) (stream_at name sts) ≡ Some st
       → IsStreamed w st × (name ≡ st.name)) [
-        | true ↦ (λ h there. subst (λ (y : Stream). IsStreamed w y × (name ≡ y.name)) (some_same there)
+        | true ↦
+            (λ h there. subst (λ (y : Stream). IsStreamed w y × (name ≡ y.name)) (some_same there)
             (all.0, (bytes_eq-Decides name x.name).0 h))
         | false ↦ (λ h there. stream_there w sts all.1 st there)
       ]) refl is
@@ -334,8 +340,10 @@ module _ (name : List ℕ) where
         | false ↦ (λ is. queued_good_for w sts all.1)
       ] refl
     where
-      each_good : (w : World) (st : Stream) (s : IsStreamed w st) → name ≡ st.name → (es : List Event)
-          → AllByRecursion (IsGoodEvent (is_valid_state s.documents.schema) s.documents.documents) es
+      each_good : (w : World) (st : Stream) (s : IsStreamed w st) → name ≡ st.name
+          → (es : List Event)
+          → AllByRecursion (IsGoodEvent (is_valid_state s.documents.schema) s.documents.documents)
+          es
           → AllByRecursion (IsGoodFor w name) es
       each_good w st s same [] all = tt
       each_good w st s same (e ∷ es) all = (
@@ -371,7 +379,8 @@ kept_streamed w name es good sts all =
         → AllByRecursion (IsGoodEvent (is_valid_state s.documents.schema) s.documents.documents) es
     good_here st s is [] good = tt
     good_here st s is (e ∷ es) good = (
-      good.0 s.replication (ap (named w.replications) (sym is) ∙ s.held) st.master s.local s.documents
+      good.0 s.replication
+          (ap (named w.replications) (sym is) ∙ s.held) st.master s.local s.documents
           s.master_held,
       good_here st s is es good.1,
     )

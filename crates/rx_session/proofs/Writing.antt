@@ -41,13 +41,15 @@ IsUnheld w ps (new_rows name lwt written) = Unit {0}
 IsUnheld w ps (remade in_group schema steps) = AllByRecursion (λ p. in_group p.coll ≡ false) ps
 
 -- the fork of an exchange is no new collection
-fork_unheld : (w : World) (ps : List QueryPlace) (lwt : ℕ) (written : List RowOut) (o : Option Replication)
+fork_unheld : (w : World) (ps : List QueryPlace) (lwt : ℕ) (written : List RowOut)
+    (o : Option Replication)
     → IsUnheld w ps (option_map_or (fork_rows lwt written) o no_collection)
 fork_unheld w ps lwt written None = tt
 fork_unheld w ps lwt [] (Some r) = tt
 fork_unheld w ps lwt (row ∷ written) (Some r) = tt
 
-fork_none_anew : (lwt : ℕ) (written : List RowOut) (queries : List Observed) (o : Option Replication)
+fork_none_anew : (lwt : ℕ) (written : List RowOut) (queries : List Observed)
+    (o : Option Replication)
     → IsUnobserved (option_map_or (fork_rows lwt written) o no_collection) queries
 fork_none_anew lwt written queries None = tt
 fork_none_anew lwt [] queries (Some r) = tt
@@ -302,7 +304,8 @@ placed_after (remade in_group schema steps) w ls new ps same placed unheld after
       (λ p. IsSome (named new p.coll))
       (λ p at. ap is_some (remade_stays in_group schema steps ls new p.coll at.1 after) ∙ at.0) ps
       (all_both _ _ ps placed.held unheld);
-  listed = remade_each in_group schema steps (λ n (l : Observing). keys_of l.queries ≡ names_in n ps)
+  listed =
+      remade_each in_group schema steps (λ n (l : Observing). keys_of l.queries ≡ names_in n ps)
       (λ name c l is made. ap (λ (x : Observing). keys_of x.queries) made
       ∙ sym (none_in name ps (all_weaker (λ p. in_group p.coll ≡ false) (λ p. p.coll ≢ name)
       (λ p out at. true≢false (sym is ∙ ap in_group (sym at) ∙ out)) ps unheld)))

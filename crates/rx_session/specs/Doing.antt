@@ -27,8 +27,8 @@ use Rattle.rx_session.specs.Streams.{IsStreamable}
 
 -- nothing is changed, the clock is set, a record is written, the record of a migration is, a query
 -- is observed under a name in a collection, a query is observed no more, a hook is attached, the
--- stream of a replication is opened from its master, one is closed, or the journal is opened again in
--- that epoch
+-- stream of a replication is opened from its master, one is closed, or the journal is opened again
+-- in that epoch
 pub data Doing : Type 0 where
   nothing : Doing
   set_clock : ℕ → Doing
@@ -74,8 +74,8 @@ abbrev pub stream_in : World → Stream → Stream
 stream_in w st =
     record st { queue = follow (documents_at (named w.collections st.master)) st.queue }
 
--- a stream in the world after rows of a collection, if there were any; those of its master alone tell
--- it anything
+-- a stream in the world after rows of a collection, if there were any; those of its master alone
+-- tell it anything
 abbrev pub stream_after : World → Option (List ℕ) → Stream → Stream
 stream_after w None st = st
 stream_after w (Some coll) st = if bytes_eq coll st.master then stream_in w st else st
@@ -167,9 +167,9 @@ IsUnobserved (remade in_group schema steps) queries =
     AllByRecursion (λ o. in_group o.coll ≡ false) queries
 IsUnobserved other queries = Unit {0}
 
--- a record is legal, in order and no migration; that of a migration is legal, and nothing is observed
--- in its group; a query's name is free, and its collection has its primary key; a stream's master is
--- that of its replication; an epoch is the next one
+-- a record is legal, in order and no migration; that of a migration is legal, and nothing is
+-- observed in its group; a query's name is free, and its collection has its primary key; a stream's
+-- master is that of its replication; an epoch is the next one
 abbrev pub MayDo : Doing → Session → Type 0
 MayDo (write c) s = (legal c s.world ≡ true) × IsOrdered c × IsNoMigration c
 MayDo (migrate c) s =

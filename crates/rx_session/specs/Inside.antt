@@ -18,8 +18,8 @@ session_in s = record {
   queries = queries_of (holders_in s.world) s.places.items;
 }
 
--- the places are those of the collections' queries, no name of a collection comes twice, each stream
--- has what its master committed, and nothing is to be emitted
+-- the places are those of the collections' queries, no name of a collection comes twice, each
+-- stream has what its master committed, and nothing is to be emitted
 pub record IsInOrder (s : Inside) : Type 0 where
   pub placed : ArePlaced (holders_in s.world) s.places.items
   pub distinct : AreDistinct (world_of s.world)

@@ -50,8 +50,9 @@ session_in_play s = record {
   queries = queries_of (holders_in s.world) s.places.items;
 }
 
--- the places are those of the collections' queries, no name of a collection comes twice, each stream
--- has what its master committed, and nothing is to be emitted of a collection that wasn't written
+-- the places are those of the collections' queries, no name of a collection comes twice, each
+-- stream has what its master committed, and nothing is to be emitted of a collection that wasn't
+-- written
 pub record IsInPlay (s : Inside) : Type 0 where
   pub placed : ArePlaced (holders_in s.world) s.places.items
   pub distinct : AreDistinct (world_of s.world)

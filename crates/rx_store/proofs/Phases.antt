@@ -33,8 +33,10 @@ pub ends_copy : (body : List ℕ) (c : Content) (w w' : World) (more : List (Lis
     → replay_copy (Some w) (body ∷ more) ≡ replay_from (Some w') more
 unfolding replay_copy
 ends_copy body c w w' more is last after =
-    ap (λ r. cond (is_end r) (replay_from (after_copied r w) more) (replay_copy (after_copied r w) more)) is
-    ∙ ap (λ b. cond b (replay_from (after_copied (Ok c) w) more) (replay_copy (after_copied (Ok c) w) more)) last
+    ap (λ r.
+    cond (is_end r) (replay_from (after_copied r w) more) (replay_copy (after_copied r w) more)) is
+    ∙ ap (λ b. cond b (replay_from (after_copied (Ok c) w) more)
+    (replay_copy (after_copied (Ok c) w) more)) last
     ∙ ap (λ o. replay_from o more) after
 
 -- any other
@@ -43,8 +45,10 @@ pub copies_on : (body : List ℕ) (c : Content) (w w' : World) (more : List (Lis
     → replay_copy (Some w) (body ∷ more) ≡ replay_copy (Some w') more
 unfolding replay_copy
 copies_on body c w w' more is last after =
-    ap (λ r. cond (is_end r) (replay_from (after_copied r w) more) (replay_copy (after_copied r w) more)) is
-    ∙ ap (λ b. cond b (replay_from (after_copied (Ok c) w) more) (replay_copy (after_copied (Ok c) w) more)) last
+    ap (λ r.
+    cond (is_end r) (replay_from (after_copied r w) more) (replay_copy (after_copied r w) more)) is
+    ∙ ap (λ b. cond b (replay_from (after_copied (Ok c) w) more)
+    (replay_copy (after_copied (Ok c) w) more)) last
     ∙ ap (λ o. replay_copy o more) after
 
 -- one that may not stand there
@@ -53,7 +57,8 @@ pub copies_none : (body : List ℕ) (w : World) (more : List (List ℕ))
 unfolding replay_copy
 copies_none body w more none =
     ap (λ o. cond (is_end (record_of body)) (replay_from o more) (replay_copy o more)) none
-    ∙ (elim (is_end (record_of body)) as (λ b. cond b (replay_from None more) (replay_copy None more) ≡ None)
+    ∙ (elim (is_end (record_of body))
+    as (λ b. cond b (replay_from None more) (replay_copy None more) ≡ None)
     [ true ↦ replay_from-none more | false ↦ refl ])
 
 -- none are left, and the end wasn't there
@@ -136,7 +141,8 @@ module _ {H : Type 0} (held : H → Held) (version : ℕ) where
       let rest = playing bodies will in absurd (none rest.0 rest.1)
 
   -- none are left
-  pub all_played : (content : List ℕ) (first f : Windows) (p : Phase H) → IsPlaying content first f p
+  pub all_played : (content : List ℕ) (first f : Windows) (p : Phase H)
+      → IsPlaying content first f p
       → ((bodies : List (List ℕ)) → WillLend content f bodies → bodies ≡ [])
       → (bodies : List (List ℕ)) → WillLend content first bodies
       → replay_in version bodies ≡ world_to_come held p []
@@ -155,7 +161,8 @@ module _ {H : Type 0} (held : H → Held) (version : ℕ) where
   played_one d disk disk' f f' body p p' lent turn (bodies, so_far, plays) = (
     bodies ++ body ∷ [],
     lent bodies so_far,
-    λ rest. ap (replay_in version) (append_assoc bodies (body ∷ []) rest) ∙ plays (body ∷ rest) ∙ turn rest,
+    λ rest. ap (replay_in version) (append_assoc bodies (body ∷ []) rest)
+        ∙ plays (body ∷ rest) ∙ turn rest,
   )
 
   pub played_all : (bodies : List (List ℕ)) (p : Phase H)
@@ -169,7 +176,8 @@ module _ {H : Type 0} (held : H → Held) (version : ℕ) where
     pub done : List (List ℕ)
     pub before : (rest : List (List ℕ)) → WillLend content now rest
         → WillLend content first (done ++ rest)
-    pub plays : (rest : List (List ℕ)) → replay_in version (done ++ rest) ≡ world_to_come held p rest
+    pub plays : (rest : List (List ℕ))
+        → replay_in version (done ++ rest) ≡ world_to_come held p rest
     pub counted : count ≡ length done
     pub sized : size ≡ length (records done)
 

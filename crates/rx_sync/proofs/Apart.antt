@@ -214,7 +214,8 @@ apart_late name w k now (Some q) =
 -- ---- what a fork writes, of another replication
 
 pub apart_taken : (name k : List ℕ) → k ≢ name → (w : World) (kinds : Kinds) (asked : Asked)
-    (reply : Reply) (now : ℕ) → IfSome (taken w kinds k asked reply now) (λ x. IfOk x (AreApart name))
+    (reply : Reply) (now : ℕ)
+    → IfSome (taken w kinds k asked reply now) (λ x. IfOk x (AreApart name))
 apart_taken name k other w kinds asked reply now =
     each_taken (IsApart name) k (λ lwt written known up down. other) w kinds asked reply now
 
@@ -224,7 +225,8 @@ module _ (t : Terms) (name : List ℕ) (other : t.name ≢ name) where
   apart_reply : (asked : Asked) (h : Handled) (w : World)
       → AreApart name (reply_taken t asked h w).records
   apart_reply asked h w =
-      each_when (IsApart name) asked.request.ask h.reply.body (taken w t.kinds t.name asked h.reply t.now)
+      each_when (IsApart name) asked.request.ask h.reply.body
+      (taken w t.kinds t.name asked h.reply t.now)
       (apart_taken name t.name other w t.kinds asked h.reply t.now)
 
   apart_all : (asked : Asked) (w : World) → AreApart name (handled_and_taken t asked w).records

@@ -40,7 +40,8 @@ module _ {X : Type 0} where
       → bytes_eq name k ≡ false
   apart_name [] k name x all is = not_none is
   apart_name (e ∷ es) k name x all is =
-      elim (bytes_eq name e.0) as (λ b. bytes_eq name e.0 ≡ b → cond b (Some e.1) (named es name) ≡ Some x
+      elim (bytes_eq name e.0)
+      as (λ b. bytes_eq name e.0 ≡ b → cond b (Some e.1) (named es name) ≡ Some x
       → bytes_eq name k ≡ false) [
         | true ↦ (λ same found.
             ap (λ (n : List ℕ). bytes_eq n k) ((bytes_eq-Decides name e.0).0 same)
@@ -114,7 +115,8 @@ has_master [] c n is = not_none is
 has_master (e ∷ es) c n is =
     let this = bytes_eq e.0 c && bytes_eq e.1 n in
     elim (bytes_eq c e.0) as (λ b. bytes_eq c e.0 ≡ b
-    → cond b (Some e.1) (master_of bytes_eq es c) ≡ Some n → (this || follows bytes_eq es n c) ≡ true) [
+    → cond b (Some e.1) (master_of bytes_eq es c) ≡ Some n
+    → (this || follows bytes_eq es n c) ≡ true) [
       | true ↦ (λ so found. or_left this (follows bytes_eq es n c)
           (and_from (bytes_eq e.0 c) (bytes_eq e.1 n)
           ((bytes_eq-Decides e.0 c).1 (sym ((bytes_eq-Decides c e.0).0 so)))
@@ -137,7 +139,8 @@ no_fork : (rs : Replications) (c n : List ℕ)
     → master_of bytes_eq (forest_of rs) c ≡ Some n → ⊥
 no_fork [] c n all is = not_none is
 no_fork (e ∷ rs) c n all is =
-    (elim e.1.master as (λ m. master_of bytes_eq (fork_before e.1.fork m (forest_of rs)) c ≡ Some n → ⊥) [
+    (elim e.1.master
+    as (λ m. master_of bytes_eq (fork_before e.1.fork m (forest_of rs)) c ≡ Some n → ⊥) [
       | Local m ↦ (λ found. no_fork rs c n all.1
           (sym (ap (λ b. cond b (Some m) (master_of bytes_eq (forest_of rs) c)) all.0) ∙ found))
       | Port port ↦ (λ found. no_fork rs c n all.1 found)
@@ -153,7 +156,8 @@ found (e ∷ rs) names forks c n is =
       | true ↦ (λ same.
           let fork_is = (bytes_eq-Decides e.1.fork c).0 same in
           let called : replication_of (e ∷ rs) c ≡ e.0 =
-          ap (λ b. option_map_or (λ x. x.0) (cond b (Some e) (find (λ x. has_fork c x.1) rs)) []) same in
+          ap (λ b. option_map_or (λ x. x.0) (cond b (Some e) (find (λ x. has_fork c x.1) rs)) [])
+          same in
           record {
             replication = e.1;
             held = ap (named (e ∷ rs)) called
@@ -161,14 +165,16 @@ found (e ∷ rs) names forks c n is =
             fork = fork_is;
             local = here e.1.master ((bytes_eq-Decides c e.1.fork).1 (sym fork_is))
                 (λ none. no_fork rs c n
-                (subst (λ (k : List ℕ). AllByRecursion (λ y. bytes_eq k y ≡ false) (forks_of rs)) fork_is
+                (subst
+                (λ (k : List ℕ). AllByRecursion (λ y. bytes_eq k y ≡ false) (forks_of rs)) fork_is
                 forks.0) none) is;
           })
       | false ↦ (λ other.
           let apart = other_way e.1.fork c other in
           let rest = found rs names.1 forks.1 c n (later e.1.master apart is) in
           let called : replication_of (e ∷ rs) c ≡ replication_of rs c =
-          ap (λ b. option_map_or (λ x. x.0) (cond b (Some e) (find (λ x. has_fork c x.1) rs)) []) other in
+          ap (λ b. option_map_or (λ x. x.0) (cond b (Some e) (find (λ x. has_fork c x.1) rs)) [])
+          other in
           record {
             replication = rest.replication;
             held = ap (named (e ∷ rs)) called
@@ -205,13 +211,16 @@ module _ (w : World) (made : IsMadeWorld w) where
   found_in c n is = found w.replications made.replication_names.distinct made.linked.apart c n is
 
   follow : (n : List ℕ) (ks : List (List ℕ))
-      → AllByRecursion (λ c. master_of bytes_eq forest c ≡ Some n) (filter (follows bytes_eq forest n) ks)
+      → AllByRecursion (λ c. master_of bytes_eq forest c ≡ Some n)
+      (filter (follows bytes_eq forest n) ks)
   follow n [] = tt
   follow n (k ∷ ks) =
       elim (follows bytes_eq forest n k) as (λ b. follows bytes_eq forest n k ≡ b
       → AllByRecursion (λ c. master_of bytes_eq forest c ≡ Some n)
-      (cond b (k ∷ filter (follows bytes_eq forest n) ks) (filter (follows bytes_eq forest n) ks))) [
-        | true ↦ (λ is. (one_master bytes_eq bytes_eq-Decides forest made.forest n k is, follow n ks))
+      (cond b (k ∷ filter (follows bytes_eq forest n) ks)
+      (filter (follows bytes_eq forest n) ks))) [
+        | true ↦
+            (λ is. (one_master bytes_eq bytes_eq-Decides forest made.forest n k is, follow n ks))
         | false ↦ (λ is. follow n ks)
       ] refl
 
@@ -224,7 +233,8 @@ module _ (w : World) (made : IsMadeWorld w) where
     listed = λ c n is.
         let f = found_in c n is in
         let l = linked_at w made (replication_of w.replications c) f.replication f.held in
-        passed (follows bytes_eq forest n) c (map (λ e. e.0) w.collections) (has_master forest c n is)
+        passed (follows bytes_eq forest n) c (map (λ e. e.0) w.collections)
+        (has_master forest c n is)
         (subst (λ (k : List ℕ). list_any (bytes_eq k) (map (λ e. e.0) w.collections) ≡ true) f.fork
         (among w.collections f.replication.fork l.fork l.held));
   }

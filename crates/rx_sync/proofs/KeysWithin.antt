@@ -69,7 +69,8 @@ stays_among x z [] other is = is
 stays_among x z (y ∷ ys) other is =
     elim (bytes_eq x y) as (λ b. bytes_eq x y ≡ b → IsAmong (cond b ys (y ∷ without x ys)) z) [
       | true ↦ (λ same. elim (or_cases (bytes_eq z y) (list_any (bytes_eq z) ys) is) [
-        | inl here ↦ absurd (other ((bytes_eq-Decides z y).0 here ∙ sym ((bytes_eq-Decides x y).0 same)))
+        | inl here ↦
+            absurd (other ((bytes_eq-Decides z y).0 here ∙ sym ((bytes_eq-Decides x y).0 same)))
         | inr later ↦ later
       ])
       | false ↦ (λ apart. elim (or_cases (bytes_eq z y) (list_any (bytes_eq z) ys) is) [
@@ -113,7 +114,8 @@ wrote_within keys old new ss wrote held states k d at =
 
 -- rising keys are apart
 module _ {X : Type 0} where
-  above : (k : List ℕ) (es : List (List ℕ × X)) → AllByRecursion (λ y. text_cmp k y ≡ Less) (keys_of es)
+  above : (k : List ℕ) (es : List (List ℕ × X))
+      → AllByRecursion (λ y. text_cmp k y ≡ Less) (keys_of es)
       → AllByRecursion (λ y. y ≢ k) (keys_of es)
   above k [] all = tt
   above k (e ∷ es) all = (
@@ -165,7 +167,8 @@ module _ (keys : List (List ℕ)) (resolve : Resolve) (law : KeepsKey resolve) (
             (row_key y.0 y.1));
         master = wrote_within keys l.master.documents push.master.documents
             (writes l.master.documents rows)
-            (write_wrote l.master (writes l.master.documents rows) x.handled push.master push.handled)
+            (write_wrote l.master
+            (writes l.master.documents rows) x.handled push.master push.handled)
             within.master
             (λ s h.
             let y = from_writes l.master.documents rows s h in
@@ -177,11 +180,13 @@ module _ (keys : List (List ℕ)) (resolve : Resolve) (law : KeepsKey resolve) (
       let master = l.master.documents in
       let ss = states_of (since master l.down x.batch) in
       subst (IsWithinKeys keys) (sym pull.is) (record {
-        fork = wrote_within keys l.fork.documents pull.fork.documents (differences l.fork.documents ss)
+        fork =
+            wrote_within keys l.fork.documents pull.fork.documents (differences l.fork.documents ss)
             (write_wrote l.fork (differences l.fork.documents ss) x.taken pull.fork pull.taken)
             within.fork
             (λ s h.
-            let y = from_filter (λ (t : State). not (is_state (state_at l.fork.documents t.key) t)) ss
+            let y =
+            from_filter (λ (t : State). not (is_state (state_at l.fork.documents t.key) t)) ss
             s h in
             let z = from_map (λ (d : Stored). d.state) (since master l.down x.batch) s y.0 in
             let held = page_held master is_link.master (stands_above l.down) x.batch z.0
@@ -242,7 +247,8 @@ lacking_apart documents rising (k ∷ ks) =
     (cond b (k ∷ lacking documents ks) (lacking documents ks))) [
       | true ↦ (λ none. (
         of_entries (none_is (named documents k) none) documents
-            (all_named (λ n (d : Stored). named documents n ≡ Some d) documents rising (λ n d at. at)),
+            (all_named (λ n (d : Stored). named documents n ≡ Some d) documents rising
+            (λ n d at. at)),
         lacking_apart documents rising ks,
       ))
       | false ↦ (λ some. lacking_apart documents rising ks)
@@ -261,7 +267,8 @@ left_among : (keys : List (List ℕ)) (test : List ℕ → Bool) (ks : List (Lis
     → AllByRecursion (IsAmong keys) ks → AllByRecursion (IsAmong keys) (filter test ks)
 left_among keys test [] all = tt
 left_among keys test (k ∷ ks) all =
-    elim (test k) as (λ b. AllByRecursion (IsAmong keys) (cond b (k ∷ filter test ks) (filter test ks)))
+    elim (test k)
+    as (λ b. AllByRecursion (IsAmong keys) (cond b (k ∷ filter test ks) (filter test ks)))
     [ true ↦ (all.0, left_among keys test ks all.1) | false ↦ left_among keys test ks all.1 ]
 
 module _ (keys : List (List ℕ)) (l : Link) (is_link : IsLink l) (within : IsWithinKeys keys l) where

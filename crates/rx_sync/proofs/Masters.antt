@@ -80,7 +80,10 @@ module _ (w : World) (made : IsMadeWorld w) (m : List ℕ) (c : Held)
       subst (λ (k : List ℕ). IsFit c (rows k lwt outs)) called fit in
       let held : named w.collections c.name ≡ Some c = ap (named w.collections) called ∙ at in
       record {
-        next = (record { lawful = fit_here.legal w held; ordered = fit_here.ordered; no_migration = tt }, tt);
+        next = (
+          record { lawful = fit_here.legal w held; ordered = fit_here.ordered; no_migration = tt },
+          tt,
+        );
         plain = (tt, tt);
         new = with_rows c (rows_of c (s ∷ ss) lwt);
         there =

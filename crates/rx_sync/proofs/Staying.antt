@@ -68,9 +68,11 @@ still_same w name r at =
 -- after a legal record that is no migration
 still_step : (c : Content) (w : World) (name : List ℕ) (r : Replication) → legal c w ≡ true
     → IsNoMigration c → named w.replications name ≡ Some r → IsStillThere (step c w) name r
-still_step (collection k schema) w name r is other at = still_same (step (collection k schema) w) name r
+still_step (collection k schema) w name r is other at =
+    still_same (step (collection k schema) w) name r
     at
-still_step (rows k lwt written) w name r is other at = still_same (step (rows k lwt written) w) name r at
+still_step (rows k lwt written) w name r is other at =
+    still_same (step (rows k lwt written) w) name r at
 still_step (replication k fork m handler field) w name r is other at =
     let free = (begins k fork m w is).free in
     let new = new_replication k fork m handler field in

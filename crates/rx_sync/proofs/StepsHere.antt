@@ -18,7 +18,8 @@ use Rattle.rx_sync.specs.declared.sweeping.Step.{Step}
 use Rattle.rx_sync.proofs.Forks.{are_forks, found_in}
 
 module _ (w : World) (made : IsMadeWorld w) (root : List ℕ) where
-  here_below : (c : List ℕ) (j : ℕ) → climbed bytes_eq (suc j) (forest_of w.replications) c ≡ Some root
+  here_below : (c : List ℕ) (j : ℕ)
+      → climbed bytes_eq (suc j) (forest_of w.replications) c ≡ Some root
       → HasMasterHere w (replication_of w.replications c)
   here_below c j way =
       let found = some_then (master_of bytes_eq (forest_of w.replications) c)
@@ -27,8 +28,10 @@ module _ (w : World) (made : IsMadeWorld w) (root : List ℕ) where
       record { replication = f.replication; held = f.held; master = found.0; local = f.local }
 
   all_here : (pass : Pass) (cs : List (List ℕ))
-      → AllByRecursion (λ x. (j : ℕ) × (climbed bytes_eq (suc j) (forest_of w.replications) x ≡ Some root)) cs
-      → AllByRecursion (λ (step : Step). HasMasterHere w step.name) (steps_of w.replications pass cs)
+      → AllByRecursion (λ x.
+      (j : ℕ) × (climbed bytes_eq (suc j) (forest_of w.replications) x ≡ Some root)) cs
+      → AllByRecursion (λ (step : Step). HasMasterHere w step.name)
+      (steps_of w.replications pass cs)
   all_here pass [] all = tt
   all_here pass (c ∷ cs) all = (here_below c all.0.0 all.0.1, all_here pass cs all.1)
 
@@ -40,6 +43,7 @@ module _ (w : World) (made : IsMadeWorld w) (root : List ℕ) where
       let down = levels_down (forks_in w) levels root in
       all_both (λ (step : Step). HasMasterHere w step.name) (steps_of w.replications Up up)
       (steps_of w.replications Down down)
-      (all_here Up up (up_below bytes_eq bytes_eq-Decides es (forks_in w) (are_forks w made) levels root))
+      (all_here Up up
+      (up_below bytes_eq bytes_eq-Decides es (forks_in w) (are_forks w made) levels root))
       (all_here Down down
       (down_below bytes_eq bytes_eq-Decides es (forks_in w) (are_forks w made) levels root))

@@ -51,9 +51,11 @@ by_fork-append : (rs : Replications) (cs ds : List (List ℕ))
     → by_fork rs (cs ++ ds) ≡ by_fork rs cs ++ by_fork rs ds
 by_fork-append rs [] ds = refl
 by_fork-append rs (c ∷ cs) ds =
-    elim (entry_of rs c) as (λ o. option_map_or (λ (e : List ℕ × Replication). e.1 ∷ by_fork rs (cs ++ ds))
+    elim (entry_of rs c)
+    as (λ o. option_map_or (λ (e : List ℕ × Replication). e.1 ∷ by_fork rs (cs ++ ds))
     o (by_fork rs (cs ++ ds))
-    ≡ option_map_or (λ (e : List ℕ × Replication). e.1 ∷ by_fork rs cs) o (by_fork rs cs) ++ by_fork rs ds) [
+    ≡ option_map_or (λ (e : List ℕ × Replication). e.1 ∷ by_fork rs cs) o (by_fork rs cs)
+    ++ by_fork rs ds) [
       | None ↦ by_fork-append rs cs ds
       | Some e ↦ ap (λ (xs : List Replication). e.1 ∷ xs) (by_fork-append rs cs ds)
     ]
@@ -99,14 +101,16 @@ none_follows (e ∷ rs) c n all =
 
 -- a fork follows the master of its replication alone
 follows_found : (rs : Replications) → IsDistinct bytes_eq (forks_of rs) → (c n : List ℕ)
-    → follows bytes_eq (forest_of rs) n c ≡ option_map_or (λ e. has_master n e.1) (entry_of rs c) false
+    → follows bytes_eq (forest_of rs) n c
+    ≡ option_map_or (λ e. has_master n e.1) (entry_of rs c) false
 unfolding IsDistinct
 follows_found [] forks c n = refl
 follows_found (e ∷ rs) forks c n =
     let rest = follows bytes_eq (forest_of rs) n c in
     elim (bytes_eq e.1.fork c) as (λ b. bytes_eq e.1.fork c ≡ b
     → follows bytes_eq (forest_of (e ∷ rs)) n c
-    ≡ option_map_or (λ (x : List ℕ × Replication). has_master n x.1) (cond b (Some e) (entry_of rs c))
+    ≡ option_map_or (λ (x : List ℕ × Replication). has_master n x.1)
+    (cond b (Some e) (entry_of rs c))
     false) [
       | true ↦ (λ same. here e.1.master same
           (none_follows rs c n
@@ -147,7 +151,8 @@ module _ (rs : Replications) (forks : IsDistinct bytes_eq (forks_of rs)) (n : Li
   abbrev is_fork : List ℕ → Bool
   is_fork c = follows bytes_eq (forest_of rs) n c
 
-  among_by : (c : List ℕ) (cs : List (List ℕ)) (o : Option (List ℕ × Replication)) → entry_of rs c ≡ o
+  among_by : (c : List ℕ) (cs : List (List ℕ)) (o : Option (List ℕ × Replication))
+      → entry_of rs c ≡ o
       → forks_among (by_fork rs cs) n ≡ filter is_fork cs
       → forks_among (option_map_or (λ e. e.1 ∷ by_fork rs cs) o (by_fork rs cs)) n
       ≡ filter is_fork (c ∷ cs)
@@ -165,7 +170,8 @@ module _ (rs : Replications) (forks : IsDistinct bytes_eq (forks_of rs)) (n : Li
     where
       kept : (b : Bool)
           → map (λ (r : Replication). r.fork)
-          (cond b (e.1 ∷ filter (has_master n) (by_fork rs cs)) (filter (has_master n) (by_fork rs cs)))
+          (cond b (e.1 ∷ filter (has_master n) (by_fork rs cs))
+          (filter (has_master n) (by_fork rs cs)))
           ≡ cond b (c ∷ filter is_fork cs) (filter is_fork cs)
       kept true =
           ap (λ (k : List ℕ). k ∷ forks_among (by_fork rs cs) n) (found_fork rs c e is)
@@ -180,4 +186,5 @@ module _ (rs : Replications) (forks : IsDistinct bytes_eq (forks_of rs)) (n : Li
 pub forks_are : (w : World) → IsMadeWorld w
     → forks_among (by_fork w.replications (map (λ e. e.0) w.collections)) ≡ forks_in w
 forks_are w made =
-    λ i n. among_all w.replications made.linked.apart n (map (λ (e : List ℕ × Held). e.0) w.collections) i
+    λ i n.
+    among_all w.replications made.linked.apart n (map (λ (e : List ℕ × Held). e.0) w.collections) i

@@ -172,7 +172,8 @@ module _ (s : Sweep) (some : 1 ≤ s.batch) (first : World) where
     one_idle y settled other =
         untouched (called c) here.fork t.records at.0 here is.ready.here.held
         (exchanges_within (called c) here.fork t.records
-        (turn_idle (terms_of c) s.batch s.budget at.0 (asks_of (called c) at.1) some may settled.none))
+        (turn_idle (terms_of c) s.batch s.budget at.0
+        (asks_of (called c) at.1) some may settled.none))
         y (λ same. other (same ∙ is.fork)) (λ same. other (same ∙ is.fork))
 
     one_keeps : (y : List ℕ) → y ≢ c → y ≢ n → IsSettled at y → IsSettled (step_of c at) y
@@ -205,7 +206,8 @@ module _ (s : Sweep) (some : 1 ≤ s.batch) (first : World) where
       replication = still.now;
       held = still.held;
       fork = still.fork ∙ is.fork;
-      none = turn_settles (terms_of c) s.batch s.budget at.0 (asks_of (called c) at.1) some may quiet;
+      none =
+          turn_settles (terms_of c) s.batch s.budget at.0 (asks_of (called c) at.1) some may quiet;
     }
 
     -- each replication of the tree may make a turn again
@@ -215,20 +217,24 @@ module _ (s : Sweep) (some : 1 ≤ s.batch) (first : World) where
         record {
           ready = ready_after t.records at.0 (called d) s.kinds other.ready come;
           fork = ready_after-fork t.records at.0 (called d) s.kinds other.ready come ∙ other.fork;
-          master = ready_after-master t.records at.0 (called d) s.kinds other.ready come ∙ other.master;
+          master =
+              ready_after-master t.records at.0 (called d) s.kinds other.ready come ∙ other.master;
           asks = elim (bytes_eq (called d) (called c)) as (λ b. bytes_eq (called d) (called c) ≡ b
               → RemembersLawful then (called d) (asks_of (called d) (step_of c at).1)) [
                 | true ↦ (λ same.
                     let is_c = (bytes_eq-Decides (called d) (called c)).0 same in
-                    subst (λ (n : List ℕ). RemembersLawful then n (asks_of n (step_of c at).1)) (sym is_c)
+                    subst (λ (n : List ℕ). RemembersLawful then n (asks_of n (step_of c at).1))
+                    (sym is_c)
                     (subst (RemembersLawful then (called c))
                     (sym (ap (λ o. unwrap_or o no_asks) (put_same at.1 (called c) t.asks)))
                     (turn_again (terms_of c) s.batch s.budget [] at.0 (asks_of (called c) at.1) some
                     may).asks))
                 | false ↦ (λ apart.
                     subst (RemembersLawful then (called d))
-                    (sym (ap (λ o. unwrap_or o no_asks) (named-put_other at.1 (called c) (called d) t.asks
-                    (λ same. false≢true (sym apart ∙ (bytes_eq-Decides (called d) (called c)).1 same)))))
+                    (sym (ap (λ o. unwrap_or o no_asks)
+                    (named-put_other at.1 (called c) (called d) t.asks
+                    (λ same.
+                    false≢true (sym apart ∙ (bytes_eq-Decides (called d) (called c)).1 same)))))
                     (remembers_after t.records at.0 (called d) s.kinds (asks_of (called d) at.1)
                     other.ready in_turn other.asks))
               ] refl;
@@ -241,7 +247,8 @@ module _ (s : Sweep) (some : 1 ≤ s.batch) (first : World) where
         let held = stay_after t.records at.0 (soundly_in_turn at.0 t.records come) in
         let x = held.held here.fork e.fork e.held in
         let y = held.held is.ready.here.master e.master e.there in
-        let level = turn_quiet (terms_of c) s.batch s.budget [] at.0 (asks_of (called c) at.1) some may
+        let level = turn_quiet (terms_of c) s.batch s.budget [] at.0
+        (asks_of (called c) at.1) some may
         quiet in
         ap (λ (n : List ℕ). state_of (named then.collections n) key) (sym is.fork)
         ∙ ap (λ (o : Option Held). state_of o key) x.1
@@ -282,7 +289,8 @@ module _ (s : Sweep) (some : 1 ≤ s.batch) (first : World) where
   unfolding on
   steps_on pass [] ps = refl
   steps_on pass (c ∷ cs) ps =
-      ap (λ (xs : List Step). record { pass = pass; name = replication_of first.replications c } ∷ xs)
+      ap (λ (xs : List Step).
+      record { pass = pass; name = replication_of first.replications c } ∷ xs)
       (steps_on pass cs ps)
 
   pub steps_both : (up down : List (List ℕ)) → stepped s some first (both_ways up down)
@@ -393,13 +401,15 @@ module _ (s : Sweep) (root : List ℕ) (w : World) (asks : List (List ℕ × Ask
       let walk = sweep_walked s b w (both_ways up down) w asks
       (ap (λ (xs : List Step). (sweep s xs w asks).ended) steps ∙ is) in
       let forks = forks_both up down in
-      let quiet = subst (λ (cs : List (List ℕ)). AllQuiet (step_of s b w) (IsQuiet s b w) cs (w, asks))
+      let quiet =
+      subst (λ (cs : List (List ℕ)). AllQuiet (step_of s b w) (IsQuiet s b w) cs (w, asks))
       forks walk.0 in
       let after : world_after (sweep_from s root w asks).records w
       ≡ (walked (step_of s b w) (IsQuiet s b w) (up ++ down) (w, asks)).0 =
       ap (λ (xs : List Step). world_after (sweep s xs w asks).records w) (sym steps)
       ∙ walk.1
-      ∙ ap (λ (cs : List (List ℕ)). (walked (step_of s b w) (IsQuiet s b w) cs (w, asks)).0) forks in
+      ∙ ap (λ (cs : List (List ℕ)). (walked (step_of s b w) (IsQuiet s b w) cs (w, asks)).0)
+      forks in
       let equal = walk_ends_equal (step_of s b w) (IsQuiet s b w) bytes_eq bytes_eq-Decides forest
       (forks_in w) (are_forks w may_sweep.made)
       (λ (at : Standing) (c : List ℕ). named at.0.collections c) (IsSettled s b w) (AreEqual s b w)

@@ -55,7 +55,8 @@ module _ (keys : List (List ℕ)) (t : Terms) (batch : ℕ) (some : 1 ≤ batch)
       λ e steps. exchange_within_keys keys by (keeps_key w t.name t.kinds by l s) l
       (is_link w t.name t.kinds by l s) (at_once batch t.now) steps.next within steps.step in
       let ends : (e : Exchanged) → CourseSteps t batch by w l c e → (o : Option TurnEnd)
-      → (going_on c o rest).ended ≡ Quiet → StandsWithin (world_after (going_on c o rest).records w) =
+      → (going_on c o rest).ended ≡ Quiet
+      → StandsWithin (world_after (going_on c o rest).records w) =
       λ e steps o. elim o as (λ o. (going_on c o rest).ended ≡ Quiet
       → StandsWithin (world_after (going_on c o rest).records w)) [
         | None ↦ (λ quiet. subst StandsWithin (sym (after-append c.records rest.records w))
@@ -138,7 +139,8 @@ module _ (s : Sweep) (root : List ℕ) (w : World) (asks : List (List ℕ × Ask
     holds_then quiet =
         let name = called s may_sweep.batch w c in
         let standing = stands_here at.0 name s.kinds here.ready in
-        let m = turn_within_keys keys (terms_of s may_sweep.batch w c) s.batch may_sweep.batch _ s.budget
+        let m = turn_within_keys keys
+        (terms_of s may_sweep.batch w c) s.batch may_sweep.batch _ s.budget
         at.0 l (asks_of name at.1) standing link_within quiet in
         let then = world_after t.records at.0 in
         let again = ready_after t.records at.0 name s.kinds here.ready
@@ -154,7 +156,8 @@ module _ (s : Sweep) (root : List ℕ) (w : World) (asks : List (List ℕ × Ask
         elim (bytes_eq y c) as (λ b. bytes_eq y c ≡ b → HoldsWithin keys x.documents) [
           | true ↦ (λ is_c.
               let x_is : x ≡ r.fork = some_same (sym at_y
-              ∙ ap (named then.collections) ((bytes_eq-Decides y c).0 is_c ∙ sym ready.fork) ∙ r.held) in
+              ∙ ap (named then.collections) ((bytes_eq-Decides y c).0 is_c ∙ sym ready.fork)
+              ∙ r.held) in
               subst (λ (z : Held). HoldsWithin keys z.documents) (sym x_is)
               (subst (IsWithinKeys keys) (sym link_then) m.2).fork)
           | false ↦ (λ not_c. elim (bytes_eq y n) as (λ b. bytes_eq y n ≡ b
@@ -197,9 +200,11 @@ module _ (s : Sweep) (root : List ℕ) (w : World) (asks : List (List ℕ × Ask
       → ((swept_on e then.1 rest).ended ≡ Quiet) ⊎ ((swept_on e then.1 rest).ended ≡ Clock)) [
         | Quiet ↦ (λ is either. in_time ps forks.1 then (good_then p.1 f.0 f.1 f.2 at good holds)
             (holds_then p.1 f.0 f.1 f.2 at good holds is))
-        | Lost ↦ (λ is either. absurd (elim either [ inl x ↦ lost_isnt x | inr x ↦ lost_isnt_clock x ]))
+        | Lost ↦
+            (λ is either. absurd (elim either [ inl x ↦ lost_isnt x | inr x ↦ lost_isnt_clock x ]))
         | Clock ↦ (λ is either. inr refl)
-        | More ↦ (λ is either. absurd (elim either [ inl x ↦ more_isnt x | inr x ↦ more_isnt_clock x ]))
+        | More ↦
+            (λ is either. absurd (elim either [ inl x ↦ more_isnt x | inr x ↦ more_isnt_clock x ]))
       ]) refl ends
 
   fork_below : (x : List ℕ) (j : ℕ)
@@ -224,17 +229,20 @@ module _ (s : Sweep) (root : List ℕ) (w : World) (asks : List (List ℕ × Ask
       let levels = length w.replications in
       let up = levels_up (forks_in w) levels root in
       let down = levels_down (forks_in w) levels root in
-      subst (λ (xs : List Step). ((sweep s xs w asks).ended ≡ Quiet) ⊎ ((sweep s xs w asks).ended ≡ Clock))
+      subst (λ (xs : List Step).
+      ((sweep s xs w asks).ended ≡ Quiet) ⊎ ((sweep s xs w asks).ended ≡ Clock))
       (steps_both s may_sweep.batch w up down)
       (in_time (both_ways up down)
       (all_both (λ (p : Pass × List ℕ). IsForkIn p.1) (on Up up) (on Down down)
       (all_on Up up (all_so (λ x. (j : ℕ) × (climbed bytes_eq (suc j) es x ≡ Some root)) IsForkIn
       (λ x b. fork_below x b.0 b.1) up
       (up_below bytes_eq bytes_eq-Decides es (forks_in w) forks levels root)))
-      (all_on Down down (all_so (λ x. (j : ℕ) × (climbed bytes_eq (suc j) es x ≡ Some root)) IsForkIn
+      (all_on Down down
+      (all_so (λ x. (j : ℕ) × (climbed bytes_eq (suc j) es x ≡ Some root)) IsForkIn
       (λ x b. fork_below x b.0 b.1) down
       (down_below bytes_eq bytes_eq-Decides es (forks_in w) forks levels root))))
       (w, asks) (good_first s root w asks may_sweep) (λ c in_c x at. holds c in_c x at))
 
 pub sweep_ends_in_time : SweepEndsInTime
-sweep_ends_in_time s root w asks may keys holds much = sweep_in_time s root w asks may keys much holds
+sweep_ends_in_time s root w asks may keys holds much =
+    sweep_in_time s root w asks may keys much holds

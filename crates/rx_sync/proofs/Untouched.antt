@@ -31,7 +31,8 @@ module _ (name m : List ℕ) (w : World) (r : Replication)
       named-change_other (written_to lwt written) w.collections k y (λ same. other (same ∙ is))
   one_untouched (exchange k lwt written known up down) is y other apart =
       ap (λ (o : Option Replication).
-      named (collections_after (option_map_or (fork_rows lwt written) o no_collection) w.collections) y)
+      named
+      (collections_after (option_map_or (fork_rows lwt written) o no_collection) w.collections) y)
       (ap (named w.replications) is ∙ held)
       ∙ fork_untouched w.collections lwt written r y apart
   one_untouched other is y a b = absurd is
@@ -41,7 +42,8 @@ module _ (name m : List ℕ) (w : World) (r : Replication)
       → named (step c w).replications z ≡ named w.replications z
   one_unlearnt (rows k lwt written) is z other = refl
   one_unlearnt (exchange k lwt written known up down) is z other =
-      named-change_other (with_exchange known up down) w.replications k z (λ same. other (same ∙ is))
+      named-change_other (with_exchange known up down) w.replications k z
+      (λ same. other (same ∙ is))
   one_unlearnt other is z a = absurd is
 
   -- its own keeps its fork

@@ -1,4 +1,5 @@
--- What a turn writes, whose link does nothing: rows of its master, and exchanges of its replication.
+-- What a turn writes, whose link does nothing: rows of its master,
+-- and exchanges of its replication.
 use Rattle.std.proofs.Common.{◌≡◌, ◌∙◌, ◌⊎◌, inl, inr, ℕ, zero, suc, ◌≤◌, true, List, [], take, map, Option, Some, None, option_map, IfSome, refl, sym, ap, subst}
 use Rattle.std.specs.List.{AllByRecursion}
 use Rattle.rx_value.specs.declared.state.State.{State}
@@ -101,7 +102,8 @@ turn_within t batch (suc budget) w a some may m is =
     (turn t batch budget [] (world_after c.records w) c.asks)
     (each_course t (IsWithin t.name m) (λ lwt written known up down. refl) batch w a
     (λ asked at. subst (λ (k : List ℕ). IfSome (handled_for w t.name asked.request t.now)
-    (λ h. AllByRecursion (IsWithin t.name k) h.records)) is (master_within t w a may asked.request)))
+    (λ h. AllByRecursion (IsWithin t.name k) h.records)) is
+    (master_within t w a may asked.request)))
     (turn_within t batch budget (world_after c.records w) c.asks some
     (course_again t batch w a c may well) m (course_again-master t batch w a c may well ∙ is))
 
@@ -121,7 +123,8 @@ pull_due t w a may n batch asked none is =
     let empty = none_to_push w t.name r e.fork may.ready.here.held e.held none in
     ap (λ (x : Asked). x.request.ask)
     (sym (asked_at w t.name n batch asked r e.fork may.ready.here.held e.held is))
-    ∙ ap (λ (ds : List Stored). push_or_pull (map (push_row r.side.known) (take batch ds)) r.side.down
+    ∙ ap (λ (ds : List Stored).
+    push_or_pull (map (push_row r.side.known) (take batch ds)) r.side.down
     batch) empty
     ∙ ap (λ (ds : List Stored). push_or_pull (map (push_row r.side.known) ds) r.side.down batch)
     (take_none batch)
@@ -142,7 +145,8 @@ pull_writes_none P m now q c p b is =
     each_handled_pull (Some cs) none =
         subst (AllByRecursion P) (sym (some_same none)) tt
 
-idle_handled : (t : Terms) (w : World) (a : Asks) (may : MayTurn t w a) (n batch : ℕ) (asked : Asked)
+idle_handled : (t : Terms) (w : World) (a : Asks) (may : MayTurn t w a) (n batch : ℕ)
+    (asked : Asked)
     → pending_in w t.name ≡ Some 0 → asked_in w t.name n batch ≡ Some asked
     → IfSome (handled_for w t.name asked.request t.now)
     (λ h. AllByRecursion (IsExchangeOf t.name) h.records)
@@ -177,11 +181,13 @@ asked_came t asked w p b is (Some h) =
 
 course_came : (t : Terms) (batch : ℕ) (w : World) (a : Asks) → MayTurn t w a
     → pending_in w t.name ≡ Some 0
-    → ((course t batch link.Ok w a).came ≡ None) ⊎ (has_pulled (course t batch link.Ok w a).came ≡ true)
+    → ((course t batch link.Ok w a).came ≡ None)
+    ⊎ (has_pulled (course t batch link.Ok w a).came ≡ true)
 course_came t batch w a may none = by (asked_in w t.name (next_number a) batch) refl
   where
     by : (o : Option Asked) → asked_in w t.name (next_number a) batch ≡ o
-        → ((course_by t link.Ok w a o).came ≡ None) ⊎ (has_pulled (course_by t link.Ok w a o).came ≡ true)
+        → ((course_by t link.Ok w a o).came ≡ None)
+        ⊎ (has_pulled (course_by t link.Ok w a o).came ≡ true)
     by None is = inl refl
     by (Some asked) is =
         asked_came t asked w may.ready.here.replication.side.down batch

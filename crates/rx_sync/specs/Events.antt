@@ -31,8 +31,8 @@ event_recorded name now e r fork =
     (recorded name now fork r.side (page_plan fork.documents r.side e.states (Some e.place)))
 
 -- An event is old where its place isn't above the checkpoint down. It waits where something of the
--- fork is to be pushed. Where it doesn't begin at that checkpoint, one before it was lost. Else it is
--- taken.
+-- fork is to be pushed. Where it doesn't begin at that checkpoint, one before it was lost. Else it
+-- is taken.
 abbrev pub event_by : List ℕ → ℕ → Event → Replication → Held → Result (List Content) EventFault
 event_by name now e r fork =
     let due = length (pending fork.documents r.side.known) in

@@ -91,8 +91,8 @@ abbrev pub once_handled : (Handled → World → Planned) → World → Option H
 once_handled next w None = no_time
 once_handled next w (Some h) = behind h.records (next h (world_after h.records w))
 
--- what stays the same through a turn: the name of its replication, the moment, and the handlers that
--- there are
+-- what stays the same through a turn: the name of its replication, the moment, and the handlers
+-- that there are
 pub record Terms : Type 0 where
   pub name : List ℕ
   pub now : ℕ

@@ -82,8 +82,8 @@ turn_in s name w asks =
     turn (record { name = name; now = s.now; kinds = s.kinds }) s.batch s.budget [] w
     (asks_of name asks)
 
--- What turns write, which requests are remembered after them, what each of them came to, and how the
--- last one ended: quiet, where there was none.
+-- What turns write, which requests are remembered after them, what each of them came to, and how
+-- the last one ended: quiet, where there was none.
 pub record Swept : Type 0 where
   pub records : List Content
   pub asks : List (List ℕ × Asks)
@@ -132,8 +132,8 @@ HasHandler kinds w name =
     (r : Replication) → named w.replications name ≡ Some r
     → (kind : HandlerKind) × (named kinds r.handler ≡ Some kind)
 
--- The world is sound, each replication of the tree has its handler, and what is remembered of requests
--- is lawful.
+-- The world is sound, each replication of the tree has its handler, and what is remembered of
+-- requests is lawful.
 pub record MaySweep (s : Sweep) (root : List ℕ) (w : World) (asks : List (List ℕ × Asks)) : Type 0
   where
     pub batch : 1 ≤ s.batch
@@ -168,8 +168,8 @@ HoldsOnly w root keys =
     → (k : List ℕ) (d : Stored) → named x.documents k ≡ Some d
     → list_any (bytes_eq k) keys ≡ true
 
--- a sweep over so many keys, each turn of which may make three exchanges a key and one, ends quiet, or
--- where no write time is left
+-- a sweep over so many keys, each turn of which may make three exchanges a key and one, ends quiet,
+-- or where no write time is left
 abbrev pub SweepEndsInTime : Type 0
 SweepEndsInTime =
     (s : Sweep) (root : List ℕ) (w : World) (asks : List (List ℕ × Asks)) → MaySweep s root w asks

@@ -27,7 +27,8 @@ none_by_task wires (delivers d) s old new heard none shown = shown.0
 none_by_task wires (calls c) s old new heard none shown = absurd (none c refl)
 
 -- so what is to be heard stays the same
-unheard_lines : (wires : Type 0) (n : ℕ) (ls : List (List ℕ)) (s : Standing) (old new : DialStanding)
+unheard_lines : (wires : Type 0) (n : ℕ) (ls : List (List ℕ)) (s : Standing)
+    (old new : DialStanding)
     → HearsLines wires n ls s old new → EachLine line_effect CallsNoOne n ls s
     → s.heard ≡ (state_after line_effect n ls s).heard
 unheard_lines wires n [] s old new hears each = refl
@@ -39,14 +40,16 @@ unheard_lines wires n (l ∷ ls) s old new hears each =
     by_blank : (b : Bool) → is_blank l ≡ b → hears.0 ≡ []
     by_blank true is = (hears.3.0 is).0
     by_blank false is =
-        none_by_task wires (task s.kinds l s.session) s old hears.1 hears.0 (each.0 is) (hears.3.1 is)
+        none_by_task wires (task s.kinds l s.session) s old hears.1 hears.0 (each.0 is)
+        (hears.3.1 is)
 
 pub unheard : {host : Host} {heard : List Heard} {wires : Type 0} {n0 n2 : DialStanding}
     {tells : Type 0} {f0 f2 : ℕ} {w0 w2 : List ℕ} (w : World) (input left : List ℕ) (status : ℕ)
     {Kept : _}
     → HasRun host heard wires n0 n2 tells f0 f2 w0 w2 w input left status Kept → status < 2
     → EachLine line_effect CallsNoOne 1 (lines input) (opened host heard w) → heard ≡ []
-unheard {host = host} {heard = heard} {wires = wires} {n0 = n0} {n2 = n2} w input left status has low
+unheard {host = host} {heard = heard} {wires = wires} {n0 = n0} {n2 = n2} w input left
+    status has low
     each =
     let s = opened host heard w in
     let run = has.run in

@@ -38,5 +38,6 @@ module _
         → IsFull d d2 before does.bodies would most
         → IsFull d d2 before (due_then in_groups (Some why) n (l ∷ rest) s) would most
     due_full why would most is full =
-        subst (λ (x : Stop). IsFull d d2 before (due_then in_groups (Some x) n (l ∷ rest) s) would most)
+        subst (λ (x : Stop).
+        IsFull d d2 before (due_then in_groups (Some x) n (l ∷ rest) s) would most)
         (sym is) full

@@ -174,7 +174,8 @@ pub ends : (s : Standing) {D : Type 0} (d : Ghosts D) (d0 d1 : D) (tells wires :
 ends s d d0 d1 tells wires n0 n1 w0 w1 first ls rest input left ended none whole each hears reads
     writes kept only_now =
     let cs = chunks line_effect 1 ls s in
-    let next = due_then in_groups (stop_of ended) (length ls + 1) rest (state_after line_effect 1 ls s) in
+    let next = due_then in_groups (stop_of ended) (length ls + 1) rest
+    (state_after line_effect 1 ls s) in
     record {
       done = ls;
       rest = rest;
@@ -185,7 +186,8 @@ ends s d d0 d1 tells wires n0 n1 w0 w1 first ls rest input left ended none whole
       shown = hears;
       kept = λ t bodies at le.
           subst (λ stop. Keeps in_groups d d0 d1 bodies cs next (limit_of first) stop) (sym none)
-          (keeps_all in_groups d d0 d1 bodies cs next (limit_of first) (kept t bodies at le) (only_now t));
+          (keeps_all in_groups d d0 d1 bodies cs next (limit_of first) (kept t bodies at le)
+          (only_now t));
     }
 
 -- ---- the reader stopped
@@ -489,7 +491,8 @@ module _
               let here = a.at t bodies at in
               let stopped = safe t before here in
               let then = state_after line_effect 1 ls s0 in
-              keeps_stopped in_groups d d0 d1 d2 bodies cs _ (limit_of first) why (a.kept t bodies at le)
+              keeps_stopped in_groups d d0 d1 d2 bodies cs _ (limit_of first) why
+              (a.kept t bodies at le)
               (due_grows d d1 d2 before (length ls + 1) l stands.0 then why
               (subst (λ (bs : List (List ℕ)). GrowsLegally d d1 d2 before bs) due
               (stopped.moments (images_at d d1 engine before here))))

@@ -125,7 +125,8 @@ module _ (kinds : Kinds) (n : ℕ) (e : Engine) where
             let then : HoldsOfTurn k l s (line_effect k l s).next =
             subst (λ (x : Effect Standing). HoldsOfTurn k l s x.next) (same_kept heard)
             (kept_turn k l s (does_next kinds heard line g).next lent) in
-            subst (λ (x : Standing). HoldsOfTurn k l x (line_effect k l x).next) (is.next heard) then
+            subst (λ (x : Standing). HoldsOfTurn k l x (line_effect k l x).next) (is.next heard)
+            then
 
         nobody : (heard : List Heard)
             → CallsNobody (g.number + 1) l (at heard) (does heard).next

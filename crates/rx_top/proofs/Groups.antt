@@ -220,7 +220,8 @@ module _
           (record {
             between = n1;
             lines = hears_all;
-            last = nothing_last wires (Err Sink) (lines mid) (state_after line_effect 1 all s0) n1 n1
+            last =
+                nothing_last wires (Err Sink) (lines mid) (state_after line_effect 1 all s0) n1 n1
                 (ap (λ (x : Standing). x.heard) state_all ∙ none_then, refl);
           })
           tt
@@ -256,7 +257,8 @@ module _
             let before = bodies ++ all_of cs in
             let here = a.at t bodies at in
             let stopped = safe t before here in
-            keeps_stopped in_groups d d0 d1 d2 bodies cs _ (limit_of first) why (a.kept t bodies at le)
+            keeps_stopped in_groups d d0 d1 d2 bodies cs _ (limit_of first) why
+            (a.kept t bodies at le)
             (due why fits before (stopped.moments (images_at d d1 engine before here)))
             (counts_now t) (λ would most is. absurd (fits would most is));
       }

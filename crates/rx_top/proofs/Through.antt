@@ -120,7 +120,8 @@ module _
         last = (ap (λ (x : Standing). x.heard) (sym a.state) ∙ unheard, refl);
       };
       kept = λ told bodies at le.
-          keeps_all singly d d0 d1 bodies cs _ (limit_of first) (a.kept told bodies at le) (only_now told);
+          keeps_all singly d d0 d1 bodies cs _ (limit_of first) (a.kept told bodies at le)
+          (only_now told);
     }
 
     -- between two lines a disk is at rest
@@ -141,7 +142,8 @@ module _
       all = λ is. cc;
       shown = record { between = n1; lines = a.hears; last = λ other. absurd (other refl) };
       kept = λ told bodies at le.
-          keeps_stopped singly d d0 d1 d1 bodies cs _ (limit_of first) Memory (a.kept told bodies at le)
+          keeps_stopped singly d d0 d1 d1 bodies cs _ (limit_of first) Memory
+          (a.kept told bodies at le)
           (rests told bodies _ at (only_now told)) (counts_now told) (λ would most is. cc);
     }
 
@@ -217,7 +219,8 @@ module _
             let before = bodies ++ all_of cs in
             let held = a.at told bodies at in
             let stopped = safe told before held in
-            keeps_stopped singly d d0 d1 d2 bodies cs _ (limit_of first) why (a.kept told bodies at le)
+            keeps_stopped singly d d0 d1 d2 bodies cs _ (limit_of first) why
+            (a.kept told bodies at le)
             (subst (λ (bs : List (List ℕ)). GrowsLegally d d1 d2 before bs) due
             (stopped.moments (images_at d d1 engine before held)))
             (counts_now told)

@@ -104,9 +104,11 @@ other_err why st h = let same : why ≡ st = cc in ap Err same
 -- where nothing is due, a stop for want of memory keeps as much as none
 unaware : {D : Type 0} (d : Ghosts D) (old new : D) (bodies : List (List ℕ))
     (cs : List (List (List ℕ))) (next : List (List ℕ)) (limit : ℕ) → next ≡ []
-    → Keeps singly d old new bodies cs next limit None → Keeps singly d old new bodies cs next limit (Some Memory)
+    → Keeps singly d old new bodies cs next limit None
+    → Keeps singly d old new bodies cs next limit (Some Memory)
 unaware d old new bodies cs next limit none k =
-    subst (λ (due : List (List ℕ)). Keeps singly d old new bodies cs due limit (Some Memory)) (sym none)
+    subst (λ (due : List (List ℕ)). Keeps singly d old new bodies cs due limit (Some Memory))
+    (sym none)
     (record {
       moments = k.moments;
       groups = k.groups;
@@ -152,7 +154,8 @@ module _
     unopened dial why lines none start safe only counts =
         none_done wires dial (opened host heard w) why lines (KeepsTrial (Some why))
         (heard_at_first host heard w ∙ none)
-        (open_keeps singly host heard d bodies w limit old new why lines (safe.moments start.alike) counts
+        (open_keeps singly host heard d bodies w limit old new why lines
+        (safe.moments start.alike) counts
         safe.full only start)
 
     -- it was, and the lines were played from there
@@ -161,8 +164,10 @@ module _
         (stop : Option Stop) → played ≡ lines → IsStart d old bodies w
         → IsCrashSafe d old mid bodies (epoch_body w ∷ []) limit
         (λ (e : Engine) (bs : List (List ℕ)). IsAt d mid e bs) (Ok first)
-        → limit_of first ≡ limit → standing_of host.kinds heard first ≡ opened host heard w → d.tells
-        → DoesLines played stop (HearsAll wires (standing_of host.kinds heard first) n0 n1 (as_run stop))
+        → limit_of first ≡ limit
+        → standing_of host.kinds heard first ≡ opened host heard w → d.tells
+        → DoesLines played stop
+        (HearsAll wires (standing_of host.kinds heard first) n0 n1 (as_run stop))
         (KeepsFrom singly (standing_of host.kinds heard first) d mid new first (as_run stop))
         → Does n0 n1 lines stop
     from_opened n0 n1 mid first lines played stop same start safe same_limit begun t does =

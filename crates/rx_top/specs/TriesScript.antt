@@ -86,8 +86,8 @@ pub record TriesScript
   -- Wherever it ends: some lines of the script are done, and the summary or the stop line is
   -- written, or a front of it where the sink failed. The dial shows what was heard in each line. At
   -- each moment of the call each image of the disk is a legal file of the old records and a front
-  -- of those that are due, as in a run of these lines that commits each by itself, and at its end it
-  -- has all those of the lines done.
+  -- of those that are due, as in a run of these lines that commits each by itself, and at its end
+  -- it has all those of the lines done.
   pub headline : FromStart d disk (λ bodies w.
       HasTried wires (stands n dial) (stands n dial') k.tells (k.faults out) (k.faults out')
       (k.written out) (k.written out')

@@ -7,14 +7,16 @@ use Rattle.rx_tree.specs.Orders.{numbers_below, forks_of, levels_down, levels_up
 
 -- one more level
 pub levels_down-more : (levels : ℕ) (es : List (ℕ × ℕ)) (n : ℕ) → 0 < levels
-    → flat_map (λ c. c ∷ levels_down (forks_of es) (levels - 1) c) (forks_of es n) ≡ levels_down (forks_of es) levels n
+    → flat_map (λ c. c ∷ levels_down (forks_of es) (levels - 1) c) (forks_of es n)
+    ≡ levels_down (forks_of es) levels n
 levels_down-more zero es n some = absurd (omega arith)
 levels_down-more (suc k) es n some =
     let less : suc k - 1 ≡ k = omega arith in
     ap (λ j. flat_map (λ c. c ∷ levels_down (forks_of es) j c) (forks_of es n)) less
 
 pub levels_up-more : (levels : ℕ) (es : List (ℕ × ℕ)) (n : ℕ) → 0 < levels
-    → flat_map (λ c. levels_up (forks_of es) (levels - 1) c ++ c ∷ []) (forks_of es n) ≡ levels_up (forks_of es) levels n
+    → flat_map (λ c. levels_up (forks_of es) (levels - 1) c ++ c ∷ []) (forks_of es n)
+    ≡ levels_up (forks_of es) levels n
 levels_up-more zero es n some = absurd (omega arith)
 levels_up-more (suc k) es n some =
     let less : suc k - 1 ≡ k = omega arith in

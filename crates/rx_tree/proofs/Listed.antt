@@ -166,7 +166,8 @@ reaches : (levels : ℕ) (es : List (ℕ × ℕ)) (n top : ℕ)
     → (k : ℕ) × (climbed ◌==◌ (suc k) es n ≡ Some top)
 reaches zero es n top only is = absurd (false≢true is)
 reaches (suc levels) es n top only is =
-    let found = flat_any (λ x. x == n) (λ x. x ∷ levels_down (forks_of es) levels x) (forks_of es top) is in
+    let found = flat_any (λ x. x == n) (λ x. x ∷ levels_down (forks_of es) levels x)
+    (forks_of es top) is in
     let c = found.0 in
     let at = only top c (passes (follows ◌==◌ es top) c (numbers_below most_collections) found.1) in
     elim (or_cases (c == n) (list_any (λ x. x == n) (levels_down (forks_of es) levels c)) found.2) [
@@ -195,10 +196,12 @@ turned false false = refl
 
 -- it lists the same
 same_listed : (test : ℕ → Bool) (levels : ℕ) (es : List (ℕ × ℕ)) (top : ℕ)
-    → list_any test (levels_up (forks_of es) levels top) ≡ list_any test (levels_down (forks_of es) levels top)
+    → list_any test (levels_up (forks_of es) levels top)
+    ≡ list_any test (levels_down (forks_of es) levels top)
 same_listed test zero es top = refl
 same_listed test (suc levels) es top =
-    any_same test (λ x. levels_up (forks_of es) levels x ++ x ∷ []) (λ x. x ∷ levels_down (forks_of es) levels x)
+    any_same test (λ x. levels_up (forks_of es) levels x ++ x ∷ [])
+    (λ x. x ∷ levels_down (forks_of es) levels x)
     (forks_of es top)
     (λ x. list_any-append test (levels_up (forks_of es) levels x) (x ∷ [])
     ∙ turned (list_any test (levels_up (forks_of es) levels x)) (test x)

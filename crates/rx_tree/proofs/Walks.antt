@@ -1,4 +1,5 @@
--- A walk through a tree, up and then down, each step of which brings a fork and its master together.
+-- A walk through a tree, up and then down, each step of which brings a fork and its master
+-- together.
 use Rattle.std.proofs.Common.{◌≡◌, ◌≢◌, ℕ, zero, suc, ◌+◌, ◌-◌, ◌<◌, ◌≤◌, Bool, true, List, [], ◌∷◌, ◌++◌, length, Some, refl, sym, ap, ◌∙◌, subst, arith, inl, inr}
 use Rattle.std.proofs.lemmas.Bool.{cases_lt, false≢true, or_cases}
 use Rattle.std.specs.Bool.{Decides}
@@ -239,7 +240,8 @@ module _ {X : Type 0} (eq : X → X → Bool) (law : (m n : X) → Decides (eq m
       of_down P levels below.0 x top (omega (arith, steps, enough)) below.1 all
 
   -- those below some forks of a collection lead to no other fork of it
-  others_clear : (k : ℕ) (c n : X) → Follows c n → (cs : List X) → AllByRecursion (λ d. Follows d n) cs
+  others_clear : (k : ℕ) (c n : X) → Follows c n
+      → (cs : List X) → AllByRecursion (λ d. Follows d n) cs
       → AllByRecursion (λ d. d ≢ c) cs
       → AllByRecursion (λ x. (Leads x c → ⊥) × Below x n)
       (flat_map (λ d. d ∷ levels_down forks k d) cs)
@@ -281,16 +283,18 @@ module _ {X S : Type 0} (turn : X → S → S) (Quiet : X → S → Type 0) wher
   quiet_parts (x ∷ xs) ys s all =
       let parts = quiet_parts xs ys (turn x s) all.1 in ((all.0, parts.0), parts.1)
 
-  -- What holds of each step, of a fork and its master: it writes these two alone, and its fork alone
-  -- where nothing is to be pushed; it leaves what is to be pushed elsewhere; and where it is quiet
-  -- nothing is to be pushed, and both are equal.
+  -- What holds of each step, of a fork and its master: it writes these two alone, and its fork
+  -- alone where nothing is to be pushed; it leaves what is to be pushed elsewhere; and where it is
+  -- quiet nothing is to be pushed, and both are equal.
   pub record AreTurns (eq : X → X → Bool) (es : List (X × X)) {D : Type 0} (documents : S → X → D)
-      (Settled : S → X → Type 0) (Equal : S → X → X → Type 0) (Good : S → Type 0) (In : X → Type 0) : Type 0 where
+      (Settled : S → X → Type 0) (Equal : S → X → X → Type 0) (Good : S → Type 0)
+      (In : X → Type 0) : Type 0 where
     pub good : (c n : X) (s : S) → master_of eq es c ≡ Some n → In n → Good s → Quiet c s
         → Good (turn c s)
     pub writes : (c n y : X) (s : S) → master_of eq es c ≡ Some n → In n → Good s → y ≢ c → y ≢ n
         → documents (turn c s) y ≡ documents s y
-    pub idle : (c n y : X) (s : S) → master_of eq es c ≡ Some n → In n → Good s → Settled s c → y ≢ c
+    pub idle : (c n y : X) (s : S) → master_of eq es c ≡ Some n → In n → Good s
+        → Settled s c → y ≢ c
         → documents (turn c s) y ≡ documents s y
     pub keeps : (c n y : X) (s : S) → master_of eq es c ≡ Some n → In n → Good s → y ≢ c → y ≢ n
         → Settled s y → Settled (turn c s) y
@@ -324,7 +328,8 @@ module _ {X S : Type 0} (turn : X → S → S) (Quiet : X → S → Type 0) (eq 
   up_forks : (k : ℕ)
       → ((c : X) → In c → (s : S) → Good s → AllQuiet turn Quiet (levels_up forks k c) s
       → IsUp c (forks c) (levels_up forks k c) s (walked turn Quiet (levels_up forks k c) s))
-      → (n : X) → In n → (cs : List X) → AllByRecursion (λ c. Follows eq law es forks are c n) cs → AreApart cs → (s : S)
+      → (n : X) → In n → (cs : List X) → AllByRecursion (λ c. Follows eq law es forks are c n) cs
+      → AreApart cs → (s : S)
       → Good s → AllQuiet turn Quiet (below_up k cs) s
       → IsUp n cs (below_up k cs) s (walked turn Quiet (below_up k cs) s)
   up_forks k each n in_tree [] all apart s good quiet = record {
@@ -350,10 +355,12 @@ module _ {X S : Type 0} (turn : X → S → S) (Quiet : X → S → Type 0) (eq 
       let settled : AllByRecursion (Settled t) (xs ++ c ∷ []) =
       all_both (Settled t) xs (c ∷ [])
       (all_so (λ x. Settled s1 x × Below eq law es forks are x c) (Settled t)
-      (λ x h. then.still x (not_above eq law es forks are x c n h.1 all.0) (all_clear x (leads eq law es forks are x c h.1))
+      (λ x h. then.still x (not_above eq law es forks are x c n h.1 all.0)
+      (all_clear x (leads eq law es forks are x c h.1))
       (laws.keeps c n x s1 all.0 in_tree first.good (not_itself eq law es forks are x c h.1)
       (not_above eq law es forks are x c n h.1 all.0) h.0)) xs
-      (all_zip (Settled s1) (λ x. Below eq law es forks are x c) xs first.settled (up_below eq law es forks are k c))) (
+      (all_zip (Settled s1) (λ x. Below eq law es forks are x c) xs first.settled
+      (up_below eq law es forks are k c))) (
         then.still c (fork_isnt eq law es forks are c n all.0) (all_clear c (0, refl))
             (laws.settles c n s1 all.0 in_tree first.good p.1.0),
         tt,
@@ -375,7 +382,8 @@ module _ {X S : Type 0} (turn : X → S → S) (Quiet : X → S → Type 0) (eq 
             (first.still y apart_c (none_below eq law es forks are y c none.0) is));
       })
 
-  up_levels : (k : ℕ) (c : X) → In c → (s : S) → Good s → AllQuiet turn Quiet (levels_up forks k c) s
+  up_levels : (k : ℕ) (c : X) → In c → (s : S) → Good s
+      → AllQuiet turn Quiet (levels_up forks k c) s
       → IsUp c (forks c) (levels_up forks k c) s (walked turn Quiet (levels_up forks k c) s)
   up_levels zero c in_tree s good quiet = record {
     good = good;
@@ -387,7 +395,8 @@ module _ {X S : Type 0} (turn : X → S → S) (Quiet : X → S → Type 0) (eq 
       up_forks k (up_levels k) c in_tree (forks c) (are.follow c) (are.apart c) s
       good quiet
 
-  -- down: each fork below the collection is equal to its master, and only those below it were written
+  -- down: each fork below the collection is equal to its master,
+  -- and only those below it were written
   record IsDown (n : X) (cs xs : List X) (s t : S) : Type 0 where
     good : Good t
     equal : AllByRecursion (λ x. (m : X) → Follows eq law es forks are x m → Equal t x m) xs
@@ -401,7 +410,8 @@ module _ {X S : Type 0} (turn : X → S → S) (Quiet : X → S → Type 0) (eq 
       → ((c : X) → In c → (s : S) → Good s → AllByRecursion (Settled s) (levels_down forks k c)
       → AllQuiet turn Quiet (levels_down forks k c) s
       → IsDown c (forks c) (levels_down forks k c) s (walked turn Quiet (levels_down forks k c) s))
-      → (n : X) → In n → (cs : List X) → AllByRecursion (λ c. Follows eq law es forks are c n) cs → AreApart cs → (s : S)
+      → (n : X) → In n → (cs : List X) → AllByRecursion (λ c. Follows eq law es forks are c n) cs
+      → AreApart cs → (s : S)
       → Good s → AllByRecursion (Settled s) (below_down k cs)
       → AllQuiet turn Quiet (below_down k cs) s
       → IsDown n cs (below_down k cs) s (walked turn Quiet (below_down k cs) s)
@@ -421,16 +431,20 @@ module _ {X S : Type 0} (turn : X → S → S) (Quiet : X → S → Type 0) (eq 
       let ready1 = all_so (λ x. Settled s x × Below eq law es forks are x c) (Settled s1)
       (λ x h. laws.keeps c n x s all.0 in_tree good (not_itself eq law es forks are x c h.1)
       (not_above eq law es forks are x c n h.1 all.0) h.0) xs
-      (all_zip (Settled s) (λ x. Below eq law es forks are x c) xs parts.0 (down_below eq law es forks are k c)) in
+      (all_zip (Settled s) (λ x. Below eq law es forks are x c) xs parts.0
+      (down_below eq law es forks are k c)) in
       let first = each c (laws.inside c n all.0 in_tree) s1 good1 ready1 q.0 in
       let s2 = walked turn Quiet xs s1 in
-      let ready2 = all_so (λ x. Settled s x × ((Leads eq law es forks are x c → ⊥) × Below eq law es forks are x n))
+      let ready2 = all_so (λ x.
+      Settled s x × ((Leads eq law es forks are x c → ⊥) × Below eq law es forks are x n))
       (Settled s2)
       (λ x h.
       let other : x ≢ c = λ is. h.1.0 (0, ap Some is) in
       first.still x other (none_below eq law es forks are x c h.1.0)
-      (laws.keeps c n x s all.0 in_tree good other (not_itself eq law es forks are x n h.1.1) h.0)) rest
-      (all_zip (Settled s) (λ x. (Leads eq law es forks are x c → ⊥) × Below eq law es forks are x n) rest parts.1
+      (laws.keeps c n x s all.0 in_tree good other (not_itself eq law es forks are x n h.1.1) h.0))
+      rest
+      (all_zip (Settled s)
+      (λ x. (Leads eq law es forks are x c → ⊥) × Below eq law es forks are x n) rest parts.1
       (others_clear eq law es forks are k c n all.0 cs all.1 apart.0)) in
       let then = down_forks k each n in_tree cs all.1 apart.1 s2 first.good ready2 q.1 in
       let t = walked turn Quiet rest s2 in
@@ -443,9 +457,11 @@ module _ {X S : Type 0} (turn : X → S → S) (Quiet : X → S → Type 0) (eq 
       subst (Equal t c) (some_same (sym all.0 ∙ at))
       (laws.stays c n s2 t (then.same c (all_clear c (0, refl))) (then.same n master_clear)
       (laws.stays c n s1 s2 (first.same c (fork_none eq law es forks are c))
-      (first.same n (master_none eq law es forks are c n all.0)) (laws.equal c n s all.0 in_tree good quiet.0))) in
+      (first.same n (master_none eq law es forks are c n all.0))
+      (laws.equal c n s all.0 in_tree good quiet.0))) in
       let below : AllByRecursion (λ x. (m : X) → Follows eq law es forks are x m → Equal t x m) xs =
-      all_so (λ x. ((m : X) → Follows eq law es forks are x m → Equal s2 x m) × Below eq law es forks are x c)
+      all_so (λ x.
+      ((m : X) → Follows eq law es forks are x m → Equal s2 x m) × Below eq law es forks are x c)
       (λ x. (m : X) → Follows eq law es forks are x m → Equal t x m)
       (λ x h m at.
       let way = some_then (master_of eq es x) (climbed eq h.1.0 es) c h.1.1 in
@@ -456,7 +472,8 @@ module _ {X S : Type 0} (turn : X → S → S) (Quiet : X → S → Type 0) (eq 
       ) in
       laws.stays x m s2 t (then.same x (all_clear x (leads eq law es forks are x c h.1)))
       (then.same m (all_clear m up)) (h.0 m at)) xs
-      (all_zip (λ x. (m : X) → Follows eq law es forks are x m → Equal s2 x m) (λ x. Below eq law es forks are x c) xs
+      (all_zip (λ x. (m : X) → Follows eq law es forks are x m → Equal s2 x m)
+      (λ x. Below eq law es forks are x c) xs
       first.equal (down_below eq law es forks are k c)) in
       subst (IsDown n (c ∷ cs) (below_down k (c ∷ cs)) s) (sym (walked_on turn Quiet xs rest s1))
       (record {
@@ -478,7 +495,8 @@ module _ {X S : Type 0} (turn : X → S → S) (Quiet : X → S → Type 0) (eq 
             (laws.keeps c n y s all.0 in_tree good apart_c other is));
       })
 
-  down_levels : (k : ℕ) (c : X) → In c → (s : S) → Good s → AllByRecursion (Settled s) (levels_down forks k c)
+  down_levels : (k : ℕ) (c : X) → In c → (s : S) → Good s
+      → AllByRecursion (Settled s) (levels_down forks k c)
       → AllQuiet turn Quiet (levels_down forks k c) s
       → IsDown c (forks c) (levels_down forks k c) s (walked turn Quiet (levels_down forks k c) s)
   down_levels zero c in_tree s good ready quiet = record {
@@ -495,7 +513,9 @@ module _ {X S : Type 0} (turn : X → S → S) (Quiet : X → S → Type 0) (eq 
 
   -- what is equal to its master at each step is equal to where it leads
   equal_up : (top : X) (t : S)
-      → ((x m : X) → Below eq law es forks are x top → Follows eq law es forks are x m → Equal t x m) → (k : ℕ) (x : X)
+      → ((x m : X) → Below eq law es forks are x top
+      → Follows eq law es forks are x m → Equal t x m)
+      → (k : ℕ) (x : X)
       → climbed eq k es x ≡ Some top → Equal t x top
   equal_up top t each zero x way = subst (Equal t x) (some_same way) (laws.itself x t)
   equal_up top t each (suc k) x way =

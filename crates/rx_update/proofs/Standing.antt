@@ -110,5 +110,6 @@ which coll when attached s t is =
 
 pub texts : KeepsTexts
 texts coll when attached s t name text at is =
-    all_keep (λ u. named u.fields name ≡ Some (Text text)) (hooked_text name text) coll when attached
+    all_keep (λ u. named u.fields name ≡ Some (Text text))
+    (hooked_text name text) coll when attached
     s t at is

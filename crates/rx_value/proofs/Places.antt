@@ -20,7 +20,8 @@ pub turned : (a b : List ℕ) (o : Ordering) → text_cmp a b ≡ o → text_cmp
 turned a b o is = text_total.antisymm b a ∙ ap ordering_reverse is
 
 -- a name that comes before or after another isn't it
-pub other : (a b : List ℕ) (o : Ordering) → text_cmp a b ≡ o → is_eq o ≡ false → bytes_eq a b ≡ false
+pub other : (a b : List ℕ) (o : Ordering) → text_cmp a b ≡ o → is_eq o ≡ false
+    → bytes_eq a b ≡ false
 other a b o is differs = sym (is_eq-slice_cmp a b) ∙ ap is_eq is ∙ differs
 
 -- there are three answers
@@ -44,7 +45,8 @@ rank a b name Greater below is = at_most_two (text_cmp a name)
 
 module _ {X : Type 0} where
   -- what holds of all names holds of the i-th
-  pub name_at : (P : List ℕ → Type 0) (es : List (List ℕ × X)) (i : ℕ) (d : List ℕ × X) → i < length es
+  pub name_at : (P : List ℕ → Type 0) (es : List (List ℕ × X)) (i : ℕ) (d : List ℕ × X)
+      → i < length es
       → AllByRecursion P (keys_of es) → P (get_or es i d).0
   name_at P [] i d lt all = absurd (omega arith)
   name_at P (e ∷ es) zero d lt all = all.0

@@ -22,7 +22,8 @@ pub record Begins (name fork : List ℕ) (master : MasterName) (w : World) : Typ
   pub called : is_name name ≡ true
   pub room : length w.replications < max_replications
 
-pub begins : (name fork : List ℕ) (master : MasterName) (w : World) → may_begin name fork master w ≡ true
+pub begins : (name fork : List ℕ) (master : MasterName) (w : World)
+    → may_begin name fork master w ≡ true
     → Begins name fork master w
 begins name fork master w is =
     let fits : Held → Bool = is_fitting w.collections master in

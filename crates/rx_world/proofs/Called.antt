@@ -31,7 +31,8 @@ module _ {X : Type 0} where
   few_put (e ∷ es) k x =
       let later = few_put es k x in
       let same = keys_count es in
-      elim (bytes_eq k e.0) as (λ b. length (keys_of (cond b ((e.0, x) ∷ es) (e ∷ put_named es k x)))
+      elim (bytes_eq k e.0)
+      as (λ b. length (keys_of (cond b ((e.0, x) ∷ es) (e ∷ put_named es k x)))
       ≤ suc (suc (length es))) [ true ↦ omega arith | false ↦ omega arith ]
     where
       keys_count : (es : List (List ℕ × X)) → length (keys_of es) ≡ length es
@@ -58,13 +59,16 @@ module _ {X : Type 0} where
         distinct = distinct_put_named es k x names.distinct;
       }
 
-fork_named : (lwt : ℕ) (written : List RowOut) (w : World) → AreNames max_collections (keys_of w.collections)
+fork_named : (lwt : ℕ) (written : List RowOut) (w : World)
+    → AreNames max_collections (keys_of w.collections)
     → (o : Option Replication) → AreNames max_collections
-    (keys_of (collections_after (option_map_or (fork_rows lwt written) o no_collection) w.collections))
+    (keys_of
+    (collections_after (option_map_or (fork_rows lwt written) o no_collection) w.collections))
 fork_named lwt written w names None = names
 fork_named lwt [] w names (Some r) = names
 fork_named lwt (row ∷ written) w names (Some r) =
-    subst (AreNames max_collections) (sym (keys-change_named (written_to lwt (row ∷ written)) w.collections r.fork)) names
+    subst (AreNames max_collections)
+    (sym (keys-change_named (written_to lwt (row ∷ written)) w.collections r.fork)) names
 
 -- those of collections after a legal record that is no migration
 pub collections_named : (entry : Content) (w : World) → legal entry w ≡ true → IsNoMigration entry
@@ -72,8 +76,11 @@ pub collections_named : (entry : Content) (w : World) → legal entry w ≡ true
     → AreNames max_collections (keys_of (step entry w).collections)
 collections_named (collection name schema) w is other names =
     let new = collection_new name schema w is in
-    subst (λ o. AreNames max_collections (keys_of (collections_after (new_where name o) w.collections))) (sym new.read)
-    (names_put max_collections w.collections name (held_with name new.shape []) new.called new.room names)
+    subst (λ o.
+    AreNames max_collections (keys_of (collections_after (new_where name o) w.collections)))
+    (sym new.read)
+    (names_put max_collections w.collections name
+    (held_with name new.shape []) new.called new.room names)
 collections_named (rows name lwt written) w is other names =
     subst (AreNames max_collections) (sym (rows_names name lwt written w)) names
 collections_named (replication name fork master handler field) w is other names = names
@@ -88,8 +95,10 @@ pub replications_named : (entry : Content) (w : World) → legal entry w ≡ tru
     → AreNames max_replications (keys_of (step entry w).replications)
 replications_named (replication name fork master handler field) w is other names =
     let b = begins name fork master w is in
-    names_put max_replications w.replications name (new_replication name fork master handler field) b.called b.room names
+    names_put max_replications w.replications name
+    (new_replication name fork master handler field) b.called b.room names
 replications_named (exchange name lwt written known up down) w is other names =
-    subst (AreNames max_replications) (sym (keys-change_named (with_exchange known up down) w.replications name)) names
+    subst (AreNames max_replications)
+    (sym (keys-change_named (with_exchange known up down) w.replications name)) names
 replications_named (migration name text steps) w is other names = absurd other
 replications_named entry w is other names = names

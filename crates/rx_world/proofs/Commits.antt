@@ -61,7 +61,8 @@ module _ (c : Held) (lwt : ℕ) where
   length-outs [] = refl
   length-outs (e ∷ es) = ap suc (length-outs es)
 
-  keys-outs : (es : List (List ℕ × State)) → AllStand c.schema es → map key_of (outs es) ≡ keys_of es
+  keys-outs : (es : List (List ℕ × State)) → AllStand c.schema es
+      → map key_of (outs es) ≡ keys_of es
   keys-outs [] all = refl
   keys-outs (e ∷ es) all = rw all.0.0 (ap (λ ks. e.0 ∷ ks) (keys-outs es all.1))
 
@@ -79,7 +80,8 @@ takes_rows : (c : Held) (states : List State) (lwt : ℕ) → IsLater (last_lwt 
     → takes lwt (map out_of (rows_of c states lwt)) c ≡ true
 takes_rows c states lwt later some valid =
     let es = by_key states in
-    let more : 0 < length (outs c lwt es) = subst (λ n. 0 < n) (sym (length-outs c lwt es)) (by_key-some states some) in
+    let more : 0 < length (outs c lwt es) =
+    subst (λ n. 0 < n) (sym (length-outs c lwt es)) (by_key-some states some) in
     both_true (both_true (both_true (lt-ltb 0 (length (outs c lwt es)) more)
     (lt-ltb (last_lwt c.documents) lwt later.above)) (le-leb lwt most_lwt later.in_range))
     (due-outs c lwt es (by_key-all c.schema states valid))

@@ -46,7 +46,8 @@ module _ (f : Place → Bool) where
       → list_any (λ e. f e.0) es ≡ false
   first_none [] is = refl
   first_none (e ∷ es) is =
-      elim (f e.0) as (λ b. take 1 (values_of (cond b (e ∷ filter (λ e. f e.0) es) (filter (λ e. f e.0) es))) ≡ []
+      elim (f e.0) as (λ b.
+      take 1 (values_of (cond b (e ∷ filter (λ e. f e.0) es) (filter (λ e. f e.0) es))) ≡ []
       → (b || list_any (λ e. f e.0) es) ≡ false)
       [ true ↦ (λ some. absurd (cc)) | false ↦ (λ later. first_none es later) ] is
 
@@ -54,7 +55,8 @@ module _ (f : Place → Bool) where
       → take 1 (values_of (filter (λ e. f e.0) es)) ≡ d ∷ ds → list_any (λ e. f e.0) es ≡ true
   first_some [] d ds is = absurd (cc)
   first_some (e ∷ es) d ds is =
-      elim (f e.0) as (λ b. take 1 (values_of (cond b (e ∷ filter (λ e. f e.0) es) (filter (λ e. f e.0) es))) ≡ d ∷ ds
+      elim (f e.0) as (λ b.
+      take 1 (values_of (cond b (e ∷ filter (λ e. f e.0) es) (filter (λ e. f e.0) es))) ≡ d ∷ ds
       → (b || list_any (λ e. f e.0) es) ≡ true)
       [ true ↦ (λ some. refl) | false ↦ (λ later. first_some es d ds later) ] is
 
@@ -79,7 +81,8 @@ module _ (f : Place → Bool) where
         | Less ↦ (λ is. refl)
         | Equal ↦ (λ is.
             twice (f e.0) (list_any (λ e. f e.0) es)
-            ∙ ap (λ b. b || (f e.0 || list_any (λ e. f e.0) es)) (ap f (sym ((place_ties p e.0).0 is))))
+            ∙ ap (λ b. b || (f e.0 || list_any (λ e. f e.0) es))
+            (ap f (sym ((place_ties p e.0).0 is))))
         | Greater ↦ (λ is.
             ap (λ b. f e.0 || b) (any_put p d es) ∙ turned (f e.0) (f p) (list_any (λ e. f e.0) es))
       ] refl
@@ -94,12 +97,14 @@ module _ (f : Place → Bool) where
 -- a page above a place tells whether a document is there
 pub page_none : (es : Documents) (p : Place) → since es (Some p) 1 ≡ [] → none_above es p ≡ true
 page_none es p is =
-    ap not (sym (any_by_place (is_above (Some p)) es) ∙ first_none (is_above (Some p)) (by_place es) is)
+    ap not (sym (any_by_place (is_above (Some p)) es)
+    ∙ first_none (is_above (Some p)) (by_place es) is)
 
 pub page_some : (es : Documents) (p : Place) (d : Stored) (ds : List Stored)
     → since es (Some p) 1 ≡ d ∷ ds → none_above es p ≡ false
 page_some es p d ds is =
-    ap not (sym (any_by_place (is_above (Some p)) es) ∙ first_some (is_above (Some p)) (by_place es) d ds is)
+    ap not (sym (any_by_place (is_above (Some p)) es)
+    ∙ first_some (is_above (Some p)) (by_place es) d ds is)
 
 pub none_where : {X : Type 0} (b : Bool) (o : Option X) → not b ≡ is_some o → b ≡ is_none o
 none_where true None is = refl
@@ -127,8 +132,10 @@ all_under : (primary : List ℕ) (es : Documents) (p : Place)
     → list_any (λ e. is_above (Some p) (place_of e.1)) es ≡ false → AllBelow es p
 all_under primary [] p held free none = tt
 all_under primary (e ∷ es) p held free none =
-    let both = or_parts (is_above (Some p) (place_of e.1)) (list_any (λ e. is_above (Some p) (place_of e.1)) es) none in
-    elim (bytes_eq p.id e.0) as (λ b. bytes_eq p.id e.0 ≡ b → cond b (Some e.1) (named es p.id) ≡ None
+    let both = or_parts (is_above (Some p) (place_of e.1))
+    (list_any (λ e. is_above (Some p) (place_of e.1)) es) none in
+    elim (bytes_eq p.id e.0)
+    as (λ b. bytes_eq p.id e.0 ≡ b → cond b (Some e.1) (named es p.id) ≡ None
     → AllBelow (e ∷ es) p) [
       | true ↦ (λ is no_thing. not_none (sym no_thing))
       | false ↦ (λ is later. (
@@ -179,10 +186,12 @@ copied_next c row lawful is =
     let lower = p.lower in
     record {
       above = all_under c.schema.primary c.documents (row_place row) lawful.each p.free
-          (not-true (list_any (λ e. is_above (Some (row_place row)) (place_of e.1)) c.documents) p.top);
+          (not-true
+          (list_any (λ e. is_above (Some (row_place row)) (place_of e.1)) c.documents) p.top);
       written = omega arith;
       in_range = p.in_range;
-      height = subst (λ (o : Option Stored). IsNextHeight o row.lwt row.height) (sym p.free) (counted, lower);
+      height = subst (λ (o : Option Stored). IsNextHeight o row.lwt row.height) (sym p.free)
+          (counted, lower);
       carried = state_carries c.schema row.state p.valid;
     }
 
@@ -208,7 +217,8 @@ pub whole_part : (name : List ℕ) (old new : Plain) (written : List PartRow)
     → new.broken ≡ old.broken
     → IsWhole (λ (p : Plain). p.collection) (λ (p : Plain). p.broken) name new
 whole_part name old new written whole is rows same =
-    let taken = (and_parts (nat_lt 0 (length written)) (are_copied_rows written old.collection) is).1 in
+    let taken =
+    (and_parts (nat_lt 0 (length written)) (are_copied_rows written old.collection) is).1 in
     record {
       unbroken = same ∙ whole.unbroken;
       called = ap (λ (c : Held). c.name) rows
@@ -235,9 +245,11 @@ pub states_valid : (fork : Held) (ss : List State) (known : KnownStates)
     → AllByRecursion (λ e. IsValidState fork.schema e.1) (with_learnt known ss)
 states_valid fork [] known is all = all
 states_valid fork (s ∷ ss) known is all =
-    let both = and_parts (is_copied_state fork known s) (are_copied_states ss (put_in_order known s.key s) fork) is in
+    let both = and_parts (is_copied_state fork known s)
+    (are_copied_states ss (put_in_order known s.key s) fork) is in
     let here : IsValidState fork.schema s =
     (and_parts (is_valid_state fork.schema s) (is_some (named fork.documents s.key))
-    (and_parts (is_valid_state fork.schema s && is_some (named fork.documents s.key)) (is_above_known known s.key) both.0).0).0 in
+    (and_parts (is_valid_state fork.schema s && is_some (named fork.documents s.key))
+    (is_above_known known s.key) both.0).0).0 in
     states_valid fork ss (put_in_order known s.key s) both.1
     (all_put (λ k t. IsValidState fork.schema t) known s.key s here all)

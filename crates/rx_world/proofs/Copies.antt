@@ -53,13 +53,15 @@ stay_part cs name written = record {
 }
 
 -- what a collection is asked that takes one
-rows_taken : (name : List ℕ) (written : List PartRow) (w : World) → may_copy (part name written) w ≡ true
+rows_taken : (name : List ℕ) (written : List PartRow) (w : World)
+    → may_copy (part name written) w ≡ true
     → (c : Held) → named w.collections name ≡ Some c → are_copied_rows written c ≡ true
 rows_taken name written w is c at =
     (and_parts (nat_lt 0 (length written)) (are_copied_rows written c)
     (sym (ap (λ o. option_map_or (takes_part written) o false) at) ∙ is)).1
 
-made_part : (name : List ℕ) (written : List PartRow) (w : World) → may_copy (part name written) w ≡ true
+made_part : (name : List ℕ) (written : List PartRow) (w : World)
+    → may_copy (part name written) w ≡ true
     → IsMadeWorld w → IsMadeWorld (copy_step (part name written) w)
 made_part name written w is made =
     let f = with_part written in
@@ -73,14 +75,18 @@ made_part name written w is made =
       valid = all_change_named (λ k c. AreValid c) w.collections name f
           (λ c at here. part_valid written c here (rows_taken name written w is c at)) made.valid;
       spelled = all_change_named (λ k c. IsSpelled c) w.collections name f
-          (λ c at here. subst (λ s. schema_in (canonical_text s) ≡ Some s) (sym (part-schema written c)) here) made.spelled;
-      distinct = subst (IsDistinct bytes_eq) (sym (keys-change_named f w.collections name)) made.distinct;
+          (λ c at here. subst (λ s. schema_in (canonical_text s) ≡ Some s)
+          (sym (part-schema written c)) here) made.spelled;
+      distinct =
+          subst (IsDistinct bytes_eq) (sym (keys-change_named f w.collections name)) made.distinct;
       linked = record {
-        each = links_stay w.collections after (stay_part w.collections name written) w.replications made.linked.each;
+        each = links_stay w.collections after
+            (stay_part w.collections name written) w.replications made.linked.each;
         apart = made.linked.apart;
       };
       forest = made.forest;
-      collection_names = subst (AreNames max_collections) (sym (keys-change_named f w.collections name)) made.collection_names;
+      collection_names = subst (AreNames max_collections)
+          (sym (keys-change_named f w.collections name)) made.collection_names;
       replication_names = made.replication_names;
     }
 
@@ -95,7 +101,8 @@ known_link name known up down w is ordered r at l =
     let here : takes_known w.collections known up down r ≡ true =
     sym (ap (λ o. option_map_or (takes_known w.collections known up down) o false) at) ∙ is in
     let last = (and_parts (stays_or_rises r.side.up up && stays_or_rises r.side.down down)
-    (option_map_or (are_copied_states known r.side.known) (named w.collections r.fork) false) here).1 in
+    (option_map_or (are_copied_states known r.side.known) (named w.collections r.fork) false)
+    here).1 in
     record {
       called = l.called;
       fork = l.fork;
@@ -103,7 +110,8 @@ known_link name known up down w is ordered r at l =
       master = l.master;
       by_key = learnt_by_key known r.side.known l.by_key;
       valid = states_valid l.fork known r.side.known
-          (sym (ap (λ o. option_map_or (are_copied_states known r.side.known) o false) l.held) ∙ last) l.valid;
+          (sym (ap (λ o. option_map_or (are_copied_states known r.side.known) o false) l.held)
+          ∙ last) l.valid;
       up_has_time = ordered.up_has_time;
       down_has_time = ordered.down_has_time;
     }
@@ -117,27 +125,32 @@ made_known name known up down w is ordered made = record {
   spelled = made.spelled;
   distinct = made.distinct;
   linked = record {
-    each = all_change_named (λ k x. IsLinked w.collections k x) w.replications name (with_exchange known up down)
+    each = all_change_named (λ k x. IsLinked w.collections k x) w.replications name
+        (with_exchange known up down)
         (λ r at here. known_link name known up down w is ordered r at here) made.linked.each;
     apart = subst (IsDistinct bytes_eq)
-        (sym (forks_changed (with_exchange known up down) (λ r. refl) w.replications name)) made.linked.apart;
+        (sym (forks_changed (with_exchange known up down) (λ r. refl) w.replications name))
+        made.linked.apart;
   };
   forest = subst (λ (es : Forks). is_forest bytes_eq es ≡ true)
       (sym (forks_kept known up down w.replications name)) made.forest;
   collection_names = made.collection_names;
   replication_names = subst (AreNames max_replications)
-      (sym (keys-change_named (with_exchange known up down) w.replications name)) made.replication_names;
+      (sym (keys-change_named (with_exchange known up down) w.replications name))
+      made.replication_names;
 }
 
 -- ---- any record of a copy
 
 pub made_copied : (entry : Content) (w : World) → may_copy entry w ≡ true → IsOrdered entry
     → IsMadeWorld w → IsMadeWorld (copy_step entry w)
-made_copied (collection name schema) w is ordered made = made_step (collection name schema) w is ordered made
+made_copied (collection name schema) w is ordered made =
+    made_step (collection name schema) w is ordered made
 made_copied (replication name fork master handler field) w is ordered made =
     made_step (replication name fork master handler field) w is ordered made
 made_copied (part name written) w is ordered made = made_part name written w is made
-made_copied (known_part name known up down) w is ordered made = made_known name known up down w is ordered made
+made_copied (known_part name known up down) w is ordered made =
+    made_known name known up down w is ordered made
 made_copied (end number) w is ordered made = record {
   lawful = made.lawful;
   valid = made.valid;
@@ -149,6 +162,7 @@ made_copied (end number) w is ordered made = record {
   replication_names = made.replication_names;
 }
 made_copied (rows name lwt written) w is ordered made = absurd (true≢false (sym is))
-made_copied (exchange name lwt written known up down) w is ordered made = absurd (true≢false (sym is))
+made_copied (exchange name lwt written known up down) w is ordered made =
+    absurd (true≢false (sym is))
 made_copied (epoch number) w is ordered made = absurd (true≢false (sym is))
 made_copied (migration name schema steps) w is ordered made = absurd (true≢false (sym is))

@@ -36,7 +36,8 @@ module _ {X : Type 0} (test : X → Bool) where
       → AllByRecursion (λ e. test e.1 ≡ true) es
   all_pass [] is = tt
   all_pass (e ∷ es) is =
-      let both = and_parts (test e.1) (list_all test (values_of es)) is in (both.0, all_pass es both.1)
+      let both = and_parts (test e.1) (list_all test (values_of es)) is in
+      (both.0, all_pass es both.1)
 
   -- what passes as a whole is what is named
   named_pass : (es : List (List ℕ × X)) → list_all test (values_of es) ≡ true → (k : List ℕ) (x : X)
@@ -65,9 +66,11 @@ module _ {X : Type 0} (test : X → Bool) where
 module _ {X : Type 0} (test : X → Bool) where
   any_named : (es : List (List ℕ × X)) → AreRising es → list_any test (values_of es) ≡ true
       → (k : List ℕ) × (x : X) × (named es k ≡ Some x) × (test x ≡ true)
-  any_named es rising is = find_in es (λ k x at. at) (all_named (λ k x. named es k ≡ Some x) es rising (λ k x at. at)) is
+  any_named es rising is =
+      find_in es (λ k x at. at) (all_named (λ k x. named es k ≡ Some x) es rising (λ k x at. at)) is
     where
-      find_in : (fs : List (List ℕ × X)) → ((k : List ℕ) (x : X) → named es k ≡ Some x → named es k ≡ Some x)
+      find_in : (fs : List (List ℕ × X))
+          → ((k : List ℕ) (x : X) → named es k ≡ Some x → named es k ≡ Some x)
           → AllByRecursion (λ e. named es e.0 ≡ Some e.1) fs → list_any test (values_of fs) ≡ true
           → (k : List ℕ) × (x : X) × (named es k ≡ Some x) × (test x ≡ true)
       find_in [] same all is = absurd (true≢false (sym is))
@@ -89,7 +92,8 @@ decides_held c known by_key b is = (
       let there = some_is (named c.documents s.key)
       (named_pass (λ (s : State). is_some (named c.documents s.key)) known (sym is ∙ yes) k s at) in
       (there.0, ap (named c.documents) (sym own) ∙ there.1),
-  λ holds. is ∙ each_pass (λ (s : State). is_some (named c.documents s.key)) known by_key.rising (λ k s at.
+  λ holds. is
+      ∙ each_pass (λ (s : State). is_some (named c.documents s.key)) known by_key.rising (λ k s at.
       let own : s.key ≡ k = at_name (λ k s. s.key ≡ k) known k s by_key.keyed at in
       let there = holds k s at in
       ap (λ o. is_some o) (ap (named c.documents) own ∙ there.1)),
@@ -100,24 +104,29 @@ pub decides_reach : (c : Held) → IsLawful c → (p : Place) (b : Bool)
     → b ≡ list_any (λ (d : Stored). not (is_lt (place_cmp (place_of d) p))) (values_of c.documents)
     → Decides b (Reach c.documents (Some p))
 decides_reach c lawful p b is = (
-  λ yes. any_named (λ (d : Stored). not (is_lt (place_cmp (place_of d) p))) c.documents lawful.rising (sym is ∙ yes),
-  λ reach. is ∙ named_any (λ (d : Stored). not (is_lt (place_cmp (place_of d) p))) c.documents reach.0 reach.1
+  λ yes. any_named (λ (d : Stored). not (is_lt (place_cmp (place_of d) p))) c.documents
+      lawful.rising (sym is ∙ yes),
+  λ reach. is ∙ named_any (λ (d : Stored). not (is_lt (place_cmp (place_of d) p))) c.documents
+      reach.0 reach.1
       reach.2 reach.3,
 )
 
 -- each document at or below a place is known
 pub decides_known : (c : Held) → IsLawful c → (known : KnownStates) (p : Place) (b : Bool)
-    → b ≡ list_all (λ (d : Stored). is_lt (place_cmp p (place_of d)) || is_state (named known d.state.key) d.state)
+    → b ≡ list_all (λ (d : Stored).
+    is_lt (place_cmp p (place_of d)) || is_state (named known d.state.key) d.state)
     (values_of c.documents)
     → Decides b (AreKnownUpTo c.documents known (Some p))
 decides_known c lawful known p b is = (
   λ yes. λ k d at below.
       let own : d.state.key ≡ k = key_at c.documents k d (lawful-by_key c lawful) at in
-      let above : is_lt (place_cmp p (place_of d)) ≡ false = not-true (is_lt (place_cmp p (place_of d))) below in
+      let above : is_lt (place_cmp p (place_of d)) ≡ false =
+      not-true (is_lt (place_cmp p (place_of d))) below in
       elim (or_cases (is_lt (place_cmp p (place_of d))) (is_state (named known d.state.key) d.state)
       (named_pass test c.documents (sym is ∙ yes) k d at)) [
         | inl over ↦ absurd (true≢false (sym over ∙ above))
-        | inr same ↦ ap (named known) (sym own) ∙ is_state-some (named known d.state.key) d.state same
+        | inr same ↦ ap (named known) (sym own)
+            ∙ is_state-some (named known d.state.key) d.state same
       ],
   λ settled. is ∙ each_pass test c.documents lawful.rising (λ k d at.
       let own : d.state.key ≡ k = key_at c.documents k d (lawful-by_key c lawful) at in
@@ -133,7 +142,8 @@ decides_known c lawful known p b is = (
     test d = is_lt (place_cmp p (place_of d)) || is_state (named known d.state.key) d.state
 
 -- one with a checkpoint that isn't above the last place
-pub decides_some : (documents : Documents) (known : KnownStates) (p : Place) (o : Option Place) (b : Bool)
+pub decides_some : (documents : Documents) (known : KnownStates) (p : Place)
+    (o : Option Place) (b : Bool)
     → o ≡ Some p → HoldKnown documents known → Reach documents (Some p)
     → Decides b (AreKnownUpTo documents known (Some p)) → Decides b (IsSoundSide documents known o)
 decides_some documents known p o b is holds reached settled =
@@ -145,14 +155,16 @@ decides_some documents known p o b is holds reached settled =
 -- ---- replications by name
 
 -- one that is sound, or isn't, in front of others
-pub turn_sound : {X : Type 0} (P : X → Type 0) (it all : List X) (x : X) (rest : List X) → it ≡ x ∷ rest → P x
+pub turn_sound : {X : Type 0} (P : X → Type 0) (it all : List X) (x : X) (rest : List X)
+    → it ≡ x ∷ rest → P x
     → (AllByRecursion P it ↔ AllByRecursion P all) → AllByRecursion P rest ↔ AllByRecursion P all
 turn_sound P it all x rest is here so = (
   λ each. so.0 (subst (AllByRecursion P) (sym is) (here, each)),
   λ each. (subst (AllByRecursion P) is (so.1 each)).1,
 )
 
-pub turn_not : {X : Type 0} (P : X → Type 0) (it all : List X) (x : X) (rest : List X) → it ≡ x ∷ rest → (P x → ⊥)
+pub turn_not : {X : Type 0} (P : X → Type 0) (it all : List X) (x : X) (rest : List X)
+    → it ≡ x ∷ rest → (P x → ⊥)
     → (AllByRecursion P it ↔ AllByRecursion P all) → AllByRecursion P all → ⊥
 turn_not P it all x rest is not so each = not (subst (AllByRecursion P) is (so.1 each)).0
 

@@ -31,7 +31,8 @@ module _ {H : Type 0} (P : List ℕ → H → Type 0) where
       as (λ b. bytes_eq name (string_bytes e.0) ≡ b → cond b (Some e.1) rest ≡ Some h → P name h) [
         | true ↦ (λ is here.
             let same : e.1 ≡ h = cc in
-            at_equal (λ n. P n h) name (string_bytes e.0) is (subst (P (string_bytes e.0)) same all.0))
+            at_equal (λ n. P n h) name (string_bytes e.0) is
+            (subst (P (string_bytes e.0)) same all.0))
         | false ↦ (λ is here. at_found es name h all.1 here)
       ] refl at
 
@@ -90,7 +91,8 @@ whole_left held broken name old new whole kept unbroken = record {
 }
 
 -- whole holders are so by the bytes of their names
-pub whole_by_bytes : {H : Type 0} (held : H → Held) (broken : H → Bool) (es : List (String Global × H))
+pub whole_by_bytes : {H : Type 0} (held : H → Held) (broken : H → Bool)
+    (es : List (String Global × H))
     → AreWhole held broken es → AllByRecursion (λ e. IsWhole held broken e.0 e.1) (by_bytes es)
 whole_by_bytes held broken [] whole = tt
 whole_by_bytes held broken (e ∷ es) whole = (whole.0, whole_by_bytes held broken es whole.1)

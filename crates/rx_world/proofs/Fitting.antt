@@ -45,7 +45,8 @@ no_name_fails test es =
     none_made (λ e. e.0) (find (λ e. not (test e)) es) ∙ none_fails test es
 
 -- so all pass unless a name was lent
-pub all_unless : {X : Type 0} (test : List ℕ × X → Bool) (es : List (List ℕ × X)) (o : Option (Bor (List ℕ)))
+pub all_unless : {X : Type 0} (test : List ℕ × X → Bool) (es : List (List ℕ × X))
+    (o : Option (Bor (List ℕ)))
     → option_map (λ n. n.now) o ≡ option_map (λ e. e.0) (find (λ e. not (test e)) es)
     → list_all test es ≡ not (is_some o)
 all_unless test es None at = sym (no_name_fails test es) ∙ ap is_none (sym at)
@@ -54,7 +55,8 @@ all_unless test es (Some n) at = sym (no_name_fails test es) ∙ ap is_none (sym
 -- the first of whole holders that fails, by its own name
 pub holders_fail : {H : Type 0} (held : H → Held) (broken : H → Bool)
     (test : List ℕ × Held → Bool) (es : List (String Global × H)) → AreWhole held broken es
-    → option_map (λ h. (held h).name) (find (λ h. not (test ((held h).name, held h))) (values_of es))
+    → option_map (λ h. (held h).name)
+    (find (λ h. not (test ((held h).name, held h))) (values_of es))
     ≡ option_map (λ e. e.0) (find (λ e. not (test e)) (by_name held es))
 holders_fail held broken test [] whole = refl
 holders_fail held broken test (e ∷ es) whole =
@@ -105,7 +107,8 @@ pub migrate_in_parts : (G : List ℕ → Bool) (s : Shape) (steps : List Step) (
 migrate_in_parts G s steps [] = refl
 migrate_in_parts G s steps (e ∷ rs) =
     let known = list_all (λ k. state_migrates s steps k.1) e.1.side.known in
-    ap (λ b. (not (G e.1.fork) || (is_local e.1.master && known)) && b) (migrate_in_parts G s steps rs)
+    ap (λ b. (not (G e.1.fork) || (is_local e.1.master && known)) && b)
+    (migrate_in_parts G s steps rs)
     ∙ both_tests (G e.1.fork) (is_local e.1.master) known
     (list_all (λ e. known_migrates G s steps e.1) rs) (list_all (λ e. is_here G e.1) rs)
 
@@ -124,7 +127,8 @@ passes false kept here states is = absurd (cc)
 passes true false here states is = absurd (cc)
 passes true true here (Err e) is = absurd (cc)
 passes true true false (Ok x) is = absurd (cc)
-passes true true true (Ok x) is = record { is_next = refl; is_kept = refl; is_there = refl; fit = refl }
+passes true true true (Ok x) is =
+    record { is_next = refl; is_kept = refl; is_there = refl; fit = refl }
 
 -- where no state is at fault
 abbrev states_so : (a b : Option (List ℕ)) → Result ⊤ MigrateFault
@@ -137,14 +141,16 @@ none_invalid (Some n) b is = absurd (cc)
 
 -- where the collection is held and the text is a schema's
 pub may_as : (name text : List ℕ) (steps : List Step) (w : World) (c : Held) (s : Shape) (b : Bool)
-    → named w.collections name ≡ Some c → schema_in text ≡ Some s → is_next_schema s steps c.schema ≡ b
+    → named w.collections name ≡ Some c → schema_in text ≡ Some s
+    → is_next_schema s steps c.schema ≡ b
     → may_migrate name text steps w ≡ (b && group_migrates name s steps w)
 may_as name text steps w c s b held read next =
     ap (λ (o : Option Held). option_map_or (λ c. option_map_or
     (λ schema. is_next_schema schema steps c.schema && group_migrates name schema steps w)
     (schema_in text) false) o false) held
     ∙ ap (λ (o : Option Shape). option_map_or
-    (λ schema. is_next_schema schema steps c.schema && group_migrates name schema steps w) o false) read
+    (λ schema. is_next_schema schema steps c.schema && group_migrates name schema steps w) o false)
+    read
     ∙ ap (λ b. b && group_migrates name s steps w) next
 
 -- a schema's own text is its
@@ -165,7 +171,8 @@ fits_legal name text s steps c w held read fits =
     let next = is_next_version s c.schema in
     let kept = keeps_primary s steps c.schema in
     let here = list_all (λ (e : List ℕ × Replication). is_here G e.1) w.replications in
-    let known = list_all (λ (e : List ℕ × Replication). known_migrates G s steps e.1) w.replications in
+    let known = list_all (λ (e : List ℕ × Replication). known_migrates G s steps e.1)
+    w.replications in
     let all = passes next kept here (states_fit G s steps w) fits in
     let valid = none_invalid (invalid_collection G s steps w.collections)
     (invalid_replication G s steps w.replications) all.fit in

@@ -90,7 +90,8 @@ rows_at w name lwt written at c held grows =
     → StaysGrown (change_named w.collections name (written_to lwt written)) at c) [
       | true ↦ (λ is.
           let same : at ≡ name = (bytes_eq-Decides at name).0 is in
-          let here : named w.collections name ≡ Some c = ap (named w.collections) (sym same) ∙ held in
+          let here : named w.collections name ≡ Some c =
+          ap (named w.collections) (sym same) ∙ held in
           record {
             new = written_to lwt written c;
             held = ap (named (change_named w.collections name (written_to lwt written))) same
@@ -122,7 +123,8 @@ exchange_at name lwt written known up down w is rise made at c held None none =
     absurd (true≢false (sym is ∙ ap (λ o. option_map_or
     (takes_exchange w.collections lwt written known up down) o false) none))
 exchange_at name lwt written known up down w is rise made at c held (Some r) there =
-    let l = at_name (λ k x. IsLinked w.collections k x) w.replications name r made.linked.each there in
+    let l = at_name (λ k x. IsLinked w.collections k x) w.replications name r
+    made.linked.each there in
     let f = exchange_fork name lwt written known up down w r l.fork there l.held in
     let cs = (step (exchange name lwt written known up down) w).collections in
     elim (bytes_eq at r.fork) as (λ b. bytes_eq at r.fork ≡ b → StaysGrown cs at c) [
@@ -146,17 +148,21 @@ exchange_at name lwt written known up down w is rise made at c held (Some r) the
 -- what isn't of a group stays
 named_outside : (G : List ℕ → Bool) (schema : Shape) (steps : List Step) (cs : Collections)
     (at : List ℕ) → G at ≡ false
-    → named (map (λ (e : List ℕ × Held). cond (G e.0) (e.0, migrated_collection schema steps e.1) e) cs) at
+    → named
+    (map (λ (e : List ℕ × Held). cond (G e.0) (e.0, migrated_collection schema steps e.1) e) cs) at
     ≡ named cs at
 named_outside G schema steps [] at out = refl
 named_outside G schema steps (e ∷ cs) at out =
     let rest = named_outside G schema steps cs at out in
-    let after = map (λ (e : List ℕ × Held). cond (G e.0) (e.0, migrated_collection schema steps e.1) e) cs in
+    let after =
+    map (λ (e : List ℕ × Held). cond (G e.0) (e.0, migrated_collection schema steps e.1) e) cs in
     elim (G e.0) as (λ g. G e.0 ≡ g
     → named (cond g (e.0, migrated_collection schema steps e.1) e ∷ after) at ≡ named (e ∷ cs) at) [
       | true ↦ (λ inside.
-          let other : bytes_eq at e.0 ≡ false = elim (bytes_eq at e.0) as (λ b. bytes_eq at e.0 ≡ b → b ≡ false) [
-            | true ↦ (λ h. absurd (true≢false (sym inside ∙ ap G (sym ((bytes_eq-Decides at e.0).0 h)) ∙ out)))
+          let other : bytes_eq at e.0 ≡ false =
+          elim (bytes_eq at e.0) as (λ b. bytes_eq at e.0 ≡ b → b ≡ false) [
+            | true ↦ (λ h.
+                absurd (true≢false (sym inside ∙ ap G (sym ((bytes_eq-Decides at e.0).0 h)) ∙ out)))
             | false ↦ (λ h. refl)
           ] refl in
           ap (λ b. cond b (Some (migrated_collection schema steps e.1)) (named after at)) other
@@ -170,7 +176,8 @@ pub stays_grown : (content : Content) (w : World) → legal content w ≡ true �
     → IsApart content w at → StaysGrown (step content w).collections at c
 stays_grown (collection name schema) w is ordered made at c held apart =
     let free = (collection_new name schema w is).unheld in
-    elim (schema_in schema) as (λ o. StaysGrown (collections_after (new_where name o) w.collections) at c) [
+    elim (schema_in schema)
+    as (λ o. StaysGrown (collections_after (new_where name o) w.collections) at c) [
       | None ↦ stays_same w.collections at c held
       | Some s ↦ stays_same (put_named w.collections name (held_with name s [])) at c
           (named-put_other w.collections name at (held_with name s [])
@@ -180,7 +187,8 @@ stays_grown (rows name lwt written) w is ordered made at c held apart =
     rows_at w name lwt written at c held (λ d there.
     let to = rows_go name lwt written w is in
     grown_rows lwt written d
-    (subst (λ (x : Held). takes lwt written x ≡ true) (some_same (sym to.named ∙ there)) to.taken) ordered)
+    (subst (λ (x : Held). takes lwt written x ≡ true) (some_same (sym to.named ∙ there)) to.taken)
+    ordered)
 stays_grown (replication name fork master handler field) w is ordered made at c held apart =
     stays_same w.collections at c held
 stays_grown (exchange name lwt written known up down) w is ordered made at c held apart =
@@ -189,7 +197,8 @@ stays_grown (exchange name lwt written known up down) w is ordered made at c hel
 stays_grown (epoch number) w is ordered made at c held apart = stays_same w.collections at c held
 stays_grown (migration name text steps) w is ordered made at c held apart =
     let G = is_in_group w.replications name in
-    elim (schema_in text) as (λ o. StaysGrown (collections_after (remade_where G steps o) w.collections) at c) [
+    elim (schema_in text)
+    as (λ o. StaysGrown (collections_after (remade_where G steps o) w.collections) at c) [
       | None ↦ stays_same w.collections at c held
       | Some s ↦ stays_same (collections_after (remade_where G steps (Some s)) w.collections) at c
           (named_outside G s steps w.collections at apart ∙ held)
@@ -209,7 +218,8 @@ from_same : (rs : Replications) (name : List ℕ) (r : Replication) → named rs
     → StaysFrom rs name r
 from_same rs name r held = record { new = r; held = held; fork = refl; master = refl }
 
-from_exchange : (rs : Replications) (other name : List ℕ) (known : List State) (up down : Option Place)
+from_exchange : (rs : Replications) (other name : List ℕ) (known : List State)
+    (up down : Option Place)
     (r : Replication) → named rs name ≡ Some r
     → StaysFrom (change_named rs other (with_exchange known up down)) name r
 from_exchange rs other name known up down r held =
@@ -243,7 +253,8 @@ module _ (G : List ℕ → Bool) (steps : List Step) (rs : Replications) (name :
   from_first : (g b : Bool) → bytes_eq name e.0 ≡ b → named (e ∷ rs) name ≡ Some r
       → StaysFrom (first_as g ∷ map (migrated_entry G steps) rs) name r
   from_first true true is held =
-      let same : e.1 ≡ r = some_same (sym (ap (λ b. cond b (Some e.1) (named rs name)) is) ∙ held) in
+      let same : e.1 ≡ r =
+      some_same (sym (ap (λ b. cond b (Some e.1) (named rs name)) is) ∙ held) in
       record {
         new = migrated_replication steps e.1;
         held = ap (λ b. cond b (Some (migrated_replication steps e.1))
@@ -252,7 +263,8 @@ module _ (G : List ℕ → Bool) (steps : List Step) (rs : Replications) (name :
         master = ap (λ (x : Replication). x.master) same;
       }
   from_first false true is held =
-      let same : e.1 ≡ r = some_same (sym (ap (λ b. cond b (Some e.1) (named rs name)) is) ∙ held) in
+      let same : e.1 ≡ r =
+      some_same (sym (ap (λ b. cond b (Some e.1) (named rs name)) is) ∙ held) in
       record {
         new = e.1;
         held = ap (λ b. cond b (Some e.1) (named (map (migrated_entry G steps) rs) name)) is;
@@ -293,7 +305,8 @@ pub stays_from : (content : Content) (w : World) → legal content w ≡ true �
 stays_from (collection called schema) w is name r held = from_same w.replications name r held
 stays_from (rows called lwt written) w is name r held = from_same w.replications name r held
 stays_from (replication called fork master handler field) w is name r held =
-    from_same (put_named w.replications called (new_replication called fork master handler field)) name r
+    from_same (put_named w.replications called (new_replication called fork master handler field))
+    name r
     (named-put_other w.replications called name (new_replication called fork master handler field)
     (held_other w.replications name called r (begins called fork master w is).free held) ∙ held)
 stays_from (exchange called lwt written known up down) w is name r held =

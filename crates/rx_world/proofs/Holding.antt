@@ -19,7 +19,8 @@ use Rattle.rx_world.proofs.Looked.{all_put_named, all_change_named}
 
 -- what holds of each holder that is made holds of all that are made anew, where it held of all
 remade_all : {H : Type 0} (P : H → Type 0) (held : H → Held) (IsMadeFor : Held → H → Type 0)
-    → ((c : Held) (h : H) → IsMadeFor c h → P h) → (G : List ℕ → Bool) (s : Shape) (steps : List Step)
+    → ((c : Held) (h : H) → IsMadeFor c h → P h)
+    → (G : List ℕ → Bool) (s : Shape) (steps : List Step)
     (old new : List (List ℕ × H)) → AreRemade held IsMadeFor G s steps old new
     → AllByRecursion (λ e. P e.1) old → AllByRecursion (λ e. P e.1) new
 remade_all P held IsMadeFor made G s steps [] [] after all = tt
@@ -55,7 +56,8 @@ after_all P held written IsMadeFor made kept (remade in_group schema steps) old 
 
 -- rows are put into the holder of their name
 pub rows_after : {H : Type 0} (held : H → Held) (written : H → List Stored → H)
-    (IsMadeFor : Held → H → Type 0) (entry : Content) (w : World) (name : List ℕ) (lwt : ℕ) (rs : List RowOut)
+    (IsMadeFor : Held → H → Type 0) (entry : Content) (w : World) (name : List ℕ) (lwt : ℕ)
+    (rs : List RowOut)
     (old new : List (List ℕ × H)) → entry ≡ rows name lwt rs
     → new ≡ change_named old name (λ h. written h (stored_rows (held h).name lwt rs))
     → After held written IsMadeFor (touch entry w) old new
@@ -64,8 +66,10 @@ rows_after held written IsMadeFor entry w name lwt rs old new is now =
 
 -- the rows of an exchange make no holder
 none_made : {H : Type 0} (held : H → Held) (written : H → List Stored → H)
-    (IsMadeFor : Held → H → Type 0) (lwt : ℕ) (rs : List RowOut) (o : Option Replication) (old new : List (List ℕ × H))
-    → After held written (λ c h. Unit {0}) (option_map_or (fork_rows lwt rs) o no_collection) old new
+    (IsMadeFor : Held → H → Type 0) (lwt : ℕ) (rs : List RowOut) (o : Option Replication)
+    (old new : List (List ℕ × H))
+    → After held written (λ c h. Unit {0})
+    (option_map_or (fork_rows lwt rs) o no_collection) old new
     → After held written IsMadeFor (option_map_or (fork_rows lwt rs) o no_collection) old new
 none_made held written IsMadeFor lwt rs None old new after = after
 none_made held written IsMadeFor lwt [] (Some r) old new after = after

@@ -53,7 +53,8 @@ stay_same : (cs : Collections) → StayHeld cs cs
 stay_same cs = record { held = λ k c at. (c, at, refl) }
 
 -- a held name isn't a free one
-pub held_other : {X : Type 0} (cs : List (List ℕ × X)) (k name : List ℕ) (c : X) → named cs name ≡ None
+pub held_other : {X : Type 0} (cs : List (List ℕ × X)) (k name : List ℕ) (c : X)
+    → named cs name ≡ None
     → named cs k ≡ Some c → k ≢ name
 held_other cs k name c free at = λ same. not_none (sym free ∙ ap (named cs) (sym same) ∙ at)
 
@@ -69,7 +70,8 @@ pub with_rows-schema : (c : Held) (more : List Stored) → (with_rows c more).sc
 with_rows-schema c [] = refl
 with_rows-schema c (row ∷ more) = with_rows-schema (with_row c row) more
 
-written-schema : (lwt : ℕ) (written : List RowOut) (c : Held) → (written_to lwt written c).schema ≡ c.schema
+written-schema : (lwt : ℕ) (written : List RowOut) (c : Held)
+    → (written_to lwt written c).schema ≡ c.schema
 written-schema lwt written c = with_rows-schema c (stored_rows c.name lwt written)
 
 -- and where one is written
@@ -100,7 +102,8 @@ pub stay_step : (entry : Content) (w : World) → legal entry w ≡ true → IsN
     → StayHeld w.collections (step entry w).collections
 stay_step (collection name schema) w is other =
     let unheld = (collection_new name schema w is).unheld in
-    elim (schema_in schema) as (λ o. StayHeld w.collections (collections_after (new_where name o) w.collections)) [
+    elim (schema_in schema)
+    as (λ o. StayHeld w.collections (collections_after (new_where name o) w.collections)) [
       | None ↦ stay_same w.collections
       | Some s ↦ stay_new w.collections name (held_with name s []) unheld
     ]
@@ -130,7 +133,8 @@ module _ (before after : Collections) (stay : StayHeld before after) where
         held = d.1;
         master = master_stays r.master r.fork l.fork.schema d.0.schema d.2 l.master;
         by_key = l.by_key;
-        valid = subst (λ s. AllByRecursion (λ e. IsValidState s e.1) r.side.known) (sym d.2) l.valid;
+        valid =
+            subst (λ s. AllByRecursion (λ e. IsValidState s e.1) r.side.known) (sym d.2) l.valid;
         up_has_time = l.up_has_time;
         down_has_time = l.down_has_time;
       }
@@ -143,22 +147,26 @@ module _ (before after : Collections) (stay : StayHeld before after) where
 -- ---- a new replication
 
 -- the texts of schemas tell them apart
-same_schema : (fork master : Held) → IsSpelled fork → IsSpelled master → has_schema_of fork master ≡ true
+same_schema : (fork master : Held) → IsSpelled fork → IsSpelled master
+    → has_schema_of fork master ≡ true
     → master.schema ≡ fork.schema
 same_schema fork master spelled spelled' same =
     some_same (sym spelled'
-    ∙ ap schema_in ((bytes_eq-Decides (canonical_text master.schema) (canonical_text fork.schema)).0 same)
+    ∙ ap schema_in
+    ((bytes_eq-Decides (canonical_text master.schema) (canonical_text fork.schema)).0 same)
     ∙ spelled)
 
 -- what its master is
-master_linked : (w : World) (fork : List ℕ) (c : Held) (m : MasterName) → AllSpelled w → IsForest w.replications
+master_linked : (w : World) (fork : List ℕ) (c : Held) (m : MasterName) → AllSpelled w
+    → IsForest w.replications
     → named w.collections fork ≡ Some c → is_fitting w.collections m c ≡ true
     → may_follow w.replications fork m ≡ true → HasMaster w.collections fork c.schema m
 master_linked w fork c (Local name) spelled forest held fits follows =
     let at : (k : List ℕ) (x : Held) → named w.collections k ≡ Some x → IsSpelled x =
     λ k x here. at_name (λ k x. IsSpelled x) w.collections k x spelled here in
     elim (named w.collections name) as (λ o. named w.collections name ≡ o
-    → option_map_or (has_schema_of c) o false ≡ true → HasMaster w.collections fork c.schema (Local name)) [
+    → option_map_or (has_schema_of c) o false ≡ true
+    → HasMaster w.collections fork c.schema (Local name)) [
       | None ↦ (λ here no. absurd (true≢false (sym no)))
       | Some master ↦ (λ here yes. record {
         master = master;
@@ -171,7 +179,8 @@ master_linked w fork c (Port port) spelled forest held fits follows =
     let some = ltb-true 0 port fits in omega arith
 
 -- a new one is linked
-new_linked : (name fork : List ℕ) (m : MasterName) (handler : List ℕ) (field : Option (List ℕ)) (w : World)
+new_linked : (name fork : List ℕ) (m : MasterName) (handler : List ℕ)
+    (field : Option (List ℕ)) (w : World)
     → AllSpelled w → IsForest w.replications → Begins name fork m w
     → IsLinked w.collections name (new_replication name fork m handler field)
 new_linked name fork m handler field w spelled forest b = record {
@@ -201,7 +210,8 @@ others_apart (e ∷ rs) fork none =
     (both.0, others_apart rs fork both.1)
 
 -- one more fork at the end
-apart_more : (f : List ℕ) (rs : Replications) (name : List ℕ) (r : Replication) → named rs name ≡ None
+apart_more : (f : List ℕ) (rs : Replications) (name : List ℕ) (r : Replication)
+    → named rs name ≡ None
     → bytes_eq f r.fork ≡ false → AllByRecursion (λ g. bytes_eq f g ≡ false) (forks_of rs)
     → AllByRecursion (λ g. bytes_eq f g ≡ false) (forks_of (put_named rs name r))
 apart_more f [] name r free here all = (here, tt)
@@ -236,7 +246,8 @@ pub forks_changed : (f : Replication → Replication) → ((r : Replication) →
 forks_changed f same [] name = refl
 forks_changed f same (e ∷ rs) name =
     elim (bytes_eq name e.0)
-    as (λ b. forks_of (cond b ((e.0, f e.1) ∷ rs) (e ∷ change_named rs name f)) ≡ forks_of (e ∷ rs)) [
+    as (λ b.
+    forks_of (cond b ((e.0, f e.1) ∷ rs) (e ∷ change_named rs name f)) ≡ forks_of (e ∷ rs)) [
       | true ↦ ap (λ k. k ∷ forks_of rs) (same e.1)
       | false ↦ ap (λ ks. e.1.fork ∷ ks) (forks_changed f same rs name)
     ]
@@ -250,7 +261,8 @@ learnt_valid c written [] known is all = all
 learnt_valid c written (s ∷ ss) known is all =
     let both = and_parts (is_held_with c written s) (list_all (is_held_with c written) ss) is in
     let here : IsValidState c.schema s =
-    (and_parts (is_valid_state c.schema s) (is_some (named c.documents s.key) || has_key s.key written) both.0).0 in
+    (and_parts (is_valid_state c.schema s)
+    (is_some (named c.documents s.key) || has_key s.key written) both.0).0 in
     learnt_valid c written ss (put_in_order known s.key s) both.1
     (all_put (λ k t. IsValidState c.schema t) known s.key s here all)
 
@@ -269,7 +281,8 @@ learnt_by_key ss known by_key = record {
 }
 
 -- what a legal exchange asks of the known states
-known_held : (name : List ℕ) (lwt : ℕ) (written : List RowOut) (known : List State) (up down : Option Place) (w : World)
+known_held : (name : List ℕ) (lwt : ℕ) (written : List RowOut) (known : List State)
+    (up down : Option Place) (w : World)
     → legal (exchange name lwt written known up down) w ≡ true → (r : Replication)
     → named w.replications name ≡ Some r → (c : Held) → named w.collections r.fork ≡ Some c
     → list_all (is_held_with c written) known ≡ true
@@ -278,7 +291,8 @@ known_held name lwt written known up down w is r at c held =
     (exchange_goes name lwt written known up down w is r at c held)).1
 
 -- its replication stays linked
-exchange_links : (name : List ℕ) (lwt : ℕ) (written : List RowOut) (known : List State) (up down : Option Place) (w : World)
+exchange_links : (name : List ℕ) (lwt : ℕ) (written : List RowOut) (known : List State)
+    (up down : Option Place) (w : World)
     → legal (exchange name lwt written known up down) w ≡ true
     → IsOrderedExchange written known up down → AreLinked w → (r : Replication)
     → named w.replications name ≡ Some r → (after : Collections) → StayHeld w.collections after
@@ -295,7 +309,8 @@ exchange_links name lwt written known up down w is ordered links r at after stay
       by_key = learnt_by_key known r.side.known m.by_key;
       valid =
           let d = stay.held r.fork l.fork l.held in
-          subst (λ s. AllByRecursion (λ e. IsValidState s e.1) (with_learnt r.side.known known)) (sym d.2)
+          subst (λ s. AllByRecursion (λ e. IsValidState s e.1) (with_learnt r.side.known known))
+          (sym d.2)
           (learnt_valid l.fork written known r.side.known
           (known_held name lwt written known up down w is r at l.fork l.held) l.valid);
       up_has_time = ordered.up_has_time;
@@ -305,7 +320,8 @@ exchange_links name lwt written known up down w is ordered links r at after stay
 -- ---- all
 
 -- a legal record that is no migration leaves replications linked
-pub linked_step : (entry : Content) (w : World) → legal entry w ≡ true → IsNoMigration entry → IsOrdered entry → AllSpelled w
+pub linked_step : (entry : Content) (w : World) → legal entry w ≡ true → IsNoMigration entry
+    → IsOrdered entry → AllSpelled w
     → IsForest w.replications → AreLinked w → AreLinked (step entry w)
 linked_step (collection name schema) w is other ordered spelled forest links = record {
   each = links_stay w.collections (step (collection name schema) w).collections
@@ -324,21 +340,26 @@ linked_step (replication name fork master handler field) w is other ordered spel
       each = all_put_named (λ k x. IsLinked w.collections k x) w.replications name r
           (new_linked name fork master handler field w spelled forest b) links.each;
       apart = forks_put w.replications name r b.free
-          (others_apart w.replications fork (no_fork w.replications fork master b.follows)) links.apart;
+          (others_apart w.replications fork (no_fork w.replications fork master b.follows))
+          links.apart;
     }
 linked_step (exchange name lwt written known up down) w is other ordered spelled forest links =
     let entry = exchange name lwt written known up down in
     let after : Collections = (step entry w).collections in
     let stay : StayHeld w.collections after = stay_step entry w is tt in
     record {
-      each = all_change_named (λ k x. IsLinked after k x) w.replications name (with_exchange known up down)
-          (λ r at here. exchange_links name lwt written known up down w is ordered links r at after stay)
+      each = all_change_named (λ k x. IsLinked after k x) w.replications name
+          (with_exchange known up down)
+          (λ r at here.
+          exchange_links name lwt written known up down w is ordered links r at after stay)
           (links_stay w.collections after stay w.replications links.each);
       apart = subst (IsDistinct bytes_eq)
-          (sym (forks_changed (with_exchange known up down) (λ r. refl) w.replications name)) links.apart;
+          (sym (forks_changed (with_exchange known up down) (λ r. refl) w.replications name))
+          links.apart;
     }
 linked_step (migration name text steps) w is other ordered spelled forest links = absurd other
-linked_step entry w is other ordered spelled forest links = record { each = links.each; apart = links.apart }
+linked_step entry w is other ordered spelled forest links =
+    record { each = links.each; apart = links.apart }
 
 pub linked_empty : AreLinked empty
 unfolding IsDistinct
@@ -352,25 +373,31 @@ spelled_rows : (cs : Collections) (name : List ℕ) (lwt : ℕ) (written : List 
     → AllByRecursion (λ e. IsSpelled e.1) (change_named cs name (written_to lwt written))
 spelled_rows cs name lwt written all =
     all_change_named (λ k c. IsSpelled c) cs name (written_to lwt written)
-    (λ c at here. subst (λ s. schema_in (canonical_text s) ≡ Some s) (sym (written-schema lwt written c)) here) all
+    (λ c at here. subst (λ s. schema_in (canonical_text s) ≡ Some s)
+    (sym (written-schema lwt written c)) here) all
 
 spelled_fork : (cs : Collections) (lwt : ℕ) (written : List RowOut) (o : Option Replication)
     → AllByRecursion (λ e. IsSpelled e.1) cs
-    → AllByRecursion (λ e. IsSpelled e.1) (collections_after (option_map_or (fork_rows lwt written) o no_collection) cs)
+    → AllByRecursion (λ e. IsSpelled e.1)
+    (collections_after (option_map_or (fork_rows lwt written) o no_collection) cs)
 spelled_fork cs lwt written None all = all
 spelled_fork cs lwt [] (Some r) all = all
 spelled_fork cs lwt (row ∷ written) (Some r) all = spelled_rows cs r.fork lwt (row ∷ written) all
 
 -- a legal record that is no migration leaves collections whose schemas' texts read back
-pub spelled_step : (entry : Content) (w : World) → legal entry w ≡ true → IsNoMigration entry → AllSpelled w
+pub spelled_step : (entry : Content) (w : World) → legal entry w ≡ true → IsNoMigration entry
+    → AllSpelled w
     → AllSpelled (step entry w)
 spelled_step (collection name schema) w is other all =
     let new = collection_new name schema w is in
     let back : IsSpelled (held_with name new.shape []) =
     ap schema_in (read_spelled schema new.shape new.read) ∙ new.read in
-    subst (λ o. AllByRecursion (λ e. IsSpelled e.1) (collections_after (new_where name o) w.collections)) (sym new.read)
+    subst (λ o.
+    AllByRecursion (λ e. IsSpelled e.1) (collections_after (new_where name o) w.collections))
+    (sym new.read)
     (all_put_named (λ k c. IsSpelled c) w.collections name (held_with name new.shape []) back all)
-spelled_step (rows name lwt written) w is other all = spelled_rows w.collections name lwt written all
+spelled_step (rows name lwt written) w is other all =
+    spelled_rows w.collections name lwt written all
 spelled_step (replication name fork master handler field) w is other all = all
 spelled_step (exchange name lwt written known up down) w is other all =
     spelled_fork w.collections lwt written (named w.replications name) all

@@ -31,10 +31,12 @@ lawful_taken : (name : List ℕ) (lwt : ℕ) (written : List RowOut) (c : Held) 
     → takes lwt written c ≡ true → IsLawfulAt name c → IsLawfulAt name (written_to lwt written c)
 lawful_taken name lwt written c rise is at = record {
   called = with_rows-name c (stored_rows c.name lwt written) ∙ at.called;
-  lawful = lawful_rows c (stored_rows c.name lwt written) at.lawful (taken_are_next c lwt written at.lawful is rise);
+  lawful = lawful_rows c (stored_rows c.name lwt written) at.lawful
+      (taken_are_next c lwt written at.lawful is rise);
 }
 
-lawful_fork : (name : List ℕ) (lwt : ℕ) (written : List RowOut) (known : List State) (up down : Option Place) (w : World)
+lawful_fork : (name : List ℕ) (lwt : ℕ) (written : List RowOut) (known : List State)
+    (up down : Option Place) (w : World)
     → legal (exchange name lwt written known up down) w ≡ true → KeysRise written → IsLawfulWorld w
     → (o : Option Replication) → named w.replications name ≡ o
     → AllByRecursion (λ e. IsLawfulAt e.0 e.1)
@@ -44,11 +46,13 @@ lawful_fork name lwt [] known up down w is rise lawful (Some r) at = lawful
 lawful_fork name lwt (row ∷ written) known up down w is rise lawful (Some r) at =
     all_change_named IsLawfulAt w.collections r.fork (written_to lwt (row ∷ written))
     (λ c there here. lawful_taken r.fork lwt (row ∷ written) c rise
-    (fork_rows_taken lwt row written known c (exchange_goes name lwt (row ∷ written) known up down w is r at c there)) here)
+    (fork_rows_taken lwt row written known c
+    (exchange_goes name lwt (row ∷ written) known up down w is r at c there)) here)
     lawful
 
 -- a legal record in order that is no migration leaves lawful collections
-pub lawful_step : (entry : Content) (w : World) → legal entry w ≡ true → IsNoMigration entry → IsOrdered entry → IsLawfulWorld w
+pub lawful_step : (entry : Content) (w : World) → legal entry w ≡ true → IsNoMigration entry
+    → IsOrdered entry → IsLawfulWorld w
     → IsLawfulWorld (step entry w)
 lawful_step (collection name schema) w is other ordered lawful =
     elim (schema_in schema) as (λ o. AllByRecursion (λ e. IsLawfulAt e.0 e.1)
@@ -62,10 +66,12 @@ lawful_step (rows name lwt written) w is other ordered lawful =
     (λ c at here.
     let to = rows_go name lwt written w is in
     let same : to.held ≡ c = let there = to.named in cc in
-    lawful_taken name lwt written c ordered (subst (λ x. takes lwt written x ≡ true) same to.taken) here) lawful
+    lawful_taken name lwt written c ordered
+    (subst (λ x. takes lwt written x ≡ true) same to.taken) here) lawful
 lawful_step (replication name fork master handler field) w is other ordered lawful = lawful
 lawful_step (exchange name lwt written known up down) w is other ordered lawful =
-    lawful_fork name lwt written known up down w is ordered.rows_rise lawful (named w.replications name) refl
+    lawful_fork name lwt written known up down w is ordered.rows_rise lawful
+    (named w.replications name) refl
 lawful_step (migration name text steps) w is other ordered lawful = absurd other
 lawful_step entry w is other ordered lawful = lawful
 
@@ -98,12 +104,15 @@ made_other entry other w is ordered made = record {
 }
 
 -- so does each legal one
-pub made_step : (entry : Content) (w : World) → legal entry w ≡ true → IsOrdered entry → IsMadeWorld w
+pub made_step : (entry : Content) (w : World) → legal entry w ≡ true → IsOrdered entry
+    → IsMadeWorld w
     → IsMadeWorld (step entry w)
 made_step (collection name schema) = made_other (collection name schema) tt
 made_step (rows name lwt written) = made_other (rows name lwt written) tt
-made_step (replication name fork master handler field) = made_other (replication name fork master handler field) tt
-made_step (exchange name lwt written known up down) = made_other (exchange name lwt written known up down) tt
+made_step (replication name fork master handler field) =
+    made_other (replication name fork master handler field) tt
+made_step (exchange name lwt written known up down) =
+    made_other (exchange name lwt written known up down) tt
 made_step (epoch number) = made_other (epoch number) tt
 made_step (migration name text steps) = λ w is ordered made. keeps_made name text steps w is made
 made_step (part name written) = made_other (part name written) tt

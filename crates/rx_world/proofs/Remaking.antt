@@ -28,7 +28,8 @@ module _ {X : Type 0} where
       let apart : bytes_eq e.0 k ≡ false =
       within (λ y. bytes_eq e.0 y ≡ false) es rest (k, x) distinct.0 in
       let other : bytes_eq k e.0 ≡ false =
-      bytes_apart k e.0 (λ same. true≢false (sym ((bytes_eq-Decides e.0 k).1 (sym same)) ∙ apart)) in
+      bytes_apart k e.0
+      (λ same. true≢false (sym ((bytes_eq-Decides e.0 k).1 (sym same)) ∙ apart)) in
       ap (λ b. cond b ((e.0, x) ∷ es) (e ∷ put_named es k x) ++ rest) other
       ∙ ap (λ l. e ∷ l) (put_behind es rest k x distinct.1)
 

@@ -34,5 +34,6 @@ pub replay-append : (xs ys : List (List ℕ)) → replay (xs ++ ys) ≡ replay_f
 replay-append xs ys = replay_from-append (Some empty) xs ys
 
 -- a legal record makes its step
-pub stepped-legal : (c : Content) (w : World) → legal c w ≡ true → step_where_legal c w ≡ Some (step c w)
+pub stepped-legal : (c : Content) (w : World) → legal c w ≡ true
+    → step_where_legal c w ≡ Some (step c w)
 stepped-legal c w is = ap (λ b. cond b (Some (step c w)) None) is

@@ -34,7 +34,8 @@ named_map : {X Y : Type 0} (g : X → Y) (es : List (List ℕ × X)) (k : List �
 named_map g [] k = refl
 named_map g (e ∷ es) k =
     elim (bytes_eq k e.0)
-    as (λ b. cond b (Some (g e.1)) (named (map (λ (e : List ℕ × _). (e.0, g e.1)) es) k) ≡ option_map g (cond b (Some e.1) (named es k)))
+    as (λ b. cond b (Some (g e.1)) (named (map (λ (e : List ℕ × _). (e.0, g e.1)) es) k)
+    ≡ option_map g (cond b (Some e.1) (named es k)))
     [ true ↦ refl | false ↦ named_map g es k ]
 
 -- one that is there was there before
@@ -43,7 +44,8 @@ record WasThere {X Y : Type 0} (g : X → Y) (o : Option X) (y : Y) : Type 0 whe
   pub there : o ≡ Some x
   pub made : g x ≡ y
 
-was_there : {X Y : Type 0} (g : X → Y) (o : Option X) (y : Y) → option_map g o ≡ Some y → WasThere g o y
+was_there : {X Y : Type 0} (g : X → Y) (o : Option X) (y : Y) → option_map g o ≡ Some y
+    → WasThere g o y
 was_there g None y at = not_none at
 was_there g (Some x) y at = record { x = x; there = refl; made = some_same at }
 
@@ -59,13 +61,16 @@ module _ (steps : List Step) where
       (known_after steps known) o
   side_after es known o sound = record {
     settled = λ k d at up.
-        let was = was_there (stored_after steps) (named es k) d (sym (named_map (stored_after steps) es k) ∙ at) in
+        let was = was_there (stored_after steps) (named es k) d
+        (sym (named_map (stored_after steps) es k) ∙ at) in
         let same : place_of d ≡ place_of was.x = ap place_of (sym was.made) ∙ place_after was.x in
         named_map (state_after steps) known k
-        ∙ ap (option_map (state_after steps)) (sound.settled k was.x was.there (sym (ap (λ p. is_up_to p o) same) ∙ up))
+        ∙ ap (option_map (state_after steps))
+        (sound.settled k was.x was.there (sym (ap (λ p. is_up_to p o) same) ∙ up))
         ∙ ap (λ (x : Stored). Some x.state) was.made;
     holds = λ k s at.
-        let was = was_there (state_after steps) (named known k) s (sym (named_map (state_after steps) known k) ∙ at) in
+        let was = was_there (state_after steps) (named known k) s
+        (sym (named_map (state_after steps) known k) ∙ at) in
         let d = sound.holds k was.x was.there in (
           stored_after steps d.0,
           named_map (stored_after steps) es k ∙ ap (option_map (stored_after steps)) d.1,
@@ -91,9 +96,11 @@ module _ (steps : List Step) where
   replication_named G (e ∷ rs) k =
       elim (G e.1.fork) as (λ b. G e.1.fork ≡ b
       → named (cond b (e.0, migrated_replication steps e.1) e ∷ migrated_replications G steps rs) k
-      ≡ option_map (λ r. cond (G r.fork) (migrated_replication steps r) r) (cond (bytes_eq k e.0) (Some e.1) (named rs k))) [
+      ≡ option_map (λ r. cond (G r.fork) (migrated_replication steps r) r)
+      (cond (bytes_eq k e.0) (Some e.1) (named rs k))) [
         | true ↦ (λ is. here (migrated_replication steps e.1)
-            (sym (ap (λ b. cond b (migrated_replication steps e.1) e.1) is)) (replication_named G rs k))
+            (sym (ap (λ b. cond b (migrated_replication steps e.1) e.1) is))
+            (replication_named G rs k))
         | false ↦ (λ is. here e.1 (sym (ap (λ b. cond b (migrated_replication steps e.1) e.1) is))
             (replication_named G rs k))
       ] refl
@@ -102,10 +109,13 @@ module _ (steps : List Step) where
           → named (migrated_replications G steps rs) k
           ≡ option_map (λ r. cond (G r.fork) (migrated_replication steps r) r) (named rs k)
           → cond (bytes_eq k e.0) (Some x) (named (migrated_replications G steps rs) k)
-          ≡ option_map (λ r. cond (G r.fork) (migrated_replication steps r) r) (cond (bytes_eq k e.0) (Some e.1) (named rs k))
+          ≡ option_map (λ r. cond (G r.fork) (migrated_replication steps r) r)
+          (cond (bytes_eq k e.0) (Some e.1) (named rs k))
       here x is later =
-          elim (bytes_eq k e.0) as (λ d. cond d (Some x) (named (migrated_replications G steps rs) k)
-          ≡ option_map (λ r. cond (G r.fork) (migrated_replication steps r) r) (cond d (Some e.1) (named rs k)))
+          elim (bytes_eq k e.0)
+          as (λ d. cond d (Some x) (named (migrated_replications G steps rs) k)
+          ≡ option_map (λ r. cond (G r.fork) (migrated_replication steps r) r)
+          (cond d (Some e.1) (named rs k)))
           [ true ↦ ap (λ (y : Replication). Some y) is | false ↦ later ]
 
   module _ (s : Shape) (G : List ℕ → Bool) where
@@ -116,8 +126,10 @@ module _ (steps : List Step) where
     group_named [] k = refl
     group_named (e ∷ cs) k =
         elim (G e.0) as (λ b. G e.0 ≡ b
-        → named (cond b (e.0, migrated_collection s steps e.1) e ∷ migrated_collections G s steps cs) k
-        ≡ option_map (λ c. cond (G k) (migrated_collection s steps c) c) (cond (bytes_eq k e.0) (Some e.1) (named cs k))) [
+        → named
+        (cond b (e.0, migrated_collection s steps e.1) e ∷ migrated_collections G s steps cs) k
+        ≡ option_map (λ c. cond (G k) (migrated_collection s steps c) c)
+        (cond (bytes_eq k e.0) (Some e.1) (named cs k))) [
           | true ↦ (λ is. found true (migrated_collection s steps e.1) is refl (group_named cs k))
           | false ↦ (λ is. found false e.1 is refl (group_named cs k))
         ] refl
@@ -126,11 +138,13 @@ module _ (steps : List Step) where
             → named (migrated_collections G s steps cs) k
             ≡ option_map (λ c. cond (G k) (migrated_collection s steps c) c) (named cs k)
             → cond (bytes_eq k e.0) (Some x) (named (migrated_collections G s steps cs) k)
-            ≡ option_map (λ c. cond (G k) (migrated_collection s steps c) c) (cond (bytes_eq k e.0) (Some e.1) (named cs k))
+            ≡ option_map (λ c. cond (G k) (migrated_collection s steps c) c)
+            (cond (bytes_eq k e.0) (Some e.1) (named cs k))
         found b x is made later =
             elim (bytes_eq k e.0) as (λ d. bytes_eq k e.0 ≡ d
             → cond d (Some x) (named (migrated_collections G s steps cs) k)
-            ≡ option_map (λ c. cond (G k) (migrated_collection s steps c) c) (cond d (Some e.1) (named cs k))) [
+            ≡ option_map (λ c. cond (G k) (migrated_collection s steps c) c)
+            (cond d (Some e.1) (named cs k))) [
               | true ↦ (λ same.
                   let group : b ≡ G k = sym is ∙ ap G (sym ((bytes_eq-Decides k e.0).0 same)) in
                   ap (λ (y : Held). Some y)
@@ -141,9 +155,11 @@ module _ (steps : List Step) where
     -- a fork with its master, of a group that all migrate or of another
     with_after : (cs : Collections) (m : MasterName) (r : Replication) (c : Held) (b : Bool)
         → G r.fork ≡ b → AreAlike G r.fork m → IsSoundWith cs m c r.side
-        → IsSoundWith (migrated_collections G s steps cs) m (cond b (migrated_collection s steps c) c)
+        → IsSoundWith (migrated_collections G s steps cs) m
+        (cond b (migrated_collection s steps c) c)
         (cond b (migrated_replication steps r) r).side
-    with_after cs (Port port) r c true is both sound = side_after c.documents r.side.known r.side.up sound
+    with_after cs (Port port) r c true is both sound =
+        side_after c.documents r.side.known r.side.up sound
     with_after cs (Port port) r c false is both sound = sound
     with_after cs (Local m) r c true is both sound = λ master at.
         let was = was_there (λ x. cond (G m) (migrated_collection s steps x) x) (named cs m) master
@@ -168,14 +184,17 @@ module _ (steps : List Step) where
         → AreAlike G r.fork r.master → IsSoundIn cs r
         → IsSoundIn (migrated_collections G s steps cs) (cond b (migrated_replication steps r) r)
     sound_after cs r true is both sound = λ fork at.
-        let was = was_there (λ x. cond (G r.fork) (migrated_collection s steps x) x) (named cs r.fork) fork
+        let was = was_there (λ x. cond (G r.fork) (migrated_collection s steps x) x)
+        (named cs r.fork) fork
         (sym (group_named cs r.fork) ∙ at) in
         let same : migrated_collection s steps was.x ≡ fork =
         sym (ap (λ d. cond d (migrated_collection s steps was.x) was.x) is) ∙ was.made in
-        subst (λ (x : Held). IsSoundWith (migrated_collections G s steps cs) r.master x (migrated_replication steps r).side)
+        subst (λ (x : Held). IsSoundWith (migrated_collections G s steps cs) r.master x
+        (migrated_replication steps r).side)
         same (with_after cs r.master r was.x true is both (sound was.x was.there))
     sound_after cs r false is both sound = λ fork at.
-        let was = was_there (λ x. cond (G r.fork) (migrated_collection s steps x) x) (named cs r.fork) fork
+        let was = was_there (λ x. cond (G r.fork) (migrated_collection s steps x) x)
+        (named cs r.fork) fork
         (sym (group_named cs r.fork) ∙ at) in
         let same : was.x ≡ fork =
         sym (ap (λ d. cond d (migrated_collection s steps was.x) was.x) is) ∙ was.made in
@@ -185,7 +204,8 @@ module _ (steps : List Step) where
     all_sound : (cs : Collections) (rs : Replications)
         → AllByRecursion (λ r. AreAlike G r.fork r.master) (values_of rs)
         → AllByRecursion (λ e. IsSoundIn cs e.1) rs
-        → AllByRecursion (λ e. IsSoundIn (migrated_collections G s steps cs) e.1) (migrated_replications G steps rs)
+        → AllByRecursion (λ e. IsSoundIn (migrated_collections G s steps cs) e.1)
+        (migrated_replications G steps rs)
     all_sound cs [] alike all = tt
     all_sound cs (e ∷ rs) alike all =
         let one = λ (b : Bool) (is : G e.1.fork ≡ b). sound_after cs e.1 b is alike.0 all.0 in (

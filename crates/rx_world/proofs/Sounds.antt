@@ -68,32 +68,39 @@ by_key-own (s ∷ ss) up =
 abbrev pub states_of : List RowOut → List State
 states_of written = map (λ row. row.state) written
 
-keys-states_of : (written : List RowOut) → map key_of written ≡ map (λ (t : State). t.key) (states_of written)
+keys-states_of : (written : List RowOut)
+    → map key_of written ≡ map (λ (t : State). t.key) (states_of written)
 keys-states_of [] = refl
 keys-states_of (row ∷ written) = ap (λ ks. row.state.key ∷ ks) (keys-states_of written)
 
 each_row : (c : Held) (lwt : ℕ) (written : List RowOut) → list_all (is_next_row c) written ≡ true
-    → map (row_of c lwt) (values_of (map keyed (states_of written))) ≡ stored_rows c.name lwt written
+    → map (row_of c lwt) (values_of (map keyed (states_of written)))
+    ≡ stored_rows c.name lwt written
 each_row c lwt [] due = refl
 each_row c lwt (row ∷ written) due =
     let next = next_height (named c.documents row.state.key) in
     let both = and_parts (is_next_row c row) (list_all (is_next_row c) written) due in
     let height : row.height ≡ next =
-    eqb-true row.height next (and_parts (is_valid_state c.schema row.state) (row.height == next) both.0).1 in
+    eqb-true row.height next
+    (and_parts (is_valid_state c.schema row.state) (row.height == next) both.0).1 in
     let rest = each_row c lwt written both.1 in
     ap (λ d. d ∷ map (row_of c lwt) (values_of (map keyed (states_of written))))
-    (λ i. record { state = row.state; rev = record { height = sym height i; token = c.name }; lwt = lwt })
+    (λ i.
+    record { state = row.state; rev = record { height = sym height i; token = c.name }; lwt = lwt })
     ∙ ap (λ ds. stored_of c.name lwt row ∷ ds) rest
 
 pub taken_committed : (c : Held) (lwt : ℕ) (written : List RowOut) → KeysRise written
-    → list_all (is_next_row c) written ≡ true → rows_of c (states_of written) lwt ≡ stored_rows c.name lwt written
+    → list_all (is_next_row c) written ≡ true
+    → rows_of c (states_of written) lwt ≡ stored_rows c.name lwt written
 taken_committed c lwt written rise due =
     ap (λ es. map (row_of c lwt) (values_of es))
-    (by_key-own (states_of written) (subst (IsStrictlySortedBy text_cmp) (keys-states_of written) rise))
+    (by_key-own (states_of written)
+    (subst (IsStrictlySortedBy text_cmp) (keys-states_of written) rise))
     ∙ each_row c lwt written due
 
 -- what rows that a collection takes make of its documents
-pub rows_wrote : (lwt : ℕ) (written : List RowOut) (c : Held) → takes lwt written c ≡ true → KeysRise written
+pub rows_wrote : (lwt : ℕ) (written : List RowOut) (c : Held) → takes lwt written c ≡ true
+    → KeysRise written
     → Wrote c.documents (states_of written) (written_to lwt written c).documents
 rows_wrote lwt [] c is rise = let some = (takes_parts lwt [] c is).some in absurd (omega arith)
 rows_wrote lwt (row ∷ written) c is rise =
@@ -125,7 +132,8 @@ module _ (cs : Collections) where
   fork_half (Port port) fork schema c s has sound = sound
 
   master_half : (m : MasterName) (fork : List ℕ) (schema : Shape) (c : Held) (s : Side)
-      → HasMaster cs fork schema m → IsSoundWith cs m c s → HasSoundMaster cs (here m) s.known s.down
+      → HasMaster cs fork schema m → IsSoundWith cs m c s
+      → HasSoundMaster cs (here m) s.known s.down
   master_half (Local name) fork schema c s has sound =
       (has.master, has.held, (sound has.master has.held).master_side)
   master_half (Port port) fork schema c s has sound = tt
@@ -139,7 +147,8 @@ module _ (cs : Collections) where
       l.held,
       fork_half r.master r.fork l.fork.schema l.fork r.side l.master (sound l.fork l.held),
     );
-    master_side = master_half r.master r.fork l.fork.schema l.fork r.side l.master (sound l.fork l.held);
+    master_side =
+        master_half r.master r.fork l.fork.schema l.fork r.side l.master (sound l.fork l.held);
   }
 
   halves : (m : MasterName) (c : Held) (s : Side) → IsForkSound c.documents s.known s.up
@@ -161,7 +170,8 @@ module _ (cs : Collections) where
 -- what keeps links keeps replications
 all_kept : (before after : Collections)
     → ((r : Linked) → IsSoundLink before r → IsSoundLink after r) → (rs : Replications)
-    → AllByRecursion (λ e. IsLinked before e.0 e.1) rs → AllByRecursion (λ e. IsSoundIn before e.1) rs
+    → AllByRecursion (λ e. IsLinked before e.0 e.1) rs
+    → AllByRecursion (λ e. IsSoundIn before e.1) rs
     → AllByRecursion (λ e. IsSoundIn after e.1) rs
 all_kept before after keeps [] links all = tt
 all_kept before after keeps (e ∷ rs) links all = (
@@ -195,7 +205,8 @@ written_at cs name lwt written c at is rise = record {
   old = c;
   new = written_to lwt written c;
   was = at;
-  is = named-change_same (written_to lwt written) cs name ∙ ap (option_map (written_to lwt written)) at;
+  is = named-change_same (written_to lwt written) cs name
+      ∙ ap (option_map (written_to lwt written)) at;
   wrote = rows_wrote lwt written c is rise;
   others = λ k other. named-change_other (written_to lwt written) cs name k other;
 }
@@ -209,13 +220,15 @@ none_known documents = record {
   reached = tt;
 }
 
-new_sound : (cs : Collections) (m : MasterName) (c : Held) (s : Side) → s.known ≡ [] → s.up ≡ None → s.down ≡ None
+new_sound : (cs : Collections) (m : MasterName) (c : Held) (s : Side) → s.known ≡ [] → s.up ≡ None
+    → s.down ≡ None
     → IsSoundWith cs m c s
 new_sound cs (Local name) c s known up down = λ master held. record {
   fork_side = subst (λ p. IsSoundSide c.documents s.known p) (sym up)
       (subst (λ ks. IsSoundSide c.documents ks None) (sym known) (none_known c.documents));
   master_side = subst (λ p. IsSoundSide master.documents s.known p) (sym down)
-      (subst (λ ks. IsSoundSide master.documents ks None) (sym known) (none_known master.documents));
+      (subst (λ ks. IsSoundSide master.documents ks None) (sym known)
+      (none_known master.documents));
 }
 new_sound cs (Port port) c s known up down =
     subst (λ p. IsSoundSide c.documents s.known p) (sym up)
@@ -235,7 +248,8 @@ pub sound_empty : IsSoundWorld empty
 sound_empty = tt
 
 -- a legal record that is no exchange leaves a sound world
-pub sound_step : (entry : Content) (w : World) → legal entry w ≡ true → IsOrdered entry → IsNoExchange entry
+pub sound_step : (entry : Content) (w : World) → legal entry w ≡ true → IsOrdered entry
+    → IsNoExchange entry
     → IsMadeWorld w → IsSoundWorld w → IsSoundWorld (step entry w)
 sound_step (collection name schema) w is ordered none made sound =
     let free = (collection_new name schema w is).unheld in
@@ -243,7 +257,8 @@ sound_step (collection name schema) w is ordered none made sound =
     (λ e. IsSoundIn (collections_after (new_where name o) w.collections) e.1) w.replications) [
       | None ↦ sound
       | Some s ↦ all_kept w.collections (put_named w.collections name (held_with name s []))
-          (link_by_new w.collections name (held_with name s []) free) w.replications made.linked.each sound
+          (link_by_new w.collections name (held_with name s []) free) w.replications
+          made.linked.each sound
     ]
 sound_step (rows name lwt written) w is ordered none made sound =
     let to = rows_go name lwt written w is in
@@ -255,17 +270,20 @@ sound_step (rows name lwt written) w is ordered none made sound =
 sound_step (replication name fork master handler field) w is ordered none made sound =
     all_put_named (λ k r. IsSoundIn w.collections r) w.replications name
     (new_replication name fork master handler field)
-    (λ c held. new_sound w.collections master c (new_replication name fork master handler field).side refl refl refl)
+    (λ c held. new_sound w.collections master c
+    (new_replication name fork master handler field).side refl refl refl)
     sound
 sound_step (exchange name lwt written known up down) w is ordered none made sound = absurd none
-sound_step (migration name text steps) w is ordered none made sound = keeps_sound name text steps w is sound
+sound_step (migration name text steps) w is ordered none made sound =
+    keeps_sound name text steps w is sound
 sound_step other w is ordered none made sound = sound
 
 -- ---- an exchange
 
 -- the collections after the rows of an exchange of that replication, if there is one
 abbrev pub forked : Collections → ℕ → List RowOut → Option Replication → Collections
-forked cs lwt written o = collections_after (option_map_or (fork_rows lwt written) o no_collection) cs
+forked cs lwt written o =
+    collections_after (option_map_or (fork_rows lwt written) o no_collection) cs
 
 -- the fork has the rows, and all others are as they were
 pub record HasForkWritten (before after : Collections) (fork : List ℕ) (new : Held) : Type 0 where
@@ -282,17 +300,21 @@ fork_by cs lwt (row ∷ written) r c at = record {
   others = λ k other. named-change_other (written_to lwt (row ∷ written)) cs r.fork k other;
 }
 
-pub exchange_fork : (name : List ℕ) (lwt : ℕ) (written : List RowOut) (known : List State) (up down : Option Place)
+pub exchange_fork : (name : List ℕ) (lwt : ℕ) (written : List RowOut) (known : List State)
+    (up down : Option Place)
     (w : World) (r : Replication) (c : Held) → named w.replications name ≡ Some r
     → named w.collections r.fork ≡ Some c
-    → HasForkWritten w.collections (step (exchange name lwt written known up down) w).collections r.fork
+    → HasForkWritten w.collections
+    (step (exchange name lwt written known up down) w).collections r.fork
     (written_to lwt written c)
 exchange_fork name lwt written known up down w r c at held =
-    subst (λ o. HasForkWritten w.collections (forked w.collections lwt written o) r.fork (written_to lwt written c))
+    subst (λ o. HasForkWritten w.collections (forked w.collections lwt written o) r.fork
+    (written_to lwt written c))
     (sym at) (fork_by w.collections lwt written r c held)
 
 -- its rows keep all replications sound
-rows_kept : (name : List ℕ) (lwt : ℕ) (written : List RowOut) (known : List State) (up down : Option Place) (w : World)
+rows_kept : (name : List ℕ) (lwt : ℕ) (written : List RowOut) (known : List State)
+    (up down : Option Place) (w : World)
     → legal (exchange name lwt written known up down) w ≡ true → KeysRise written → IsMadeWorld w
     → IsSoundWorld w → (o : Option Replication) → named w.replications name ≡ o
     → AllByRecursion (λ e. IsSoundIn (forked w.collections lwt written o) e.1) w.replications
@@ -309,7 +331,8 @@ rows_kept name lwt (row ∷ written) known up down w is rise made sound (Some r)
     w.replications made.linked.each sound
 
 -- another collection than the fork is as it was
-master_after : (before after : Collections) (m : MasterName) (fork : List ℕ) (schema : Shape) (c : Held) (s : Side)
+master_after : (before after : Collections) (m : MasterName) (fork : List ℕ) (schema : Shape)
+    (c : Held) (s : Side)
     → HasMaster before fork schema m → ((k : List ℕ) → k ≢ fork → named after k ≡ named before k)
     → IsSoundWith before m c s → IsSoundWith after m c s
 master_after before after (Local name) fork schema c s has same sound = λ master held.
@@ -317,13 +340,17 @@ master_after before after (Local name) fork schema c s has same sound = λ maste
 master_after before after (Port port) fork schema c s has same sound = sound
 
 -- the fork with the rows, what it knows then and its master are sound
-abbrev pub IsSoundTaking : World → List ℕ → ℕ → List RowOut → List State → Option Place → Option Place → Type 0
+abbrev pub IsSoundTaking : World → List ℕ → ℕ → List RowOut → List State → Option Place
+    → Option Place → Type 0
 IsSoundTaking w name lwt written known up down =
-    (r : Replication) (c : Held) → named w.replications name ≡ Some r → named w.collections r.fork ≡ Some c
-    → IsSoundWith w.collections r.master (written_to lwt written c) (with_exchange known up down r).side
+    (r : Replication) (c : Held) → named w.replications name ≡ Some r
+    → named w.collections r.fork ≡ Some c
+    → IsSoundWith w.collections r.master (written_to lwt written c)
+    (with_exchange known up down r).side
 
 -- a legal exchange leaves a sound world where its own replication is sound then
-pub sound_exchange : (name : List ℕ) (lwt : ℕ) (written : List RowOut) (known : List State) (up down : Option Place)
+pub sound_exchange : (name : List ℕ) (lwt : ℕ) (written : List RowOut) (known : List State)
+    (up down : Option Place)
     (w : World) → legal (exchange name lwt written known up down) w ≡ true
     → IsOrdered (exchange name lwt written known up down) → IsMadeWorld w → IsSoundWorld w
     → IsSoundTaking w name lwt written known up down
@@ -338,4 +365,5 @@ sound_exchange name lwt written known up down w is ordered made sound taking =
     (some_same (sym f.is ∙ held))
     (master_after w.collections after r.master r.fork l.fork.schema (written_to lwt written l.fork)
     (with_exchange known up down r).side l.master f.others (taking r l.fork at l.held)))
-    (rows_kept name lwt written known up down w is ordered.rows_rise made sound (named w.replications name) refl)
+    (rows_kept name lwt written known up down w is ordered.rows_rise made sound
+    (named w.replications name) refl)

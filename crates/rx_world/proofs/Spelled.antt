@@ -10,12 +10,14 @@ use Rattle.rx_schema.specs.declared.fault.SchemaFault.{SchemaFault}
 use Rattle.rx_schema.specs.declared.shape.Shape.{Shape}
 use Rattle.rx_world.specs.Schema.{if_canonical, schema_in}
 
-spelled_by : (text : List ℕ) (s : Shape) (r : Result Shape SchemaFault) → if_canonical text r ≡ Some s
+spelled_by : (text : List ℕ) (s : Shape) (r : Result Shape SchemaFault)
+    → if_canonical text r ≡ Some s
     → canonical_text s ≡ text
 spelled_by text s (Ok t) is =
     elim (bytes_eq (canonical_text t) text) as (λ b. bytes_eq (canonical_text t) text ≡ b
     → cond b (Some t) None ≡ Some s → canonical_text s ≡ text) [
-      | true ↦ (λ h is. ap canonical_text (sym (some_same is)) ∙ (bytes_eq-Decides (canonical_text t) text).0 h)
+      | true ↦ (λ h is.
+          ap canonical_text (sym (some_same is)) ∙ (bytes_eq-Decides (canonical_text t) text).0 h)
       | false ↦ (λ h is. not_none is)
     ] refl is
 spelled_by text s (Err e) is = not_none is

@@ -43,7 +43,8 @@ rows_go name lwt written w is =
     ] refl is
 
 -- so do those of an exchange, if there is one, to the fork, which then holds the known keys
-pub exchange_goes : (name : List ℕ) (lwt : ℕ) (written : List RowOut) (known : List State) (up down : Option Place) (w : World)
+pub exchange_goes : (name : List ℕ) (lwt : ℕ) (written : List RowOut) (known : List State)
+    (up down : Option Place) (w : World)
     → legal (exchange name lwt written known up down) w ≡ true
     → (r : Replication) → named w.replications name ≡ Some r
     → (c : Held) → named w.collections r.fork ≡ Some c → fork_takes lwt written known c ≡ true
@@ -54,7 +55,8 @@ exchange_goes name lwt written known up down w is r at c there =
     (option_map_or (fork_takes lwt written known) (named w.collections r.fork) false) here).1 in
     sym (ap (λ o. option_map_or (fork_takes lwt written known) o false) there) ∙ last
 
-pub fork_rows_taken : (lwt : ℕ) (row : RowOut) (written : List RowOut) (known : List State) (c : Held)
+pub fork_rows_taken : (lwt : ℕ) (row : RowOut) (written : List RowOut)
+    (known : List State) (c : Held)
     → fork_takes lwt (row ∷ written) known c ≡ true → takes lwt (row ∷ written) c ≡ true
 fork_rows_taken lwt row written known c is =
     (and_parts (takes lwt (row ∷ written) c) (list_all (is_held_with c (row ∷ written)) known) is).0
@@ -119,11 +121,13 @@ epoch_legal w = eq-eqb (w.epoch + 1) (w.epoch + 1) refl
 -- ---- exchanges
 
 -- the rows of a legal exchange may be written to the fork, one after another
-pub exchange_next : (name : List ℕ) (lwt : ℕ) (written : List RowOut) (known : List State) (up down : Option Place) (w : World)
+pub exchange_next : (name : List ℕ) (lwt : ℕ) (written : List RowOut) (known : List State)
+    (up down : Option Place) (w : World)
     → IsLawfulWorld w → legal (exchange name lwt written known up down) w ≡ true → KeysRise written
     → ForSome (named w.replications name) (λ r. ForSome (named w.collections r.fork)
     (λ c. AreNext c (stored_rows c.name lwt written)))
 exchange_next name lwt [] known up down w lawful is rise = λ r at c there. tt
 exchange_next name lwt (row ∷ written) known up down w lawful is rise = λ r at c there.
     taken_are_next c lwt (row ∷ written) (lawful_at w r.fork c lawful there).lawful
-    (fork_rows_taken lwt row written known c (exchange_goes name lwt (row ∷ written) known up down w is r at c there)) rise
+    (fork_rows_taken lwt row written known c
+    (exchange_goes name lwt (row ∷ written) known up down w is r at c there)) rise

@@ -70,7 +70,8 @@ ready_after : (name : List ℕ) (now : Held) (lwt : ℕ) (r s : RowOut)
 ready_after name now lwt r s less ready =
     let row = stored_of name lwt r in
     record {
-      below = all_put (λ k d. place_cmp (place_of d) (record { lwt = lwt; id = s.state.key }) ≡ Less)
+      below =
+          all_put (λ k d. place_cmp (place_of d) (record { lwt = lwt; id = s.state.key }) ≡ Less)
           now.documents r.state.key row (below_higher lwt r.state.key s.state.key less) ready.below;
       height =
           ready.height

@@ -74,20 +74,24 @@ valid_found held w name None valid at = tt
 valid_found held w name (Some a) valid at = valid_at w name (held a) valid (sym at)
 
 -- so does the fork of a legal exchange
-fork_valid : (name : List ℕ) (lwt : ℕ) (written : List RowOut) (known : List State) (up down : Option Place) (w : World)
+fork_valid : (name : List ℕ) (lwt : ℕ) (written : List RowOut) (known : List State)
+    (up down : Option Place) (w : World)
     → legal (exchange name lwt written known up down) w ≡ true → AllValid w
     → (o : Option Replication) → named w.replications name ≡ o
-    → AllByRecursion (λ e. AreValid e.1) (collections_after (option_map_or (fork_rows lwt written) o no_collection) w.collections)
+    → AllByRecursion (λ e. AreValid e.1)
+    (collections_after (option_map_or (fork_rows lwt written) o no_collection) w.collections)
 fork_valid name lwt written known up down w is valid None at = valid
 fork_valid name lwt [] known up down w is valid (Some r) at = valid
 fork_valid name lwt (row ∷ written) known up down w is valid (Some r) at =
     all_change_named (λ k x. AreValid x) w.collections r.fork (written_to lwt (row ∷ written))
     (λ c there here. valid_taken lwt (row ∷ written) c
-    (fork_rows_taken lwt row written known c (exchange_goes name lwt (row ∷ written) known up down w is r at c there)) here)
+    (fork_rows_taken lwt row written known c
+    (exchange_goes name lwt (row ∷ written) known up down w is r at c there)) here)
     valid
 
 -- a legal record that is no migration leaves a valid world
-pub valid_step : (entry : Content) (w : World) → legal entry w ≡ true → IsNoMigration entry → AllValid w
+pub valid_step : (entry : Content) (w : World) → legal entry w ≡ true
+    → IsNoMigration entry → AllValid w
     → AllValid (step entry w)
 valid_step (collection name schema) w is other valid =
     elim (schema_in schema) as (λ o. AllByRecursion (λ e. AreValid e.1)
@@ -115,17 +119,21 @@ unfolding IsDistinct
 distinct_empty = tt
 
 -- the rows of a fork leave the names
-fork_distinct : (lwt : ℕ) (written : List RowOut) (w : World) → AreDistinct w → (o : Option Replication)
-    → IsDistinct bytes_eq (keys_of (collections_after (option_map_or (fork_rows lwt written) o no_collection) w.collections))
+fork_distinct : (lwt : ℕ) (written : List RowOut) (w : World) → AreDistinct w
+    → (o : Option Replication)
+    → IsDistinct bytes_eq (keys_of
+    (collections_after (option_map_or (fork_rows lwt written) o no_collection) w.collections))
 fork_distinct lwt written w distinct None = distinct
 fork_distinct lwt [] w distinct (Some r) = distinct
 fork_distinct lwt (row ∷ written) w distinct (Some r) =
-    subst (IsDistinct bytes_eq) (sym (keys-change_named (written_to lwt (row ∷ written)) w.collections r.fork)) distinct
+    subst (IsDistinct bytes_eq)
+    (sym (keys-change_named (written_to lwt (row ∷ written)) w.collections r.fork)) distinct
 
 -- a record leaves names that come once
 pub distinct_step : (entry : Content) (w : World) → AreDistinct w → AreDistinct (step entry w)
 distinct_step (collection name schema) w distinct =
-    elim (schema_in schema) as (λ o. IsDistinct bytes_eq (keys_of (collections_after (new_where name o) w.collections))) [
+    elim (schema_in schema)
+    as (λ o. IsDistinct bytes_eq (keys_of (collections_after (new_where name o) w.collections))) [
       | None ↦ distinct
       | Some s ↦ distinct_put_named w.collections name (held_with name s []) distinct
     ]
@@ -136,7 +144,8 @@ distinct_step (exchange name lwt written known up down) w distinct =
     fork_distinct lwt written w distinct (named w.replications name)
 distinct_step (migration name text steps) w distinct =
     let G = is_in_group w.replications name in
-    elim (schema_in text) as (λ o. IsDistinct bytes_eq (keys_of (collections_after (remade_where G steps o) w.collections))) [
+    elim (schema_in text) as (λ o.
+    IsDistinct bytes_eq (keys_of (collections_after (remade_where G steps o) w.collections))) [
       | None ↦ distinct
       | Some s ↦ subst (IsDistinct bytes_eq) (sym (names_after s steps G w.collections)) distinct
     ]

@@ -46,5 +46,6 @@ tree_root rs name = root_of bytes_eq (forest_of rs) name
 -- A collection may follow a master if it is no fork yet, and the master is at a port, or is a
 -- collection from which going from a fork to its master doesn't end at this one.
 abbrev pub may_follow : Replications → List ℕ → MasterName → Bool
-may_follow rs fork (Local master) = not (is_fork fork rs) && not (bytes_eq (tree_root rs master) fork)
+may_follow rs fork (Local master) =
+    not (is_fork fork rs) && not (bytes_eq (tree_root rs master) fork)
 may_follow rs fork (Port port) = not (is_fork fork rs)

@@ -26,8 +26,8 @@ abbrev pub HasMaster : Collections → List ℕ → Shape → MasterName → Typ
 HasMaster cs fork schema (Local name) = IsMasterOf cs fork schema name
 HasMaster cs fork schema (Port port) = 1 ≤ port
 
--- the replication of a name has that name, its fork and its master are held, each known state stands
--- under its key and is valid, and the checkpoints have write times
+-- the replication of a name has that name, its fork and its master are held, each known state
+-- stands under its key and is valid, and the checkpoints have write times
 pub record IsLinked (cs : Collections) (name : List ℕ) (r : Replication) : Type 0 where
   pub called : r.name ≡ name
   pub fork : Held

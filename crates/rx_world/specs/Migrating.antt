@@ -35,7 +35,8 @@ migrated_replication steps r =
     record r { side = side_with (known_after steps r.side.known) r.side.up r.side.down }
 
 -- with its name, where it is of a group
-abbrev pub migrated_entry : (List ℕ → Bool) → List Step → List ℕ × Replication → List ℕ × Replication
+abbrev pub migrated_entry : (List ℕ → Bool) → List Step → List ℕ × Replication
+    → List ℕ × Replication
 migrated_entry in_group steps e =
     if in_group e.1.fork then (e.0, migrated_replication steps e.1) else e
 
@@ -109,8 +110,8 @@ group_migrates name schema steps w =
     collections_migrate (is_in_group w.replications name) schema steps w.collections
     && replications_migrate (is_in_group w.replications name) schema steps w.replications
 
--- A migration is legal where its collection is held, its schema's text is canonical, that schema may
--- come next, and the group goes to it.
+-- A migration is legal where its collection is held, its schema's text is canonical, that schema
+-- may come next, and the group goes to it.
 abbrev pub may_migrate : List ℕ → List ℕ → List Step → World → Bool
 may_migrate name text steps w =
     option_map_or (λ c. option_map_or

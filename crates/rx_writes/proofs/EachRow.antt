@@ -69,7 +69,8 @@ module _ (c : Held) (hooks : List Attached) where
       Ok hooked
 
   -- it is valid, and its key was not seen
-  pub row_given : (row : ℕ) (seen : Keys) (d : Data) (s : State) → row_state c hooks row seen d ≡ Ok s
+  pub row_given : (row : ℕ) (seen : Keys) (d : Data) (s : State)
+      → row_state c hooks row seen d ≡ Ok s
       → IsValidState c.schema s × (named seen s.key ≡ None)
   row_given row seen d s h =
       let read = ok_then (in_row row (state_of c.schema.primary d)) (checked row seen) s h in
@@ -108,7 +109,8 @@ module _ (c : Held) (hooks : List Attached) where
   -- the keys that were not seen with another one
   all_apart : (seen : Keys) (k : List ℕ) (ss : List State)
       → AllByRecursion (Fits (put_in_order seen k tt)) ss
-      → AllByRecursion (Fits seen) ss × AllByRecursion (λ q. bytes_eq k q ≡ false) (map (λ s. s.key) ss)
+      → AllByRecursion (Fits seen) ss
+      × AllByRecursion (λ q. bytes_eq k q ≡ false) (map (λ s. s.key) ss)
   all_apart seen k [] all = (tt, tt)
   all_apart seen k (s ∷ ss) all =
       let here = apart seen k s.key all.0.1 in
@@ -122,16 +124,19 @@ module _ (c : Held) (hooks : List Attached) where
   unfolding IsDistinct
   rows_fit row seen [] ss h =
       let is : [] ≡ ss = cc in
-      subst (λ (ss : List State). AllByRecursion (Fits seen) ss × IsDistinct bytes_eq (map (λ s. s.key) ss)) is (tt, tt)
+      subst (λ (ss : List State).
+      AllByRecursion (Fits seen) ss × IsDistinct bytes_eq (map (λ s. s.key) ss)) is (tt, tt)
   rows_fit row seen (d ∷ ds) ss h =
       let first = ok_then (row_state c hooks row seen d) (λ state.
-      rows_states c hooks (row + 1) (put_in_order seen state.key tt) ds >> λ states. Ok (state ∷ states)) ss h in
+      rows_states c hooks (row + 1) (put_in_order seen state.key tt) ds
+      >> λ states. Ok (state ∷ states)) ss h in
       let rest = ok_then (rows_states c hooks (row + 1) (put_in_order seen first.0.key tt) ds)
       (λ states. Ok (first.0 ∷ states)) ss first.2 in
       let is : first.0 ∷ rest.0 ≡ ss = cc (rest.2) in
       let fit = rows_fit (row + 1) (put_in_order seen first.0.key tt) ds rest.0 rest.1 in
       let all = all_apart seen first.0.key rest.0 fit.0 in
-      subst (λ (ss : List State). AllByRecursion (Fits seen) ss × IsDistinct bytes_eq (map (λ s. s.key) ss)) is
+      subst (λ (ss : List State).
+      AllByRecursion (Fits seen) ss × IsDistinct bytes_eq (map (λ s. s.key) ss)) is
       ((row_given row seen d first.0 first.1, all.0), (all.1, fit.1))
 
   all_valid : (seen : Keys) (ss : List State) → AllByRecursion (Fits seen) ss
@@ -158,7 +163,8 @@ module _ (c : Held) (hooks : List Attached) where
       → drop row docs ≡ d ∷ drop (row + 1) docs → row_state c hooks row seen (view d) ≡ Ok s
       → new ≡ put_in_order seen s.key tt
       → rows_states c hooks 0 [] (map view docs)
-      ≡ after (states ++ s ∷ []) (rows_states c hooks (row + 1) new (map view (drop (row + 1) docs)))
+      ≡ after (states ++ s ∷ [])
+      (rows_states c hooks (row + 1) new (map view (drop (row + 1) docs)))
   row_read docs row seen new states d s so_far here read is =
       let left = map view (drop (row + 1) docs) in
       so_far
@@ -172,8 +178,11 @@ module _ (c : Held) (hooks : List Attached) where
   -- no row is left
   pub all_read : (docs : List Json) (row : ℕ) (seen : Keys) (states : List State)
       → length docs ≤ row
-      → rows_states c hooks 0 [] (map view docs) ≡ after states (rows_states c hooks row seen (map view (drop row docs)))
+      → rows_states c hooks 0 [] (map view docs)
+      ≡ after states (rows_states c hooks row seen (map view (drop row docs)))
       → rows_states c hooks 0 [] (map view docs) ≡ Ok states
   all_read docs row seen states ended so_far =
-      so_far ∙ ap (λ ds. after states (rows_states c hooks row seen (map view ds))) (drop_all row docs ended)
+      so_far
+      ∙ ap (λ ds. after states (rows_states c hooks row seen (map view ds)))
+      (drop_all row docs ended)
       ∙ ap Ok (append-nil states)

@@ -18,7 +18,8 @@ held_as : (o : Option Stored) (d : Stored) → or_fault (Refused NoDocument) (if
     → o ≡ Some d
 held_as None d h = cc
 held_as (Some x) d h =
-    elim x.state.deleted as (λ b. or_fault (Refused NoDocument) (cond b None (Some x)) ≡ Ok d → Some x ≡ Some d) [
+    elim x.state.deleted
+    as (λ b. or_fault (Refused NoDocument) (cond b None (Some x)) ≡ Ok d → Some x ≡ Some d) [
       | true ↦ (λ e. cc)
       | false ↦ (λ e. cc)
     ] h

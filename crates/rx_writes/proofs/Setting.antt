@@ -18,7 +18,8 @@ module _ (primary key : List ℕ) where
   keeps p = not (bytes_eq p.0 primary) || is_text key (Some p.1)
 
   -- one pair decides, or those behind it
-  pub keeps_from : (ps : Pairs) (i : ℕ) (p : Pair) (b : Bool) → slice_get ps i ≡ Some p → keeps p ≡ b
+  pub keeps_from : (ps : Pairs) (i : ℕ) (p : Pair) (b : Bool) → slice_get ps i ≡ Some p
+      → keeps p ≡ b
       → keeps_key primary key (drop i ps) ≡ b && keeps_key primary key (drop (i + 1) ps)
   keeps_from ps i p b h is =
       ap (keeps_key primary key) (drop_at ps i p h)
@@ -42,7 +43,8 @@ module _ (primary key : List ℕ) where
       → named (put_in_order ps n v) primary ≡ Some (Text key)
   put_carries ps n v at keep =
       named-put_in_order ps n primary v
-      ∙ elim (bytes_eq primary n) as (λ b. bytes_eq primary n ≡ b → cond b (Some v) (named ps primary) ≡ Some (Text key)) [
+      ∙ elim (bytes_eq primary n)
+      as (λ b. bytes_eq primary n ≡ b → cond b (Some v) (named ps primary) ≡ Some (Text key)) [
         | true ↦ (λ is.
             let same : bytes_eq n primary ≡ true =
             (bytes_eq-Decides n primary).1 (sym ((bytes_eq-Decides primary n).0 is)) in

@@ -17,5 +17,6 @@ loop-slot-preserved c =
       turned = ap (λ (xs : List Stored). take (s + 1) xs ++ map f (drop (s + 1) xs)) is
           ∙ ap (λ (n : ℕ). take n (set rows s (f d)) ++ map f (drop n (set rows s (f d)))) one
           ∙ row_turn f rows s d c.at.ensures ∙ c.loop-slot.invariant.turned;
-      same = ap (λ (xs : List Stored). length xs) is ∙ length_set rows s (f d) ∙ c.loop-slot.invariant.same;
+      same = ap (λ (xs : List Stored). length xs) is ∙ length_set rows s (f d)
+          ∙ c.loop-slot.invariant.same;
     }

@@ -10,7 +10,8 @@ returns-in_err-looked-clause-not_journal g c told is bodies w lawful =
 
 pub returns-clause-copied : goal.returns-clause-copied
 returns-clause-copied g c told here_told empty bodies w lawful =
-    let here = subst (λ (l : List ℕ). IsLegalFile l bodies w) (sym (c.sync.ensures.same told)) lawful in
+    let here = subst (λ (l : List ℕ). IsLegalFile l bodies w)
+    (sym (c.sync.ensures.same told)) lawful in
     let seen = c.in_ok-looked.ensures.shown told bodies w here in
     copied_seen g.E.Disk c.args.copy.now c.fill.new.copy
     (g.D.Disk.content c.args.disk.now) _ _ _ c.fill.result c.fill.ensures bodies w lawful seen.0
@@ -18,7 +19,8 @@ returns-clause-copied g c told here_told empty bodies w lawful =
 
 pub returns-clause-moments : goal.returns-clause-moments
 returns-clause-moments g c told here_told empty bodies w lawful =
-    let here = subst (λ (l : List ℕ). IsLegalFile l bodies w) (sym (c.sync.ensures.same told)) lawful in
+    let here = subst (λ (l : List ℕ). IsLegalFile l bodies w)
+    (sym (c.sync.ensures.same told)) lawful in
     let seen = c.in_ok-looked.ensures.shown told bodies w here in
     moments_seen g.E.Disk c.args.copy.now c.fill.new.copy
     (g.D.Disk.content c.args.disk.now) _ _ _ c.fill.result c.fill.ensures bodies w lawful seen.0
@@ -26,7 +28,8 @@ returns-clause-moments g c told here_told empty bodies w lawful =
 
 pub returns-clause-epoch : goal.returns-clause-epoch
 returns-clause-epoch g c told is bodies w lawful =
-    let here = subst (λ (l : List ℕ). IsLegalFile l bodies w) (sym (c.sync.ensures.same told)) lawful in
+    let here = subst (λ (l : List ℕ). IsLegalFile l bodies w)
+    (sym (c.sync.ensures.same told)) lawful in
     let seen = c.in_ok-looked.ensures.shown told bodies w here in
     epoch_seen g.E.Disk c.args.copy.now c.fill.new.copy
     (g.D.Disk.content c.args.disk.now) _ _ _ c.fill.result c.fill.ensures bodies w lawful seen.0
@@ -34,7 +37,8 @@ returns-clause-epoch g c told is bodies w lawful =
 
 pub returns-clause-full : goal.returns-clause-full
 returns-clause-full g c told here_told empty bodies w lawful would most is =
-    let here = subst (λ (l : List ℕ). IsLegalFile l bodies w) (sym (c.sync.ensures.same told)) lawful in
+    let here = subst (λ (l : List ℕ). IsLegalFile l bodies w)
+    (sym (c.sync.ensures.same told)) lawful in
     let seen = c.in_ok-looked.ensures.shown told bodies w here in
     full_seen g.E.Disk c.args.copy.now c.fill.new.copy
     (g.D.Disk.content c.args.disk.now) _ _ _ c.fill.result c.fill.ensures bodies w lawful seen.0

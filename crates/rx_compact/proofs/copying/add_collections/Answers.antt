@@ -12,7 +12,8 @@ use Rattle.rx_compact.proofs.copying.add_collections.Goals as goal
 pub loop-at-init : goal.loop-at-init
 loop-at-init g c =
     nothing_yet g.D.Disk c.args.disk.now c.args.copy
-    (map (λ (e : List ℕ × Held). collection_record e.1) (world_in g.H.Holder.held c.args.world.now).collections)
+    (map (λ (e : List ℕ × Held). collection_record e.1)
+    (world_in g.H.Holder.held c.args.world.now).collections)
 
 pub returns-in_err-entry : goal.returns-in_err-entry
 returns-in_err-entry g c = record {
@@ -33,7 +34,8 @@ pub returns-in_err-copy : goal.returns-in_err-copy
 returns-in_err-copy g c = record {
   adds =
       stopped g.D.Disk c.args.disk.now c.args.copy _ c.loop-at.disk c.add.new.disk c.loop-at.copy _
-      (content c.in_ok-entry.entry ∷ []) _ c.from_residual-in_err-copy.result c.in_err-copy.field-0.0
+      (content c.in_ok-entry.entry ∷ []) _ c.from_residual-in_err-copy.result
+      c.in_err-copy.field-0.0
       (handed_on c.from_residual-in_err-copy.result c.in_err-copy.field-0.0
       c.from_residual-in_err-copy.ensures.1)
       (map_next (world_in g.H.Holder.held c.args.world.now).collections

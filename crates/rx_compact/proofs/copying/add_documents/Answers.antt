@@ -24,7 +24,8 @@ add_documents_of-requires g c = record {
 pub returns-in_err-copy : goal.returns-in_err-copy
 returns-in_err-copy g c =
     stopped g.D.Disk c.args.disk.now c.args.copy _ c.loop-at.disk c.add_documents_of.new.disk
-    c.loop-at.copy _ (part_records c.collection.result.now) _ c.from_residual.result c.in_err-copy.field-0.0
+    c.loop-at.copy _
+    (part_records c.collection.result.now) _ c.from_residual.result c.in_err-copy.field-0.0
     (handed_on c.from_residual.result c.in_err-copy.field-0.0 c.from_residual.ensures.1)
     (flat_next (world_in g.H.Holder.held c.args.world.now).collections
     (λ (e : List ℕ × Held). part_records e.1) c.loop-at.at

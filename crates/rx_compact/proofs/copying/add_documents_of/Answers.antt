@@ -12,7 +12,8 @@ use Rattle.rx_compact.proofs.copying.add_documents_of.Goals as goal
 
 pub loop-copy-init : goal.loop-copy-init
 loop-copy-init g c =
-    let page = c.page-page.ensures.documents ∙ ap (since c.args.collection.now.documents None) c.len.ensures.count in (
+    let page = c.page-page.ensures.documents
+    ∙ ap (since c.args.collection.now.documents None) c.len.ensures.count in (
       subst (λ (ds : List Stored). HasAdded g.D.Disk c.args.disk.now c.args.disk.now c.args.copy
           c.args.copy (map (part c.args.collection.now.name) (in_parts (map part_row ds)))
           (part_records c.args.collection.now)) (sym page)
@@ -69,7 +70,8 @@ loop-copy-smaller g c =
 pub loop-copy-preserved : goal.loop-copy-preserved
 loop-copy-preserved g c = (
   some_more g.D.Disk c.args.disk.now c.args.copy _ c.loop-copy.disk c.add_part.new.disk
-      c.loop-copy.copy c.in_ok-copy.copy _ (part c.args.collection.now.name c.in_ok-rows.rows.items ∷ []) _
+      c.loop-copy.copy c.in_ok-copy.copy _
+      (part c.args.collection.now.name c.in_ok-rows.rows.items ∷ []) _
       (ap (map (part c.args.collection.now.name))
       (made_next part_row c.loop-copy.page c.next_rows.new.page c.in_ok-rows.rows.items
       c.in_ok-rows.ensures.rows c.in_ok-rows.ensures.left

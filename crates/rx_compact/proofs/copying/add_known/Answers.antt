@@ -32,7 +32,8 @@ add_known_of-requires-clause-timed g c =
 pub returns-in_err-copy : goal.returns-in_err-copy
 returns-in_err-copy g c =
     stopped g.D.Disk c.args.disk.now c.args.copy _ c.loop-at.disk c.add_known_of.new.disk
-    c.loop-at.copy _ (known_records c.replication_at.result.now) _ c.from_residual.result c.in_err-copy.field-0.0
+    c.loop-at.copy _
+    (known_records c.replication_at.result.now) _ c.from_residual.result c.in_err-copy.field-0.0
     (handed_on c.from_residual.result c.in_err-copy.field-0.0 c.from_residual.ensures.1)
     (flat_next (world_in g.H.Holder.held c.args.world.now).replications
     (λ (e : List ℕ × Replication). known_records e.1) c.loop-at.at

@@ -59,7 +59,8 @@ loop-copy-smaller g c =
 pub loop-copy-preserved : goal.loop-copy-preserved
 loop-copy-preserved g c = (
   some_more g.D.Disk c.args.disk.now c.args.copy _ c.loop-copy.disk c.add_states.new.disk
-      c.loop-copy.copy c.in_ok-copy.copy _ (known_record c.args.replication.now c.in_ok-states.states.items ∷ []) _
+      c.loop-copy.copy c.in_ok-copy.copy _
+      (known_record c.args.replication.now c.in_ok-states.states.items ∷ []) _
       (ap (map (known_record c.args.replication.now))
       (part_next c.loop-copy.known c.next_states.new.known c.in_ok-states.states.items
       c.in_ok-states.ensures.states c.in_ok-states.ensures.left

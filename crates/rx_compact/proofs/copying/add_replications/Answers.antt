@@ -12,7 +12,8 @@ use Rattle.rx_compact.proofs.copying.add_replications.Goals as goal
 pub loop-at-init : goal.loop-at-init
 loop-at-init g c =
     nothing_yet g.D.Disk c.args.disk.now c.args.copy
-    (map (λ (e : List ℕ × Replication). replication_record e.1) (world_in g.H.Holder.held c.args.world.now).replications)
+    (map (λ (e : List ℕ × Replication). replication_record e.1)
+    (world_in g.H.Holder.held c.args.world.now).replications)
 
 pub returns-in_err-entry : goal.returns-in_err-entry
 returns-in_err-entry g c =

@@ -26,7 +26,8 @@ returns-in_err-copy-2 g c =
     c.in_ok-copy.ensures.limit c.begin.ensures.cause.later in
     comes_stop w c.add_collections.ensures.made first refl c.in_err-copy-2.ensures.adds
     (begin_collections w) c.from_residual-in_err-copy-2.result
-    (handed_on c.from_residual-in_err-copy-2.result c.in_err-copy-2.field-0.0 c.from_residual-in_err-copy-2.ensures.1)
+    (handed_on c.from_residual-in_err-copy-2.result c.in_err-copy-2.field-0.0
+    c.from_residual-in_err-copy-2.ensures.1)
 
 pub add_replications-requires : goal.add_replications-requires
 add_replications-requires g c =
@@ -45,7 +46,8 @@ returns-in_err-copy-3 g c =
     let collections = comes_more first c.in_ok-copy-2.ensures.adds in
     comes_stop w c.add_collections.ensures.made collections refl c.in_err-copy-3.ensures
     (begin_replications w) c.from_residual-in_err-copy-3.result
-    (handed_on c.from_residual-in_err-copy-3.result c.in_err-copy-3.field-0.0 c.from_residual-in_err-copy-3.ensures.1)
+    (handed_on c.from_residual-in_err-copy-3.result c.in_err-copy-3.field-0.0
+    c.from_residual-in_err-copy-3.ensures.1)
 
 pub add_documents-requires : goal.add_documents-requires
 add_documents-requires g c =
@@ -66,7 +68,8 @@ returns-in_err-copy-4 g c =
     let replications = comes_more collections c.in_ok-copy-3.ensures in
     comes_stop w c.add_collections.ensures.made replications refl c.in_err-copy-4.ensures
     (begin_documents w) c.from_residual-in_err-copy-4.result
-    (handed_on c.from_residual-in_err-copy-4.result c.in_err-copy-4.field-0.0 c.from_residual-in_err-copy-4.ensures.1)
+    (handed_on c.from_residual-in_err-copy-4.result c.in_err-copy-4.field-0.0
+    c.from_residual-in_err-copy-4.ensures.1)
 
 pub add_known-requires-clause-going : goal.add_known-requires-clause-going
 add_known-requires-clause-going g c =
@@ -89,7 +92,8 @@ returns-in_err-copy-5 g c =
     let documents = comes_more replications c.in_ok-copy-4.ensures in
     comes_stop w c.add_collections.ensures.made documents refl c.in_err-copy-5.ensures
     (begin_known w) c.from_residual-in_err-copy-5.result
-    (handed_on c.from_residual-in_err-copy-5.result c.in_err-copy-5.field-0.0 c.from_residual-in_err-copy-5.ensures.1)
+    (handed_on c.from_residual-in_err-copy-5.result c.in_err-copy-5.field-0.0
+    c.from_residual-in_err-copy-5.ensures.1)
 
 pub add-requires-clause-going : goal.add-requires-clause-going
 add-requires-clause-going g c =
@@ -114,7 +118,8 @@ returns-in_err-add g c =
     let known = comes_more documents c.in_ok-copy-5.ensures in
     comes_stop w c.add_collections.ensures.made known refl c.in_err-add.ensures
     (begin_end w c.epoch.result c.epoch.ensures) c.from_residual-in_err-add.result
-    (handed_on c.from_residual-in_err-add.result c.in_err-add.field-0.0 c.from_residual-in_err-add.ensures.1)
+    (handed_on c.from_residual-in_err-add.result c.in_err-add.field-0.0
+    c.from_residual-in_err-add.ensures.1)
 
 pub commit-requires : goal.commit-requires
 commit-requires g c =
@@ -142,7 +147,8 @@ returns-in_err-copy-6 g c =
     let all = comes_end w c.epoch.result c.epoch.ensures (comes_more known c.in_ok-add.ensures) in
     comes_stop w c.add_collections.ensures.made all refl c.in_err-copy-6.ensures.adds
     (begin_again w) c.from_residual-in_err-copy-6.result
-    (handed_on c.from_residual-in_err-copy-6.result c.in_err-copy-6.field-0.0 c.from_residual-in_err-copy-6.ensures.1)
+    (handed_on c.from_residual-in_err-copy-6.result c.in_err-copy-6.field-0.0
+    c.from_residual-in_err-copy-6.ensures.1)
 
 pub returns : goal.returns
 returns g c =

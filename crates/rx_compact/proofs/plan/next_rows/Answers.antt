@@ -7,7 +7,8 @@ use Rattle.rx_compact.proofs.plan.next_rows.Goals as goal
 pub loop-alloc-preserved : goal.loop-alloc-preserved
 loop-alloc-preserved c =
     let rows = c.loop-alloc.rows.items in
-    let next : c.loop-alloc.page ≡ c.in-Some.document.now ∷ c.next.new.self = c.in-Some.ensures.steps in (
+    let next : c.loop-alloc.page ≡ c.in-Some.document.now ∷ c.next.new.self =
+    c.in-Some.ensures.steps in (
       one_taken part_row c.args.page.now rows c.push.new.self.items c.loop-alloc.page
           c.next.new.self c.in-Some.document.now c.loop-alloc.invariant.0 next
           (c.in_ok-push-in-Some.ensures.items

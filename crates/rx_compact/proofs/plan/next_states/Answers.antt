@@ -8,7 +8,8 @@ use Rattle.rx_compact.proofs.plan.next_states.Goals as goal
 pub loop-alloc-preserved : goal.loop-alloc-preserved
 loop-alloc-preserved c =
     let states = c.loop-alloc.states.items in
-    let next : c.loop-alloc.known ≡ c.in-Some.state.now ∷ c.next.new.self = c.in-Some.ensures.steps in (
+    let next : c.loop-alloc.known ≡ c.in-Some.state.now ∷ c.next.new.self =
+    c.in-Some.ensures.steps in (
       one_taken (λ (s : State). s) c.args.known.now states c.push.new.self.items c.loop-alloc.known
           c.next.new.self c.in-Some.state.now c.loop-alloc.invariant.0 next
           (c.in_ok-push-in-Some.ensures.items

@@ -36,7 +36,8 @@ no_turn kinds (Observe name coll query) s other sweep apart = refl
 no_turn kinds (Unobserve name) s other sweep apart = refl
 no_turn kinds (Explain name) s other sweep apart = refl
 no_turn kinds (Replicate name fork master handler field) s other sweep apart = refl
-no_turn kinds (Turn name batch budget link) s other sweep apart = absurd (other name batch budget link refl)
+no_turn kinds (Turn name batch budget link) s other sweep apart =
+    absurd (other name batch budget link refl)
 no_turn kinds (Sweep name batch budget) s other sweep apart = absurd (sweep name batch budget refl)
 no_turn kinds (Stream name) s other sweep apart = refl
 no_turn kinds (Deliver name link) s other sweep apart = absurd (apart name link refl)

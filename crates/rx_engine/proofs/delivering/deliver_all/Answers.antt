@@ -14,7 +14,12 @@ loop-i-init c =
     let name = c.args.wanted.now.name in
     let ls = c.args.wanted.now.link.items in
     let made : Made =
-    record { play = c.args.first; given = c.new.result; kept = c.new-2.result; none = c.args.none } in
+    record {
+      play = c.args.first;
+      given = c.new.result;
+      kept = c.new-2.result;
+      none = c.args.none;
+    } in
     record {
       on = subst (λ (rest : List Event). IsDelivering name c.args.now ls c.args.events.items
           c.args.first 0 rest made) same
@@ -37,7 +42,8 @@ loop-i-preserved c =
     let name = c.args.wanted.now.name in
     let ls = c.args.wanted.now.link.items in
     let es = c.args.events.items in
-    let on = subst (λ (rest : List Event). IsDelivering name c.args.now ls es c.args.first c.loop-i.i
+    let on =
+    subst (λ (rest : List Event). IsDelivering name c.args.now ls es c.args.first c.loop-i.i
     rest c.loop-i.made) c.in-Some.ensures.items c.loop-i.invariant.on in
     record {
       on = next_delivered name c.args.now ls es c.args.first c.loop-i.i c.in-Some.event

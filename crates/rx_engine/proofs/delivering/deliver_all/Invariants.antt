@@ -4,7 +4,8 @@ use Rattle.rx_sync.specs.Asking.{pending_in}
 use Rattle.rx_engine.proofs.EachEvent.{IsDelivering}
 use Rattle.rx_engine.proofs.delivering.deliver_all.Given as goal
 
--- so many events were delivered, and the others are to come; where it is said, nothing is to be pushed
+-- so many events were delivered, and the others are to come; where it is said,
+-- nothing is to be pushed
 abbrev pub invariant-loop-i : goal.invariant-loop-i
 invariant-loop-i l = record {
   on : IsDelivering l.wanted.name l.now l.wanted.link.items l.fn.events.items l.fn.first l.i

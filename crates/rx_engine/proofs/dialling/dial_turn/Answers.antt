@@ -12,7 +12,8 @@ use Rattle.rx_engine.proofs.dialling.dial_turn.Goals as goal
 
 pub returns-in_err-close-in-Ok-clause-turned : goal.returns-in_err-close-in-Ok-clause-turned
 returns-in_err-close-in-Ok-clause-turned g c =
-    ran_out_then g.D.Disk c.args.disk.now c.call_turn-made.new.disk c.args.play.journal.limit _ _ _ _
+    ran_out_then g.D.Disk c.args.disk.now c.call_turn-made.new.disk
+    c.args.play.journal.limit _ _ _ _
     _ c.call_turn-made.result c.call_turn-made.ensures.turned _ _ _ c.from_residual.result
     (search rules)
 
@@ -62,5 +63,6 @@ returns-in_ok-miss_turn-in-Err-clause-turned g c =
     missed_so g.D.Disk c.args.disk.now
     (λ told left e. g.met.D.Disk.only_now c.args.disk.now left told e) g.L.W.Wire.tells t
     c.args.wanted.now.batch c.args.wanted.now.budget c.args.play c.args.asks.now
-    c.miss_turn.new.asks _ _ c.in_ok-miss_turn-in-Err.field-0 c.in_ok-miss_turn-in-Err.ensures.missed
+    c.miss_turn.new.asks _ _ c.in_ok-miss_turn-in-Err.field-0
+    c.in_ok-miss_turn-in-Err.ensures.missed
     c.requires.budget c.in-Err.ensures.failed c.dial.ensures.same_broken c.dial.ensures.same_talks

@@ -28,7 +28,8 @@ returns-clause-world g c told bodies w lawful =
     c.in_ok-world.ensures.same ∙ c.in_ok-opened.ensures.world told bodies w lawful
 
 pub returns-clause-sound : goal.returns-clause-sound
-returns-clause-sound g c = subst IsSoundWorld (sym c.in_ok-world.ensures.same) c.in_ok-opened.ensures.sound
+returns-clause-sound g c =
+    subst IsSoundWorld (sym c.in_ok-world.ensures.same) c.in_ok-opened.ensures.sound
 
 pub returns-clause-unwatched : goal.returns-clause-unwatched
 returns-clause-unwatched g c =

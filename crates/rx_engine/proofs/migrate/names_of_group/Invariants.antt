@@ -9,4 +9,5 @@ use Rattle.rx_engine.proofs.migrate.names_of_group.Given as goal
 abbrev pub invariant-loop-at : goal.invariant-loop-at
 invariant-loop-at l =
     let w = world_of l.world in
-    texts l.names.items ≡ names_of_group (is_in_group w.replications l.coll) (take l.at w.collections)
+    texts l.names.items
+    ≡ names_of_group (is_in_group w.replications l.coll) (take l.at w.collections)

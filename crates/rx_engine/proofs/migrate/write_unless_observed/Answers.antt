@@ -10,7 +10,8 @@ returns-in-Some-clause-exact c =
     let s = c.args.session.now in
     let told : List ℕ → Option (List ℕ) =
     λ n. first_observed (is_in_group s.world.replications n) s.queries in
-    let at : Some c.in-Some.name.now ≡ told c.args.coll.now = c.in-Some.ensures ∙ ap told c.as_str.ensures in
+    let at : Some c.in-Some.name.now ≡ told c.args.coll.now =
+    c.in-Some.ensures ∙ ap told c.as_str.ensures in
     elim c.observed.ensures [
       | inl memory ↦ inl memory
       | inr is ↦ inr (observed_is c.args.coll.now (content c.args.entry) s c.in-Some.name.now

@@ -22,7 +22,8 @@ returns-in_err-journal-clause-safe g c told bodies w lawful =
     ∙ ap (λ (x : World). x.epoch + 1) (c.in_ok-opened.ensures.world told bodies w lawful) in
     same_stop g.D.Disk c.args.disk.now c.keep.new.disk bodies (epoch_body w ∷ []) c.args.limit _ _
     c.in_err-journal.field-0.0 c.from_residual-in_err-journal.result (search rules)
-    (begun_safely g.D.Disk c.args.disk.now c.open.new.disk c.keep.new.disk c.in_ok-opened.opened.0 bodies w
+    (begun_safely g.D.Disk c.args.disk.now c.open.new.disk c.keep.new.disk
+    c.in_ok-opened.opened.0 bodies w
     (c.epoch.result + 1) c.args.limit _ _ (Err c.in_err-journal.field-0.0) opened opened.at
     c.in_ok-opened.ensures.limit number
     (λ fits. c.in_err-journal.ensures.safe told (bodies ++ []) w opened.at fits opened.at.sound))
@@ -33,7 +34,8 @@ returns-in_err-world-clause-safe g c told bodies w lawful =
     let number : c.epoch.result + 1 ≡ w.epoch + 1 =
     ap (λ (n : ℕ). n + 1) c.epoch.ensures
     ∙ ap (λ (x : World). x.epoch + 1) (c.in_ok-opened.ensures.world told bodies w lawful) in
-    let safe = begun_safely g.D.Disk c.args.disk.now c.open.new.disk c.keep.new.disk c.in_ok-opened.opened.0 bodies w
+    let safe = begun_safely g.D.Disk c.args.disk.now c.open.new.disk c.keep.new.disk
+    c.in_ok-opened.opened.0 bodies w
     (c.epoch.result + 1) c.args.limit _ _ (Ok c.in_ok-journal.journal) opened opened.at
     c.in_ok-opened.ensures.limit number
     (λ fits. c.in_ok-journal.ensures.safe told (bodies ++ []) w opened.at fits opened.at.sound) in
@@ -48,7 +50,8 @@ returns-clause-safe g c told bodies w lawful =
     ∙ ap (λ (x : World). x.epoch + 1) (c.in_ok-opened.ensures.world told bodies w lawful) in
     answered g.D.Disk c.args.disk.now c.keep.new.disk bodies (epoch_body w ∷ []) c.args.limit _
     (λ o all. Holds g.D.Disk c.keep.new.disk o.journal all (next_epoch w)) _ _
-    (begun_safely g.D.Disk c.args.disk.now c.open.new.disk c.keep.new.disk c.in_ok-opened.opened.0 bodies w
+    (begun_safely g.D.Disk c.args.disk.now c.open.new.disk c.keep.new.disk
+    c.in_ok-opened.opened.0 bodies w
     (c.epoch.result + 1) c.args.limit _ _ (Ok c.in_ok-journal.journal) opened opened.at
     c.in_ok-opened.ensures.limit number
     (λ fits. c.in_ok-journal.ensures.safe told (bodies ++ []) w opened.at fits opened.at.sound))
@@ -80,7 +83,8 @@ returns-clause-illegal g c told illegal =
     let stood = c.in_ok-opened.ensures.stood told in absurd (illegal stood.0 stood.1 stood.2)
 
 pub returns-clause-sound : goal.returns-clause-sound
-returns-clause-sound g c = subst IsSoundWorld (sym c.in_ok-world.ensures.world) c.in_ok-opened.ensures.sound
+returns-clause-sound g c =
+    subst IsSoundWorld (sym c.in_ok-world.ensures.world) c.in_ok-opened.ensures.sound
 
 pub returns-in_err-journal-clause-cause : goal.returns-in_err-journal-clause-cause
 returns-in_err-journal-clause-cause g c =

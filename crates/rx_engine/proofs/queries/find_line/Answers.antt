@@ -13,8 +13,10 @@ returns-clause-exact c =
     let held = c.in_ok-live.live.now.collection in
     let q = asked c.in_ok-query.query in
     let rows = c.in_ok-rows.rows.items in
-    found_line c.args.coll.now (view c.args.query.now) c.args.session.now held q (outcome_of c.answer_alone.result)
+    found_line c.args.coll.now (view c.args.query.now) c.args.session.now held q
+    (outcome_of c.answer_alone.result)
     c.in_ok-live.ensures.exact
-    (ap (λ h. query_on h (view c.args.query.now)) (sym c.collection.ensures) ∙ c.in_ok-query.ensures.exact)
+    (ap (λ h. query_on h (view c.args.query.now)) (sym c.collection.ensures)
+    ∙ c.in_ok-query.ensures.exact)
     (rows_of rows)
     (found_rows q held.documents rows c.in_ok-rows.ensures) c.answer_alone.ensures

@@ -11,7 +11,8 @@ use Rattle.rx_engine.proofs.remote.call_turn.Given as goal
 abbrev pub invariant-loop-i : goal.invariant-loop-i
 invariant-loop-i g l = record {
   on : IsCalling (terms l.wanted.name l.now (kinds_of l.handlers)) l.wanted.batch g.D.Disk l.fn.disk
-      l.fn.first l.fn.asks l.wanted.budget g.W.Wire.tells (wire_stands g.W.Wire l.fn.wire) l.disk l.i
+      l.fn.first l.fn.asks l.wanted.budget g.W.Wire.tells
+      (wire_stands g.W.Wire l.fn.wire) l.disk l.i
       l.play l.asks l.exchanges (wire_stands g.W.Wire l.wire);
   none : l.pulled ≡ true → pending_in l.play.playing.world l.wanted.name ≡ Some 0;
   later : g.D.Disk.faults l.fn.disk ≤ g.D.Disk.faults l.disk;

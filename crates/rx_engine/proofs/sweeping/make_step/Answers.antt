@@ -16,7 +16,8 @@ pub turn_by_name-requires-clause-may : goal.turn_by_name-requires-clause-may
 turn_by_name-requires-clause-may g c =
     let kinds = kinds_of c.args.handlers.now in
     let asks = by_bytes c.args.remembered.now.asks.entries in
-    subst (λ (n : List ℕ). MayTurn (terms n c.args.now kinds) c.args.play.playing.world (asks_of n asks))
+    subst (λ (n : List ℕ).
+    MayTurn (terms n c.args.now kinds) c.args.play.playing.world (asks_of n asks))
     (sym c.in_ok-copy.ensures)
     (may_step kinds c.args.wanted.now.batch c.args.wanted.now.budget c.args.now c.requires.batch
     c.args.play c.args.remembered.now c.requires.good c.args.step.now.name c.requires.can)
@@ -38,7 +39,8 @@ set-requires-clause-others g c =
     c.in_ok-made.ensures.staged) in
     subst (λ (w : World). AreMarkedBut c.as_str-2.result.now w r.marks) (sym c.world-2.ensures)
     (subst (λ (n : List ℕ). AreMarkedBut n q.playing.world r.marks) (sym c.as_str-2.ensures)
-    (others_then kinds c.args.wanted.now.batch c.args.wanted.now.budget c.args.now c.requires.batch p r
+    (others_then kinds c.args.wanted.now.batch c.args.wanted.now.budget c.args.now
+    c.requires.batch p r
     c.requires.good name c.requires.can q follows))
 
 pub returns-clause-good : goal.returns-clause-good

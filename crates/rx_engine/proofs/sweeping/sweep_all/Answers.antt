@@ -20,7 +20,8 @@ loop-step-init g c =
     let first = c.args.first in
     let asks = by_bytes c.args.remembered.now.asks.entries in
     let steps = c.deref-step-items.result.now in
-    let total = sweep (sweep_terms v.batch v.budget c.args.now kinds) steps first.playing.world asks in
+    let total = sweep (sweep_terms v.batch v.budget c.args.now kinds) steps
+    first.playing.world asks in
     record {
       good = c.requires.good;
       can = subst (λ (xs : List Step). CanSweep kinds first.playing xs)
@@ -43,7 +44,8 @@ make_step-requires-clause-can g c =
     let first = c.args.first in
     let asks = by_bytes c.args.remembered.now.asks.entries in
     let steps = c.deref-step-items.result.now in
-    let total = sweep (sweep_terms v.batch v.budget c.args.now kinds) steps first.playing.world asks in
+    let total = sweep (sweep_terms v.batch v.budget c.args.now kinds) steps
+    first.playing.world asks in
     let i = c.loop-step.step-index in
     let step = c.step-item.result in
     let at = slice_get_read steps (length steps) i step refl c.loop-step-test.true c.step-item.is in
@@ -57,7 +59,8 @@ returns-then-not-is_quiet-clause-swept g c =
     let first = c.args.first in
     let asks = by_bytes c.args.remembered.now.asks.entries in
     let steps = c.deref-step-items.result.now in
-    let total = sweep (sweep_terms v.batch v.budget c.args.now kinds) steps first.playing.world asks in
+    let total = sweep (sweep_terms v.batch v.budget c.args.now kinds) steps
+    first.playing.world asks in
     let i = c.loop-step.step-index in
     let step = c.step-item.result in
     let at = slice_get_read steps (length steps) i step refl c.loop-step-test.true c.step-item.is in
@@ -69,9 +72,11 @@ returns-then-not-is_quiet-clause-swept g c =
     subst (λ (xs : List Step). IsSwept (sweep (sweep_terms v.batch v.budget c.args.now kinds) xs
     first.playing.world asks) first last (by_bytes c.make_step.new.remembered.asks.entries))
     c.deref-step-items.ensures.value
-    (swept_last kinds v.batch v.budget c.args.now first steps total c.requires.batch i c.loop-step.play
+    (swept_last kinds v.batch v.budget c.args.now first steps total c.requires.batch i
+    c.loop-step.play
     c.loop-step.remembered c.loop-step.turns c.loop-step.invariant step at c.in_ok-next.next
-    c.in_ok-next.turn c.make_step.new.remembered c.in_ok-next.ensures.stepped c.in_ok-next.ensures.good
+    c.in_ok-next.turn c.make_step.new.remembered c.in_ok-next.ensures.stepped
+    c.in_ok-next.ensures.good
     c.push.new.self c.in_ok-push.ensures.ok (sym c.is_quiet.ensures ∙ c.if-not-is_quiet.true) last
     refl refl refl)
 
@@ -82,7 +87,8 @@ loop-step-preserved g c =
     let first = c.args.first in
     let asks = by_bytes c.args.remembered.now.asks.entries in
     let steps = c.deref-step-items.result.now in
-    let total = sweep (sweep_terms v.batch v.budget c.args.now kinds) steps first.playing.world asks in
+    let total = sweep (sweep_terms v.batch v.budget c.args.now kinds) steps
+    first.playing.world asks in
     let i = c.loop-step.step-index in
     let step = c.step-item.result in
     let at = slice_get_read steps (length steps) i step refl c.loop-step-test.true c.step-item.is in
@@ -99,8 +105,10 @@ returns-clause-swept g c =
     let first = c.args.first in
     let asks = by_bytes c.args.remembered.now.asks.entries in
     let steps = c.deref-step-items.result.now in
-    let total = sweep (sweep_terms v.batch v.budget c.args.now kinds) steps first.playing.world asks in
-    let last : MadeSweep = record { play = c.loop-step.play; turns = c.loop-step.turns; ended = Quiet } in
+    let total = sweep (sweep_terms v.batch v.budget c.args.now kinds) steps
+    first.playing.world asks in
+    let last : MadeSweep =
+    record { play = c.loop-step.play; turns = c.loop-step.turns; ended = Quiet } in
     subst (λ (xs : List Step). IsSwept (sweep (sweep_terms v.batch v.budget c.args.now kinds) xs
     first.playing.world asks) first last (by_bytes c.loop-step.remembered.asks.entries))
     c.deref-step-items.ensures.value

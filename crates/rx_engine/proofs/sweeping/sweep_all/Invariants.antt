@@ -11,5 +11,6 @@ invariant-loop-step g l =
     let kinds = kinds_of l.handlers in
     IsSweeping kinds l.wanted.batch l.wanted.budget l.now l.fn.first l.step-items
     (sweep (sweep_terms l.wanted.batch l.wanted.budget l.now kinds) l.step-items
-    l.fn.first.playing.world (by_bytes l.fn.remembered.asks.entries)) l.step-index l.play l.remembered
+    l.fn.first.playing.world (by_bytes l.fn.remembered.asks.entries)) l.step-index
+    l.play l.remembered
     l.turns

@@ -11,16 +11,25 @@ use Rattle.rx_engine.proofs.writes.update_line.Goals as goal
 pub returns-in_err-doing-clause-exact : goal.returns-in_err-doing-clause-exact
 returns-in_err-doing-clause-exact g c =
     refused_on Memory outcome_of c.from_residual-in_err-doing.result
-    (update_line c.args.coll.now c.args.key (view c.args.update.now) c.args.rev.now c.args.session.now) c.in_err-doing.field-0.0
+    (update_line c.args.coll.now c.args.key
+    (view c.args.update.now) c.args.rev.now c.args.session.now) c.in_err-doing.field-0.0
     c.from_residual-in_err-doing.ensures.1
-    (state_refused c.args.coll.now (λ held. update_state held c.args.session.now.hooks.attached c.args.key (view c.args.update.now) c.args.rev.now) update
+    (state_refused c.args.coll.now (λ held. update_state held c.args.session.now.hooks.attached
+    c.args.key (view c.args.update.now) c.args.rev.now) update
     c.args.session.now c.in_ok-collection.collection.now c.in_ok-state.state
-    c.in_ok-collection.ensures.exact c.in_ok-collection.ensures.called (ap (λ hooks. update_state c.in_ok-collection.collection.now hooks c.args.key (view c.args.update.now) c.args.rev.now) (sym c.attached_in-attached.ensures) ∙ c.in_ok-state.ensures.exact)
+    c.in_ok-collection.ensures.exact c.in_ok-collection.ensures.called
+    (ap (λ hooks. update_state c.in_ok-collection.collection.now hooks c.args.key
+    (view c.args.update.now) c.args.rev.now) (sym c.attached_in-attached.ensures)
+    ∙ c.in_ok-state.ensures.exact)
     c.in_err-doing.field-0.0 (c.in_err-doing.ensures.exact update))
 
 pub returns-clause-exact : goal.returns-clause-exact
 returns-clause-exact g c =
-    state_written c.args.coll.now (λ held. update_state held c.args.session.now.hooks.attached c.args.key (view c.args.update.now) c.args.rev.now) update
+    state_written c.args.coll.now (λ held. update_state held c.args.session.now.hooks.attached
+    c.args.key (view c.args.update.now) c.args.rev.now) update
     c.args.session.now c.in_ok-collection.collection.now c.in_ok-state.state
-    c.in_ok-collection.ensures.exact c.in_ok-collection.ensures.called (ap (λ hooks. update_state c.in_ok-collection.collection.now hooks c.args.key (view c.args.update.now) c.args.rev.now) (sym c.attached_in-attached.ensures) ∙ c.in_ok-state.ensures.exact)
+    c.in_ok-collection.ensures.exact c.in_ok-collection.ensures.called
+    (ap (λ hooks. update_state c.in_ok-collection.collection.now hooks c.args.key
+    (view c.args.update.now) c.args.rev.now) (sym c.attached_in-attached.ensures)
+    ∙ c.in_ok-state.ensures.exact)
     ∙ c.in_ok-doing.ensures.exact update

@@ -11,19 +11,25 @@ loop-entry-preserved-in_ok-insert c =
     let all = c.loop-entry.all.entries in
     let entry = c.in-Some.entry in
     let known = c.args.known.entries in
-    one_more c.args.steps.now all c.insert.new.self.entries c.next.new.self known entry c.in_ok-next.next
-    (subst (λ (es : List (String Global × State)). by_bytes all ++ known_after c.args.steps.now (by_bytes es)
+    one_more c.args.steps.now all c.insert.new.self.entries c.next.new.self known entry
+    c.in_ok-next.next
+    (subst (λ (es : List (String Global × State)).
+    by_bytes all ++ known_after c.args.steps.now (by_bytes es)
     ≡ known_after c.args.steps.now (by_bytes known)) c.in-Some.ensures.steps c.loop-entry.invariant)
     c.requires c.in_ok-next.ensures
-    (ap by_bytes c.in_ok-insert.ensures.entries ∙ by_bytes-tree_insert all entry.0 c.in_ok-next.next)
+    (ap by_bytes c.in_ok-insert.ensures.entries
+    ∙ by_bytes-tree_insert all entry.0 c.in_ok-next.next)
 
 pub loop-entry-preserved : goal.loop-entry-preserved
 loop-entry-preserved c =
     let all = c.loop-entry.all.entries in
     let entry = c.in-Some.entry in
     let known = c.args.known.entries in
-    one_more c.args.steps.now all c.insert.new.self.entries c.next.new.self known entry c.in_ok-next.next
-    (subst (λ (es : List (String Global × State)). by_bytes all ++ known_after c.args.steps.now (by_bytes es)
+    one_more c.args.steps.now all c.insert.new.self.entries c.next.new.self known entry
+    c.in_ok-next.next
+    (subst (λ (es : List (String Global × State)).
+    by_bytes all ++ known_after c.args.steps.now (by_bytes es)
     ≡ known_after c.args.steps.now (by_bytes known)) c.in-Some.ensures.steps c.loop-entry.invariant)
     c.requires c.in_ok-next.ensures
-    (ap by_bytes c.in_ok-insert.ensures.entries ∙ by_bytes-tree_insert all entry.0 c.in_ok-next.next)
+    (ap by_bytes c.in_ok-insert.ensures.entries
+    ∙ by_bytes-tree_insert all entry.0 c.in_ok-next.next)

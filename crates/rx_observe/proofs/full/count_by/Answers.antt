@@ -11,5 +11,6 @@ count-requires-clause-keyed c =
 pub count-requires-clause-held : goal.count-requires-clause-held
 count-requires-clause-held c =
     let plan = c.in_ok-plan.plan in
-    held_at c.args.collection.now.documents (is_between plan.low plan.high) c.args.indexes.now plan.index
+    held_at c.args.collection.now.documents
+    (is_between plan.low plan.high) c.args.indexes.now plan.index
     c.requires.indexed.held

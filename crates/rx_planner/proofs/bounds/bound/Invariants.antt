@@ -7,5 +7,6 @@ use Rattle.rx_planner.proofs.bounds.bound.Given as goal
 -- the values so far, and the bound of what is left
 abbrev pub invariant-loop-field : goal.invariant-loop-field
 invariant-loop-field l =
-    onto l.values.items (bound_at (asked l.query) l.up (map (λ f. f.now) (drop l.field-index l.path)))
+    onto l.values.items
+    (bound_at (asked l.query) l.up (map (λ f. f.now) (drop l.field-index l.path)))
     ≡ bound_of (asked l.query) l.up (map (λ f. f.now) l.path)

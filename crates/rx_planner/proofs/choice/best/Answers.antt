@@ -14,7 +14,8 @@ loop-i-preserved c =
     let was = c.loop-i.invariant.scored in
     let is : c.in_ok-score.score ≡ score q (path_at q names i) =
     c.in_ok-score.ensures
-    ∙ ap (score q) (sym (path_read q c.args.indexes.now i c.index-indexes-i.result c.index-indexes-i.is
+    ∙ ap (score q)
+    (sym (path_read q c.args.indexes.now i c.index-indexes-i.result c.index-indexes-i.is
     (omega arith))) in
     elim c.if-score-greatest.branch [
       | then-score-greatest w ↦

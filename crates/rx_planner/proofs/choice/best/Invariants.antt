@@ -8,5 +8,6 @@ use Rattle.rx_planner.proofs.choice.best.Given as goal
 abbrev pub invariant-loop-i : goal.invariant-loop-i
 invariant-loop-i l = record {
   wins : IsBest (asked l.query) (map (λ i. i.fields) l.indexes) l.i l.best;
-  scored : l.greatest ≡ score (asked l.query) (path_at (asked l.query) (map (λ i. i.fields) l.indexes) l.best);
+  scored : l.greatest
+      ≡ score (asked l.query) (path_at (asked l.query) (map (λ i. i.fields) l.indexes) l.best);
 }

@@ -7,5 +7,6 @@ use Rattle.rx_planner.proofs.closed.closed.Given as goal
 -- the values so far, and the bound of what is left
 abbrev pub invariant-loop-field : goal.invariant-loop-field
 invariant-loop-field l =
-    onto l.values.items (closed_at (asked l.query) l.up (map (λ f. f.now) (drop l.field-index l.path)))
+    onto l.values.items
+    (closed_at (asked l.query) l.up (map (λ f. f.now) (drop l.field-index l.path)))
     ≡ closed_of (asked l.query) l.up (map (λ f. f.now) l.path)

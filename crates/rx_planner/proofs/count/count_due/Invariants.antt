@@ -6,7 +6,8 @@ use Rattle.rx_planner.proofs.count.count_due.Given as goal
 -- the due documents so far and those to come
 abbrev pub invariant-loop-entry : goal.invariant-loop-entry
 invariant-loop-entry g l = record {
-  counted : l.count + length (due_among (asked l.query) (g.T.Lookup.documents l.docs) l.entry-iterator)
+  counted : l.count
+      + length (due_among (asked l.query) (g.T.Lookup.documents l.docs) l.entry-iterator)
       ≡ length (due_among (asked l.query) (g.T.Lookup.documents l.docs) l.initial.entry-iterator);
   fits : l.count + length l.entry-iterator < 2 ^ 63;
   can_next : (goal.iterator-loop-entry g).can_next l.entry-iterator;

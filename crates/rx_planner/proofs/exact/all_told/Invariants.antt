@@ -8,4 +8,5 @@ use Rattle.rx_planner.proofs.exact.all_told.Given as goal
 abbrev pub invariant-loop-clause : goal.invariant-loop-clause
 invariant-loop-clause l =
     all_told (asked l.query) (map (λ f. f.now) l.path) (clauses_view l.clauses)
-    ≡ all_told (asked l.query) (map (λ f. f.now) l.path) (clauses_view (drop l.clause-index l.clauses))
+    ≡ all_told (asked l.query) (map (λ f. f.now) l.path)
+    (clauses_view (drop l.clause-index l.clauses))

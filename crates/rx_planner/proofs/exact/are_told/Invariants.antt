@@ -8,4 +8,5 @@ use Rattle.rx_planner.proofs.exact.are_told.Given as goal
 abbrev pub invariant-loop-test : goal.invariant-loop-test
 invariant-loop-test l =
     are_told (asked l.query) (map (λ f. f.now) l.path) l.name (tests_view l.tests)
-    ≡ are_told (asked l.query) (map (λ f. f.now) l.path) l.name (tests_view (drop l.test-index l.tests))
+    ≡ are_told (asked l.query) (map (λ f. f.now) l.path) l.name
+    (tests_view (drop l.test-index l.tests))

@@ -7,4 +7,5 @@ use Rattle.rx_planner.proofs.exact.is_told.Given as goal
 abbrev pub invariant-loop-field : goal.invariant-loop-field
 invariant-loop-field l =
     is_told (asked l.query) (map (λ f. f.now) l.path) l.name l.which l.operand
-    ≡ is_told (asked l.query) (map (λ f. f.now) (drop l.field-index l.path)) l.name l.which l.operand
+    ≡ is_told (asked l.query)
+    (map (λ f. f.now) (drop l.field-index l.path)) l.name l.which l.operand

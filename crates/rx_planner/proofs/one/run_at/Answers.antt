@@ -23,7 +23,8 @@ pub returns : goal.returns
 returns g c =
     let now : Bor Stored → Stored = λ r. r.now in
     ap (map now)
-    (c.in_ok-push.ensures.items ∙ ap (λ rows. rows ++ c.in-Some.document ∷ []) c.new-rows.ensures.items)
+    (c.in_ok-push.ensures.items
+    ∙ ap (λ rows. rows ++ c.in-Some.document ∷ []) c.new-rows.ensures.items)
     ∙ one_shown (asked c.args.query.now) c.args.id.now (g.T.Lookup.documents c.args.docs.now)
     c.requires.fixed c.requires.keyed (sym c.shows_first.ensures ∙ c.if-not-shows_first.false)
     (Some c.in-Some.document.now) (sym (ap (option_map now) c.in-Some.is) ∙ c.due_at.ensures)

@@ -16,9 +16,11 @@ returns c =
     ap (map now) c.as_slice.ensures.value ∙ c.in_ok-sorts.ensures in
     let rest : map now (take (length path - c.leading.result) (drop c.leading.result path))
     ≡ rest_of q (map now path) =
-    ap (map now) (take_rest path c.leading.result) ∙ map-drop now c.leading.result path ∙ ap (λ n. drop n (map now path)) c.leading.ensures.value in
+    ap (map now) (take_rest path c.leading.result) ∙ map-drop now c.leading.result path
+    ∙ ap (λ n. drop n (map now path)) c.leading.ensures.value in
     c.are_same.ensures
-    ∙ ap (λ xs. pointwise bytes_eq xs (map now (take (length path - c.leading.result) (drop c.leading.result path)))) sorts
+    ∙ ap (λ xs. pointwise bytes_eq xs
+    (map now (take (length path - c.leading.result) (drop c.leading.result path)))) sorts
     ∙ ap (pointwise bytes_eq (sort_path q)) rest
     ∙ ap (λ b. b && pointwise bytes_eq (sort_path q) (rest_of q (map now path)))
     (sym (sym c.rises_freely.ensures ∙ c.if-not-rises_freely.false))

@@ -13,5 +13,6 @@ loop-i-preserved c =
     ∙ map-append now c.loop-i.path.items (c.as_str.result ∷ [])
     ∙ ap (λ xs. xs ++ now c.as_str.result ∷ []) c.loop-i.invariant
     ∙ ap (λ x. map (λ s. s.0) (take i sorts) ++ x ∷ []) c.as_str.ensures
-    ∙ sym (ap (map (λ s. s.0)) (take_up_to sorts i (c.sort.result.0.now, c.sort.result.1) c.sort.ensures)
+    ∙ sym (ap (map (λ s. s.0))
+    (take_up_to sorts i (c.sort.result.0.now, c.sort.result.1) c.sort.ensures)
     ∙ map-append (λ s. s.0) (take i sorts) ((c.sort.result.0.now, c.sort.result.1) ∷ []))

@@ -25,6 +25,7 @@ loop-i-preserved c =
     let field = c.sort.result.0.now in
     let here : bytes_eq name field ≡ false =
     ap (bytes_eq name) (sym c.as_str.ensures) ∙ sym c.eq.ensures ∙ c.if-eq.false in
-    sym (ap (λ xs. is_some (named xs name)) (drop_at sorts i (field, c.sort.result.1) c.sort.ensures)
+    sym (ap (λ xs. is_some (named xs name))
+    (drop_at sorts i (field, c.sort.result.1) c.sort.ensures)
     ∙ ap (λ b. is_some (cond b (Some c.sort.result.1) (named (drop (i + 1) sorts) name))) here)
     ∙ c.loop-i.invariant

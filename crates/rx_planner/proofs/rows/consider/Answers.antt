@@ -54,7 +54,9 @@ returns c = λ all rest s.
     let n = c.args.wanted in
     let d = c.args.document.now in
     let rows = c.args.rows.now.items in
-    let pushed = ap (map now) c.in_ok-push.ensures.items ∙ map-append now rows (c.args.document ∷ []) in
+    let pushed = ap (map now) c.in_ok-push.ensures.items
+    ∙ map-append now rows (c.args.document ∷ []) in
     stand_settled q n all (map now c.push.new.self.items) (map now c.settle.new.rows.items) rest
-    (subst (λ xs. StandsFor q n all xs rest) (sym pushed) (stand_with q n all (map now rows) rest d s))
+    (subst (λ xs. StandsFor q n all xs rest) (sym pushed)
+    (stand_with q n all (map now rows) rest d s))
     c.settle.ensures

@@ -18,10 +18,12 @@ four_parts old byte p q r s o1 o2 o3 o4 o5 e1 e2 e3 e4 e5 =
 pub returns-clause-bytes : goal.returns-clause-bytes
 returns-clause-bytes c =
     IfOk-weaker c.put_place_if_there-2.result _ _
-    (λ _ bytes. four_parts c.args.out.now.items 8 (text_bytes c.args.name.now) (states_bytes c.args.known.now)
+    (λ _ bytes.
+    four_parts c.args.out.now.items 8 (text_bytes c.args.name.now) (states_bytes c.args.known.now)
     (option_bytes place_bytes c.args.up.now) (option_bytes place_bytes c.args.down.now) _ _ _ _ _
     c.in_ok-push.ensures.items
-    (c.in_ok-put_text.ensures.bytes ∙ ap (λ (t : List ℕ). c.push.new.self.items ++ text_bytes t) c.as_str.ensures)
+    (c.in_ok-put_text.ensures.bytes
+    ∙ ap (λ (t : List ℕ). c.push.new.self.items ++ text_bytes t) c.as_str.ensures)
     c.in_ok-put_states.ensures.bytes c.in_ok-put_place_if_there.ensures.bytes bytes)
     c.put_place_if_there-2.ensures.bytes
 

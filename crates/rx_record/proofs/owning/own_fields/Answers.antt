@@ -17,7 +17,8 @@ loop-pair-preserved c =
     let split : fields_in bytes ≡ owned ++ pair ∷ left =
     c.loop-pair.invariant.0 ∙ ap (λ (l : Pairs). owned ++ l) c.in-Some.ensures.some in
     let pushed : c.push.new.self.items ≡ owned ++ pair ∷ [] = search rules in (
-      split ∙ sym (append_assoc owned (pair ∷ []) left) ∙ ap (λ (l : Pairs). l ++ left) (sym pushed),
+      split ∙ sym (append_assoc owned (pair ∷ []) left)
+          ∙ ap (λ (l : Pairs). l ++ left) (sym pushed),
       c.in-Some.ensures.end ∙ c.loop-pair.invariant.1,
     )
 

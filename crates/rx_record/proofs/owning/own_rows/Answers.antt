@@ -10,16 +10,20 @@ loop-left-init c = record { read = read_whole _ (search rules); all = search rul
 
 pub own_row-requires : goal.own_row-requires
 own_row-requires c =
-    first_read (λ _. []) key_of row_of c.loop-left.left (option_map (λ t. t.now) c.loop-left.last) c.loop-left.rest.now
+    first_read (λ _. []) key_of row_of c.loop-left.left
+    (option_map (λ t. t.now) c.loop-left.last) c.loop-left.rest.now
     c.loop-left-test.true c.loop-left.invariant.read
 
 pub loop-left-preserved : goal.loop-left-preserved
 loop-left-preserved c =
-    let next = next_read (λ _. []) key_of row_of c.loop-left.left (option_map (λ t. t.now) c.loop-left.last)
+    let next = next_read (λ _. []) key_of row_of c.loop-left.left
+    (option_map (λ t. t.now) c.loop-left.last)
     c.loop-left.rest.now _ _ _ c.loop-left-test.true c.in_ok-row.ensures.row c.in_ok-row.ensures.key
     c.loop-left.invariant.read in
-    let others = read_or [] (rows_from (c.loop-left.left - 1) (Some c.in_ok-row.key.now) c.in_ok-row.behind.now) in
-    let pushed : c.push.new.self.items ≡ c.loop-left.owned.items ++ c.in_ok-row.row ∷ [] = search rules in
+    let others = read_or []
+    (rows_from (c.loop-left.left - 1) (Some c.in_ok-row.key.now) c.in_ok-row.behind.now) in
+    let pushed : c.push.new.self.items ≡ c.loop-left.owned.items ++ c.in_ok-row.row ∷ [] =
+    search rules in
     record {
       read = next.0;
       all = c.loop-left.invariant.all ∙ ap (λ l. c.loop-left.owned.items ++ l) next.1

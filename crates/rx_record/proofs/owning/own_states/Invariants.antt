@@ -8,7 +8,8 @@ use Rattle.rx_record.proofs.owning.own_states.Given as goal
 abbrev pub invariant-loop-left : goal.invariant-loop-left
 invariant-loop-left l = record {
   read : is_read (states_from l.left (option_map (λ t. t.now) l.last) l.rest) ≡ true;
-  all : states_left l.known ≡ l.owned.items ++ read_or [] (states_from l.left (option_map (λ t. t.now) l.last) l.rest);
+  all : states_left l.known
+      ≡ l.owned.items ++ read_or [] (states_from l.left (option_map (λ t. t.now) l.last) l.rest);
 }
 
 abbrev pub decreases-loop-left : goal.decreases-loop-left

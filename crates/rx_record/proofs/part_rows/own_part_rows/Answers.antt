@@ -8,5 +8,7 @@ loop-row-preserved c =
     let row = part_row_in c.in-Some.row in
     let left = part_rows_left c.next.new.self in
     let pushed : c.push.new.self.items ≡ c.loop-row.owned.items ++ row ∷ [] = search rules in
-    c.loop-row.invariant ∙ ap (λ (l : List PartRow). c.loop-row.owned.items ++ l) c.in-Some.ensures.some
-    ∙ sym (append_assoc c.loop-row.owned.items (row ∷ []) left) ∙ ap (λ (l : List PartRow). l ++ left) (sym pushed)
+    c.loop-row.invariant
+    ∙ ap (λ (l : List PartRow). c.loop-row.owned.items ++ l) c.in-Some.ensures.some
+    ∙ sym (append_assoc c.loop-row.owned.items (row ∷ []) left)
+    ∙ ap (λ (l : List PartRow). l ++ left) (sym pushed)

@@ -15,17 +15,23 @@ loop-row-preserved c =
     let before = c.put_count.new.out.items in
     let front = all_bytes part_row_bytes (take c.loop-row.row-index rows) in
     let there : slice_get rows c.loop-row.row-index ≡ Some row =
-    slice_get_read rows (length rows) c.loop-row.row-index row refl (omega (arith, c.loop-row-test.true)) c.row-item.is in
+    slice_get_read rows (length rows) c.loop-row.row-index row refl
+    (omega (arith, c.loop-row-test.true)) c.row-item.is in
     record {
       bytes =
-          three_more before front (number_bytes w64 row.lwt) (number_bytes w64 row.height) (state_bytes row.state) _ _ _ _
-          c.loop-row.invariant.bytes c.in_ok-put_long.ensures.bytes c.in_ok-put_long-2.ensures.bytes c.in_ok-put_state.ensures.bytes
-          ∙ ap (λ (l : List ℕ). before ++ l) (sym (one_more part_row_bytes rows c.loop-row.row-index row there));
+          three_more before front (number_bytes w64 row.lwt) (number_bytes w64 row.height)
+          (state_bytes row.state) _ _ _ _
+          c.loop-row.invariant.bytes c.in_ok-put_long.ensures.bytes c.in_ok-put_long-2.ensures.bytes
+          c.in_ok-put_state.ensures.bytes
+          ∙ ap (λ (l : List ℕ). before ++ l)
+          (sym (one_more part_row_bytes rows c.loop-row.row-index row there));
       back =
           all_more PartRowReadsBack rows c.loop-row.row-index row there c.loop-row.invariant.back
-          (part_row_reads_back row c.in_ok-put_long.ensures.back c.in_ok-put_long-2.ensures.back c.in_ok-put_state.ensures.back);
+          (part_row_reads_back row c.in_ok-put_long.ensures.back c.in_ok-put_long-2.ensures.back
+          c.in_ok-put_state.ensures.back);
     }
 
 pub returns-clause-back : goal.returns-clause-back
 returns-clause-back c rising =
-    part_rows_read_back c.args.rows.now c.loop-row.row-index (omega (arith, c.loop-row-test.false)) rising c.loop-row.invariant.back
+    part_rows_read_back c.args.rows.now c.loop-row.row-index
+    (omega (arith, c.loop-row-test.false)) rising c.loop-row.invariant.back

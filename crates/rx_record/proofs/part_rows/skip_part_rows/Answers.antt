@@ -8,5 +8,7 @@ use Rattle.rx_record.proofs.part_rows.skip_part_rows.Goals as goal
 pub loop-left-preserved : goal.loop-left-preserved
 loop-left-preserved c =
     c.loop-left.invariant
-    ∙ after_step part_row_bytes row_place part_row_of c.loop-left.left (option_map place_in c.loop-left.last)
-    c.loop-left.rest.now (part_row_in c.in_ok-row.row) c.in_ok-row.behind.now c.loop-left-test.true c.in_ok-row.ensures
+    ∙ after_step part_row_bytes row_place part_row_of c.loop-left.left
+    (option_map place_in c.loop-left.last)
+    c.loop-left.rest.now
+    (part_row_in c.in_ok-row.row) c.in_ok-row.behind.now c.loop-left-test.true c.in_ok-row.ensures

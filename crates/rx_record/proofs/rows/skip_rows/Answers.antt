@@ -8,4 +8,5 @@ pub loop-left-preserved : goal.loop-left-preserved
 loop-left-preserved c =
     c.loop-left.invariant
     ∙ after_step row_bytes key_of row_of c.loop-left.left (option_map (λ t. t.now) c.loop-left.last)
-    c.loop-left.rest.now (row_in c.in_ok-row.row) c.in_ok-row.behind.now c.loop-left-test.true c.in_ok-row.ensures
+    c.loop-left.rest.now
+    (row_in c.in_ok-row.row) c.in_ok-row.behind.now c.loop-left-test.true c.in_ok-row.ensures

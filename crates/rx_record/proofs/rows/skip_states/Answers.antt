@@ -7,5 +7,7 @@ use Rattle.rx_record.proofs.rows.skip_states.Goals as goal
 pub loop-left-preserved : goal.loop-left-preserved
 loop-left-preserved c =
     c.loop-left.invariant
-    ∙ after_step state_bytes state_key state_of c.loop-left.left (option_map (λ t. t.now) c.loop-left.last)
-    c.loop-left.rest.now (state_in c.in_ok-state.state) c.in_ok-state.behind.now c.loop-left-test.true c.in_ok-state.ensures
+    ∙ after_step state_bytes state_key state_of c.loop-left.left
+    (option_map (λ t. t.now) c.loop-left.last)
+    c.loop-left.rest.now (state_in c.in_ok-state.state) c.in_ok-state.behind.now
+    c.loop-left-test.true c.in_ok-state.ensures

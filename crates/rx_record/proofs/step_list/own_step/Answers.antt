@@ -9,4 +9,5 @@ returns-clause-lawful c =
     let rest = c.in-Ok.rest.now in
     let read : step_of c.args.bytes.now ≡ Ok (step, rest) =
     c.in-Ok.ensures ∙ ap (λ s. Ok (s, rest)) (sym c.in_ok-own.ensures) in
-    (step_format.keeps c.args.bytes.now step rest (λ i. let small = c.type_inv.bytes i in omega (arith, small)) read).step
+    (step_format.keeps c.args.bytes.now step rest
+    (λ i. let small = c.type_inv.bytes i in omega (arith, small)) read).step

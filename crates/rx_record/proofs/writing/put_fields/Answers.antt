@@ -23,14 +23,16 @@ loop-i-preserved c =
       bytes =
           c.in_ok-put_value.ensures.bytes
           ∙ ap (λ (l : List ℕ). l ++ value_bytes value)
-          (c.in_ok-put_text.ensures.bytes ∙ ap (λ (l : List ℕ). l ++ text_bytes c.as_str.result.now) c.loop-i.invariant.bytes
+          (c.in_ok-put_text.ensures.bytes
+          ∙ ap (λ (l : List ℕ). l ++ text_bytes c.as_str.result.now) c.loop-i.invariant.bytes
           ∙ ap (λ (t : List ℕ). (before ++ front) ++ text_bytes t) c.as_str.ensures)
           ∙ append_assoc (before ++ front) (text_bytes name) (value_bytes value)
           ∙ append_assoc before front (pair_bytes (name, value))
           ∙ ap (λ (l : List ℕ). before ++ l)
           (sym (one_more pair_bytes fields c.loop-i.i (name, value) c.at.ensures));
       back =
-          all_more PairReadsBack fields c.loop-i.i (name, value) c.at.ensures c.loop-i.invariant.back
+          all_more PairReadsBack fields c.loop-i.i
+          (name, value) c.at.ensures c.loop-i.invariant.back
           (pair_reads_back (name, value)
           (subst (ShortReadsBack text_bytes text_of) c.as_str.ensures c.in_ok-put_text.ensures.back)
           c.in_ok-put_value.ensures.back);
@@ -38,4 +40,6 @@ loop-i-preserved c =
 
 pub returns-clause-back : goal.returns-clause-back
 returns-clause-back c =
-    fields_read_back c.args.fields.now c.loop-i.i (omega (arith, c.loop-i-test.false, c.len-i-end.ensures)) c.len-i-end.ensures.lawful.rising c.loop-i.invariant.back
+    fields_read_back c.args.fields.now c.loop-i.i
+    (omega (arith, c.loop-i-test.false, c.len-i-end.ensures)) c.len-i-end.ensures.lawful.rising
+    c.loop-i.invariant.back

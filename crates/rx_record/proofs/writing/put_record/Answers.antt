@@ -15,9 +15,12 @@ returns-in_ok-put_long-in-Rows-clause-back c ordered =
     let rows : List RowOut = c.in-Rows.rows.items in
     let is : c.as_slice.result.now ≡ rows = c.as_slice.ensures.value in
     let rise : KeysRise rows = subst (λ w. IsOrdered (content w)) c.in-Rows.is ordered in
-    subst (λ (w : Record). IfOk c.put_rows.result (λ _. ShortReadsBack content_bytes content_of (content w))) (sym c.in-Rows.is)
+    subst (λ (w : Record).
+    IfOk c.put_rows.result (λ _. ShortReadsBack content_bytes content_of (content w)))
+    (sym c.in-Rows.is)
     (IfOk-weaker c.put_rows.result _ _
     (λ _ back. written_reads_back c.in-Rows.name c.in-Rows.lwt rows
-    (subst (ShortReadsBack text_bytes text_of) c.as_str-in-Rows.ensures c.in_ok-put_text-in-Rows.ensures.back)
+    (subst (ShortReadsBack text_bytes text_of) c.as_str-in-Rows.ensures
+    c.in_ok-put_text-in-Rows.ensures.back)
     c.in_ok-put_long-in-Rows.ensures.back (subst (ShortReadsBack rows_bytes rows_of) is back))
     (c.put_rows.ensures.back (subst KeysRise (sym is) rise)))

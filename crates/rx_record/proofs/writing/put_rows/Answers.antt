@@ -13,15 +13,18 @@ loop-row-preserved c =
     let before = c.put_count.new.out.items in
     let front = all_bytes row_bytes (take c.loop-row.row-index rows) in
     let there : slice_get rows c.loop-row.row-index ≡ Some row =
-    slice_get_read rows (length rows) c.loop-row.row-index row refl (omega (arith, c.loop-row-test.true)) c.row-item.is in
+    slice_get_read rows (length rows) c.loop-row.row-index row refl
+    (omega (arith, c.loop-row-test.true)) c.row-item.is in
     record {
       bytes =
           c.in_ok-put_state.ensures.bytes
           ∙ ap (λ (l : List ℕ). l ++ state_bytes row.state)
-          (c.in_ok-put_long.ensures.bytes ∙ ap (λ (l : List ℕ). l ++ number_bytes w64 row.height) c.loop-row.invariant.bytes)
+          (c.in_ok-put_long.ensures.bytes
+          ∙ ap (λ (l : List ℕ). l ++ number_bytes w64 row.height) c.loop-row.invariant.bytes)
           ∙ append_assoc (before ++ front) (number_bytes w64 row.height) (state_bytes row.state)
           ∙ append_assoc before front (row_bytes row)
-          ∙ ap (λ (l : List ℕ). before ++ l) (sym (one_more row_bytes rows c.loop-row.row-index row there));
+          ∙ ap (λ (l : List ℕ). before ++ l)
+          (sym (one_more row_bytes rows c.loop-row.row-index row there));
       back =
           all_more RowReadsBack rows c.loop-row.row-index row there c.loop-row.invariant.back
           (row_reads_back row c.in_ok-put_long.ensures.back c.in_ok-put_state.ensures.back);
@@ -29,4 +32,5 @@ loop-row-preserved c =
 
 pub returns-clause-back : goal.returns-clause-back
 returns-clause-back c rising =
-    rows_read_back c.args.rows.now c.loop-row.row-index (omega (arith, c.loop-row-test.false)) rising c.loop-row.invariant.back
+    rows_read_back c.args.rows.now c.loop-row.row-index
+    (omega (arith, c.loop-row-test.false)) rising c.loop-row.invariant.back

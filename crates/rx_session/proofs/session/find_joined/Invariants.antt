@@ -8,5 +8,6 @@ use Rattle.rx_session.proofs.session.find_joined.Given as goal
 -- the places to come decide
 abbrev pub invariant-loop-place : goal.invariant-loop-place
 invariant-loop-place l =
-    let joined : QueryPlace → Bool = λ p. is_in_group (world_of l.world).replications l.name p.coll in
+    let joined : QueryPlace → Bool =
+    λ p. is_in_group (world_of l.world).replications l.name p.coll in
     find joined (drop l.place-index l.places) ≡ find joined l.places

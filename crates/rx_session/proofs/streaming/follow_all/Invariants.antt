@@ -7,5 +7,7 @@ use Rattle.rx_session.proofs.streaming.follow_all.Given as goal
 -- the streams so far, and those to come
 abbrev pub invariant-loop-stream : goal.invariant-loop-stream
 invariant-loop-stream l =
-    l.all.items ++ map (stream_after (world_of l.world) (Some l.coll)) (into_iter_items l.stream-iterator)
-    ≡ map (stream_after (world_of l.world) (Some l.coll)) (into_iter_items l.initial.stream-iterator)
+    l.all.items
+    ++ map (stream_after (world_of l.world) (Some l.coll)) (into_iter_items l.stream-iterator)
+    ≡ map (stream_after (world_of l.world) (Some l.coll))
+    (into_iter_items l.initial.stream-iterator)

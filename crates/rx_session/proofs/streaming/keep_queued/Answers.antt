@@ -19,7 +19,8 @@ returns-in-Some c =
     is_placed c.args.name.now sts c.as_slice.result.now c.find_stream.result c.in-Some.i
     c.as_slice.ensures.value c.find_stream.ensures c.in-Some.is in
     on_ok_then c.keep.result
-    (λ made. ap (λ (q : Queue). set sts c.in-Some.i (record { name = st.name; master = st.master; queue = q })) made
+    (λ made. ap (λ (q : Queue).
+    set sts c.in-Some.i (record { name = st.name; master = st.master; queue = q })) made
     ∙ ap (λ (x : Stream). set sts c.in-Some.i (record x { queue = kept es x.queue }))
     (c.index_mut.ensures.value ∙ p.at st)
     ∙ sym (p.changed (kept es)))

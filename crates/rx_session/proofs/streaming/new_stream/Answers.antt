@@ -16,7 +16,8 @@ returns c =
     let held = c.in-Some.ensures.held ∙ ap (named w.collections) c.as_str-2.ensures in
     let documents =
     ap (λ (h : Held). h.documents) c.collection.ensures ∙ ap documents_at held in
-    ap (λ (q : Queue). record { name = c.args.opening.name; master = c.args.opening.master; queue = q })
+    ap (λ (q : Queue).
+    record { name = c.args.opening.name; master = c.args.opening.master; queue = q })
     (c.in_ok-queue-in-Some.ensures
     ∙ ap (λ (p : Option Place). new_queue p c.collection.result.now.documents) down
     ∙ ap (new_queue (pulled_to c.args.opening.name w)) documents)

@@ -14,7 +14,8 @@ returns-in-Some-clause-streams c =
     let p =
     is_placed c.args.name.now c.args.streams.now.items c.as_slice.result.now c.find_stream.result
     c.in-Some.i c.as_slice.ensures.value c.find_stream.ensures c.in-Some.is in
-    ap (λ (q : Queue). set sts c.in-Some.i (record { name = st.name; master = st.master; queue = q }))
+    ap (λ (q : Queue).
+    set sts c.in-Some.i (record { name = st.name; master = st.master; queue = q }))
     c.take.ensures.rest
     ∙ ap (λ (x : Stream). set sts c.in-Some.i (record x { queue = emptied x.queue }))
     (c.index_mut.ensures.value ∙ p.at st)

@@ -20,7 +20,8 @@ pub returns-in_err-copied-clause-not_journal : goal.returns-in_err-copied-clause
 returns-in_err-copied-clause-not_journal g c = λ refused more.
     let w = plain_world c.args.world in
     let is : record_of c.args.body.now ≡ Ok (content_in c.in-Ok.view) = search rules in
-    let none : IsErrOf c.from_residual.result NotJournal → after_copied (Ok (content_in c.in-Ok.view)) w ≡ None =
+    let none : IsErrOf c.from_residual.result NotJournal
+    → after_copied (Ok (content_in c.in-Ok.view)) w ≡ None =
     search rules in
     copies_none c.args.body.now w more
     (ap (λ (r : Result Content At). after_copied r w) is ∙ none refused)
@@ -30,7 +31,8 @@ returns-in_ok-with_holders-clause-ok g c = λ more.
     let view = content_in c.in-Ok.view in
     let is : record_of c.args.body.now ≡ Ok view = search rules in
     let last : is_end (Ok view) ≡ true = search rules in
-    ends_copy c.args.body.now view (plain_world c.args.world) (plain_world c.in_ok-copied.copied) more
+    ends_copy c.args.body.now view (plain_world c.args.world)
+    (plain_world c.in_ok-copied.copied) more
     is last c.in_ok-copied.ensures.ok
     ∙ ap (λ (w : World). replay_from (Some w) more) (sym c.in_ok-with_holders.ensures.same)
 
@@ -44,5 +46,6 @@ returns-else-is_end-clause-ok g c = λ more.
     let view = content_in c.in-Ok.view in
     let is : record_of c.args.body.now ≡ Ok view = search rules in
     let last : is_end (Ok view) ≡ false = search rules in
-    copies_on c.args.body.now view (plain_world c.args.world) (plain_world c.in_ok-copied.copied) more
+    copies_on c.args.body.now view (plain_world c.args.world)
+    (plain_world c.in_ok-copied.copied) more
     is last c.in_ok-copied.ensures.ok

@@ -18,8 +18,10 @@ pub loop-body-init : goal.loop-body-init
 loop-body-init g c =
     let version = version_of c.args.windows.now in
     let first = c.begin-phase.result in
-    let all : (bodies : List (List ℕ)) → replay_in version bodies ≡ world_to_come g.H.Holder.held first bodies =
-    λ bodies. ap (λ v. replay_in v bodies) (sym c.version.ensures) ∙ c.begin-phase.ensures.all bodies in
+    let all : (bodies : List (List ℕ))
+    → replay_in version bodies ≡ world_to_come g.H.Holder.held first bodies =
+    λ bodies.
+    ap (λ v. replay_in v bodies) (sym c.version.ensures) ∙ c.begin-phase.ensures.all bodies in
     record {
       untouched = λ told.
           not_yet g.D.Disk c.args.disk.now (λ f. g.met.D.Disk.only_now c.args.disk.now f told);
@@ -36,7 +38,8 @@ loop-body-init g c =
       epoch = omega (arith, c.begin-phase.ensures.epoch);
       fewer = omega arith;
       size = omega arith;
-      made = made_none (λ held h. g.F.Fn.post c.args.make.now (held, tt) (Ok h)) g.H.Holder.written first
+      made = made_none (λ held h. g.F.Fn.post c.args.make.now (held, tt) (Ok h))
+          g.H.Holder.written first
           c.begin-phase.ensures.none;
       limit = refl;
       faults = omega arith;
@@ -60,7 +63,8 @@ returns-in-Ok-None-clause-counted g c = λ told.
     let here = g.D.Disk.content c.loop-body.disk in
     let closed : IsClosed (left c.loop-body.windows here) =
     subst IsClosed (move.stay told).bytes (closed_left now here move.end) in
-    read_all g.H.Holder.held (version_of c.args.windows.now) content c.args.windows.now c.loop-body.windows
+    read_all g.H.Holder.held
+    (version_of c.args.windows.now) content c.args.windows.now c.loop-body.windows
     c.loop-body.phase c.loop-body.records c.loop-body.bytes
     (subst (λ (l : List ℕ). IsClosed (left c.loop-body.windows l)) (inv.untouched told).same closed)
     c.loop-body.windows.short (inv.counted told)
@@ -75,7 +79,8 @@ pub returns-in-Err-clause-not_journal : goal.returns-in-Err-clause-not_journal
 returns-in-Err-clause-not_journal g c = λ told is.
     let content = g.D.Disk.content c.args.disk.now in
     let same = (c.loop-body.invariant.untouched told).same in
-    not_read g.H.Holder.held (version_of c.args.windows.now) content c.args.windows.now c.loop-body.windows
+    not_read g.H.Holder.held
+    (version_of c.args.windows.now) content c.args.windows.now c.loop-body.windows
     c.loop-body.phase
     (c.loop-body.invariant.playing told)
     (λ bodies will.
@@ -97,7 +102,8 @@ returns-in_err-phase-clause-not_journal g c = λ told is.
     (c.in-Ok-Some.is ∙ ap (λ o. Ok o) c.in-Ok-Some.field-0-is) c.next.follows.holds-at-none in
     let lends : Lends content c.loop-body.windows body.now now =
     subst (λ (l : List ℕ). Lends l c.loop-body.windows body.now now) same (move.lends told) in
-    refused g.H.Holder.held (version_of c.args.windows.now) content c.args.windows.now c.loop-body.windows now body.now
+    refused g.H.Holder.held
+    (version_of c.args.windows.now) content c.args.windows.now c.loop-body.windows now body.now
     c.loop-body.phase (c.loop-body.invariant.playing told) lends
     (c.in_err-phase.ensures.not_journal (search rules))
 
@@ -121,16 +127,19 @@ loop-body-preserved g c =
           (c.in-Ok-Some.ensures.untouched told);
       only_reads = λ told. c.in-Ok-Some.ensures.only_reads told ∙ inv.only_reads told;
       playing = λ told.
-          goes_on g.H.Holder.held (version_of c.args.windows.now) content c.args.windows.now c.loop-body.windows now body.now w w'
+          goes_on g.H.Holder.held (version_of c.args.windows.now) content c.args.windows.now
+          c.loop-body.windows now body.now w w'
           (inv.playing told)
           (subst (λ (l : List ℕ). Lends l c.loop-body.windows body.now now)
           (inv.untouched told).same
           (move.lends told)) c.in_ok-phase.ensures.ok;
       lent = λ told first.
-          played_one g.H.Holder.held (version_of c.args.windows.now) g.D.Disk c.loop-body.disk c.next.new.disk c.loop-body.windows now body.now w w'
+          played_one g.H.Holder.held (version_of c.args.windows.now) g.D.Disk c.loop-body.disk
+          c.next.new.disk c.loop-body.windows now body.now w w'
           (move.lent told) c.in_ok-phase.ensures.ok (inv.lent told first);
       counted = λ told.
-          read_one g.H.Holder.held (version_of c.args.windows.now) content c.args.windows.now c.loop-body.windows now body.now w w'
+          read_one g.H.Holder.held (version_of c.args.windows.now) content c.args.windows.now
+          c.loop-body.windows now body.now w w'
           c.loop-body.records c.loop-body.bytes
           (subst (λ (l : List ℕ). NextIs (left c.loop-body.windows l) body.now (left now l))
           (inv.untouched told).same (move.stood told))
@@ -138,7 +147,8 @@ loop-body-preserved g c =
       epoch =
           let earlier = inv.epoch in
           let moved = move.place in
-          let most : max (epoch_of c.loop-body.phase + 1) most_copied_epoch ≤ most_copied_epoch + gate_place now =
+          let most : max (epoch_of c.loop-body.phase + 1) most_copied_epoch
+          ≤ most_copied_epoch + gate_place now =
           max-le (omega arith) (omega arith) in
           omega (arith, c.in_ok-phase.ensures.epoch, most);
       fewer = omega (arith, inv.fewer, move.place);
@@ -202,7 +212,8 @@ returns-in-Ok-None-clause-ok g c = λ told lent.
     let played = c.loop-body.invariant.lent told lent in (
       played.0,
       move.lent told played.0 played.1,
-      played_all g.H.Holder.held (version_of c.args.windows.now) played.0 c.loop-body.phase played.2,
+      played_all g.H.Holder.held
+          (version_of c.args.windows.now) played.0 c.loop-body.phase played.2,
     )
 
 pub returns-in-Ok-None-clause-all : goal.returns-in-Ok-None-clause-all

@@ -11,11 +11,15 @@ abbrev pub invariant-loop-body : goal.invariant-loop-body
 invariant-loop-body g l = record {
   untouched : g.D.Disk.tells → IsUntouched g.D.Disk l.initial.disk l.disk;
   only_reads : g.D.Disk.tells → OnlyReads g.D.Disk l.initial.disk l.disk;
-  playing : g.D.Disk.tells → IsPlaying g.H.Holder.held (version_of l.initial.windows) (g.D.Disk.content l.initial.disk) l.initial.windows l.windows
+  playing : g.D.Disk.tells
+      → IsPlaying g.H.Holder.held (version_of l.initial.windows)
+      (g.D.Disk.content l.initial.disk) l.initial.windows l.windows
       l.phase;
   lent : g.D.Disk.tells → HaveLent g.D.Disk l.initial.disk l.initial.windows []
       → HasPlayed g.H.Holder.held (version_of l.initial.windows) g.D.Disk l.disk l.windows l.phase;
-  counted : g.D.Disk.tells → HasRead g.H.Holder.held (version_of l.initial.windows) (g.D.Disk.content l.initial.disk) l.initial.windows l.windows
+  counted : g.D.Disk.tells
+      → HasRead g.H.Holder.held (version_of l.initial.windows)
+      (g.D.Disk.content l.initial.disk) l.initial.windows l.windows
       l.phase l.records l.bytes;
   epoch : epoch_of l.phase ≤ most_copied_epoch + gate_place l.windows;
   fewer : l.records ≤ gate_place l.windows;

@@ -14,12 +14,14 @@ pub returns-in_err-replay_one-in-Running-clause-not_journal :
 returns-in_err-replay_one-in-Running-clause-not_journal g c = λ refused more.
     let body = c.args.body.now in
     let w = world_in g.H.Holder.held c.in-Running.world in
-    let none : IsErrOf c.from_residual.result NotJournal → after_body (record_of body) w ≡ None = search rules in
+    let none : IsErrOf c.from_residual.result NotJournal → after_body (record_of body) w ≡ None =
+    search rules in
     ap (λ (p : Phase _). world_to_come g.H.Holder.held p (body ∷ more)) c.in-Running.is
     ∙ replay_from-first w body more
     ∙ ap (λ (o : Option World). replay_from o more) (none refused) ∙ replay_from-none more
 
-pub returns-in_ok-replay_one-in-Running-clause-ok : goal.returns-in_ok-replay_one-in-Running-clause-ok
+pub returns-in_ok-replay_one-in-Running-clause-ok :
+    goal.returns-in_ok-replay_one-in-Running-clause-ok
 returns-in_ok-replay_one-in-Running-clause-ok g c = λ more.
     let body = c.args.body.now in
     let w = world_in g.H.Holder.held c.in-Running.world in

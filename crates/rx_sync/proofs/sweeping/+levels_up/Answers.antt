@@ -10,7 +10,8 @@ pub returns : goal.returns
 returns t c =
     let forks = map (λ r. r.now) c.args.forks.now in
     let items = c.deref-fork-items.result.now in
-    let below : List ℕ → List (List ℕ) = λ n. levels_up (forks_among forks) (c.args.levels - 1) n ++ n ∷ [] in
+    let below : List ℕ → List (List ℕ) =
+    λ n. levels_up (forks_among forks) (c.args.levels - 1) n ++ n ∷ [] in
     ended (λ ts. flat_map below (map (λ t. t.now) ts)) items c.loop-fork.fork-index
     (map (λ t. t.now) c.loop-fork.order.items) (flat_map below (map (λ t. t.now) items)) refl
     c.loop-fork-test.false (sym c.loop-fork.invariant)

@@ -21,13 +21,15 @@ returns g c =
     ∙ c.in_ok-up.ensures
     ∙ ap (λ f. levels_up f c.replications.result root) (seen c.as_slice.ensures.value ∙ forks)
     ∙ ap (λ n. levels_up (forks_in w) n root) c.replications.ensures in
-    let down : map (λ t. t.now) c.as_slice-4.result.now ≡ levels_down (forks_in w) (length rs) root =
+    let down : map (λ t. t.now) c.as_slice-4.result.now
+    ≡ levels_down (forks_in w) (length rs) root =
     ap (λ ts. map (λ t. t.now) ts) c.as_slice-4.ensures.value
     ∙ c.in_ok-down.ensures
     ∙ ap (λ f. levels_down f c.replications-2.result root) (seen c.as_slice-2.ensures.value ∙ forks)
     ∙ ap (λ n. levels_down (forks_in w) n root) c.replications-2.ensures in
     c.in_ok-add_steps-2.ensures
-    ∙ ap (λ (steps : List Step). steps ++ steps_of rs Down (map (λ t. t.now) c.as_slice-4.result.now))
+    ∙ ap (λ (steps : List Step).
+    steps ++ steps_of rs Down (map (λ t. t.now) c.as_slice-4.result.now))
     (c.in_ok-add_steps.ensures
     ∙ ap (λ (steps : List Step). steps ++ steps_of rs Up (map (λ t. t.now) c.as_slice-3.result.now))
     c.in_ok-steps.ensures.items

@@ -10,7 +10,9 @@ unfolding IsStrictlySortedBy
 one written = (tt, tt)
 
 first : (rows : List RowOut) (written : RowOut) → rows ≡ [] → KeysRise (rows ++ written ∷ [])
-first rows written none = subst (λ (rs : List RowOut). KeysRise (rs ++ written ∷ [])) (sym none) (one written)
+first rows written none =
+    subst (λ (rs : List RowOut). KeysRise (rs ++ written ∷ [])) (sym none) (one written)
 
 pub returns : goal.returns
-returns c = subst KeysRise (sym c.in_ok-push.ensures.items) (first c.new-rows.result.items _ (search rules))
+returns c =
+    subst KeysRise (sym c.in_ok-push.ensures.items) (first c.new-rows.result.items _ (search rules))

@@ -21,7 +21,8 @@ returns g c =
           record {
             told = plays.1.whole_transcript is tt tt tt [] empty start
                 ∙ ap (λ v. v ++ transcript (lines (source_left c.args.source.now))
-                (opened (host_of c.args.handlers.now c.args.hooks.now) plays.0 empty)) c.requires.fresh;
+                (opened (host_of c.args.handlers.now c.args.hooks.now) plays.0 empty))
+                c.requires.fresh;
             kept = plays.1.kept is tt tt [] empty start (content_of c.rx.new.disk)
                 (reads_as_of (history_of c.rx.new.disk));
             refusal = plays.1.refusal is tt tt [] empty start;

@@ -82,7 +82,8 @@ pub returns-in-Err : goal.returns-in-Err
 returns-in-Err g c =
     let fault = c.in-Err.fault in
     let status : c.fault_status.result ≡ fault_status fault = c.fault_status.ensures in
-    let at : (n : ℕ) → c.fault_status.result ≡ n → fault_status fault ≡ n = λ n is. sym status ∙ is in
+    let at : (n : ℕ) → c.fault_status.result ≡ n → fault_status fault ≡ n =
+    λ n is. sym status ∙ is in
     let told = ended_with g.K.Sink.tells (g.K.Sink.faults c.args.out.now)
     (g.K.Sink.faults c.write_fault.new.out) (g.K.Sink.written c.args.out.now)
     (g.K.Sink.written c.write_fault.new.out) (fault_words fault) c.write_fault.result

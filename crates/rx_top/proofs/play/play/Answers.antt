@@ -152,11 +152,13 @@ returns-in-Err-play_group-clause-exit g c =
           g.N.W.Wire.tells c.args.disk.now c.lines.disk (stands g.N.Dial c.args.dial.now)
           (stands g.N.Dial c.lines.dial) c.args.first c.lines.engine
           (g.K.Sink.written c.args.out.now) (g.K.Sink.written c.lines.out)
-          (g.S.Source.left c.args.source.now) _ c.lines.number c.lines.refused kinds [] (a.1 [] told)
+          (g.S.Source.left c.args.source.now) _ c.lines.number c.lines.refused kinds
+          [] (a.1 [] told)
           c.in-Ok.next left c.play_group.new.reader c.play_group.new.disk
           (g.K.Sink.written c.play_group.new.out) c.in-Err-play_group.cause
           (c.in-Err-play_group.ensures.works
-          (c.lines.reader.unread ++ g.S.Source.left c.lines.source) left (c.in-Ok.ensures.next told))
+          (c.lines.reader.unread ++ g.S.Source.left c.lines.source) left
+          (c.in-Ok.ensures.next told))
           refl c.in-Err-play_group.ensures.no_read c.in-Err-play_group.ensures.no_full
           (λ t f. g.met.D.Disk.only_now c.play_group.new.disk f t)
           (λ t s f le now. g.met.D.Disk.counts_now c.play_group.new.disk s f t le now),
@@ -193,9 +195,12 @@ returns-in-Err-play_line-clause-exit g c =
           let s1 = standing_of kinds later group.engine in
           let left = g.S.Source.left c.next.new.source in
           let done = c.in-Ok-play_group.ensures.works
-          (c.lines.reader.unread ++ g.S.Source.left c.lines.source) left (c.in-Ok.ensures.next told) in
-          let a = after_group s0 g.D.Disk g.K.Sink.tells g.N.W.Wire.tells c.args.disk.now c.lines.disk
-          (stands g.N.Dial c.args.dial.now) (stands g.N.Dial c.lines.dial) c.args.first c.lines.engine
+          (c.lines.reader.unread ++ g.S.Source.left c.lines.source) left
+          (c.in-Ok.ensures.next told) in
+          let a = after_group s0 g.D.Disk g.K.Sink.tells g.N.W.Wire.tells
+          c.args.disk.now c.lines.disk
+          (stands g.N.Dial c.args.dial.now)
+          (stands g.N.Dial c.lines.dial) c.args.first c.lines.engine
           (g.K.Sink.written c.args.out.now) (g.K.Sink.written c.lines.out)
           (g.S.Source.left c.args.source.now) _ c.lines.number c.lines.refused kinds later
           (along.1 later told) c.in-Ok.next left c.play_group.new.reader c.play_group.new.disk
@@ -255,9 +260,12 @@ returns-in-Last-clause-exit g c =
           let s1 = standing_of kinds later group.engine in
           let left = g.S.Source.left c.next.new.source in
           let done = c.in-Ok-play_group.ensures.works
-          (c.lines.reader.unread ++ g.S.Source.left c.lines.source) left (c.in-Ok.ensures.next told) in
-          let a = after_group s0 g.D.Disk g.K.Sink.tells g.N.W.Wire.tells c.args.disk.now c.lines.disk
-          (stands g.N.Dial c.args.dial.now) (stands g.N.Dial c.lines.dial) c.args.first c.lines.engine
+          (c.lines.reader.unread ++ g.S.Source.left c.lines.source) left
+          (c.in-Ok.ensures.next told) in
+          let a = after_group s0 g.D.Disk g.K.Sink.tells g.N.W.Wire.tells
+          c.args.disk.now c.lines.disk
+          (stands g.N.Dial c.args.dial.now)
+          (stands g.N.Dial c.lines.dial) c.args.first c.lines.engine
           (g.K.Sink.written c.args.out.now) (g.K.Sink.written c.lines.out)
           (g.S.Source.left c.args.source.now) _ c.lines.number c.lines.refused kinds later
           (along.1 later told) c.in-Ok.next left c.play_group.new.reader c.play_group.new.disk
@@ -342,9 +350,12 @@ lines-preserved-then-group g c =
             let s1 = standing_of kinds later group.engine in
             let left = g.S.Source.left c.next.new.source in
             let done = c.in-Ok-play_group.ensures.works
-            (c.lines.reader.unread ++ g.S.Source.left c.lines.source) left (c.in-Ok.ensures.next told) in
-            let a = after_group s0 g.D.Disk g.K.Sink.tells g.N.W.Wire.tells c.args.disk.now c.lines.disk
-            (stands g.N.Dial c.args.dial.now) (stands g.N.Dial c.lines.dial) c.args.first c.lines.engine
+            (c.lines.reader.unread ++ g.S.Source.left c.lines.source) left
+            (c.in-Ok.ensures.next told) in
+            let a = after_group s0 g.D.Disk g.K.Sink.tells g.N.W.Wire.tells
+            c.args.disk.now c.lines.disk
+            (stands g.N.Dial c.args.dial.now)
+            (stands g.N.Dial c.lines.dial) c.args.first c.lines.engine
             (g.K.Sink.written c.args.out.now) (g.K.Sink.written c.lines.out)
             (g.S.Source.left c.args.source.now) _ c.lines.number c.lines.refused kinds later
             (along.1 later told) c.in-Ok.next left c.play_group.new.reader c.play_group.new.disk
@@ -362,9 +373,11 @@ lines-preserved-then-group g c =
       grown = λ t bodies at.
           let had = c.lines.invariant.grown t bodies at in
           let grew = c.in-Ok-play_group.ensures.grows t (bodies ++ had.more) had.at in
-          let now = grown_more g.D.Disk c.args.disk.now c.lines.disk c.play_group.new.disk c.lines.engine
+          let now = grown_more g.D.Disk c.args.disk.now c.lines.disk c.play_group.new.disk
+          c.lines.engine
           c.in-Ok-play_group.group.engine bodies grew.more had
-          (grew.safe.moments (images_at g.D.Disk c.lines.disk c.lines.engine (bodies ++ had.more) had.at))
+          (grew.safe.moments
+          (images_at g.D.Disk c.lines.disk c.lines.engine (bodies ++ had.more) had.at))
           grew.safe.at in
           now;
       took = λ told. subst (λ (k : ℕ). Took 0 (g.S.Source.left c.args.source.now)

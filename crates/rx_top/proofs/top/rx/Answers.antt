@@ -37,12 +37,14 @@ trial-requires-clause-high g c =
 pub compact-requires-clause-low : goal.compact-requires-clause-low
 compact-requires-clause-low g c =
     let is : command_of c.args.words.now.words.items ≡ Some c.in-Ok-Some.command = search rules in
-    (subst HasLimit c.in-Compact.is (granted c.args.words.now.words.items c.in-Ok-Some.command is)).0
+    (subst HasLimit c.in-Compact.is
+    (granted c.args.words.now.words.items c.in-Ok-Some.command is)).0
 
 pub compact-requires-clause-high : goal.compact-requires-clause-high
 compact-requires-clause-high g c =
     let is : command_of c.args.words.now.words.items ≡ Some c.in-Ok-Some.command = search rules in
-    (subst HasLimit c.in-Compact.is (granted c.args.words.now.words.items c.in-Ok-Some.command is)).1
+    (subst HasLimit c.in-Compact.is
+    (granted c.args.words.now.words.items c.in-Ok-Some.command is)).1
 
 pub returns-clause-runs : goal.returns-clause-runs
 returns-clause-runs g c =

@@ -11,4 +11,5 @@ abbrev pub invariant-loop-fork : goal.invariant-loop-fork
 invariant-loop-fork l =
     flat_map (λ c. c ∷ levels_down (forks_of l.forks) (l.levels - 1) c) l.fork-items
     ≡ l.order.items
-    ++ flat_map (λ c. c ∷ levels_down (forks_of l.forks) (l.levels - 1) c) (drop l.fork-index l.fork-items)
+    ++ flat_map (λ c. c ∷ levels_down (forks_of l.forks) (l.levels - 1) c)
+    (drop l.fork-index l.fork-items)

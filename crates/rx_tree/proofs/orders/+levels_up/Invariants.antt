@@ -11,4 +11,5 @@ abbrev pub invariant-loop-fork : goal.invariant-loop-fork
 invariant-loop-fork l =
     flat_map (λ c. levels_up (forks_of l.forks) (l.levels - 1) c ++ c ∷ []) l.fork-items
     ≡ l.order.items
-    ++ flat_map (λ c. levels_up (forks_of l.forks) (l.levels - 1) c ++ c ∷ []) (drop l.fork-index l.fork-items)
+    ++ flat_map (λ c. levels_up (forks_of l.forks) (l.levels - 1) c ++ c ∷ [])
+    (drop l.fork-index l.fork-items)

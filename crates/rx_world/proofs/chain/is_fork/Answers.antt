@@ -15,6 +15,7 @@ returns c =
     let test : Replication → Bool = has_fork c.args.name.now in
     let es = c.args.replications.now.entries in
     any_from_yields_List test _ _ c.any.result c.any.ensures.ran
-    (YieldsList-from_rest {shows = λ (r : Bor Replication). r.now} (values_of es) c.values.ensures.rest)
+    (YieldsList-from_rest {shows = λ (r : Bor Replication). r.now}
+    (values_of es) c.values.ensures.rest)
     (λ x b q k. search (rules, tests))
     ∙ ap (list_any test) (values_of-by_bytes es)

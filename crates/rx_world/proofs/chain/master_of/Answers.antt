@@ -12,7 +12,8 @@ returns-in-Some-followed_by c =
     let fork = c.args.fork.now in
     let r = c.in-Some.replication.now in
     let told : List Replication → _ = λ rs. master_of bytes_eq (local_forks rs) fork in
-    sym (ap told (sym (values_of-by_bytes c.args.replications.now.entries)) ∙ c.loop-replication.invariant.0
+    sym (ap told (sym (values_of-by_bytes c.args.replications.now.entries))
+    ∙ c.loop-replication.invariant.0
     ∙ ap told c.in-Some.ensures.steps
     ∙ found_here r.fork r.master (local_forks c.next.new.self) fork c.in-Some-followed_by.master.now
     (sym c.in-Some-followed_by.ensures))
@@ -20,5 +21,6 @@ returns-in-Some-followed_by c =
 pub returns : goal.returns
 returns c =
     let told : List Replication → _ = λ rs. master_of bytes_eq (local_forks rs) c.args.fork.now in
-    sym (ap told (sym (values_of-by_bytes c.args.replications.now.entries)) ∙ c.loop-replication.invariant.0
+    sym (ap told (sym (values_of-by_bytes c.args.replications.now.entries))
+    ∙ c.loop-replication.invariant.0
     ∙ ap told c.in-None.ensures.steps.0)

@@ -10,6 +10,7 @@ use Rattle.rx_world.proofs.chain.tree_root.Given as goal
 -- so many steps lead there
 abbrev pub invariant-loop-step : goal.invariant-loop-step
 invariant-loop-step l = record {
-  climbs : climbed bytes_eq l._step (forest_of (by_bytes l.replications.entries)) l.initial.at ≡ Some l.at;
+  climbs : climbed bytes_eq l._step (forest_of (by_bytes l.replications.entries)) l.initial.at
+      ≡ Some l.at;
   text : shadow (Utf8 l.at);
 }

@@ -22,7 +22,8 @@ write-requires-clause-next g c =
     let lwt = c.in-Rows.lwt in
     let written = c.in-Rows.rows.items in
     let is : content c.args.entry ≡ rows name lwt written = ap content c.in-Rows.is in
-    subst (λ n. ForSome (named (by_name held es) n) (λ x. AreNext x (stored_rows x.name lwt written)))
+    subst (λ n.
+    ForSome (named (by_name held es) n) (λ x. AreNext x (stored_rows x.name lwt written)))
     (sym c.as_str-in-Rows.ensures)
     (legal_are_next name lwt written w (all_lawful held g.H.Holder.is_broken es c.requires.whole)
     (ap (λ e. legal e w) (sym is) ∙ c.requires.legal)
@@ -34,7 +35,8 @@ write_fork-requires-clause-next g c =
     let es = c.args.parts.now.holders.entries in
     let w = world_in held (holders_of c.args.parts.now) in
     let x = c.in-Exchange in
-    let is : content c.args.entry ≡ exchange x.name x.lwt x.rows.items x.known.items x.up x.down = ap content x.is in
+    let is : content c.args.entry ≡ exchange x.name x.lwt x.rows.items x.known.items x.up x.down =
+    ap content x.is in
     subst (λ n. ForSome (named w.replications n) (λ r. ForSome (named (by_name held es) r.fork)
     (λ h. AreNext h (stored_rows h.name x.lwt x.rows.items)))) (sym c.as_str-in-Exchange.ensures)
     (exchange_next x.name x.lwt x.rows.items x.known.items x.up x.down w
@@ -48,8 +50,11 @@ returns-in-Rows-clause-holders g c =
     let w = world_in held (holders_of c.args.parts.now) in
     let x = c.in-Rows in
     on_ok_weaker c.write.result
-    (λ now. rows_after held g.H.Holder.written (λ k h. g.F.Fn.post c.args.make.now (k, tt) (Ok h)) (content c.args.entry) w x.name x.lwt x.rows.items
-    (by_bytes c.args.parts.now.holders.entries) (by_bytes c.write.new.holders.entries) (ap content x.is)
+    (λ now. rows_after held g.H.Holder.written (λ k h. g.F.Fn.post c.args.make.now (k, tt) (Ok h))
+    (content c.args.entry) w x.name x.lwt x.rows.items
+    (by_bytes c.args.parts.now.holders.entries) (by_bytes c.write.new.holders.entries)
+    (ap content x.is)
     (now ∙ ap (λ (n : List ℕ). change_named (by_bytes c.args.parts.now.holders.entries) n
-    (λ h. g.H.Holder.written h (stored_rows (held h).name x.lwt x.rows.items))) c.as_str-in-Rows.ensures))
+    (λ h. g.H.Holder.written h (stored_rows (held h).name x.lwt x.rows.items)))
+    c.as_str-in-Rows.ensures))
     c.write.ensures.holders

@@ -13,10 +13,12 @@ returns-in-Some-clause-holders g c =
     let written = c.args.rows.items in
     let at : named rs c.args.name.now ≡ Some c.in-Some.replication.now = sym c.in-Some.ensures in
     let some : 0 < length written = first_of (search rules, grind (arith, common_steps)) in
-    let touched : exchange_touch c.args.lwt written c.args.name.now rs ≡ new_rows c.as_str.result.now c.args.lwt written =
+    let touched : exchange_touch c.args.lwt written c.args.name.now rs
+    ≡ new_rows c.as_str.result.now c.args.lwt written =
     touches_fork c.args.lwt written c.args.name.now rs c.in-Some.replication.now at some
     ∙ ap (λ (n : List ℕ). new_rows n c.args.lwt written) (sym c.as_str.ensures) in
     on_ok_weaker c.write.result
     (λ now. subst (λ (t : Touch). After g.H.Holder.held g.H.Holder.written (λ _ h. Unit {0}) t
-    (by_bytes c.args.parts.now.holders.entries) (by_bytes c.write.new.holders.entries)) (sym touched) now)
+    (by_bytes c.args.parts.now.holders.entries) (by_bytes c.write.new.holders.entries))
+    (sym touched) now)
     c.write.ensures.holders

@@ -26,7 +26,8 @@ pub returns-in_ok-take_known-in-Some-clause-replications :
     goal.returns-in_ok-take_known-in-Some-clause-replications
 returns-in_ok-take_known-in-Some-clause-replications c =
     ap by_bytes (c.get_mut.follows.holds c.take_known.new.replication).0
-    ∙ by_name-set_value (λ (r : Replication). r) (with_exchange c.args.known.items c.args.up c.args.down)
+    ∙ by_name-set_value (λ (r : Replication). r)
+    (with_exchange c.args.known.items c.args.up c.args.down)
     c.args.replications.now.entries c.args.name.now c.in-Some.replication.now
     c.take_known.new.replication c.in_ok-take_known-in-Some.ensures.replication
     (sym c.in-Some.ensures.value)

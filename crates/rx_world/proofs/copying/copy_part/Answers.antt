@@ -17,9 +17,12 @@ returns-in_err-take_part-in-Some-clause-illegal c = λ is.
     let es = c.args.holders.now.entries in
     let old = c.in-Some.holder.now in
     let takes = takes_part c.args.rows.items in
-    let at : named (by_name (λ (p : Plain). p.collection) es) c.args.name.now ≡ Some old.collection =
-    sym (lookup-by_name (λ (p : Plain). p.collection) es c.args.name.now) ∙ ap (option_map (λ (p : Plain). p.collection)) (sym c.in-Some.ensures.value) in
-    let refused : IsErrOf c.from_residual.result Illegal → takes old.collection ≡ false = search rules in
+    let at : named (by_name (λ (p : Plain). p.collection) es) c.args.name.now
+    ≡ Some old.collection =
+    sym (lookup-by_name (λ (p : Plain). p.collection) es c.args.name.now)
+    ∙ ap (option_map (λ (p : Plain). p.collection)) (sym c.in-Some.ensures.value) in
+    let refused : IsErrOf c.from_residual.result Illegal → takes old.collection ≡ false =
+    search rules in
     ap (λ (o : Option Held). option_map_or takes o false) at ∙ refused is
 
 pub returns-in_ok-take_part-in-Some-clause-held : goal.returns-in_ok-take_part-in-Some-clause-held
@@ -33,8 +36,10 @@ pub returns-in_ok-take_part-in-Some-clause-may : goal.returns-in_ok-take_part-in
 returns-in_ok-take_part-in-Some-clause-may c =
     let es = c.args.holders.now.entries in
     let old = c.in-Some.holder.now in
-    let at : named (by_name (λ (p : Plain). p.collection) es) c.args.name.now ≡ Some old.collection =
-    sym (lookup-by_name (λ (p : Plain). p.collection) es c.args.name.now) ∙ ap (option_map (λ (p : Plain). p.collection)) (sym c.in-Some.ensures.value) in
+    let at : named (by_name (λ (p : Plain). p.collection) es) c.args.name.now
+    ≡ Some old.collection =
+    sym (lookup-by_name (λ (p : Plain). p.collection) es c.args.name.now)
+    ∙ ap (option_map (λ (p : Plain). p.collection)) (sym c.in-Some.ensures.value) in
     ap (λ (o : Option Held). option_map_or (takes_part c.args.rows.items) o false) at
     ∙ c.in_ok-take_part-in-Some.ensures.may
 
@@ -49,12 +54,14 @@ returns-in_ok-take_part-in-Some-clause-whole c =
     let here = at_found P es name old c.requires.whole (sym c.in-Some.ensures.value) in
     let done = c.in_ok-take_part-in-Some.ensures in
     subst ArePlain (sym (c.get_mut.follows.holds new).0)
-    (at_set P es name new (whole_part name old new c.args.rows.items here done.may done.rows done.same)
+    (at_set P es name new
+    (whole_part name old new c.args.rows.items here done.may done.rows done.same)
     c.requires.whole)
 
 pub returns-in-None-clause-illegal : goal.returns-in-None-clause-illegal
 returns-in-None-clause-illegal c = λ _.
     let es = c.args.holders.now.entries in
     let none : named (by_name (λ (p : Plain). p.collection) es) c.args.name.now ≡ None =
-    sym (lookup-by_name (λ (p : Plain). p.collection) es c.args.name.now) ∙ ap (option_map (λ (p : Plain). p.collection)) (sym c.in-None.ensures.value) in
+    sym (lookup-by_name (λ (p : Plain). p.collection) es c.args.name.now)
+    ∙ ap (option_map (λ (p : Plain). p.collection)) (sym c.in-None.ensures.value) in
     ap (λ (o : Option Held). option_map_or (takes_part c.args.rows.items) o false) none

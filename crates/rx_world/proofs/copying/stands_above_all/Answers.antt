@@ -11,5 +11,6 @@ returns c =
     let at : List ℕ → Place = λ k. record { lwt = c.args.row.now.lwt; id = k } in
     none_where c.is_none.result c.next.result (sym c.is_none.ensures)
     ∙ page_tells es (row_place c.args.row.now) c.page-page.result c.next.new.self c.next.result
-    (c.page-page.ensures.documents ∙ ap (λ (k : List ℕ). since es (Some (at k)) 1) c.in_ok-copy.ensures)
+    (c.page-page.ensures.documents
+    ∙ ap (λ (k : List ℕ). since es (Some (at k)) 1) c.in_ok-copy.ensures)
     c.next.ensures.steps

@@ -6,7 +6,8 @@ use Rattle.rx_world.proofs.legality.are_due_views.Given as goal
 
 abbrev pub invariant-loop-row : goal.invariant-loop-row
 invariant-loop-row l =
-    list_all (is_next_row l.collection) (rows_left l.fn.rows) ≡ list_all (is_next_row l.collection) (rows_left l.rows)
+    list_all (is_next_row l.collection) (rows_left l.fn.rows)
+    ≡ list_all (is_next_row l.collection) (rows_left l.rows)
 
 abbrev pub decreases-loop-row : goal.decreases-loop-row
 decreases-loop-row l = length (rows_left l.rows)

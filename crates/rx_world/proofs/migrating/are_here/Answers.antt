@@ -10,7 +10,8 @@ pub loop-replication-init : goal.loop-replication-init
 loop-replication-init c =
     let es = c.args.replications.now.entries in
     let at : c.into_iter-replication-iterator.result ≡ values_of es =
-    c.into_iter-replication-iterator.ensures.into_iter_gives ∙ c.values-replication-items.ensures.rest in
+    c.into_iter-replication-iterator.ensures.into_iter_gives
+    ∙ c.values-replication-items.ensures.rest in
     rw at (
       by_bytes_pass (is_here (is_in_group (by_bytes es) c.args.name.now)) es,
       tt,

@@ -50,4 +50,5 @@ returns-then-not-are_here g c =
     ap (λ (n : List ℕ). list_all (λ (e : List ℕ × Replication). is_here (is_in_group rs n) e.1) rs)
     (sym named_too) ∙ sym c.are_here.ensures ∙ c.if-not-are_here.true in
     inr (not_here (is_next_version s old) (keeps_primary s steps old)
-    (list_all (λ (e : List ℕ × Replication). is_here G e.1) rs) (states_fit G s steps w) is kept fit isnt)
+    (list_all (λ (e : List ℕ × Replication). is_here G e.1) rs)
+    (states_fit G s steps w) is kept fit isnt)

@@ -19,7 +19,8 @@ returns-then-not-is_next_schema g c =
     let next : is_next_schema c.in-Some-2.schema c.args.steps.now held.schema ≡ false =
     ap (λ (s : Shape). is_next_schema c.in-Some-2.schema c.args.steps.now s) (sym old)
     ∙ sym c.is_next_schema.ensures ∙ c.if-not-is_next_schema.true in
-    sym (may_as c.args.name.now c.args.text.now c.args.steps.now w held c.in-Some-2.schema false at read next)
+    sym (may_as c.args.name.now c.args.text.now c.args.steps.now w held c.in-Some-2.schema
+    false at read next)
 
 pub returns : goal.returns
 returns g c =
@@ -33,5 +34,6 @@ returns g c =
     ap (λ (s : Shape). is_next_schema c.in-Some-2.schema c.args.steps.now s) (sym old)
     ∙ sym c.is_next_schema.ensures ∙ c.if-not-is_next_schema.false in
     subst (λ (x : Bool). IfOk c.group_migrates.result (λ b. b ≡ x))
-    (sym (may_as c.args.name.now c.args.text.now c.args.steps.now w held c.in-Some-2.schema true at read next))
+    (sym (may_as c.args.name.now c.args.text.now c.args.steps.now w held c.in-Some-2.schema true
+    at read next))
     c.group_migrates.ensures

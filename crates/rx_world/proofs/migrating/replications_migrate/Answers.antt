@@ -14,7 +14,8 @@ returns-then-is_some c =
     let told = c.in_ok-invalid_replication in
     sym (migrate_in_parts G c.args.schema.now c.args.steps.now rs
     ∙ ap (λ b. b && list_all (λ (e : List ℕ × Replication). is_here G e.1) rs)
-    (all_unless (λ (e : List ℕ × Replication). known_migrates G c.args.schema.now c.args.steps.now e.1)
+    (all_unless
+    (λ (e : List ℕ × Replication). known_migrates G c.args.schema.now c.args.steps.now e.1)
     rs told.field-0 told.ensures ∙ ap not (sym c.is_some.ensures ∙ c.if-is_some.true)))
 
 pub returns : goal.returns
@@ -25,5 +26,6 @@ returns c =
     c.are_here.ensures
     ∙ sym (migrate_in_parts G c.args.schema.now c.args.steps.now rs
     ∙ ap (λ b. b && list_all (λ (e : List ℕ × Replication). is_here G e.1) rs)
-    (all_unless (λ (e : List ℕ × Replication). known_migrates G c.args.schema.now c.args.steps.now e.1)
+    (all_unless
+    (λ (e : List ℕ × Replication). known_migrates G c.args.schema.now c.args.steps.now e.1)
     rs told.field-0 told.ensures ∙ ap not (sym c.is_some.ensures ∙ c.if-is_some.false)))

@@ -20,7 +20,8 @@ f-requires g c =
     let holder = c.in-Some.holder in
     let found = sym c.in-Some.ensures.value in
     c.requires.callable holder.now (there es name holder.now found)
-    (at_found (IsWhole g.H.Holder.held g.H.Holder.is_broken) es name holder.now c.requires.whole found)
+    (at_found
+    (IsWhole g.H.Holder.held g.H.Holder.is_broken) es name holder.now c.requires.whole found)
     holder refl
 
 pub returns-in-Some-clause-done : goal.returns-in-Some-clause-done

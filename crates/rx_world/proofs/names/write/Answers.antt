@@ -27,7 +27,8 @@ returns-in_ok-write_to-in-Some-clause-held g c =
     c.args.name.now c.in-Some.holder.now c.write_to.new.holder
     c.in_ok-write_to-in-Some.ensures.held (sym c.in-Some.ensures.value)
 
-pub returns-in_ok-write_to-in-Some-clause-holders : goal.returns-in_ok-write_to-in-Some-clause-holders
+pub returns-in_ok-write_to-in-Some-clause-holders :
+    goal.returns-in_ok-write_to-in-Some-clause-holders
 returns-in_ok-write_to-in-Some-clause-holders g c =
     let held = g.H.Holder.held in
     ap by_bytes (c.get_mut.follows.holds c.write_to.new.holder).0

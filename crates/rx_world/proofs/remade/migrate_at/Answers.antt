@@ -13,9 +13,11 @@ returns-then-not-is_in_group c = λ e there.
     let rs = by_bytes c.args.replications.now.entries in
     let G : List ℕ → Bool = is_in_group rs c.args.name.now in
     let found : e.1 ≡ c.find_at.result.now =
-    some_same (sym (ap (option_map (λ (x : List ℕ × Replication). x.1)) there) ∙ c.find_at.ensures) in
+    some_same (sym (ap (option_map (λ (x : List ℕ × Replication). x.1)) there)
+    ∙ c.find_at.ensures) in
     let other : G e.1.fork ≡ false =
-    ap (λ (r : Replication). G r.fork) found ∙ ap G (sym c.as_str.ensures) ∙ sym c.is_in_group.ensures
+    ap (λ (r : Replication). G r.fork) found ∙ ap G (sym c.as_str.ensures)
+    ∙ sym c.is_in_group.ensures
     ∙ c.if-not-is_in_group.true in
     other_set G c.args.steps.now rs c.args.at e there other
 
@@ -27,10 +29,13 @@ returns-in-Some c =
     on_ok_weaker c.migrate_side.result
     (λ now. λ e there.
     let found : e.1 ≡ c.find_at.result.now =
-    some_same (sym (ap (option_map (λ (x : List ℕ × Replication). x.1)) there) ∙ c.find_at.ensures) in
+    some_same (sym (ap (option_map (λ (x : List ℕ × Replication). x.1)) there)
+    ∙ c.find_at.ensures) in
     let group : G e.1.fork ≡ true =
-    ap (λ (r : Replication). G r.fork) found ∙ ap G (sym c.as_str.ensures) ∙ sym c.is_in_group.ensures
+    ap (λ (r : Replication). G r.fork) found ∙ ap G (sym c.as_str.ensures)
+    ∙ sym c.is_in_group.ensures
     ∙ c.if-not-is_in_group.false in
     ap (λ (r : Replication). by_bytes (set_value_at es c.args.at r)) now
-    ∙ value_set G c.args.steps.now es c.args.at c.in-Some.replication.now e (sym c.in-Some.ensures.value) there group)
+    ∙ value_set G c.args.steps.now es c.args.at c.in-Some.replication.now e
+    (sym c.in-Some.ensures.value) there group)
     c.migrate_side.ensures

@@ -13,4 +13,5 @@ loop-at-preserved c =
     let one : at + 1 ≡ suc at = omega arith in
     let within : at < length rs = first_of (search rules, grind (arith, common_steps)) in
     subst (AreTurned c.args.steps.now c.args.name.now old new) (sym one)
-    (next_turn c.args.steps.now c.args.name.now old rs new at within c.loop-at.invariant c.in_ok-migrate_at.ensures)
+    (next_turn c.args.steps.now c.args.name.now old rs new at within c.loop-at.invariant
+    c.in_ok-migrate_at.ensures)

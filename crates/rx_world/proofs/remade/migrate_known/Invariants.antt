@@ -4,4 +4,5 @@ use Rattle.rx_world.proofs.remade.migrate_known.Given as goal
 
 abbrev pub invariant-loop-at : goal.invariant-loop-at
 invariant-loop-at l =
-    AreTurned l.steps l.name (by_bytes l.initial.replications.entries) (by_bytes l.replications.entries) l.at
+    AreTurned l.steps l.name (by_bytes l.initial.replications.entries)
+    (by_bytes l.replications.entries) l.at

@@ -16,7 +16,9 @@ returns c =
       side = s;
     } in
     let es = c.args.replications.now.entries in
-    let spelt : string_bytes c.in_ok-key.key ≡ c.args.name = c.in_ok-key.ensures.ok ∙ c.as_str.ensures in
+    let spelt : string_bytes c.in_ok-key.key ≡ c.args.name =
+    c.in_ok-key.ensures.ok ∙ c.as_str.ensures in
     ap by_bytes c.in_ok-insert.ensures.entries
     ∙ by_bytes-insert_entry es c.in_ok-key.key (made c.new.result)
-    ∙ ap₂ (λ (k : List ℕ) (r : Replication). put_named (by_bytes es) k r) spelt (ap made c.new.ensures)
+    ∙ ap₂ (λ (k : List ℕ) (r : Replication). put_named (by_bytes es) k r) spelt
+    (ap made c.new.ensures)

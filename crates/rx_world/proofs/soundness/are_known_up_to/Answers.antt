@@ -18,8 +18,10 @@ returns c =
     let held = c.args.collection.now in
     let known = c.args.side.now.known in
     let place = c.args.place.now in
-    let test : Stored → Bool = λ d. is_lt (place_cmp place (place_of d)) || is_state (named known d.state.key) d.state in
+    let test : Stored → Bool =
+    λ d. is_lt (place_cmp place (place_of d)) || is_state (named known d.state.key) d.state in
     decides_known held c.all.ensures.lawful known place c.all-2.result
     (all_from_yields_List test _ _ c.all-2.result c.all-2.ensures.ran
-    (YieldsList-from_rest {shows = λ (r : Bor Stored). r.now} (values_of held.documents) c.all.ensures.documents)
+    (YieldsList-from_rest {shows = λ (r : Bor Stored). r.now}
+    (values_of held.documents) c.all.ensures.documents)
     (λ x b q k. search (rules, tests)))

@@ -18,5 +18,6 @@ returns c =
     let test : Stored → Bool = λ d. not (is_lt (place_cmp (place_of d) place)) in
     decides_reach held c.all.ensures.lawful place c.any.result
     (any_from_yields_List test _ _ c.any.result c.any.ensures.ran
-    (YieldsList-from_rest {shows = λ (r : Bor Stored). r.now} (values_of held.documents) c.all.ensures.documents)
+    (YieldsList-from_rest {shows = λ (r : Bor Stored). r.now}
+    (values_of held.documents) c.all.ensures.documents)
     (λ x b q k. search (rules, tests)))

@@ -37,7 +37,8 @@ loop-row-preserved g c =
           row_read c.args.collection.now c.args.attached.now docs row c.loop-row.seen
           c.read_row.new.seen c.loop-row.states.items d c.in_ok-state.state
           c.loop-row.invariant.states here c.in_ok-state.ensures.exact c.in_ok-state.ensures.seen
-          ∙ ap (λ states. after states (rows_states c.args.collection.now c.args.attached.now (row + 1)
+          ∙ ap (λ states.
+          after states (rows_states c.args.collection.now c.args.attached.now (row + 1)
           c.read_row.new.seen (map view (drop (row + 1) docs))))
           (sym c.in_ok-push.ensures.items);
       revs = grind (arith, common_steps);

@@ -13,7 +13,13 @@ written_state-requires g c =
     let held = c.in_ok-doc.doc.now.state.fields in
     let more = c.in_ok-more.more in
     let keeps : keeps_key primary c.args.key more ≡ true =
-    cc (c.keeps_key.ensures, c.primary.ensures, c.schema.ensures, c.as_str-2.ensures, c.if-not-keeps_key.false) in
+    cc (
+      c.keeps_key.ensures,
+      c.primary.ensures,
+      c.schema.ensures,
+      c.as_str-2.ensures,
+      c.if-not-keeps_key.false,
+    ) in
     record {
       carries = subst (λ (s : State). named s.fields primary ≡ Some (Text s.key))
           (sym c.live_state-state.ensures)

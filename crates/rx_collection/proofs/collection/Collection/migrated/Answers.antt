@@ -12,12 +12,15 @@ invariant_of-migrated c =
     let i = c.migrated.inside in
     subst (λ (rows : List Stored). IsWhole i.name c.args.schema rows i.names i.log.items)
     (sym c.in_ok-migrate_rows.ensures)
-    (whole_after c.args.steps.now i.name i.schema c.args.schema i.rows i.names i.log.items c.migrated.invariant
-    (subst (λ (h : Held). CarryAfter c.args.schema c.args.steps.now h.documents) (sym c.migrated.view_is) c.requires))
+    (whole_after c.args.steps.now i.name i.schema c.args.schema i.rows i.names i.log.items
+    c.migrated.invariant
+    (subst (λ (h : Held). CarryAfter c.args.schema c.args.steps.now h.documents)
+    (sym c.migrated.view_is) c.requires))
 
 pub returns : goal.returns
 returns c =
     let i = c.migrated.inside in
-    ap (λ (rows : List Stored). held_with i.name c.args.schema (shown rows i.names)) c.in_ok-migrate_rows.ensures
+    ap (λ (rows : List Stored). held_with i.name c.args.schema (shown rows i.names))
+    c.in_ok-migrate_rows.ensures
     ∙ ap (held_with i.name c.args.schema) (shown_after c.args.steps.now i.rows i.names)
     ∙ ap (migrated_collection c.args.schema c.args.steps.now) c.migrated.view_is

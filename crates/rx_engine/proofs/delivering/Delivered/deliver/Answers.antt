@@ -17,7 +17,8 @@ give-requires-in-Twice-2-clause-may c =
     let once = c.in_ok-once-in-Twice.once in
     let d = given_once name c.args.now c.args.number c.args.event w in
     subst (λ (v : World). MayGive v name c.args.event)
-    (sym (world_of c.args.self.play once.play d.records c.in_ok-once-in-Twice.ensures.delivered.follows))
+    (sym
+    (world_of c.args.self.play once.play d.records c.in_ok-once-in-Twice.ensures.delivered.follows))
     (may_again w name c.args.now c.args.number c.args.event c.requires.may)
 
 pub returns-in_ok-once-in-Twice-clause-delivered :
@@ -34,11 +35,14 @@ returns-in_ok-once-in-Twice-clause-delivered c =
     (IsDeliveredOn (given_once name c.args.now i e once.play.playing.world) once)
     (IsDeliveredOn (one_delivered name c.args.now i c.args.delivery e w) c.args.self)
     c.give-in-Twice-2.ensures.delivered
-    (λ q next. subst (λ (x : Delivery). IsDeliveredOn (one_delivered name c.args.now i x e w) c.args.self q)
+    (λ q next.
+    subst (λ (x : Delivery). IsDeliveredOn (one_delivered name c.args.now i x e w) c.args.self q)
     (sym c.in-Twice.is)
-    (subst (λ (v : World). IsDeliveredOn (joined d (given_once name c.args.now i e v)) c.args.self q)
+    (subst
+    (λ (v : World). IsDeliveredOn (joined d (given_once name c.args.now i e v)) c.args.self q)
     (world_of c.args.self.play once.play d.records on.follows)
-    (on_after d (given_once name c.args.now i e once.play.playing.world) c.args.self once q on next)))
+    (on_after d
+    (given_once name c.args.now i e once.play.playing.world) c.args.self once q on next)))
 
 pub returns-in_ok-noted-in-Later-clause-delivered :
     goal.returns-in_ok-noted-in-Later-clause-delivered
@@ -51,7 +55,8 @@ returns-in_ok-noted-in-Later-clause-delivered c =
     if_ok c.keep.result (IsDeliveredOn (kept_as e) noted)
     (IsDeliveredOn (one_delivered name c.args.now i c.args.delivery e w) c.args.self)
     c.keep.ensures.delivered
-    (λ q next. subst (λ (x : Delivery). IsDeliveredOn (one_delivered name c.args.now i x e w) c.args.self q)
+    (λ q next.
+    subst (λ (x : Delivery). IsDeliveredOn (one_delivered name c.args.now i x e w) c.args.self q)
     (sym c.in-Later.is)
     (on_after (noted_as i e took.Later) (kept_as e) c.args.self noted q
     c.in_ok-noted-in-Later.ensures.delivered next))

@@ -132,7 +132,8 @@ returns-clause-ended g c =
     let put = c.in_ok-playing.ensures
     ∙ ap (with_kept name c.args.self.kept.items) c.in_ok-play.ensures.session in
     record {
-      session = ap (λ (x : SessionWithAsks). x.session) c.new.ensures ∙ c.in_ok-session.ensures.session
+      session =
+          ap (λ (x : SessionWithAsks). x.session) c.new.ensures ∙ c.in_ok-session.ensures.session
           ∙ ap (λ (x : Session). settled_session x) put;
       asks = ap (λ (x : SessionWithAsks). x.asks) c.new.ensures;
       due = c.in_ok-session.ensures.emissions ∙ ap (λ (x : Session). emissions x) put;

@@ -39,7 +39,8 @@ pub returns-clause-delivered : goal.returns-clause-delivered
 returns-clause-delivered c =
     let w = c.args.self.play.playing.world in
     let g = c.in_ok-written.field-0 in
-    let is : given_once c.args.wanted.now.name c.args.now c.args.number c.args.event.now w ≡ giving_of g =
+    let is : given_once c.args.wanted.now.name c.args.now c.args.number c.args.event.now w
+    ≡ giving_of g =
     ap (λ (n : List ℕ). given_once n c.args.now c.args.number c.args.event.now w)
     (sym c.as_str-name.ensures)
     ∙ ap (given_once c.as_str-name.result.now c.args.now c.args.number c.args.event.now)
@@ -70,6 +71,7 @@ returns-clause-none c told =
     c.requires.none
     (λ so. subst (λ (v : World). pending_in (world_after (record_in g.written) v) name ≡ Some 0)
     c.world.ensures
-    (subst (λ (n : List ℕ). pending_in (world_after (record_in g.written) (seen_world c.world.result.now)) n
+    (subst (λ (n : List ℕ).
+    pending_in (world_after (record_in g.written) (seen_world c.world.result.now)) n
     ≡ Some 0) c.as_str-name.ensures (c.in_ok-written.ensures.settled so)))
     taken)

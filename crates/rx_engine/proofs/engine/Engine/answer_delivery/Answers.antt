@@ -33,5 +33,6 @@ pub returns-clause-commits : goal.returns-clause-commits
 returns-clause-commits g c =
     let engine = c.in_ok-answered.ensures.engine in
     commits_so g.D.Disk c.args.disk.now c.make_delivery.new.disk c.args.self _ _ _ _ _
-    (λ bodies held. subst (λ (e : Engine). IsAt g.D.Disk c.make_delivery.new.disk e bodies) (sym engine)
+    (λ bodies held.
+    subst (λ (e : Engine). IsAt g.D.Disk c.make_delivery.new.disk e bodies) (sym engine)
     held) (ap (λ (e : Engine). limit_of e) engine) c.in_ok-made.ensures.commits

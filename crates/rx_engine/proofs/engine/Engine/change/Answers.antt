@@ -65,7 +65,8 @@ new-requires-clause-marked c =
     let then = c.in_ok-session.ensures.session
     ∙ ap (λ (x : Session). settled_session (session_after doing x)) parts.same in
     subst (λ (x : Session). AreMarked x.world marks) (sym then)
-    (marked_doing doing s marks (in_session c.args.doing) c.requires.may c.requires.apart parts.marked)
+    (marked_doing doing s marks
+    (in_session c.args.doing) c.requires.may c.requires.apart parts.marked)
 
 pub returns-clause-session : goal.returns-clause-session
 unfolding session_of

@@ -53,7 +53,8 @@ answer-requires-clause-apart g c =
     let s = standing_of (kinds_of c.args.handlers.now) [] c.args.self in
     let p = c.in-Printed.printed in
     let j = printed_is c.args.number s.kinds c.args.text.now c.session.result.now s.session
-    c.session.ensures.value c.in_ok-printed.field-0 p c.in-Printed.is c.in_ok-printed.ensures.judged in
+    c.session.ensures.value c.in_ok-printed.field-0 p c.in-Printed.is
+    c.in_ok-printed.ensures.judged in
     subst WritesNoExchange (sym j.2.doing)
     (lawful_outcome s.kinds c.args.text.now s.session j.0 j.1).apart
 
@@ -64,7 +65,8 @@ returns-in-Printed-clause-plays g c =
     let s : List Heard → Standing = λ heard. standing_of kinds heard c.args.self in
     let p = c.in-Printed.printed in
     let j = printed_is c.args.number kinds c.args.text.now c.session.result.now (s []).session
-    c.session.ensures.value c.in_ok-printed.field-0 p c.in-Printed.is c.in_ok-printed.ensures.judged in
+    c.session.ensures.value c.in_ok-printed.field-0 p c.in-Printed.is
+    c.in_ok-printed.ensures.judged in
     let e = c.answer.ensures in
     plays_none g.D.Disk g.L.W.Wire.tells kinds c.args.number c.args.text.now c.args.disk.now
     c.answer.new.disk _ _ c.args.self
@@ -87,7 +89,8 @@ returns-in-Printed-clause-quiet g c =
     let s = standing_of (kinds_of c.args.handlers.now) [] c.args.self in
     let p = c.in-Printed.printed in
     let j = printed_is c.args.number s.kinds c.args.text.now c.session.result.now s.session
-    c.session.ensures.value c.in_ok-printed.field-0 p c.in-Printed.is c.in_ok-printed.ensures.judged in
+    c.session.ensures.value c.in_ok-printed.field-0 p c.in-Printed.is
+    c.in_ok-printed.ensures.judged in
     no_turn_so c.args.number c.args.text.now s j.0 p j.1 j.2 c.answer.result
 
 pub returns-in-Printed-clause-refused : goal.returns-in-Printed-clause-refused
@@ -97,7 +100,8 @@ returns-in-Printed-clause-refused g c =
     let s : List Heard → Standing = λ heard. standing_of kinds heard c.args.self in
     let p = c.in-Printed.printed in
     let j = printed_is c.args.number kinds c.args.text.now c.session.result.now (s []).session
-    c.session.ensures.value c.in_ok-printed.field-0 p c.in-Printed.is c.in_ok-printed.ensures.judged in
+    c.session.ensures.value c.in_ok-printed.field-0 p c.in-Printed.is
+    c.in_ok-printed.ensures.judged in
     let e = c.answer.ensures in
     let Leaves : Engine × Output → Type 0 = λ x. (heard : List Heard)
     → LeavesAll c.args.number c.args.text.now (s heard) x.0 x.1 in
@@ -123,7 +127,8 @@ returns-in-Printed-clause-idle g c is_idle =
     let s : List Heard → Standing = λ heard. standing_of kinds heard c.args.self in
     let p = c.in-Printed.printed in
     let j = printed_is c.args.number kinds c.args.text.now c.session.result.now (s []).session
-    c.session.ensures.value c.in_ok-printed.field-0 p c.in-Printed.is c.in_ok-printed.ensures.judged in
+    c.session.ensures.value c.in_ok-printed.field-0 p c.in-Printed.is
+    c.in_ok-printed.ensures.judged in
     let e = c.answer.ensures in
     let idle = subst IsIdleTask j.1 is_idle in (
       e.idle_disk (j.2.doing ∙ idle),
@@ -140,7 +145,8 @@ returns-in-Printed-clause-not_journal g c stopped =
     let s = standing_of (kinds_of c.args.handlers.now) [] c.args.self in
     let p = c.in-Printed.printed in
     let j = printed_is c.args.number s.kinds c.args.text.now c.session.result.now s.session
-    c.session.ensures.value c.in_ok-printed.field-0 p c.in-Printed.is c.in_ok-printed.ensures.judged in
+    c.session.ensures.value c.in_ok-printed.field-0 p c.in-Printed.is
+    c.in_ok-printed.ensures.judged in
     let again = c.answer.ensures.not_journal stopped in
     (lawful_outcome s.kinds c.args.text.now s.session j.0 j.1).restarts again.0
     (sym j.2.doing ∙ again.1)
@@ -153,7 +159,8 @@ answer_turn-requires-clause-can g c =
     let s = standing_of (kinds_of c.args.handlers.now) [] c.args.self in
     let m = c.in-Turns.turn in
     let is = turn_is c.args.number s.kinds c.args.text.now c.session.result.now s.session
-    c.session.ensures.value c.in_ok-printed.field-0 m c.in-Turns.is c.in_ok-printed.ensures.judged in
+    c.session.ensures.value c.in_ok-printed.field-0 m c.in-Turns.is
+    c.in_ok-printed.ensures.judged in
     can_turn s.kinds c.args.text.now s.session (turn_of m) is
 
 pub returns-in-Turns-clause-plays : goal.returns-in-Turns-clause-plays
@@ -163,7 +170,8 @@ returns-in-Turns-clause-plays g c =
     let s : List Heard → Standing = λ heard. standing_of kinds heard c.args.self in
     let m = c.in-Turns.turn in
     let is = turn_is c.args.number kinds c.args.text.now c.session.result.now (s []).session
-    c.session.ensures.value c.in_ok-printed.field-0 m c.in-Turns.is c.in_ok-printed.ensures.judged in
+    c.session.ensures.value c.in_ok-printed.field-0 m c.in-Turns.is
+    c.in_ok-printed.ensures.judged in
     let r = c.answer_turn.result in
     plays_none g.D.Disk g.L.W.Wire.tells kinds c.args.number c.args.text.now c.args.disk.now
     c.answer_turn.new.disk _ _ c.args.self r
@@ -185,7 +193,8 @@ returns-in-Turns-clause-quiet g c =
     let s = standing_of (kinds_of c.args.handlers.now) [] c.args.self in
     let m = c.in-Turns.turn in
     let is = turn_is c.args.number s.kinds c.args.text.now c.session.result.now s.session
-    c.session.ensures.value c.in_ok-printed.field-0 m c.in-Turns.is c.in_ok-printed.ensures.judged in
+    c.session.ensures.value c.in_ok-printed.field-0 m c.in-Turns.is
+    c.in_ok-printed.ensures.judged in
     level_so c.args.number c.args.text.now s (turn_of m) is c.answer_turn.result
     c.answer_turn.ensures.quiet
 
@@ -195,7 +204,8 @@ returns-in-Turns-clause-idle g c idle =
     let s = standing_of (kinds_of c.args.handlers.now) [] c.args.self in
     let m = c.in-Turns.turn in
     let is = turn_is c.args.number s.kinds c.args.text.now c.session.result.now s.session
-    c.session.ensures.value c.in_ok-printed.field-0 m c.in-Turns.is c.in_ok-printed.ensures.judged in
+    c.session.ensures.value c.in_ok-printed.field-0 m c.in-Turns.is
+    c.in_ok-printed.ensures.judged in
     absurd (busy_so c.args.number c.args.text.now s (turn_of m) is idle)
 
 -- ---- a turn to a master elsewhere
@@ -206,7 +216,8 @@ answer_call-requires-clause-can g c =
     let s = standing_of (kinds_of c.args.handlers.now) [] c.args.self in
     let m = c.in-Calls.call in
     let is = call_is c.args.number s.kinds c.args.text.now c.session.result.now s.session
-    c.session.ensures.value c.in_ok-printed.field-0 m c.in-Calls.is c.in_ok-printed.ensures.judged in
+    c.session.ensures.value c.in_ok-printed.field-0 m c.in-Calls.is
+    c.in_ok-printed.ensures.judged in
     can_call s.kinds c.args.text.now s.session (call_of m) is
 
 pub returns-in-Calls-clause-plays : goal.returns-in-Calls-clause-plays
@@ -216,7 +227,8 @@ returns-in-Calls-clause-plays g c =
     let s = standing_of kinds [] c.args.self in
     let m = c.in-Calls.call in
     let is = call_is c.args.number kinds c.args.text.now c.session.result.now s.session
-    c.session.ensures.value c.in_ok-printed.field-0 m c.in-Calls.is c.in_ok-printed.ensures.judged in
+    c.session.ensures.value c.in_ok-printed.field-0 m c.in-Calls.is
+    c.in_ok-printed.ensures.judged in
     plays_call g.D.Disk g.L.W.Wire.tells kinds c.args.number c.args.text.now c.args.disk.now
     c.answer_call.new.disk _ _
     c.args.self c.answer_call.result (call_of m) is c.answer_call.ensures.turned
@@ -227,7 +239,8 @@ returns-in-Calls-clause-quiet g c =
     let s = standing_of (kinds_of c.args.handlers.now) [] c.args.self in
     let m = c.in-Calls.call in
     let is = call_is c.args.number s.kinds c.args.text.now c.session.result.now s.session
-    c.session.ensures.value c.in_ok-printed.field-0 m c.in-Calls.is c.in_ok-printed.ensures.judged in
+    c.session.ensures.value c.in_ok-printed.field-0 m c.in-Calls.is
+    c.in_ok-printed.ensures.judged in
     no_level_so c.args.number c.args.text.now s (call_of m) is c.answer_call.result
 
 pub returns-in-Calls-clause-idle : goal.returns-in-Calls-clause-idle
@@ -236,7 +249,8 @@ returns-in-Calls-clause-idle g c idle =
     let s = standing_of (kinds_of c.args.handlers.now) [] c.args.self in
     let m = c.in-Calls.call in
     let is = call_is c.args.number s.kinds c.args.text.now c.session.result.now s.session
-    c.session.ensures.value c.in_ok-printed.field-0 m c.in-Calls.is c.in_ok-printed.ensures.judged in
+    c.session.ensures.value c.in_ok-printed.field-0 m c.in-Calls.is
+    c.in_ok-printed.ensures.judged in
     absurd (calling_so c.args.number c.args.text.now s (call_of m) is idle)
 
 -- ---- how long a turn takes
@@ -258,7 +272,8 @@ returns-in-Turns-clause-bounded g c =
     let m = c.in-Turns.turn in
     let u = turn_of m in
     let is = turn_is c.args.number s.kinds c.args.text.now c.session.result.now s.session
-    c.session.ensures.value c.in_ok-printed.field-0 m c.in-Turns.is c.in_ok-printed.ensures.judged in
+    c.session.ensures.value c.in_ok-printed.field-0 m c.in-Turns.is
+    c.in_ok-printed.ensures.judged in
     let here = c.session.ensures.sound in
     let some = some_asked c.in_ok-printed.field-0 m _ c.in-Turns.is c.in_ok-printed.ensures.may in
     on_ok c.answer_turn.result _ (bounded_so c.args.number c.args.text.now s u is some
@@ -271,7 +286,8 @@ returns-in-Calls-clause-bounded g c =
     let s = standing_of (kinds_of c.args.handlers.now) [] c.args.self in
     let m = c.in-Calls.call in
     let is = call_is c.args.number s.kinds c.args.text.now c.session.result.now s.session
-    c.session.ensures.value c.in_ok-printed.field-0 m c.in-Calls.is c.in_ok-printed.ensures.judged in
+    c.session.ensures.value c.in_ok-printed.field-0 m c.in-Calls.is
+    c.in_ok-printed.ensures.judged in
     on_ok c.answer_call.result _ (no_bound_so c.args.number c.args.text.now s (call_of m) is)
 
 -- ---- what no master can do
@@ -298,7 +314,8 @@ returns-in-Turns-clause-unharmed g c other heard =
     let s : List Heard → Standing = λ heard. standing_of kinds heard c.args.self in
     let m = c.in-Turns.turn in
     let is = turn_is c.args.number kinds c.args.text.now c.session.result.now (s []).session
-    c.session.ensures.value c.in_ok-printed.field-0 m c.in-Turns.is c.in_ok-printed.ensures.judged in
+    c.session.ensures.value c.in_ok-printed.field-0 m c.in-Turns.is
+    c.in_ok-printed.ensures.judged in
     no_other_so c.args.number c.args.text.now (s heard) (turn_of m) is
 
 pub returns-in-Calls-clause-unharmed : goal.returns-in-Calls-clause-unharmed
@@ -309,7 +326,8 @@ returns-in-Calls-clause-unharmed g c other heard =
     let m = c.in-Calls.call in
     let d = call_of m in
     let is = call_is c.args.number kinds c.args.text.now c.session.result.now (s []).session
-    c.session.ensures.value c.in_ok-printed.field-0 m c.in-Calls.is c.in_ok-printed.ensures.judged in
+    c.session.ensures.value c.in_ok-printed.field-0 m c.in-Calls.is
+    c.in_ok-printed.ensures.judged in
     let here = c.session.ensures.sound in
     let some = some_called c.in_ok-printed.field-0 m _ c.in-Calls.is c.in_ok-printed.ensures.may in
     unharmed_so c.args.number c.args.text.now (s heard) d is some
@@ -352,7 +370,8 @@ returns-in-Delivers-clause-plays g c =
     let s : List Heard → Standing = λ heard. standing_of kinds heard c.args.self in
     let m = c.in-Delivers.deliver in
     let is = delivery_is c.args.number kinds c.args.text.now c.session.result.now (s []).session
-    c.session.ensures.value c.in_ok-printed.field-0 m c.in-Delivers.is c.in_ok-printed.ensures.judged in
+    c.session.ensures.value c.in_ok-printed.field-0 m c.in-Delivers.is
+    c.in_ok-printed.ensures.judged in
     let r = c.answer_delivery.result in
     plays_none g.D.Disk g.L.W.Wire.tells kinds c.args.number c.args.text.now c.args.disk.now
     c.answer_delivery.new.disk _ _ c.args.self r
@@ -375,7 +394,8 @@ returns-in-Delivers-clause-quiet g c =
     let s = standing_of (kinds_of c.args.handlers.now) [] c.args.self in
     let m = c.in-Delivers.deliver in
     let is = delivery_is c.args.number s.kinds c.args.text.now c.session.result.now s.session
-    c.session.ensures.value c.in_ok-printed.field-0 m c.in-Delivers.is c.in_ok-printed.ensures.judged in
+    c.session.ensures.value c.in_ok-printed.field-0 m c.in-Delivers.is
+    c.in_ok-printed.ensures.judged in
     delivery_no_turn c.args.number c.args.text.now s (deliver_of m) is c.answer_delivery.result
 
 pub returns-in-Delivers-clause-level : goal.returns-in-Delivers-clause-level
@@ -384,7 +404,8 @@ returns-in-Delivers-clause-level g c =
     let s = standing_of (kinds_of c.args.handlers.now) [] c.args.self in
     let m = c.in-Delivers.deliver in
     let is = delivery_is c.args.number s.kinds c.args.text.now c.session.result.now s.session
-    c.session.ensures.value c.in_ok-printed.field-0 m c.in-Delivers.is c.in_ok-printed.ensures.judged in
+    c.session.ensures.value c.in_ok-printed.field-0 m c.in-Delivers.is
+    c.in_ok-printed.ensures.judged in
     let here = c.session.ensures.sound in
     equal_so c.args.number c.args.text.now s (deliver_of m) is c.answer_delivery.result
     (c.answer_delivery.ensures.answers s.kinds [])
@@ -404,7 +425,8 @@ returns-in-Printed-clause-level g c =
     let s = standing_of (kinds_of c.args.handlers.now) [] c.args.self in
     let p = c.in-Printed.printed in
     let j = printed_is c.args.number s.kinds c.args.text.now c.session.result.now s.session
-    c.session.ensures.value c.in_ok-printed.field-0 p c.in-Printed.is c.in_ok-printed.ensures.judged in
+    c.session.ensures.value c.in_ok-printed.field-0 p c.in-Printed.is
+    c.in_ok-printed.ensures.judged in
     no_delivery_so c.args.number c.args.text.now s j.0 p j.1 j.2 c.answer.result
 
 pub returns-in_err-printed-clause-waits : goal.returns-in_err-printed-clause-waits
@@ -427,7 +449,8 @@ returns-in-Turns-clause-level g c =
     let s = standing_of (kinds_of c.args.handlers.now) [] c.args.self in
     let m = c.in-Turns.turn in
     let is = turn_is c.args.number s.kinds c.args.text.now c.session.result.now s.session
-    c.session.ensures.value c.in_ok-printed.field-0 m c.in-Turns.is c.in_ok-printed.ensures.judged in
+    c.session.ensures.value c.in_ok-printed.field-0 m c.in-Turns.is
+    c.in_ok-printed.ensures.judged in
     turn_no_delivery c.args.number c.args.text.now s (turn_of m) is c.answer_turn.result
 
 pub returns-in-Turns-clause-waits : goal.returns-in-Turns-clause-waits
@@ -443,7 +466,8 @@ returns-in-Calls-clause-level g c =
     let s = standing_of (kinds_of c.args.handlers.now) [] c.args.self in
     let m = c.in-Calls.call in
     let is = call_is c.args.number s.kinds c.args.text.now c.session.result.now s.session
-    c.session.ensures.value c.in_ok-printed.field-0 m c.in-Calls.is c.in_ok-printed.ensures.judged in
+    c.session.ensures.value c.in_ok-printed.field-0 m c.in-Calls.is
+    c.in_ok-printed.ensures.judged in
     call_no_delivery c.args.number c.args.text.now s (call_of m) is c.answer_call.result
 
 pub returns-in-Calls-clause-waits : goal.returns-in-Calls-clause-waits
@@ -459,7 +483,8 @@ returns-in-Delivers-clause-idle g c idle =
     let s = standing_of (kinds_of c.args.handlers.now) [] c.args.self in
     let m = c.in-Delivers.deliver in
     let is = delivery_is c.args.number s.kinds c.args.text.now c.session.result.now s.session
-    c.session.ensures.value c.in_ok-printed.field-0 m c.in-Delivers.is c.in_ok-printed.ensures.judged in
+    c.session.ensures.value c.in_ok-printed.field-0 m c.in-Delivers.is
+    c.in_ok-printed.ensures.judged in
     absurd (delivering_so c.args.number c.args.text.now s (deliver_of m) is idle)
 
 pub returns-in-Delivers-clause-bounded : goal.returns-in-Delivers-clause-bounded
@@ -468,7 +493,8 @@ returns-in-Delivers-clause-bounded g c =
     let s = standing_of (kinds_of c.args.handlers.now) [] c.args.self in
     let m = c.in-Delivers.deliver in
     let is = delivery_is c.args.number s.kinds c.args.text.now c.session.result.now s.session
-    c.session.ensures.value c.in_ok-printed.field-0 m c.in-Delivers.is c.in_ok-printed.ensures.judged in
+    c.session.ensures.value c.in_ok-printed.field-0 m c.in-Delivers.is
+    c.in_ok-printed.ensures.judged in
     on_ok c.answer_delivery.result _
     (delivery_unbounded c.args.number c.args.text.now s (deliver_of m) is)
 
@@ -479,7 +505,8 @@ returns-in-Delivers-clause-unharmed g c other heard =
     let s : List Heard → Standing = λ heard. standing_of kinds heard c.args.self in
     let m = c.in-Delivers.deliver in
     let is = delivery_is c.args.number kinds c.args.text.now c.session.result.now (s []).session
-    c.session.ensures.value c.in_ok-printed.field-0 m c.in-Delivers.is c.in_ok-printed.ensures.judged in
+    c.session.ensures.value c.in_ok-printed.field-0 m c.in-Delivers.is
+    c.in_ok-printed.ensures.judged in
     delivery_no_master c.args.number c.args.text.now (s heard) (deliver_of m) is
 
 pub returns-in-Delivers-clause-refused : goal.returns-in-Delivers-clause-refused
@@ -543,7 +570,8 @@ answer_sweep-requires-clause-can g c =
     let s = standing_of (kinds_of c.args.handlers.now) [] c.args.self in
     let m = c.in-Sweeps.sweep in
     let is = sweep_is c.args.number s.kinds c.args.text.now c.session.result.now s.session
-    c.session.ensures.value c.in_ok-printed.field-0 m c.in-Sweeps.is c.in_ok-printed.ensures.judged in
+    c.session.ensures.value c.in_ok-printed.field-0 m c.in-Sweeps.is
+    c.in_ok-printed.ensures.judged in
     can_sweep s.kinds c.args.text.now s.session (sweep_of m) c.session.ensures.sound.made is
 
 pub returns-in-Sweeps-clause-level : goal.returns-in-Sweeps-clause-level
@@ -552,7 +580,8 @@ returns-in-Sweeps-clause-level g c =
     let s = standing_of (kinds_of c.args.handlers.now) [] c.args.self in
     let m = c.in-Sweeps.sweep in
     let is = sweep_is c.args.number s.kinds c.args.text.now c.session.result.now s.session
-    c.session.ensures.value c.in_ok-printed.field-0 m c.in-Sweeps.is c.in_ok-printed.ensures.judged in
+    c.session.ensures.value c.in_ok-printed.field-0 m c.in-Sweeps.is
+    c.in_ok-printed.ensures.judged in
     sweep_no_delivery c.args.number c.args.text.now s (sweep_of m) is c.answer_sweep.result
 
 pub returns-in-Sweeps-clause-plays : goal.returns-in-Sweeps-clause-plays
@@ -562,7 +591,8 @@ returns-in-Sweeps-clause-plays g c =
     let s : List Heard → Standing = λ heard. standing_of kinds heard c.args.self in
     let m = c.in-Sweeps.sweep in
     let is = sweep_is c.args.number kinds c.args.text.now c.session.result.now (s []).session
-    c.session.ensures.value c.in_ok-printed.field-0 m c.in-Sweeps.is c.in_ok-printed.ensures.judged in
+    c.session.ensures.value c.in_ok-printed.field-0 m c.in-Sweeps.is
+    c.in_ok-printed.ensures.judged in
     let r = c.answer_sweep.result in
     plays_none g.D.Disk g.L.W.Wire.tells kinds c.args.number c.args.text.now c.args.disk.now
     c.answer_sweep.new.disk _ _ c.args.self r
@@ -585,7 +615,8 @@ returns-in-Sweeps-clause-quiet g c =
     let s = standing_of (kinds_of c.args.handlers.now) [] c.args.self in
     let m = c.in-Sweeps.sweep in
     let is = sweep_is c.args.number s.kinds c.args.text.now c.session.result.now s.session
-    c.session.ensures.value c.in_ok-printed.field-0 m c.in-Sweeps.is c.in_ok-printed.ensures.judged in
+    c.session.ensures.value c.in_ok-printed.field-0 m c.in-Sweeps.is
+    c.in_ok-printed.ensures.judged in
     sweep_no_turn c.args.number c.args.text.now s (sweep_of m) is c.answer_sweep.result
 
 pub returns-in-Sweeps-clause-waits : goal.returns-in-Sweeps-clause-waits
@@ -601,7 +632,8 @@ returns-in-Sweeps-clause-idle g c idle =
     let s = standing_of (kinds_of c.args.handlers.now) [] c.args.self in
     let m = c.in-Sweeps.sweep in
     let is = sweep_is c.args.number s.kinds c.args.text.now c.session.result.now s.session
-    c.session.ensures.value c.in_ok-printed.field-0 m c.in-Sweeps.is c.in_ok-printed.ensures.judged in
+    c.session.ensures.value c.in_ok-printed.field-0 m c.in-Sweeps.is
+    c.in_ok-printed.ensures.judged in
     absurd (sweeping_so c.args.number c.args.text.now s (sweep_of m) is idle)
 
 pub returns-in-Sweeps-clause-bounded : goal.returns-in-Sweeps-clause-bounded
@@ -610,7 +642,8 @@ returns-in-Sweeps-clause-bounded g c =
     let s = standing_of (kinds_of c.args.handlers.now) [] c.args.self in
     let m = c.in-Sweeps.sweep in
     let is = sweep_is c.args.number s.kinds c.args.text.now c.session.result.now s.session
-    c.session.ensures.value c.in_ok-printed.field-0 m c.in-Sweeps.is c.in_ok-printed.ensures.judged in
+    c.session.ensures.value c.in_ok-printed.field-0 m c.in-Sweeps.is
+    c.in_ok-printed.ensures.judged in
     on_ok c.answer_sweep.result _
     (sweep_unbounded c.args.number c.args.text.now s (sweep_of m) is)
 
@@ -621,7 +654,8 @@ returns-in-Sweeps-clause-unharmed g c other heard =
     let s : List Heard → Standing = λ heard. standing_of kinds heard c.args.self in
     let m = c.in-Sweeps.sweep in
     let is = sweep_is c.args.number kinds c.args.text.now c.session.result.now (s []).session
-    c.session.ensures.value c.in_ok-printed.field-0 m c.in-Sweeps.is c.in_ok-printed.ensures.judged in
+    c.session.ensures.value c.in_ok-printed.field-0 m c.in-Sweeps.is
+    c.in_ok-printed.ensures.judged in
     sweep_no_master c.args.number c.args.text.now (s heard) (sweep_of m) is
 
 pub returns-in-Sweeps-clause-refused : goal.returns-in-Sweeps-clause-refused
@@ -646,7 +680,8 @@ returns-in-Sweeps-clause-swept g c =
     let s = standing_of (kinds_of c.args.handlers.now) [] c.args.self in
     let m = c.in-Sweeps.sweep in
     let is = sweep_is c.args.number s.kinds c.args.text.now c.session.result.now s.session
-    c.session.ensures.value c.in_ok-printed.field-0 m c.in-Sweeps.is c.in_ok-printed.ensures.judged in
+    c.session.ensures.value c.in_ok-printed.field-0 m c.in-Sweeps.is
+    c.in_ok-printed.ensures.judged in
     let here = c.session.ensures.sound in
     well_swept c.args.number c.args.text.now s (sweep_of m) is
     (some_swept c.in_ok-printed.field-0 m _ c.in-Sweeps.is c.in_ok-printed.ensures.may)
@@ -659,7 +694,8 @@ returns-in-Printed-clause-swept g c =
     let s = standing_of (kinds_of c.args.handlers.now) [] c.args.self in
     let m = c.in-Printed.printed in
     let is = printed_is c.args.number s.kinds c.args.text.now c.session.result.now s.session
-    c.session.ensures.value c.in_ok-printed.field-0 m c.in-Printed.is c.in_ok-printed.ensures.judged in
+    c.session.ensures.value c.in_ok-printed.field-0 m c.in-Printed.is
+    c.in_ok-printed.ensures.judged in
     not_swept c.args.text.now s (answered is.0) is.1 (λ v same. cc) c.answer.result
 
 pub returns-in-Turns-clause-swept : goal.returns-in-Turns-clause-swept
@@ -668,7 +704,8 @@ returns-in-Turns-clause-swept g c =
     let s = standing_of (kinds_of c.args.handlers.now) [] c.args.self in
     let m = c.in-Turns.turn in
     let is = turn_is c.args.number s.kinds c.args.text.now c.session.result.now s.session
-    c.session.ensures.value c.in_ok-printed.field-0 m c.in-Turns.is c.in_ok-printed.ensures.judged in
+    c.session.ensures.value c.in_ok-printed.field-0 m c.in-Turns.is
+    c.in_ok-printed.ensures.judged in
     not_swept c.args.text.now s (turns (turn_of m)) is (λ v same. cc) c.answer_turn.result
 
 pub returns-in-Calls-clause-swept : goal.returns-in-Calls-clause-swept
@@ -677,7 +714,8 @@ returns-in-Calls-clause-swept g c =
     let s = standing_of (kinds_of c.args.handlers.now) [] c.args.self in
     let m = c.in-Calls.call in
     let is = call_is c.args.number s.kinds c.args.text.now c.session.result.now s.session
-    c.session.ensures.value c.in_ok-printed.field-0 m c.in-Calls.is c.in_ok-printed.ensures.judged in
+    c.session.ensures.value c.in_ok-printed.field-0 m c.in-Calls.is
+    c.in_ok-printed.ensures.judged in
     not_swept c.args.text.now s (calls (call_of m)) is (λ v same. cc) c.answer_call.result
 
 pub returns-in-Delivers-clause-swept : goal.returns-in-Delivers-clause-swept
@@ -686,5 +724,6 @@ returns-in-Delivers-clause-swept g c =
     let s = standing_of (kinds_of c.args.handlers.now) [] c.args.self in
     let m = c.in-Delivers.deliver in
     let is = delivery_is c.args.number s.kinds c.args.text.now c.session.result.now s.session
-    c.session.ensures.value c.in_ok-printed.field-0 m c.in-Delivers.is c.in_ok-printed.ensures.judged in
+    c.session.ensures.value c.in_ok-printed.field-0 m c.in-Delivers.is
+    c.in_ok-printed.ensures.judged in
     not_swept c.args.text.now s (delivers (deliver_of m)) is (λ v same. cc) c.answer_delivery.result

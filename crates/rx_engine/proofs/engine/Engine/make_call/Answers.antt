@@ -41,7 +41,8 @@ call_by_name-requires-clause-may g c =
     let s = standing_of (kinds_of c.args.handlers.now) [] c.args.self in
     let u = call_of c.args.wanted.now in
     let parts = c.release-parts.ensures in
-    may_call_here u s c.begin.result c.moment-now.result (by_bytes c.release-parts.result.1.asks.entries)
+    may_call_here u s c.begin.result c.moment-now.result
+    (by_bytes c.release-parts.result.1.asks.entries)
     (c.begin.ensures.same ∙ parts.same)
     (c.moment-now.ensures ∙ ap (λ (x : Session). x.moment) parts.same) parts.asks
     (may_call u s c.requires.batch parts.made parts.sound c.requires.can parts.remembered)

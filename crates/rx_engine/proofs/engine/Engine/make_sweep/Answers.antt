@@ -31,7 +31,8 @@ sweep_all-requires-clause-good g c =
     record {
       made = subst (λ (x : Session). IsMadeWorld x.world) (sym session) parts.made;
       sound = subst (λ (x : Session). IsSoundWorld x.world) (sym session) parts.sound;
-      remembers = subst (λ (x : Session). AreRemembered x.world (by_bytes r.asks.entries)) (sym session)
+      remembers =
+          subst (λ (x : Session). AreRemembered x.world (by_bytes r.asks.entries)) (sym session)
           (subst (λ (l : List (List ℕ × Asks)). AreRemembered c.args.self.session.session.world l)
           (sym parts.asks) parts.remembered);
       marked = subst (λ (x : Session). AreMarked x.world r.marks) (sym session) parts.marked;
@@ -68,7 +69,8 @@ returns-in_err-play-clause-commits g c =
     let first = play_of c.args.self.journal c.begin.result in
     let is = subst (λ (t : Swept). IsSwept t first c.in_ok-made.made
     (by_bytes c.sweep_all.new.remembered.asks.entries))
-    (swept_here v s c.begin.result c.moment-now.result (by_bytes c.release-parts.result.1.asks.entries)
+    (swept_here v s c.begin.result c.moment-now.result
+    (by_bytes c.release-parts.result.1.asks.entries)
     session (c.moment-now.ensures ∙ ap (λ (x : Session). x.moment) parts.same) parts.asks)
     c.in_ok-made.ensures.swept in
     let d = g.D.Disk in
@@ -80,7 +82,8 @@ returns-in_err-play-clause-commits g c =
     c.from_residual-in_err-play.result
     (handed_on c.from_residual-in_err-play.result stop c.from_residual-in_err-play.ensures.1)
     (commits_play d old new self (swept v s).records c.begin.result
-    (ap (λ (x : Session). x.world) session) c.in_ok-made.made.play is.follows _ c.in_err-play.ensures)
+    (ap (λ (x : Session). x.world) session) c.in_ok-made.made.play is.follows _
+    c.in_err-play.ensures)
 
 pub returns-in_err-session-clause-commits : goal.returns-in_err-session-clause-commits
 unfolding session_of asks_in standing_of
@@ -92,7 +95,8 @@ returns-in_err-session-clause-commits g c =
     let first = play_of c.args.self.journal c.begin.result in
     let is = subst (λ (t : Swept). IsSwept t first c.in_ok-made.made
     (by_bytes c.sweep_all.new.remembered.asks.entries))
-    (swept_here v s c.begin.result c.moment-now.result (by_bytes c.release-parts.result.1.asks.entries)
+    (swept_here v s c.begin.result c.moment-now.result
+    (by_bytes c.release-parts.result.1.asks.entries)
     session (c.moment-now.ensures ∙ ap (λ (x : Session). x.moment) parts.same) parts.asks)
     c.in_ok-made.ensures.swept in
     let d = g.D.Disk in
@@ -103,7 +107,8 @@ returns-in_err-session-clause-commits g c =
     c.from_residual-in_err-session.result
     (memory_stop c.from_residual-in_err-session.result c.from_residual-in_err-session.ensures.1)
     (commits_play d old new self (swept v s).records c.begin.result
-    (ap (λ (x : Session). x.world) session) c.in_ok-made.made.play is.follows _ c.in_ok-play.ensures)
+    (ap (λ (x : Session). x.world) session) c.in_ok-made.made.play is.follows _
+    c.in_ok-play.ensures)
 
 pub new-requires-clause-marked : goal.new-requires-clause-marked
 new-requires-clause-marked g c =
@@ -122,7 +127,8 @@ returns-clause-swept g c =
     let first = play_of c.args.self.journal c.begin.result in
     let is = subst (λ (t : Swept). IsSwept t first c.in_ok-made.made
     (by_bytes c.sweep_all.new.remembered.asks.entries))
-    (swept_here v s c.begin.result c.moment-now.result (by_bytes c.release-parts.result.1.asks.entries)
+    (swept_here v s c.begin.result c.moment-now.result
+    (by_bytes c.release-parts.result.1.asks.entries)
     session (c.moment-now.ensures ∙ ap (λ (x : Session). x.moment) parts.same) parts.asks)
     c.in_ok-made.ensures.swept in
     let playing = c.in_ok-play.ensures.session ∙ is.follows.session
@@ -146,7 +152,8 @@ returns-clause-commits g c =
     let first = play_of c.args.self.journal c.begin.result in
     let is = subst (λ (t : Swept). IsSwept t first c.in_ok-made.made
     (by_bytes c.sweep_all.new.remembered.asks.entries))
-    (swept_here v s c.begin.result c.moment-now.result (by_bytes c.release-parts.result.1.asks.entries)
+    (swept_here v s c.begin.result c.moment-now.result
+    (by_bytes c.release-parts.result.1.asks.entries)
     session (c.moment-now.ensures ∙ ap (λ (x : Session). x.moment) parts.same) parts.asks)
     c.in_ok-made.ensures.swept in
     let d = g.D.Disk in
@@ -160,4 +167,5 @@ returns-clause-commits g c =
     (λ bodies held.
     subst (λ (x : Session). Holds d new play.journal bodies x.world) (sym settled) held) refl
     (commits_play d old new self (swept v s).records c.begin.result
-    (ap (λ (x : Session). x.world) session) c.in_ok-made.made.play is.follows _ c.in_ok-play.ensures)
+    (ap (λ (x : Session). x.world) session) c.in_ok-made.made.play is.follows _
+    c.in_ok-play.ensures)

@@ -64,7 +64,8 @@ returns-in_err-play-clause-commits g c =
     (handed_on c.from_residual-in_err-play.result stop c.from_residual-in_err-play.ensures.1)
     (commits_play d old new self (turned u s).records c.begin.result
     (ap (λ (x : Session). x.world) session) c.in_ok-made.made.play
-    (follows_here u s c.begin.result c.moment-now.result (by_bytes c.release-parts.result.1.asks.entries)
+    (follows_here u s c.begin.result c.moment-now.result
+    (by_bytes c.release-parts.result.1.asks.entries)
     session (c.moment-now.ensures ∙ ap (λ (x : Session). x.moment) parts.same) parts.asks
     (play_of self.journal c.begin.result) c.in_ok-made.made.play c.in_ok-made.ensures.staged) _
     c.in_err-play.ensures)
@@ -85,7 +86,8 @@ returns-in_err-session-clause-commits g c =
     (memory_stop c.from_residual-in_err-session.result c.from_residual-in_err-session.ensures.1)
     (commits_play d old new self (turned u s).records c.begin.result
     (ap (λ (x : Session). x.world) session) c.in_ok-made.made.play
-    (follows_here u s c.begin.result c.moment-now.result (by_bytes c.release-parts.result.1.asks.entries)
+    (follows_here u s c.begin.result c.moment-now.result
+    (by_bytes c.release-parts.result.1.asks.entries)
     session (c.moment-now.ensures ∙ ap (λ (x : Session). x.moment) parts.same) parts.asks
     (play_of self.journal c.begin.result) c.in_ok-made.made.play c.in_ok-made.ensures.staged) _
     c.in_ok-play.ensures)
@@ -109,7 +111,8 @@ returns-clause-commits g c =
     subst (λ (x : Session). Holds d new play.journal bodies x.world) (sym settled) held) refl
     (commits_play d old new self (turned u s).records c.begin.result
     (ap (λ (x : Session). x.world) session) c.in_ok-made.made.play
-    (follows_here u s c.begin.result c.moment-now.result (by_bytes c.release-parts.result.1.asks.entries)
+    (follows_here u s c.begin.result c.moment-now.result
+    (by_bytes c.release-parts.result.1.asks.entries)
     session (c.moment-now.ensures ∙ ap (λ (x : Session). x.moment) parts.same) parts.asks
     (play_of self.journal c.begin.result) c.in_ok-made.made.play c.in_ok-made.ensures.staged) _
     c.in_ok-play.ensures)

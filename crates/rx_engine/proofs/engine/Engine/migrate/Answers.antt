@@ -45,8 +45,10 @@ commits_hookless d old new e cs said f r was = record {
 pub stage_record-requires-clause-legal : goal.stage_record-requires-clause-legal
 unfolding session_of
 stage_record-requires-clause-legal g c =
-    subst (λ (s : Session). legal (content c.args.entry) s.world ≡ true) (sym (c.begin.ensures.same ∙ c.without_hooks-session.ensures
-    ∙ ap (λ (x : Session). without_hooks (content c.args.entry) x) c.release-parts.ensures.same)) c.requires.may.0
+    subst (λ (s : Session). legal (content c.args.entry) s.world ≡ true)
+    (sym (c.begin.ensures.same ∙ c.without_hooks-session.ensures
+    ∙ ap (λ (x : Session). without_hooks (content c.args.entry) x) c.release-parts.ensures.same))
+    c.requires.may.0
 
 pub stage_record-requires-clause-ordered : goal.stage_record-requires-clause-ordered
 stage_record-requires-clause-ordered g c = migration_ordered (content c.args.entry) c.requires.may.1
@@ -55,7 +57,8 @@ pub stage_record-requires-clause-sound : goal.stage_record-requires-clause-sound
 unfolding session_of
 stage_record-requires-clause-sound g c =
     let said = content c.args.entry in
-    subst (λ (s : Session). IsSoundWorld (step said s.world)) (sym (c.begin.ensures.same ∙ c.without_hooks-session.ensures
+    subst (λ (s : Session). IsSoundWorld (step said s.world))
+    (sym (c.begin.ensures.same ∙ c.without_hooks-session.ensures
     ∙ ap (λ (x : Session). without_hooks (content c.args.entry) x) c.release-parts.ensures.same))
     (migration_sound said c.args.self.session.session.world c.requires.may.0 c.requires.may.1
     c.release-parts.ensures.sound)
@@ -65,7 +68,8 @@ unfolding session_of
 stage_record-requires-clause-unobserved g c =
     subst (λ (s : Session). IsUnobserved (touch (content c.args.entry) s.world) s.queries)
     (sym (c.begin.ensures.same ∙ c.without_hooks-session.ensures
-    ∙ ap (λ (x : Session). without_hooks (content c.args.entry) x) c.release-parts.ensures.same)) c.requires.may.2
+    ∙ ap (λ (x : Session). without_hooks (content c.args.entry) x) c.release-parts.ensures.same))
+    c.requires.may.2
 
 pub returns-in_err-staged-clause-commits : goal.returns-in_err-staged-clause-commits
 returns-in_err-staged-clause-commits g c =
@@ -79,7 +83,8 @@ commit-requires g c told =
     let at = c.requires.at told in
     play_may_commit g.D.Disk c.args.disk.now c.args.disk.now
     (with_session c.args.self (without_hooks (content c.args.entry) c.args.self.session.session))
-    (content c.args.entry ∷ []) c.begin.result (ap (λ (x : Session). x.world) (c.begin.ensures.same ∙ c.without_hooks-session.ensures
+    (content c.args.entry ∷ []) c.begin.result
+    (ap (λ (x : Session). x.world) (c.begin.ensures.same ∙ c.without_hooks-session.ensures
     ∙ ap (λ (x : Session). without_hooks (content c.args.entry) x) c.release-parts.ensures.same))
     c.in_ok-staged.staged c.in_ok-staged.ensures at.0 at.1
 
@@ -131,7 +136,8 @@ new-requires-clause-made g c =
     let s = c.args.self.session.session in
     let then = c.in_ok-session.ensures.session
     ∙ ap (λ (x : Session). settled_session x) (c.in_ok-play.ensures.session
-    ∙ c.in_ok-staged.ensures.session ∙ ap (λ (x : Session). session_after (write (content c.args.entry)) x)
+    ∙ c.in_ok-staged.ensures.session
+    ∙ ap (λ (x : Session). session_after (write (content c.args.entry)) x)
     (c.begin.ensures.same ∙ c.without_hooks-session.ensures
     ∙ ap (λ (x : Session). without_hooks (content c.args.entry) x) c.release-parts.ensures.same)) in
     subst (λ (x : Session). IsMadeWorld x.world) (sym then)
@@ -145,7 +151,8 @@ new-requires-clause-sound g c =
     let parts = c.release-parts.ensures in
     let then = c.in_ok-session.ensures.session
     ∙ ap (λ (x : Session). settled_session x) (c.in_ok-play.ensures.session
-    ∙ c.in_ok-staged.ensures.session ∙ ap (λ (x : Session). session_after (write (content c.args.entry)) x)
+    ∙ c.in_ok-staged.ensures.session
+    ∙ ap (λ (x : Session). session_after (write (content c.args.entry)) x)
     (c.begin.ensures.same ∙ c.without_hooks-session.ensures
     ∙ ap (λ (x : Session). without_hooks (content c.args.entry) x) c.release-parts.ensures.same)) in
     subst (λ (x : Session). IsSoundWorld x.world) (sym then)
@@ -164,9 +171,11 @@ new-requires-clause-remembered g c =
     (c.begin.ensures.same ∙ c.without_hooks-session.ensures
     ∙ ap (λ (x : Session). without_hooks (content c.args.entry) x) c.release-parts.ensures.same)) in
     subst (AreRemembered c.in_ok-session.session.world) (sym (c.migrated-remembered.ensures.asks
-    ∙ ap (λ (w : World). asks_after (content c.args.entry) w (by_bytes c.release-parts.result.1.asks.entries))
+    ∙ ap (λ (w : World).
+    asks_after (content c.args.entry) w (by_bytes c.release-parts.result.1.asks.entries))
     (c.world.ensures ∙ ap (λ (x : Session). x.world) c.release-parts.ensures.same)
-    ∙ ap (asks_after (content c.args.entry) c.args.self.session.session.world) c.release-parts.ensures.asks))
+    ∙ ap (asks_after (content c.args.entry) c.args.self.session.session.world)
+    c.release-parts.ensures.asks))
     (subst (λ (x : Session). AreRemembered x.world (asks_after said w asks)) (sym then)
     (remembered_migrated said w asks c.requires.may.0 c.requires.may.1 parts.remembered))
 
@@ -197,9 +206,11 @@ pub returns-clause-asks : goal.returns-clause-asks
 unfolding asks_in session_of
 returns-clause-asks g c =
     ap (λ (x : SessionWithAsks). x.asks) c.new.ensures ∙ (c.migrated-remembered.ensures.asks
-    ∙ ap (λ (w : World). asks_after (content c.args.entry) w (by_bytes c.release-parts.result.1.asks.entries))
+    ∙ ap (λ (w : World).
+    asks_after (content c.args.entry) w (by_bytes c.release-parts.result.1.asks.entries))
     (c.world.ensures ∙ ap (λ (x : Session). x.world) c.release-parts.ensures.same)
-    ∙ ap (asks_after (content c.args.entry) c.args.self.session.session.world) c.release-parts.ensures.asks)
+    ∙ ap (asks_after (content c.args.entry) c.args.self.session.session.world)
+    c.release-parts.ensures.asks)
 
 pub returns-clause-commits : goal.returns-clause-commits
 unfolding session_of

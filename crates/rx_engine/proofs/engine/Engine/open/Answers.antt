@@ -37,7 +37,8 @@ new-sound-requires-clause-remembered g c =
 
 pub new-sound-requires-clause-marked : goal.new-sound-requires-clause-marked
 new-sound-requires-clause-marked g c =
-    subst (AreMarked c.new-session.result.world) (sym c.new-remembered.ensures.marks) (none_marked _)
+    subst (AreMarked c.new-session.result.world) (sym c.new-remembered.ensures.marks)
+    (none_marked _)
 
 pub returns-clause-opened : goal.returns-clause-opened
 unfolding session_of asks_in standing_of opened
@@ -58,7 +59,8 @@ returns-clause-begun g c =
       λ kinds heard. standing_same kinds heard _ _ _ _
           (ap (λ (x : SessionWithAsks). x.session) c.new-sound.ensures ∙ c.new-session.ensures
           ∙ ap (session_on c.in_ok-known.known.items) begun.1
-          ∙ ap (λ known. session_on known (next_epoch begun.0)) c.in_ok-known.ensures) (ap (λ (x : SessionWithAsks). x.asks) c.new-sound.ensures
+          ∙ ap (λ known. session_on known (next_epoch begun.0)) c.in_ok-known.ensures)
+          (ap (λ (x : SessionWithAsks). x.asks) c.new-sound.ensures
           ∙ c.new-remembered.ensures.asks),
     )
 
@@ -85,7 +87,8 @@ returns-in_err-known-clause-illegal g c told illegal =
 pub returns-in_err-built-clause-safe : goal.returns-in_err-built-clause-safe
 returns-in_err-built-clause-safe g c told bodies w lawful =
     not_begun g.D.Disk c.args.disk.now (λ left e. g.met.D.Disk.only_now c.args.disk.now left told e)
-    bodies (epoch_body w ∷ []) w c.args.limit _ c.from_residual-in_err-built.result (search rules) lawful
+    bodies (epoch_body w ∷ []) w c.args.limit _ c.from_residual-in_err-built.result
+    (search rules) lawful
 
 pub returns-in_err-built-clause-illegal : goal.returns-in_err-built-clause-illegal
 returns-in_err-built-clause-illegal g c told illegal =

@@ -118,7 +118,8 @@ new-requires-clause-remembered g c =
 
 pub new-requires-clause-marked : goal.new-requires-clause-marked
 new-requires-clause-marked g c =
-    subst (AreMarked c.in_ok-session.session.world) (sym c.new-remembered.ensures.marks) (none_marked _)
+    subst (AreMarked c.in_ok-session.session.world) (sym c.new-remembered.ensures.marks)
+    (none_marked _)
 
 pub returns-clause-asks : goal.returns-clause-asks
 unfolding session_of asks_in

@@ -33,7 +33,8 @@ stage_printed-requires-clause-apart g c =
     let s = c.args.self.session.session in
     let p = c.in-Printed.printed in
     let j = printed_is c.args.number kinds c.args.text.now c.session.result.now s
-    c.session.ensures.value c.in_ok-printed.field-0 p c.in-Printed.is c.in_ok-printed.ensures.judged in
+    c.session.ensures.value c.in_ok-printed.field-0 p c.in-Printed.is
+    c.in_ok-printed.ensures.judged in
     subst WritesNoExchange (sym j.2.doing) (lawful_outcome kinds c.args.text.now s j.0 j.1).apart
 
 pub returns-in-Printed : goal.returns-in-Printed
@@ -43,7 +44,8 @@ returns-in-Printed g c =
     let s = c.args.self.session.session in
     let p = c.in-Printed.printed in
     let j = printed_is c.args.number kinds c.args.text.now c.session.result.now s
-    c.session.ensures.value c.in_ok-printed.field-0 p c.in-Printed.is c.in_ok-printed.ensures.judged in
+    c.session.ensures.value c.in_ok-printed.field-0 p c.in-Printed.is
+    c.in_ok-printed.ensures.judged in
     if_ok c.stage_printed.result (StagesPrinted p c.args.self)
     (StagesLine kinds c.args.number c.args.text.now c.args.self) c.stage_printed.ensures
     (stages_printed kinds c.args.number c.args.text.now c.args.self j.0 p j.1 j.2)

@@ -25,7 +25,11 @@ stage-requires g c =
     let parts = c.release-parts.ensures in
     subst (λ (s : Session). ComeSoundly s.world (said ∷ []))
     (sym (c.begin.ensures.same ∙ parts.same)) (
-      record { lawful = c.requires.may.0; ordered = c.requires.may.1; no_migration = c.requires.may.2 },
+      record {
+        lawful = c.requires.may.0;
+        ordered = c.requires.may.1;
+        no_migration = c.requires.may.2;
+      },
       sound_then (write said) c.args.self.session.session c.requires.may c.requires.apart
           parts.made parts.sound,
       tt,

@@ -15,7 +15,8 @@ invariant_of-self c =
           let is = w.in-Ok.ensures.ok in
           let long : length c.put.new.self ≤ length es + 1 =
           subst (λ xs. length xs ≤ length es + 1) (sym is) (put_long es c.args.key c.args.slot) in (
-            subst AreKeys (sym is) (put_keys es c.args.key c.args.slot c.requires c.self.invariant.0),
+            subst AreKeys (sym is)
+                (put_keys es c.args.key c.args.slot c.requires c.self.invariant.0),
             omega (arith, long, c.len.ensures.count),
           )
       | in-Err w ↦

@@ -9,7 +9,8 @@ abbrev pub invariant-loop-field : goal.invariant-loop-field
 invariant-loop-field l = record {
   bytes : l.bytes.items
       ≡ values_bytes (Some (Flag l.document.state.deleted)
-      ∷ map (λ field. named l.document.state.fields field) (take l.field-index l.field-items)) false;
+      ∷ map (λ field. named l.document.state.fields field) (take l.field-index l.field-items))
+      false;
   lawful : AreLawful (Some (Flag l.document.state.deleted)
       ∷ map (λ field. named l.document.state.fields field) (take l.field-index l.field-items));
 }

@@ -21,7 +21,8 @@ made_moved : (i j l : Indexed) (before new : Stored) (bs cs : List ℕ) → IsKe
 made_moved i j l before new bs cs gone key same old was differ adds takes documents r =
     subst (λ fs. Holds (indexed_by fs l.keys) (put_in_order documents new.state.key new)) (sym same)
     (held_moved i.fields documents new i.keys r.held before (r.old_one ∙ was)
-    (subst (λ (o : _). IfSome o (λ d. d.state.key ≡ new.state.key)) was r.keyed) differ j.keys l.keys
+    (subst (λ (o : _). IfSome o (λ d. d.state.key ≡ new.state.key)) was r.keyed)
+    differ j.keys l.keys
     (has_so true bs i j _ (unpacked-key i.fields new bs key) adds)
     (has_so false cs j l _ (unpacked-key i.fields before cs gone) takes))
 
@@ -42,7 +43,8 @@ returns-then-has_same_key-clause-ok c = λ documents r.
     let i = c.args.self.now in
     held_same i.fields documents c.args.new.now i.keys r.held c.in-Some.old.now
     (r.old_one ∙ ap (option_map (λ d. d.now)) c.in-Some.is)
-    (subst (λ (o : _). IfSome (option_map (λ d. d.now) o) (λ d. d.state.key ≡ c.args.new.now.state.key))
+    (subst
+    (λ (o : _). IfSome (option_map (λ d. d.now) o) (λ d. d.state.key ≡ c.args.new.now.state.key))
     c.in-Some.is r.keyed)
     (sym c.has_same_key.ensures ∙ c.if-has_same_key.true)
 

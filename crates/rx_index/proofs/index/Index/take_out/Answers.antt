@@ -25,4 +25,5 @@ returns-clause-keys c = λ k.
     ap (λ xs. has_key (positions xs) k) c.remove.ensures.others
     ∙ ap (λ n. has_key (positions (without es n)) k) c.as_bytes.ensures
     ∙ taken es name k c.requires c.self.invariant.0 c.remove.ensures.rising
-    ∙ ap (λ i. cond (is_eq (position_cmp (unpacked name) k)) false (has_key i.keys k)) c.self.view_is
+    ∙ ap (λ i. cond (is_eq (position_cmp (unpacked name) k)) false (has_key i.keys k))
+    c.self.view_is

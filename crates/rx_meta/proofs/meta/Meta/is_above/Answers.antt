@@ -16,7 +16,9 @@ returns-in-Some c =
     is
     ∙ (elim (is_lt (text_cmp (string_bytes last) key)) as (λ b.
     is_lt (text_cmp (string_bytes last) key) ≡ b → b ≡ is_above_known (by_bytes es) key) [
-      | true ↦ (λ at. sym (all_below es last key c.in-Some.ensures.all_up_to (less_is (text_cmp (string_bytes last) key) at)))
-      | false ↦ (λ at. sym (one_not_below es _ (last, c.in-Some.field-0-1.now) key c.in-Some.ensures.last at))
+      | true ↦ (λ at. sym (all_below es last key c.in-Some.ensures.all_up_to
+          (less_is (text_cmp (string_bytes last) key) at)))
+      | false ↦ (λ at.
+          sym (one_not_below es _ (last, c.in-Some.field-0-1.now) key c.in-Some.ensures.last at))
     ] refl)
     ∙ ap (λ (side : Side). is_above_known side.known key) c.self.view_is

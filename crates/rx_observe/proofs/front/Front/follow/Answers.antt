@@ -11,11 +11,13 @@ returns-in_default c =
 pub cut-requires : goal.cut-requires
 cut-requires c =
     room_for (asked c.args.query.now) c.args.change.now c.in-Some.limit c.args.self.now.whole
-    c.args.self.now.rows c.take_out.new.rows c.put_in.new.rows (sym c.kept_limit.ensures ∙ c.in-Some.is)
+    c.args.self.now.rows c.take_out.new.rows c.put_in.new.rows
+    (sym c.kept_limit.ensures ∙ c.in-Some.is)
     c.requires.few c.in_ok-take_out.ensures.no_more c.in_ok-put_in.ensures
 
 pub returns : goal.returns
 returns c =
-    followed (asked c.args.query.now) c.args.change.now c.in-Some.limit c.args.self.now c.cut.new.self
+    followed (asked c.args.query.now) c.args.change.now c.in-Some.limit c.args.self.now
+    c.cut.new.self
     c.take_out.new.rows c.put_in.new.rows (sym c.kept_limit.ensures ∙ c.in-Some.is)
     c.in_ok-take_out.ensures.others c.in_ok-put_in.ensures c.cut.ensures.few c.cut.ensures.first

@@ -17,7 +17,8 @@ invariant_of-self c =
       names = distinct_without i.queries.items c.args.name.now kept.names;
       right = right_without i.collection c.args.name.now i.queries.items kept.right;
       fronts = subst (AreFronts i.collection (without c.args.name.now i.queries.items))
-          (sym c.clear.ensures.items) (no_fronts i.collection (without c.args.name.now i.queries.items));
+          (sym c.clear.ensures.items)
+          (no_fronts i.collection (without c.args.name.now i.queries.items));
       indexed = kept.indexed;
     })
 

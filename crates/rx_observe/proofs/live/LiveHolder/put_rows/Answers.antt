@@ -12,7 +12,8 @@ loop-row-init c =
     let i = c.self.inside in
     let unbroken : i.broken ≡ false =
     ap (λ (o : Observing). o.broken) c.self.view_is ∙ c.requires.whole in
-    let given : into_iter_items c.into_iter-row-iterator.result ≡ c.args.rows.items = search rules in
+    let given : into_iter_items c.into_iter-row-iterator.result ≡ c.args.rows.items =
+    search rules in
     let same : whole i.collection i.queries.items ≡ c.args.self.now =
     (λ k. record { collection = i.collection; queries = i.queries.items; broken = sym unbroken k })
     ∙ c.self.view_is in

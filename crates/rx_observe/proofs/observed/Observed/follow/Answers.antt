@@ -13,7 +13,8 @@ returns-then-is_full-clause-answer c =
 pub returns-then-is_full-clause-value : goal.returns-then-is_full-clause-value
 returns-then-is_full-clause-value c =
     let full = full_run c.args.action (sym c.is_full.ensures ∙ c.if-is_full.true) in
-    full_is (watched_in c.self.inside) c.args.self.now c.args.change.now c.args.action c.args.asked None
+    full_is (watched_in c.self.inside) c.args.self.now c.args.change.now c.args.action
+    c.args.asked None
     c.count.new.self c.self.view_is c.requires.action c.requires.asked c.count.ensures full refl
 
 pub patch-requires-clause-known : goal.patch-requires-clause-known
@@ -22,7 +23,8 @@ patch-requires-clause-known c = not_full c.args.action (sym c.is_full.ensures �
 pub invariant_of-self-2 : goal.invariant_of-self-2
 invariant_of-self-2 c =
     let i = c.self.inside in
-    untouched i.touched c.changes_rows.result c.args.action (watched_in i).query c.args.change.now i.rows
+    untouched i.touched c.changes_rows.result c.args.action
+    (watched_in i).query c.args.change.now i.rows
     c.patch.new.rows i.emitted c.changes_rows.ensures c.in_ok-patch.ensures.ok c.self.invariant
 
 pub patch-requires-clause-there : goal.patch-requires-clause-there
@@ -40,13 +42,15 @@ returns-clause-answer c =
 pub returns-clause-value : goal.returns-clause-value
 returns-clause-value c =
     let known = not_full c.args.action (sym c.is_full.ensures ∙ c.if-is_full.false) in
-    patched_is (watched_in c.self.inside) c.args.self.now c.args.change.now c.args.action c.args.asked
+    patched_is (watched_in c.self.inside) c.args.self.now c.args.change.now
+    c.args.action c.args.asked
     c.patch.new.rows c.count-2.new.self c.self.view_is c.requires.action c.requires.asked
     c.count-2.ensures known c.in_ok-patch.ensures.ok
 
 pub returns-clause-fresh : goal.returns-clause-fresh
 returns-clause-fresh c =
     let known = not_full c.args.action (sym c.is_full.ensures ∙ c.if-is_full.false) in
-    patched_fresh (watched_in c.self.inside) c.args.self.now c.args.change.now c.args.action c.args.asked
+    patched_fresh (watched_in c.self.inside) c.args.self.now c.args.change.now
+    c.args.action c.args.asked
     c.patch.new.rows c.count-2.new.self c.self.view_is c.requires.action c.requires.asked
     c.count-2.ensures c.self.inside.query.limited known c.in_ok-patch.ensures.ok

@@ -13,7 +13,8 @@ use Rattle.rx_planner.proofs.planned.Plan.run.Goals.{then-not-self+in_ok-improve
 pub put_in_order-requires : goal.put_in_order-requires
 put_in_order-requires g c =
     let i = c.index-indexes-self in
-    first_distinct (asked c.args.query.now) (g.T.Lookup.documents c.args.docs.now) c.args.indexes.now
+    first_distinct (asked c.args.query.now)
+    (g.T.Lookup.documents c.args.docs.now) c.args.indexes.now
     c.args.self.now i.result i.is c.requires.planned c.requires.keyed c.requires.held
     c.range-ids.ensures.rising (map (λ (r : Bor Stored). r.now) c.in_ok-rows.rows.items)
     c.first_due.new.ids c.range-ids.result c.in_ok-rows.ensures.split c.range-ids.ensures.ids
@@ -48,7 +49,8 @@ returns g c =
     let ids = c.first_due.new.ids in
     let most = c.most_rows.result in
     let full : IsFull most (length rows) ids =
-    subst (λ n. IsFull most n ids) (sym (length-map c.in_ok-rows.rows.items now)) c.in_ok-rows.ensures.full in
+    subst (λ n. IsFull most n ids)
+    (sym (length-map c.in_ok-rows.rows.items now)) c.in_ok-rows.ensures.full in
     ap (map now) c.skip_rows.ensures
     ∙ map-drop now c.skip.result c.if-not-self.rows.items
     ∙ ap (λ n. drop n (map now c.if-not-self.rows.items)) c.skip.ensures
@@ -58,7 +60,8 @@ returns g c =
           ap (λ v. drop q.skip (map now v.items)) w.rows-is
           ∙ sorted_result q documents c.args.indexes.now c.args.self.now i.result i.is
           c.requires.planned c.requires.keyed c.requires.held c.range-ids.ensures.rising rows ids
-          c.range-ids.result c.in_ok-rows.ensures.split c.range-ids.ensures.ids most c.most_rows.ensures
+          c.range-ids.result c.in_ok-rows.ensures.split c.range-ids.ensures.ids most
+          c.most_rows.ensures
           full first (map now w.improve.new.rows.items) w.put_in_order.ensures
           (w.in_ok-improve.ensures
           ∙ ap (λ n. take n (sorted (stored_before q) (first ++ due_among q documents ids)))
@@ -67,6 +70,7 @@ returns g c =
           ap (λ v. drop q.skip (map now v.items)) w.rows-is
           ∙ ordered_result q documents c.args.indexes.now c.args.self.now i.result i.is
           c.requires.planned c.requires.keyed c.requires.held c.range-ids.ensures.rising rows ids
-          c.range-ids.result c.in_ok-rows.ensures.split c.range-ids.ensures.ids most c.most_rows.ensures
+          c.range-ids.result c.in_ok-rows.ensures.split c.range-ids.ensures.ids most
+          c.most_rows.ensures
           full w.if-not-self.false
     ])

@@ -9,7 +9,8 @@ returns-clause-back c ordered short =
     let said = content c.args.self.now in
     let body = c.put_record.new.out.items in
     let is : body ≡ content_bytes said =
-    c.in_ok-put_record.ensures.bytes ∙ ap (λ (l : List ℕ). l ++ content_bytes said) c.in_ok-body.ensures.items in
+    c.in_ok-put_record.ensures.bytes
+    ∙ ap (λ (l : List ℕ). l ++ content_bytes said) c.in_ok-body.ensures.items in
     ap (λ m. with_place (length body) (nothing_behind m))
     (ap content_of (is ∙ sym (append-nil (content_bytes said)))
     ∙ c.in_ok-put_record.ensures.back ordered (subst Fits is short) [])

@@ -43,20 +43,26 @@ invariant_of-session c =
     let i = c.self.inside in
     let new = c.take_all.new.world in
     record {
-      placed = taken_placed i.world new i.moment (hooking_of i.hooks) i.streams.items i.places.items i.written.items (done c);
-      streamed = taken_streamed i.world new i.moment (hooking_of i.hooks) i.streams.items i.places.items i.written.items
+      placed = taken_placed i.world new i.moment
+          (hooking_of i.hooks) i.streams.items i.places.items i.written.items (done c);
+      streamed = taken_streamed i.world new i.moment
+          (hooking_of i.hooks) i.streams.items i.places.items i.written.items
           (done c) c.self.invariant.streamed;
-      distinct = taken_distinct i.world new i.moment (hooking_of i.hooks) i.streams.items i.places.items i.written.items (done c);
-      quiet = taken_quiet i.world new i.moment (hooking_of i.hooks) i.streams.items i.places.items i.written.items (done c);
+      distinct = taken_distinct i.world new i.moment
+          (hooking_of i.hooks) i.streams.items i.places.items i.written.items (done c);
+      quiet = taken_quiet i.world new i.moment
+          (hooking_of i.hooks) i.streams.items i.places.items i.written.items (done c);
     }
 
 pub returns-clause-session : goal.returns-clause-session
 returns-clause-session c =
     let i = c.self.inside in
     let new = c.take_all.new.world in
-    subst (λ (s : Session). session_of new i.moment (hooking_of i.hooks) i.streams.items i.places.items ≡ settled_session s)
+    subst (λ (s : Session).
+    session_of new i.moment (hooking_of i.hooks) i.streams.items i.places.items ≡ settled_session s)
     c.self.view_is
-    (taken_session i.world new i.moment (hooking_of i.hooks) i.streams.items i.places.items i.written.items (done_then c))
+    (taken_session i.world new i.moment
+    (hooking_of i.hooks) i.streams.items i.places.items i.written.items (done_then c))
 
 pub returns-clause-emissions : goal.returns-clause-emissions
 returns-clause-emissions c =
@@ -64,5 +70,6 @@ returns-clause-emissions c =
     c.in_ok-due.ensures.due
     ∙ ap₂ (λ names ps. due_in_all names ps (holders_in i.world)) c.as_slice-2.ensures.value
     c.as_slice.ensures.value
-    ∙ taken_due i.world c.take_all.new.world i.moment (hooking_of i.hooks) i.streams.items i.places.items i.written.items (done_then c)
+    ∙ taken_due i.world c.take_all.new.world i.moment
+    (hooking_of i.hooks) i.streams.items i.places.items i.written.items (done_then c)
     ∙ ap (λ (s : Session). emissions s) c.self.view_is

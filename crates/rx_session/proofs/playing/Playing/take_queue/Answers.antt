@@ -11,6 +11,7 @@ invariant_of-playing c =
       placed = c.self.invariant.placed;
       distinct = c.self.invariant.distinct;
       streamed = subst (AreStreamed (world_of i.world)) (sym c.take_queued-events.ensures.streams)
-          (emptied_streamed (world_of i.world) c.args.name.now i.streams.items c.self.invariant.streamed);
+          (emptied_streamed
+          (world_of i.world) c.args.name.now i.streams.items c.self.invariant.streamed);
       quiet = c.self.invariant.quiet;
     }

@@ -60,16 +60,20 @@ invariant_of-result c =
     let ps = i.places.items in
     let written = i.written.items in
     record {
-      placed = played_placed entry i.world new i.moment (hooking_of i.hooks) i.streams.items ps written (done c);
+      placed = played_placed entry i.world new i.moment
+          (hooking_of i.hooks) i.streams.items ps written (done c);
       streamed = subst (AreStreamed (world_of new)) (sym (streams_then c))
-          (played_streamed entry i.world new i.moment (hooking_of i.hooks) i.streams.items ps written
+          (played_streamed entry i.world new i.moment
+          (hooking_of i.hooks) i.streams.items ps written
           (done c) c.self.invariant.streamed);
-      distinct = played_distinct entry i.world new i.moment (hooking_of i.hooks) i.streams.items ps written (done c);
+      distinct = played_distinct entry i.world new i.moment
+          (hooking_of i.hooks) i.streams.items ps written (done c);
       quiet = subst (λ names. AreQuietUnless names (holders_in new))
           (sym (c.in_ok-note.ensures ∙ ap (λ o. add_written o written)
           (c.in_ok-coll.ensures
           ∙ ap (λ qs. coll_to_note qs (touch entry (world_of i.world))) c.as_slice.ensures.value)))
-          (played_quiet entry i.world new i.moment (hooking_of i.hooks) i.streams.items ps written (done c));
+          (played_quiet entry i.world new i.moment
+          (hooking_of i.hooks) i.streams.items ps written (done c));
     }
 
 pub returns : goal.returns
@@ -81,5 +85,6 @@ returns c =
     c.self.view_is
     (ap (λ sts. session_of c.in_ok-world.world i.moment (hooking_of i.hooks) sts i.places.items)
     (streams_then c)
-    ∙ played_session entry i.world c.in_ok-world.world i.moment (hooking_of i.hooks) i.streams.items i.places.items i.written.items
+    ∙ played_session entry i.world c.in_ok-world.world i.moment
+    (hooking_of i.hooks) i.streams.items i.places.items i.written.items
     (done c))

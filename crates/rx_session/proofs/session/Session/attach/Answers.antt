@@ -13,8 +13,10 @@ returns-clause-session c =
     subst (λ (s : Session).
     session_of i.world i.moment (hooking_of c.add_hook.new.hooks) i.streams.items i.places.items
     ≡ settled_session (session_after (attach one) s)) c.self.view_is
-    (ap (λ hooks. session_of i.world i.moment hooks i.streams.items i.places.items) c.in_ok-add_hook.ensures
-    ∙ attached_session i.world i.places.items c.self.invariant.quiet i.moment (hooking_of i.hooks) i.streams.items one)
+    (ap (λ hooks. session_of i.world i.moment hooks i.streams.items i.places.items)
+    c.in_ok-add_hook.ensures
+    ∙ attached_session i.world i.places.items c.self.invariant.quiet i.moment
+    (hooking_of i.hooks) i.streams.items one)
 
 pub returns-clause-emissions : goal.returns-clause-emissions
 returns-clause-emissions c =
@@ -26,7 +28,8 @@ pub returns-clause-before : goal.returns-clause-before
 returns-clause-before c =
     let i = c.self.inside in
     subst IsSettled c.self.view_is
-    (is_settled i.world i.places.items c.self.invariant.quiet i.moment (hooking_of i.hooks) i.streams.items)
+    (is_settled i.world i.places.items c.self.invariant.quiet i.moment
+    (hooking_of i.hooks) i.streams.items)
 
 pub returns-in_err-add_hook-clause-emissions : goal.returns-in_err-add_hook-clause-emissions
 returns-in_err-add_hook-clause-emissions c =
@@ -38,4 +41,5 @@ pub returns-in_err-add_hook-clause-before : goal.returns-in_err-add_hook-clause-
 returns-in_err-add_hook-clause-before c =
     let i = c.self.inside in
     subst IsSettled c.self.view_is
-    (is_settled i.world i.places.items c.self.invariant.quiet i.moment (hooking_of i.hooks) i.streams.items)
+    (is_settled i.world i.places.items c.self.invariant.quiet i.moment
+    (hooking_of i.hooks) i.streams.items)

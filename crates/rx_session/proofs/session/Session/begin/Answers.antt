@@ -22,4 +22,5 @@ pub returns-clause-before : goal.returns-clause-before
 returns-clause-before c =
     let i = c.self.inside in
     subst IsSettled c.self.view_is
-    (is_settled i.world i.places.items c.self.invariant.quiet i.moment (hooking_of i.hooks) i.streams.items)
+    (is_settled i.world i.places.items c.self.invariant.quiet i.moment
+    (hooking_of i.hooks) i.streams.items)

@@ -17,15 +17,18 @@ invariant_of-result c =
       placed = c.self.invariant.placed;
       distinct = c.self.invariant.distinct;
       streamed = subst (AreStreamed (world_of i.world)) (sym c.drop_stream.ensures)
-          (closed_streamed (world_of i.world) c.args.name.now i.streams.items c.self.invariant.streamed);
+          (closed_streamed
+          (world_of i.world) c.args.name.now i.streams.items c.self.invariant.streamed);
       quiet = c.self.invariant.quiet;
     }
 
 pub returns-clause-session : goal.returns-clause-session
 returns-clause-session c =
     let i = c.self.inside in
-    subst (λ (s : Session). session_of i.world i.moment (hooking_of i.hooks) c.drop_stream.new.streams.items
-    i.places.items ≡ settled_session (session_after (close_stream c.args.name.now) s)) c.self.view_is
+    subst (λ (s : Session).
+    session_of i.world i.moment (hooking_of i.hooks) c.drop_stream.new.streams.items
+    i.places.items ≡ settled_session (session_after (close_stream c.args.name.now) s))
+    c.self.view_is
     (ap (λ (sts : List Stream). session_of i.world i.moment (hooking_of i.hooks) sts i.places.items)
     c.drop_stream.ensures
     ∙ closed_session i.world i.places.items c.self.invariant.quiet i.moment (hooking_of i.hooks)
@@ -34,11 +37,13 @@ returns-clause-session c =
 pub returns-clause-emissions : goal.returns-clause-emissions
 returns-clause-emissions c =
     let i = c.self.inside in
-    subst (λ (s : Session). emissions (session_after (close_stream c.args.name.now) s) ≡ []) c.self.view_is
+    subst (λ (s : Session). emissions (session_after (close_stream c.args.name.now) s) ≡ [])
+    c.self.view_is
     (none_due i.world i.places.items c.self.invariant.quiet)
 
 pub returns-clause-before : goal.returns-clause-before
 returns-clause-before c =
     let i = c.self.inside in
     subst IsSettled c.self.view_is
-    (is_settled i.world i.places.items c.self.invariant.quiet i.moment (hooking_of i.hooks) i.streams.items)
+    (is_settled i.world i.places.items c.self.invariant.quiet i.moment
+    (hooking_of i.hooks) i.streams.items)

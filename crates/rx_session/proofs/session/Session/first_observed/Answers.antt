@@ -19,7 +19,8 @@ returns-in-Some c =
     c.in-Some.ensures ∙ ap (find (λ (p : QueryPlace). G p.coll)) c.as_slice.ensures.value in
     ap (option_map (λ (p : QueryPlace). p.name)) found
     ∙ sym (first-queries_of G (holders_in i.world) ps c.self.invariant.placed)
-    ∙ ap (λ (s : Session). first_observed (is_in_group s.world.replications c.args.name.now) s.queries)
+    ∙ ap (λ (s : Session).
+    first_observed (is_in_group s.world.replications c.args.name.now) s.queries)
     c.self.view_is
 
 pub returns-in-None : goal.returns-in-None
@@ -31,5 +32,6 @@ returns-in-None c =
     c.in-None.ensures ∙ ap (find (λ (p : QueryPlace). G p.coll)) c.as_slice.ensures.value in
     ap (option_map (λ (p : QueryPlace). p.name)) found
     ∙ sym (first-queries_of G (holders_in i.world) ps c.self.invariant.placed)
-    ∙ ap (λ (s : Session). first_observed (is_in_group s.world.replications c.args.name.now) s.queries)
+    ∙ ap (λ (s : Session).
+    first_observed (is_in_group s.world.replications c.args.name.now) s.queries)
     c.self.view_is

@@ -9,7 +9,8 @@ pub invariant_of-result : goal.invariant_of-result
 invariant_of-result c =
     let ls = holders_in c.args.world in
     record {
-      placed = subst (ArePlaced ls) (sym c.new-3.ensures.items) (bare_placed ls c.requires.unwatched);
+      placed =
+          subst (ArePlaced ls) (sym c.new-3.ensures.items) (bare_placed ls c.requires.unwatched);
       distinct = c.requires.distinct;
       streamed = subst (AreStreamed (world_of c.args.world)) (sym c.new-2.ensures.items) tt;
       quiet = bare_quiet ls c.requires.unwatched;

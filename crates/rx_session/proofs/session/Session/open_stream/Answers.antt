@@ -32,10 +32,13 @@ invariant_of-result c =
       placed = c.self.invariant.placed;
       distinct = c.self.invariant.distinct;
       streamed = subst (AreStreamed w) (sym (opened c))
-          (opened_streamed w i.streams.items (new_stream w o.name o.master) c.self.invariant.streamed
-          (new_streamed w (subst (λ (h : Holders Observing). IsMadeWorld (world_of h)) c.world.view_is c.world.invariant.made)
+          (opened_streamed w i.streams.items
+          (new_stream w o.name o.master) c.self.invariant.streamed
+          (new_streamed w (subst (λ (h : Holders Observing). IsMadeWorld (world_of h))
+          c.world.view_is c.world.invariant.made)
           o.name o.master
-          (subst (λ (s : Session). IsStreamable s.world o.name o.master) (sym c.self.view_is) c.requires)));
+          (subst (λ (s : Session). IsStreamable s.world o.name o.master)
+          (sym c.self.view_is) c.requires)));
       quiet = c.self.invariant.quiet;
     }
 
@@ -43,9 +46,11 @@ pub returns-clause-session : goal.returns-clause-session
 returns-clause-session c =
     let i = c.self.inside in
     let o = c.args.opening in
-    subst (λ (s : Session). session_of i.world i.moment (hooking_of i.hooks) c.push.new.self.items i.places.items
+    subst (λ (s : Session).
+    session_of i.world i.moment (hooking_of i.hooks) c.push.new.self.items i.places.items
     ≡ settled_session (session_after (doing.open_stream o.name o.master) s)) c.self.view_is
-    (ap (λ (sts : List Stream). session_of i.world i.moment (hooking_of i.hooks) sts i.places.items) (opened c)
+    (ap (λ (sts : List Stream). session_of i.world i.moment (hooking_of i.hooks) sts i.places.items)
+    (opened c)
     ∙ opened_session i.world i.places.items c.self.invariant.quiet i.moment (hooking_of i.hooks)
     i.streams.items o.name o.master)
 
@@ -53,37 +58,43 @@ pub returns-clause-emissions : goal.returns-clause-emissions
 returns-clause-emissions c =
     let i = c.self.inside in
     let o = c.args.opening in
-    subst (λ (s : Session). emissions (session_after (doing.open_stream o.name o.master) s) ≡ []) c.self.view_is
+    subst (λ (s : Session). emissions (session_after (doing.open_stream o.name o.master) s) ≡ [])
+    c.self.view_is
     (none_due i.world i.places.items c.self.invariant.quiet)
 
 pub returns-clause-before : goal.returns-clause-before
 returns-clause-before c =
     let i = c.self.inside in
     subst IsSettled c.self.view_is
-    (is_settled i.world i.places.items c.self.invariant.quiet i.moment (hooking_of i.hooks) i.streams.items)
+    (is_settled i.world i.places.items c.self.invariant.quiet i.moment
+    (hooking_of i.hooks) i.streams.items)
 
 pub returns-in_err-new_stream-clause-emissions : goal.returns-in_err-new_stream-clause-emissions
 returns-in_err-new_stream-clause-emissions c =
     let i = c.self.inside in
     let o = c.args.opening in
-    subst (λ (s : Session). emissions (session_after (doing.open_stream o.name o.master) s) ≡ []) c.self.view_is
+    subst (λ (s : Session). emissions (session_after (doing.open_stream o.name o.master) s) ≡ [])
+    c.self.view_is
     (none_due i.world i.places.items c.self.invariant.quiet)
 
 pub returns-in_err-new_stream-clause-before : goal.returns-in_err-new_stream-clause-before
 returns-in_err-new_stream-clause-before c =
     let i = c.self.inside in
     subst IsSettled c.self.view_is
-    (is_settled i.world i.places.items c.self.invariant.quiet i.moment (hooking_of i.hooks) i.streams.items)
+    (is_settled i.world i.places.items c.self.invariant.quiet i.moment
+    (hooking_of i.hooks) i.streams.items)
 
 pub returns-in_err-push-clause-emissions : goal.returns-in_err-push-clause-emissions
 returns-in_err-push-clause-emissions c =
     let i = c.self.inside in
     let o = c.args.opening in
-    subst (λ (s : Session). emissions (session_after (doing.open_stream o.name o.master) s) ≡ []) c.self.view_is
+    subst (λ (s : Session). emissions (session_after (doing.open_stream o.name o.master) s) ≡ [])
+    c.self.view_is
     (none_due i.world i.places.items c.self.invariant.quiet)
 
 pub returns-in_err-push-clause-before : goal.returns-in_err-push-clause-before
 returns-in_err-push-clause-before c =
     let i = c.self.inside in
     subst IsSettled c.self.view_is
-    (is_settled i.world i.places.items c.self.invariant.quiet i.moment (hooking_of i.hooks) i.streams.items)
+    (is_settled i.world i.places.items c.self.invariant.quiet i.moment
+    (hooking_of i.hooks) i.streams.items)

@@ -16,7 +16,8 @@ returns-in_err-carry_all-clause-emissions c =
     let i = c.self.inside in
     let number = c.args.world.epoch in
     subst (λ (s : Session). emissions (session_after (restart number) s) ≡ []) c.self.view_is
-    (carried_emissions i.world i.moment (hooking_of i.hooks) i.streams.items number i.places.items c.self.invariant.quiet)
+    (carried_emissions i.world i.moment
+    (hooking_of i.hooks) i.streams.items number i.places.items c.self.invariant.quiet)
 
 pub invariant_of-result : goal.invariant_of-result
 invariant_of-result c =
@@ -44,8 +45,10 @@ returns-clause-session c =
       diagram = i.diagram;
     })
     ≡ settled_session (session_after (restart number) s)) c.self.view_is
-    (ap (λ (sts : List Stream). session_of new i.moment (hooking_of i.hooks) sts i.places.items) c.new.ensures.items
-    ∙ carried_session i.world i.moment (hooking_of i.hooks) i.streams.items number i.places.items c.self.invariant.quiet new
+    (ap (λ (sts : List Stream). session_of new i.moment (hooking_of i.hooks) sts i.places.items)
+    c.new.ensures.items
+    ∙ carried_session i.world i.moment
+    (hooking_of i.hooks) i.streams.items number i.places.items c.self.invariant.quiet new
     c.in_ok-carry_all.ensures.lives
     (c.in_ok-carry_all.ensures.replications ∙ c.requires.replications
     ∙ ap (λ (s : Session). s.world.replications) (sym c.self.view_is))
@@ -56,16 +59,19 @@ returns-clause-emissions c =
     let i = c.self.inside in
     let number = c.args.world.epoch in
     subst (λ (s : Session). emissions (session_after (restart number) s) ≡ []) c.self.view_is
-    (carried_emissions i.world i.moment (hooking_of i.hooks) i.streams.items number i.places.items c.self.invariant.quiet)
+    (carried_emissions i.world i.moment
+    (hooking_of i.hooks) i.streams.items number i.places.items c.self.invariant.quiet)
 
 pub returns-clause-before : goal.returns-clause-before
 returns-clause-before c =
     let i = c.self.inside in
     subst IsSettled c.self.view_is
-    (is_settled i.world i.places.items c.self.invariant.quiet i.moment (hooking_of i.hooks) i.streams.items)
+    (is_settled i.world i.places.items c.self.invariant.quiet i.moment
+    (hooking_of i.hooks) i.streams.items)
 
 pub returns-in_err-carry_all-clause-before : goal.returns-in_err-carry_all-clause-before
 returns-in_err-carry_all-clause-before c =
     let i = c.self.inside in
     subst IsSettled c.self.view_is
-    (is_settled i.world i.places.items c.self.invariant.quiet i.moment (hooking_of i.hooks) i.streams.items)
+    (is_settled i.world i.places.items c.self.invariant.quiet i.moment
+    (hooking_of i.hooks) i.streams.items)

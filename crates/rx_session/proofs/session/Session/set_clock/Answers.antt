@@ -10,9 +10,11 @@ pub returns-clause-session : goal.returns-clause-session
 returns-clause-session c =
     let i = c.self.inside in
     let at = c.args.moment in
-    subst (λ (s : Session). session_of i.world at (hooking_of i.hooks) i.streams.items i.places.items
+    subst (λ (s : Session).
+    session_of i.world at (hooking_of i.hooks) i.streams.items i.places.items
     ≡ settled_session (session_after (set_clock at) s))
-    c.self.view_is (at_session i.world i.places.items c.self.invariant.quiet i.moment (hooking_of i.hooks) i.streams.items at)
+    c.self.view_is (at_session i.world i.places.items c.self.invariant.quiet i.moment
+    (hooking_of i.hooks) i.streams.items at)
 
 pub returns-clause-emissions : goal.returns-clause-emissions
 returns-clause-emissions c =
@@ -25,4 +27,5 @@ pub returns-clause-before : goal.returns-clause-before
 returns-clause-before c =
     let i = c.self.inside in
     subst IsSettled c.self.view_is
-    (is_settled i.world i.places.items c.self.invariant.quiet i.moment (hooking_of i.hooks) i.streams.items)
+    (is_settled i.world i.places.items c.self.invariant.quiet i.moment
+    (hooking_of i.hooks) i.streams.items)

@@ -40,11 +40,14 @@ invariant_of-result c =
     let ps = i.places.items in
     record {
       placed = subst (ArePlaced (holders_in new)) (sym (left c))
-          (without_placed name i.world new i.moment (hooking_of i.hooks) i.streams.items ps (done c));
+          (without_placed name i.world new i.moment
+          (hooking_of i.hooks) i.streams.items ps (done c));
       streamed = without_streamed name i.world new i.moment (hooking_of i.hooks) i.streams.items ps
           (done c) c.self.invariant.streamed;
-      distinct = without_distinct name i.world new i.moment (hooking_of i.hooks) i.streams.items ps (done c);
-      quiet = without_quiet name i.world new i.moment (hooking_of i.hooks) i.streams.items ps (done c);
+      distinct = without_distinct name i.world new i.moment
+          (hooking_of i.hooks) i.streams.items ps (done c);
+      quiet =
+          without_quiet name i.world new i.moment (hooking_of i.hooks) i.streams.items ps (done c);
     }
 
 pub returns-clause-session : goal.returns-clause-session
@@ -52,20 +55,24 @@ returns-clause-session c =
     let i = c.self.inside in
     let name = c.args.name.now in
     let new = c.unobserve_at.new.world in
-    subst (λ (s : Session). session_of new i.moment (hooking_of i.hooks) i.streams.items c.drop_place.new.places.items
+    subst (λ (s : Session).
+    session_of new i.moment (hooking_of i.hooks) i.streams.items c.drop_place.new.places.items
     ≡ settled_session (session_after (unwatch name) s)) c.self.view_is
     (ap (session_of new i.moment (hooking_of i.hooks) i.streams.items) (left c)
-    ∙ without_session name i.world new i.moment (hooking_of i.hooks) i.streams.items i.places.items (done c))
+    ∙ without_session name i.world new i.moment
+    (hooking_of i.hooks) i.streams.items i.places.items (done c))
 
 pub returns-clause-emissions : goal.returns-clause-emissions
 returns-clause-emissions c =
     let i = c.self.inside in
     let name = c.args.name.now in
     subst (λ (s : Session). emissions (session_after (unwatch name) s) ≡ []) c.self.view_is
-    (without_due name i.world c.unobserve_at.new.world i.moment (hooking_of i.hooks) i.streams.items i.places.items (done c))
+    (without_due name i.world c.unobserve_at.new.world i.moment
+    (hooking_of i.hooks) i.streams.items i.places.items (done c))
 
 pub returns-clause-before : goal.returns-clause-before
 returns-clause-before c =
     let i = c.self.inside in
     subst IsSettled c.self.view_is
-    (is_settled i.world i.places.items c.self.invariant.quiet i.moment (hooking_of i.hooks) i.streams.items)
+    (is_settled i.world i.places.items c.self.invariant.quiet i.moment
+    (hooking_of i.hooks) i.streams.items)

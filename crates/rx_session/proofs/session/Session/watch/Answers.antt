@@ -16,7 +16,8 @@ observe_in-requires-clause-free c =
     let i = c.self.inside in
     let w = c.args.watch in
     name_free (holders_in i.world) i.places.items w.name w.coll c.self.invariant.placed
-    (free_place w.name i.world i.moment (hooking_of i.hooks) i.streams.items i.places.items c.self.invariant.placed
+    (free_place w.name i.world i.moment
+    (hooking_of i.hooks) i.streams.items i.places.items c.self.invariant.placed
     (subst (λ (s : Session). is_observed w.name s ≡ false) (sym c.self.view_is) c.requires.0))
 
 pub observe_in-requires-clause-keyed : goal.observe_in-requires-clause-keyed
@@ -37,7 +38,8 @@ done c =
       placed = c.self.invariant.placed;
       distinct = c.self.invariant.distinct;
       quiet = c.self.invariant.quiet;
-      free = free_place w.name i.world i.moment (hooking_of i.hooks) i.streams.items i.places.items c.self.invariant.placed
+      free = free_place w.name i.world i.moment
+          (hooking_of i.hooks) i.streams.items i.places.items c.self.invariant.placed
           (subst (λ (s : Session). is_observed w.name s ≡ false) (sym c.self.view_is) c.requires.0);
       keyed = subst (λ (s : Session).
           has_key (asked w.query).primary (named s.world.collections w.coll) ≡ true)
@@ -61,11 +63,15 @@ invariant_of-session c =
     let ps = i.places.items in
     record {
       placed = subst (ArePlaced (holders_in last)) (sym (added c))
-          (watched_placed w.name w.coll (asked w.query) i.world last i.moment (hooking_of i.hooks) i.streams.items ps (done c));
-      streamed = watched_streamed w.name w.coll (asked w.query) i.world last i.moment (hooking_of i.hooks) i.streams.items ps
+          (watched_placed w.name w.coll (asked w.query) i.world last i.moment
+          (hooking_of i.hooks) i.streams.items ps (done c));
+      streamed = watched_streamed w.name w.coll (asked w.query) i.world last i.moment
+          (hooking_of i.hooks) i.streams.items ps
           (done c) c.self.invariant.streamed;
-      distinct = watched_distinct w.name w.coll (asked w.query) i.world last i.moment (hooking_of i.hooks) i.streams.items ps (done c);
-      quiet = watched_quiet w.name w.coll (asked w.query) i.world last i.moment (hooking_of i.hooks) i.streams.items ps (done c);
+      distinct = watched_distinct w.name w.coll (asked w.query) i.world last i.moment
+          (hooking_of i.hooks) i.streams.items ps (done c);
+      quiet = watched_quiet w.name w.coll (asked w.query) i.world last i.moment
+          (hooking_of i.hooks) i.streams.items ps (done c);
     }
 
 pub returns-clause-session : goal.returns-clause-session
@@ -73,10 +79,12 @@ returns-clause-session c =
     let i = c.self.inside in
     let w = c.args.watch in
     let last = c.observe_in.new.world in
-    subst (λ (s : Session). session_of last i.moment (hooking_of i.hooks) i.streams.items c.add_place.new.places.items
+    subst (λ (s : Session).
+    session_of last i.moment (hooking_of i.hooks) i.streams.items c.add_place.new.places.items
     ≡ settled_session (session_after (watch w.name w.coll (asked w.query)) s)) c.self.view_is
     (ap (session_of last i.moment (hooking_of i.hooks) i.streams.items) (added c)
-    ∙ watched_session w.name w.coll (asked w.query) i.world last i.moment (hooking_of i.hooks) i.streams.items i.places.items (done c))
+    ∙ watched_session w.name w.coll (asked w.query) i.world last i.moment
+    (hooking_of i.hooks) i.streams.items i.places.items (done c))
 
 pub returns-clause-emissions : goal.returns-clause-emissions
 returns-clause-emissions c =
@@ -84,7 +92,8 @@ returns-clause-emissions c =
     let w = c.args.watch in
     c.in_ok-due.ensures.due
     ∙ watched_due w.name w.coll
-    (asked w.query) i.world c.observe_in.new.world i.moment (hooking_of i.hooks) i.streams.items i.places.items
+    (asked w.query) i.world c.observe_in.new.world i.moment
+    (hooking_of i.hooks) i.streams.items i.places.items
     (done c)
     ∙ ap (λ (s : Session). emissions (session_after (watch w.name w.coll (asked w.query)) s))
     c.self.view_is
@@ -93,16 +102,19 @@ pub returns-clause-before : goal.returns-clause-before
 returns-clause-before c =
     let i = c.self.inside in
     subst IsSettled c.self.view_is
-    (is_settled i.world i.places.items c.self.invariant.quiet i.moment (hooking_of i.hooks) i.streams.items)
+    (is_settled i.world i.places.items c.self.invariant.quiet i.moment
+    (hooking_of i.hooks) i.streams.items)
 
 pub returns-in_err-due-clause-before : goal.returns-in_err-due-clause-before
 returns-in_err-due-clause-before c =
     let i = c.self.inside in
     subst IsSettled c.self.view_is
-    (is_settled i.world i.places.items c.self.invariant.quiet i.moment (hooking_of i.hooks) i.streams.items)
+    (is_settled i.world i.places.items c.self.invariant.quiet i.moment
+    (hooking_of i.hooks) i.streams.items)
 
 pub returns-in_err-add_place-clause-before : goal.returns-in_err-add_place-clause-before
 returns-in_err-add_place-clause-before c =
     let i = c.self.inside in
     subst IsSettled c.self.view_is
-    (is_settled i.world i.places.items c.self.invariant.quiet i.moment (hooking_of i.hooks) i.streams.items)
+    (is_settled i.world i.places.items c.self.invariant.quiet i.moment
+    (hooking_of i.hooks) i.streams.items)

@@ -18,7 +18,8 @@ made g c =
     let entry = content c.args.entry in
     let old = world_in g.H.Holder.held (holders_of c.self.inside.parts) in
     let legal : legal entry old ≡ true =
-    subst (λ w. legal entry (world_in g.H.Holder.held w) ≡ true) (sym c.self.view_is) c.requires.legal in
+    subst (λ w. legal entry (world_in g.H.Holder.held w) ≡ true)
+    (sym c.self.view_is) c.requires.legal in
     subst IsMadeWorld (sym c.in_ok-change.ensures.world)
     (made_step entry old legal c.requires.ordered c.self.invariant.made)
 
@@ -31,7 +32,8 @@ returns-clause-made g c = made g c
 pub returns-clause-distinct : goal.returns-clause-distinct
 returns-clause-distinct g c =
     subst AreDistinct (sym c.in_ok-change.ensures.world)
-    (distinct_step (content c.args.entry) (world_in g.H.Holder.held (holders_of c.self.inside.parts))
+    (distinct_step (content c.args.entry)
+    (world_in g.H.Holder.held (holders_of c.self.inside.parts))
     c.self.invariant.made.distinct)
 
 pub returns-clause-holders : goal.returns-clause-holders

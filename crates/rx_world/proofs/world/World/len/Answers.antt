@@ -9,7 +9,8 @@ pub returns-clause-lawful : goal.returns-clause-lawful
 returns-clause-lawful g c =
     let held = g.H.Holder.held in
     subst (λ w. IsLawfulWorld (world_in held w)) c.self.view_is
-    (all_lawful held g.H.Holder.is_broken c.self.inside.parts.holders.entries c.self.invariant.whole)
+    (all_lawful held g.H.Holder.is_broken c.self.inside.parts.holders.entries
+    c.self.invariant.whole)
 
 pub returns-clause-whole : goal.returns-clause-whole
 returns-clause-whole g c =

@@ -16,8 +16,10 @@ returns-clause-legal g c =
     let called : c.collection.result.now.name ≡ name = search rules in
     let read : schema_in c.canonical.result.now ≡ Some s =
     reads_own c.canonical.result.now s c.canonical.ensures.text c.canonical.ensures.reads_back in
-    let fits : group_fits (is_in_group w.replications name) s c.args.steps c.collection.result.now w ≡ Ok tt =
-    ap (λ (n : List ℕ). group_fits (is_in_group w.replications n) s c.args.steps c.collection.result.now w)
+    let fits : group_fits (is_in_group w.replications name) s c.args.steps c.collection.result.now w
+    ≡ Ok tt =
+    ap (λ (n : List ℕ).
+    group_fits (is_in_group w.replications n) s c.args.steps c.collection.result.now w)
     (sym called) ∙ search rules in
     ap (λ (n : List ℕ). may_migrate n c.in_ok-copy.field-0 c.args.steps w) c.in_ok-new.ensures
     ∙ ap (λ (t : List ℕ). may_migrate name t c.args.steps w) c.in_ok-copy.ensures

@@ -8,6 +8,10 @@ use Rattle.rx_world.proofs.world.World.new.Goals as goal
 
 pub invariant_of-result : goal.invariant_of-result
 invariant_of-result g c =
-    let is : world_in g.H.Holder.held (record { entries = c.new.result.entries; replications = by_bytes c.new-2.result.entries; epoch = 0 })
+    let is : world_in g.H.Holder.held (record {
+      entries = c.new.result.entries;
+      replications = by_bytes c.new-2.result.entries;
+      epoch = 0;
+    })
     ≡ empty = search rules in
     record { whole = search rules; made = subst IsMadeWorld (sym is) made_empty }
