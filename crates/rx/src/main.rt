@@ -76,8 +76,8 @@ fn main(rt: HostRuntime) -> ExitCode {
     }
 }
 
-// Runs the command with the handlers that a replication may name. They are made where they are used:
-// what makes a closure and gives it away would hide what it does.
+// Runs the command with the handlers that a replication may name. They are made where they are
+// used: what makes a closure and gives it away would hide what it does.
 fn play<S: Source, K: Sink, D: Disk, L: Listen, N: Dial, C: Clock, E: Disk>(
     alloc: Global,
     words: &Words,

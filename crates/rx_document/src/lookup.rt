@@ -17,6 +17,7 @@ pub trait Lookup {
     /// The document in that slot, if there is one. Which document has which slot is the map's own
     /// affair, but each stands under its key.
     fn at(&self, slot: u32) -> Option<&Stored>
-        ensures held { IfSome result (λ d. named (documents self.now) d.now.state.key ≡ Some d.now) }
+        ensures held { IfSome result
+            (λ d. named (documents self.now) d.now.state.key ≡ Some d.now) }
         ensures rising { AreRising (documents self.now) };
 }

@@ -89,7 +89,8 @@ impl Engine {
             (turned (turn_of wanted.now) (standing_of (kinds_of handlers.now) [] self)).records
             (λ p. p.0) result }
         ensures quiet { IfOk result (λ p.
-            (turned (turn_of wanted.now) (standing_of (kinds_of handlers.now) [] self)).ended ≡ Quiet
+            (turned (turn_of wanted.now) (standing_of (kinds_of handlers.now) [] self)).ended
+            ≡ Quiet
             → IsLevel (session_of p.0).world wanted.now.name) }
         ensures not_journal { IsErrOf result Stop.NotJournal → ⊥ }
     {
@@ -104,7 +105,8 @@ impl AfterTurn {
     pub(crate) fn answer(self, alloc: Global, number: u64) -> Result<(Engine, Output), AllocError>
         ensures engine { IfOk result (λ p. p.0 ≡ self.engine) }
         ensures text { IfOk result (λ p. string_bytes p.1.text
-            ≡ answer_lines number (turn self.exchanges self.ended) ++ lines_of self.emissions.items) }
+            ≡ answer_lines number (turn self.exchanges self.ended)
+            ++ lines_of self.emissions.items) }
         ensures emissions { IfOk result (λ p. p.1.emissions ≡ length self.emissions.items) }
         ensures refused { IfOk result (λ p. p.1.refused ≡ false) }
         ensures end { IfOk result (λ p. p.1.end ≡ Some self.ended) }

@@ -240,7 +240,8 @@ impl Engine {
         requires next { MayDo (restart epoch) (session_of self) }
         ensures session { IfOk result (λ e. session_of e
             ≡ settled_session (session_after (restart epoch) (session_of self))) }
-        ensures quiet { OnOk result (emissions (session_after (restart epoch) (session_of self)) ≡ []) }
+        ensures quiet { OnOk result
+            (emissions (session_after (restart epoch) (session_of self)) ≡ []) }
         ensures asks { IfOk result (λ e. asks_in e ≡ []) }
         ensures commits { Commits D.Disk disk.old disk.new self (records_of (restart epoch))
             (λ e. e) result }
@@ -282,7 +283,8 @@ impl Engine {
             (turned (turn_of wanted.now) (standing_of (kinds_of handlers.now) [] self)).records
             (λ m. m.engine) result }
         ensures quiet { IfOk result (λ m.
-            (turned (turn_of wanted.now) (standing_of (kinds_of handlers.now) [] self)).ended ≡ Quiet
+            (turned (turn_of wanted.now) (standing_of (kinds_of handlers.now) [] self)).ended
+            ≡ Quiet
             → IsLevel (session_of m.engine).world wanted.now.name) }
         ensures not_journal { IsErrOf result Stop.NotJournal → ⊥ }
     {

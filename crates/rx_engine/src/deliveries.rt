@@ -48,8 +48,8 @@ pub(crate) struct AfterDelivery {
 impl Engine {
     ghost use Rattle.rx_engine.specs.Engine.{Answers, IsAfterDelivery, IsAt, standing_of};
 
-    /// The engine after a delivery, and the line of each event that was given, that of the delivery,
-    /// and the emissions that are due then.
+    /// The engine after a delivery, and the line of each event that was given, that of the
+    /// delivery, and the emissions that are due then.
     pub(crate) fn answer_delivery<D: Disk>(
         self,
         alloc: Global,
@@ -61,7 +61,8 @@ impl Engine {
         requires open { IsSome (stream_of wanted.now.name (session_of self)) }
         ensures answers { (kinds : Kinds) (heard : List Heard)
             → IfOk result (λ p. Answers kinds heard
-            (delivery_meaning number (deliver_of wanted.now) (standing_of kinds heard self)) p.0 p.1) }
+            (delivery_meaning number (deliver_of wanted.now) (standing_of kinds heard self))
+            p.0 p.1) }
         ensures commits { Commits D.Disk disk.old disk.new self
             (delivered_by (deliver_of wanted.now) (session_of self)).records (λ p. p.0) result }
         ensures not_journal { IsErrOf result Stop.NotJournal → ⊥ }
@@ -83,7 +84,8 @@ impl Engine {
         ensures delivered { (kinds : Kinds) (heard : List Heard) → IfOk result
             (IsAfterDelivery (deliver_of wanted.now) (standing_of kinds heard self)) }
         ensures commits { Commits D.Disk disk.old disk.new self
-            (delivered_by (deliver_of wanted.now) (session_of self)).records (λ m. m.engine) result }
+            (delivered_by (deliver_of wanted.now) (session_of self)).records
+            (λ m. m.engine) result }
         ensures not_journal { IsErrOf result Stop.NotJournal → ⊥ }
     {
         let begun = self.begin_delivery(alloc, wanted);
@@ -133,8 +135,8 @@ impl Engine {
     }
 }
 
-// An engine of which a delivery is to be made, with what the stream had queued. Where `none` nothing
-// of the fork is to be pushed.
+// An engine of which a delivery is to be made, with what the stream had queued. Where `none`
+// nothing of the fork is to be pushed.
 #[derive(Drop)]
 struct Begun {
     play: Play,
@@ -165,7 +167,8 @@ impl Delivered {
         requires may { MayEnd name.now self aside.remembered }
         ensures ended { IfOk result (IsEnded name.now self aside) }
         ensures commits { (e : Begins) (session : Session) (cs : List Content)
-            → session.world ≡ (session_of e).world → Follows (play_of e.journal session) cs self.play
+            → session.world ≡ (session_of e).world
+            → Follows (play_of e.journal session) cs self.play
             → Commits D.Disk disk.old disk.new e cs (λ m. m.engine) result }
         ensures not_journal { IsErrOf result Stop.NotJournal → ⊥ }
     {
@@ -206,8 +209,8 @@ impl Delivered {
 }
 
 impl AfterDelivery {
-    // The engine, and the line of each event that was given, that of the delivery, and the emissions
-    // that are due.
+    // The engine, and the line of each event that was given, that of the delivery, and the
+    // emissions that are due.
     fn answer(self, alloc: Global, number: u64) -> Result<(Engine, Output), AllocError>
         ensures engine { IfOk result (λ p. p.0 ≡ self.engine) }
         ensures text { IfOk result (λ p. string_bytes p.1.text
@@ -238,7 +241,8 @@ fn delivery_lines(
     resync: bool,
     number: u64,
 ) -> Result<String, AllocError>
-    ensures { IfOk result (λ text. string_bytes text ≡ answer_lines number (deliver given level resync)) }
+    ensures { IfOk result (λ text. string_bytes text
+        ≡ answer_lines number (deliver given level resync)) }
 {
     let reply = Reply::Deliver {
         given,

@@ -85,7 +85,8 @@ impl Delivered {
         requires none { self.none ≡ true
             → pending_in self.play.playing.world wanted.now.name ≡ Some 0 }
         ensures delivered { IfOk result (IsDeliveredOn
-            (one_delivered wanted.now.name now number delivery event self.play.playing.world) self) }
+            (one_delivered wanted.now.name now number delivery event self.play.playing.world)
+            self) }
         ensures none { IfOk result (λ made. made.none ≡ true
             → pending_in made.play.playing.world wanted.now.name ≡ Some 0) }
     {

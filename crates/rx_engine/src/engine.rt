@@ -64,10 +64,12 @@ impl Engine {
         ensures opened { D.tells → (bodies : List (List ℕ)) (w : World)
             → IsLegalFile (D.content disk.old) bodies w
             → IfOk result (λ engine. (kinds : Kinds) (heard : List Heard)
-            → standing_of kinds heard engine ≡ opened (host_with kinds (known_by hooks.now)) heard w) }
+            → standing_of kinds heard engine
+            ≡ opened (host_with kinds (known_by hooks.now)) heard w) }
         ensures begun { IfOk result (λ engine. (w : World)
             × ((kinds : Kinds) (heard : List Heard)
-            → standing_of kinds heard engine ≡ opened (host_with kinds (known_by hooks.now)) heard w)) }
+            → standing_of kinds heard engine
+            ≡ opened (host_with kinds (known_by hooks.now)) heard w)) }
         ensures limit { IfOk result (λ engine. limit_of engine ≡ limit) }
 
         // Over a legal file: what holds at each moment, at `Ok`, and at `Full`.

@@ -22,8 +22,8 @@ pub(crate) struct Outcome<'a> {
     pub reply: Reply<'a>,
 }
 
-/// What a line comes to: an outcome; or a turn, to a master of this journal or to one elsewhere, the
-/// turns of a tree, or a delivery, which are answered once they are made.
+/// What a line comes to: an outcome; or a turn, to a master of this journal or to one elsewhere,
+/// the turns of a tree, or a delivery, which are answered once they are made.
 #[derive(Drop)]
 pub(crate) enum Task<'a> {
     Answered(Outcome<'a>),

@@ -12,8 +12,8 @@ use crate::remembered::Remembered;
 use rx_session::Session;
 use std::marker::Model;
 
-/// A session whose world is one that records made, and sound, with what is remembered beside it. The
-/// marks are no part of what a session means.
+/// A session whose world is one that records made, and sound, with what is remembered beside it.
+/// The marks are no part of what a session means.
 #[derive(Drop)]
 pub(crate) struct SoundSession {
     session: Session,

@@ -75,7 +75,8 @@ pub(crate) fn sweep_line<'a>(
 
 // Whether the handler of each turn's replication is there.
 fn are_handled(world: &World<Live>, handlers: &Handlers, steps: &[Step]) -> bool
-    ensures { result ≡ list_all (is_handled (kinds_of handlers.now) (world_of world.now)) steps.now }
+    ensures { result
+        ≡ list_all (is_handled (kinds_of handlers.now) (world_of world.now)) steps.now }
 {
     for step in steps {
         if !is_handled(world, handlers, step) {

@@ -139,7 +139,8 @@ fn take_out(
 fn is_among(query: &Query, change: &Change, matches: Matches, rows: &Results) -> bool
     requires { TellMatches (asked query.now) change.now matches }
     ensures there { result ≡ true → list_any (is_changed change.now) rows.now ≡ true }
-    ensures not_there { result ≡ false → LeavesOthers (asked query.now) change.now rows.now rows.now }
+    ensures not_there { result ≡ false
+        → LeavesOthers (asked query.now) change.now rows.now rows.now }
 {
     if !matches.was {
         return false;
@@ -208,7 +209,8 @@ fn enters(query: &Query, change: &Change, matches: Matches, whole: bool, rows: &
 }
 
 fn is_before_last(query: &Query, fields: &Fields, rows: &Results) -> bool
-    ensures { result ≡ last_passes (λ row. precedes (asked query.now) fields.now row.fields) rows.now }
+    ensures { result
+        ≡ last_passes (λ row. precedes (asked query.now) fields.now row.fields) rows.now }
 {
     if rows.len() == 0 {
         return false;

@@ -99,7 +99,8 @@ pub(crate) fn rows_of(
     requires indexed { AreIndexesOf collection.now indexes.now }
     requires front { IsFront (asked query.old) collection.now.documents front.old }
     ensures query { asked query.new ≡ asked query.old }
-    ensures rows { IfOk result (λ rows. rows ≡ fresh_rows (asked query.old) collection.now.documents) }
+    ensures rows { IfOk result
+        (λ rows. rows ≡ fresh_rows (asked query.old) collection.now.documents) }
     ensures front { OnOk result (IsFront (asked query.old) collection.now.documents front.new) }
 {
     let Some(limit) = kept_limit(query) else {

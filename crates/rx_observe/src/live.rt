@@ -82,7 +82,8 @@ impl Live {
         requires new { named self.old.queries name ≡ None }
         requires keyed { (asked query).primary ≡ self.old.collection.schema.primary }
         ensures ok { OnOk result (self.new ≡ with_queries self.old
-            (and_query self.old.queries name (new_watch (asked query) self.old.collection.documents))) }
+            (and_query self.old.queries name
+            (new_watch (asked query) self.old.collection.documents))) }
         ensures err { OnErr result (self.new ≡ self.old) }
     {
         let indexes = self.indexes.as_slice();
@@ -169,7 +170,8 @@ impl Live {
         ensures due { IfOk result
             (λ all. all.items ≡ emissions_due self.old.collection self.old.queries) }
         ensures ok { OnOk result
-            (self.new ≡ with_queries self.old (each (settled self.old.collection) self.old.queries)) }
+            (self.new
+            ≡ with_queries self.old (each (settled self.old.collection) self.old.queries)) }
         ensures none_left { OnOk result (emissions_due self.new.collection self.new.queries ≡ []) }
         ensures err { OnErr result (self.new ≡ self.old) }
     {

@@ -67,7 +67,8 @@ pub(crate) fn is_ordered(alloc: Global, query: &Query, path: &[&str]) -> Result<
 }
 
 fn are_same(these: &[&str], those: &[&str]) -> bool
-    ensures { result ≡ pointwise bytes_eq (map (λ f. f.now) these.now) (map (λ f. f.now) those.now) }
+    ensures { result
+        ≡ pointwise bytes_eq (map (λ f. f.now) these.now) (map (λ f. f.now) those.now) }
 {
     these == those
 }

@@ -95,7 +95,8 @@ pub(crate) fn first_due<'a, T: Lookup>(
 
 // Puts rows, of which none tie, in the order of the query.
 pub(crate) fn put_in_order(query: &Query, rows: &mut Vec<&Stored>)
-    requires { IsDistinct (eq_by_cmp (stored_cmp (asked query.now))) (map (λ r. r.now) rows.old.items) }
+    requires { IsDistinct (eq_by_cmp (stored_cmp (asked query.now)))
+        (map (λ r. r.now) rows.old.items) }
     ensures { map (λ r. r.now) rows.new.items
         ≡ sorted (stored_before (asked query.now)) (map (λ r. r.now) rows.old.items) }
 {

@@ -43,8 +43,8 @@ pub enum Record {
     Epoch {
         number: u64,
     },
-    /// A collection and all that local replications join to it get the next version of their schema,
-    /// with its canonical text and the steps that their states take.
+    /// A collection and all that local replications join to it get the next version of their
+    /// schema, with its canonical text and the steps that their states take.
     Migration {
         name: RxText,
         schema: RxText,

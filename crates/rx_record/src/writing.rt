@@ -177,7 +177,8 @@ pub(crate) fn put_states(out: &mut Vec<u8>, known: &[State]) -> Result<(), Alloc
 // Rows, from their count on.
 fn put_rows(out: &mut Vec<u8>, rows: &[RowOut]) -> Result<(), AllocError>
     ensures bytes { IfOk result (λ _. out.new.items ≡ out.old.items ++ rows_bytes rows.now) }
-    ensures back { KeysRise rows.now → IfOk result (λ _. ShortReadsBack rows_bytes rows_of rows.now) }
+    ensures back { KeysRise rows.now
+        → IfOk result (λ _. ShortReadsBack rows_bytes rows_of rows.now) }
 {
     put_count(out, rows.len())?;
     for row in rows {

@@ -44,8 +44,8 @@ pub fn apply(
     )
 }
 
-// Applies a record, and brings the queries of its collection up to date. What makes a collection gives
-// it no queries.
+// Applies a record, and brings the queries of its collection up to date. What makes a collection
+// gives it no queries.
 fn change<F: Fn(Collection) -> Result<Live, AllocError>>(
     world: World<Live>,
     alloc: Global,

@@ -30,8 +30,10 @@ impl Session {
     /// The session after what a line does, and the emissions that are due then, which are emitted.
     pub fn next(self, alloc: Global, doing: Doing) -> Result<(Session, Vec<Emission>), AllocError>
         requires { MayDo (done_by doing) self }
-        ensures session { IfOk result (λ p. p.0 ≡ settled_session (session_after (done_by doing) self)) }
-        ensures emissions { IfOk result (λ p. p.1.items ≡ emissions (session_after (done_by doing) self)) }
+        ensures session { IfOk result
+            (λ p. p.0 ≡ settled_session (session_after (done_by doing) self)) }
+        ensures emissions { IfOk result
+            (λ p. p.1.items ≡ emissions (session_after (done_by doing) self)) }
 
         // Nothing of any session is to be emitted, so one to which nothing is done stays.
         ensures before { IsSettled self }

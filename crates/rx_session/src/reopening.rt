@@ -26,7 +26,8 @@ impl Session {
         requires unwatched { AreUnwatched (holders_in world) }
         ensures session { IfOk result
             (λ s. s ≡ settled_session (session_after (doing.restart (world_of world).epoch) self)) }
-        ensures emissions { emissions (session_after (doing.restart (world_of world).epoch) self) ≡ [] }
+        ensures emissions { emissions
+            (session_after (doing.restart (world_of world).epoch) self) ≡ [] }
         ensures before { IsSettled self }
     {
         let mut world = world;

@@ -48,7 +48,8 @@ impl Session {
     pub(crate) fn open_stream(self, alloc: Global, opening: Opening) -> Result<Session, AllocError>
         requires { IsStreamable self.world opening.name opening.master }
         ensures session { IfOk result (λ s. s
-            ≡ settled_session (session_after (doing.open_stream opening.name opening.master) self)) }
+            ≡ settled_session
+            (session_after (doing.open_stream opening.name opening.master) self)) }
         ensures emissions { emissions
             (session_after (doing.open_stream opening.name opening.master) self) ≡ [] }
         ensures before { IsSettled self }
@@ -74,7 +75,8 @@ impl Session {
 
     // The session without the stream of that name.
     pub(crate) fn close_stream(self, name: &RxText) -> Session
-        ensures session { result ≡ settled_session (session_after (doing.close_stream name.now) self) }
+        ensures session { result
+            ≡ settled_session (session_after (doing.close_stream name.now) self) }
         ensures emissions { emissions (session_after (doing.close_stream name.now) self) ≡ [] }
         ensures before { IsSettled self }
     {

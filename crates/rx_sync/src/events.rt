@@ -29,8 +29,9 @@ use rx_world::{Replication, World};
 use std::alloc::Global;
 
 /// What an event of the master comes to at the fork of a replication: the record that takes it,
-/// where anything changes. Where it is known that nothing of the fork is to be pushed, `none` spares
-/// the look at its documents. Nothing is changed here: the record is to be kept, and then applied.
+/// where anything changes. Where it is known that nothing of the fork is to be pushed, `none`
+/// spares the look at its documents. Nothing is changed here: the record is to be kept, and then
+/// applied.
 pub fn take_event<H: Holder + Drop>(
     alloc: Global,
     world: &World<H>,

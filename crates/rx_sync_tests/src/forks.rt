@@ -1,12 +1,13 @@
 // What a fork asks, what it makes of a reply, and what a master takes of a push.
 //
-// A case is one fork, whose requests have a batch of 2. In each line `#a=1;` stands for the document
-// a with the number 1, and HASH for the schema's.
+// A case is one fork, whose requests have a batch of 2. In each line `#a=1;` stands for the
+// document a with the number 1, and HASH for the schema's.
 //
 //     -- what the case is about
 //     holds #a=1;                             a document, written by a commit of its own
 //     knows #a=1;                             a state that is known
-//     asks 1 {"ask":"push",..}                how many documents are to be pushed, and what is asked
+//     asks 1 {"ask":"push",..}                how many documents are to be pushed, and what is
+//                                             asked
 //     > {"conflicts":[],"epoch":1,"n":1}      a reply to it
 //     < writes [] knows [#a=1;] up 1 a down   what it comes to, or its fault
 ghost use Rattle.std.specs.Prelude.{◌≡◌, false, None, IfOk};
@@ -133,7 +134,8 @@ fn a_fork_that_was_written_takes_nothing(rt: HostRuntime) -> Result<(), Fail> {
     )
 }
 
-// What a fork with one document makes of a conflict, where it had this last write time at its asking.
+// What a fork with one document makes of a conflict,
+// where it had this last write time at its asking.
 fn compare_conflict(alloc: Global, handler: &Handler, lwt: u64, due: &str) -> Result<(), Fail> {
     let schema = schema(alloc)?;
     let world = held(alloc, &schema, "holds #a=1;\n")?;

@@ -1,7 +1,7 @@
 // Connections to a master: what is sent, and how each ends.
 //
-// A case is one journal, and connections to it one after another. HASH stands for the schema's, SPACE
-// for a space.
+// A case is one journal, and connections to it one after another. HASH stands for the schema's,
+// SPACE for a space.
 //
 //     == paging                          what the case is about
 //     = request 1                        a connection: how it ends, after so many requests
@@ -134,8 +134,8 @@ const PUSHES: &str =
 {"ask":"push","epoch":1,"n":2,"rows":[{"new":{"_deleted":false,"id":"b"}}],"schema":HASH}
 "#;
 
-// The disk fails at each call in turn, and stops within it or after it: each answered push is there,
-// and at most the one that was being answered besides.
+// The disk fails at each call in turn, and stops within it or after it: each answered push is
+// there, and at most the one that was being answered besides.
 #[test]
 fn each_call_of_a_disk_may_fail_and_stop(rt: HostRuntime) -> Result<(), Fail> {
     let alloc = rt.alloc();

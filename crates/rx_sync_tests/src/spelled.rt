@@ -1,7 +1,8 @@
 // Records by words.
 //
 //     collection c                       of the schema that `served` has
-//     rows c 5 1:a 2:b!                  documents written at 5, by their heights; the second is deleted
+//     rows c 5 1:a 2:b!                  documents written at 5, by their heights; the second is
+//                                        deleted
 //     replication r f m                  the fork f of the master m
 //     remote r f 7001                    of one at a port
 //     known r a                          what it knows, with no checkpoint

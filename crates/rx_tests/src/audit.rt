@@ -1,10 +1,10 @@
-// What the replies to a script say of a fork's writes, and whether one of them was lost. A write that
-// was answered stands in the fork until it is written again, or an exchange names its key: a push as a
-// conflict, which the handler settled, or a pull, which brings what the master wrote later. No pull
-// comes, and no turn is quiet, while a write is still to be pushed.
+// What the replies to a script say of a fork's writes, and whether one of them was lost. A write
+// that was answered stands in the fork until it is written again, or an exchange names its key: a
+// push as a conflict, which the handler settled, or a pull, which brings what the master wrote
+// later. No pull comes, and no turn is quiet, while a write is still to be pushed.
 //
-// The documents have the keys k0 to k19, and a number and a text of one character at most. The fork's
-// changes are asked for after each turn.
+// The documents have the keys k0 to k19, and a number and a text of one character at most. The
+// fork's changes are asked for after each turn.
 use std::alloc::{AllocError, Global};
 use std::test::Fail;
 
@@ -17,8 +17,8 @@ struct State {
     t: Option<char>,
 }
 
-// What the fork knows of the master, as far as the replies tell: nothing yet, its own state, one that
-// it had before, or one that a conflict brought.
+// What the fork knows of the master, as far as the replies tell: nothing yet, its own state, one
+// that it had before, or one that a conflict brought.
 #[derive(Clone, Copy, PartialEq, Eq)]
 enum Known {
     Nothing,

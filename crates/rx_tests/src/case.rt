@@ -4,15 +4,19 @@
 //
 //     == a second insert is a conflict           the case's name
 //     ^ 52584a4f55524e31 00                      bytes that the journal holds before
-//     $ run journal --max-journal 22             the words of a run on the journal that the last one left
+//     $ run journal --max-journal 22             the words of a run on the journal that the last
+//                                                one left
 //     > I(c,a,1)                                 a line of its script
-//     < {"line":L,"ok":"insert","rev":"1-c"}     a line that is due, with L for the number of the script's line
+//     < {"line":L,"ok":"insert","rev":"1-c"}     a line that is due, with L for the number of the
+//                                                script's line
 //     * a peer                                   one more that dials
-//     + 2                                        one more master elsewhere; calls of its wire that fail
+//     + 2                                        one more master elsewhere; calls of its wire that
+//                                                fail
 //     @ {"ask":"pull",..}                        a line that the last of these sends
 //     ~ {"docs":                                 a text that it sends, without the end of a line
 //     & {"docs":[],..}                           a line that peers are sent, and then masters
-//     ! 8                                        the status, where it isn't 1 after a refused line and 0 after none
+//     ! 8                                        the status, where it isn't 1 after a refused line
+//                                                and 0 after none
 //     = 52584a4f55524e31 00                      bytes that the journal holds afterwards
 //     % 52584a4f55524e32 00                      bytes that the copy holds afterwards
 //     /                                          the copy is the journal from here on

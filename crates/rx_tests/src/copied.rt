@@ -1,5 +1,5 @@
-// Journals that begin with a copy: the second version of the format. What a compaction makes, what a
-// run takes and goes on from, and what it refuses and leaves alone.
+// Journals that begin with a copy: the second version of the format. What a compaction makes, what
+// a run takes and goes on from, and what it refuses and leaves alone.
 use crate::case::play_all;
 use std::test::Fail;
 

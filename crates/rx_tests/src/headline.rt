@@ -37,11 +37,11 @@ pub fn play_in_memory(
     handlers: &Handlers,
     hooks: &Hooks,
 ) -> Result<Played, AllocError>
-    // Where it was played to its end: what was written is its transcript, the journal has the record of
-    // its epoch and those of its lines, and the status tells whether a line was refused.
+    // Where it was played to its end: what was written is its transcript, the journal has the
+    // record of its epoch and those of its lines, and the status tells whether a line was refused.
     ensures { IfOk result (λ played. played.status < 2 → (heard : List Heard)
-        × IsPlayed (host_of handlers.now hooks.now) script.items heard played.status played.output.items
-        played.journal.items) }
+        × IsPlayed (host_of handlers.now hooks.now) script.items heard
+        played.status played.output.items played.journal.items) }
 {
     let words = run_words(alloc)?;
     let mut source = MemorySource::new(script, PIECE, Vec::new(alloc));

@@ -414,8 +414,8 @@ fn a_turn_goes_on_after_a_line_without_an_end(rt: HostRuntime) -> Result<(), Fai
 
 const MEGABYTE: usize = 1_048_576;
 
-// Lines that are long or deep: a megabyte, a hundred thousand lists in one another, and one document
-// more than a reply may have.
+// Lines that are long or deep: a megabyte, a hundred thousand lists in one another, and one
+// document more than a reply may have.
 #[test]
 fn a_turn_goes_on_after_a_line_out_of_all_bounds(rt: HostRuntime) -> Result<(), Fail> {
     let alloc = rt.alloc();

@@ -1,5 +1,5 @@
-// Plans by hand, by the rules: which index, between which bounds, and whether its keys have the rows
-// in the query's order.
+// Plans by hand, by the rules: which index, between which bounds, and whether its keys have the
+// rows in the query's order.
 use rx_index::{Bound, Index};
 use rx_planner::{Plan, plan};
 use rx_query::Query;

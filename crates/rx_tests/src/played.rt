@@ -1,4 +1,5 @@
-// The run whose contract is its transcript, on a script that reaches its end, and on one that doesn't.
+// The run whose contract is its transcript, on a script that reaches its end,
+// and on one that doesn't.
 use crate::headline::{Played, play_in_memory};
 use crate::short::{add_script_line, journal_bytes};
 use rx_handler::{Handler, HandlerKind, Handlers};

@@ -1,5 +1,5 @@
-// The journal of a whole run, cut to each length. It opens where at most 9 bytes are left, or where it
-// ends with a closed gate behind a whole record; else it is no journal, and is left as it is.
+// The journal of a whole run, cut to each length. It opens where at most 9 bytes are left, or where
+// it ends with a closed gate behind a whole record; else it is no journal, and is left as it is.
 use crate::record_stops::LINES;
 use crate::run::{Ran, report, run_plain};
 use crate::stops::play_failing;

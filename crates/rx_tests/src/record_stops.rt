@@ -1,6 +1,6 @@
 // Each kind of record at the four calls of the disk that append it: the body is written and synced,
-// and then its gate. A call fails, or the run stops within it, and an empty script then ends well on
-// what is left, which has the record where its gate was found open and else none of it.
+// and then its gate. A call fails, or the run stops within it, and an empty script then ends well
+// on what is left, which has the record where its gate was found open and else none of it.
 use crate::run::{Ran, report, run_plain};
 use crate::stops::{CALLS, PICKS, play_failing, replies};
 use std::alloc::{AllocError, Global};
@@ -40,8 +40,8 @@ const KINDS: [(&str, usize); 6] = [
     ("migration", 7),
 ];
 
-/// The calls of an append, counted back from the last, and whether its gate may be found open after a
-/// stop within that call.
+/// The calls of an append, counted back from the last, and whether its gate may be found open after
+/// a stop within that call.
 pub const STEPS: [(u64, bool); 4] = [(3, false), (2, false), (1, true), (0, true)];
 
 #[test]
@@ -71,7 +71,8 @@ pub fn calls_of(alloc: Global, lines: &[(&str, &str)]) -> Result<u64, Fail> {
     Err(Fail::new("a run makes more calls of the disk"))
 }
 
-// The call fails, and all lines but the last were answered; or it doesn't, and the run stops within.
+// The call fails, and all lines but the last were answered; or it doesn't,
+// and the run stops within.
 fn try_call(
     alloc: Global,
     kind: &str,
@@ -133,7 +134,8 @@ fn try_picks(alloc: Global, kind: &str, ran: &Ran, call: u64, due: [usize; 2]) -
     Ok(())
 }
 
-/// Of how many lines the records stand in what a stop left, by the report once an empty script ended.
+/// Of how many lines the records stand in what a stop left,
+/// by the report once an empty script ended.
 pub fn lines_standing(alloc: Global, ran: &Ran, call: u64, pick: &[u8]) -> Result<usize, Fail> {
     let empty = run_again(alloc, ran, call, pick)?;
     if empty.came_to(0, "") {

@@ -109,7 +109,8 @@ fn add_word(alloc: Global, word: &str, bytes: &mut Vec<u8>) -> Result<(), Fail> 
     Ok(())
 }
 
-/// Ends a bulk line of so many documents that are new to the collection c, with what it is answered.
+/// Ends a bulk line of so many documents that are new to the collection c,
+/// with what it is answered.
 pub fn end_bulk(alloc: Global, count: usize, facts: &mut String) -> Result<(), AllocError> {
     let others = ",\"1-c\"".repeat(alloc, count.saturating_sub(1))?;
     facts.push_str("]}\n< {\"line\":L,\"ok\":\"bulk\",\"revs\":[\"1-c\"")?;

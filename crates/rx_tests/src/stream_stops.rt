@@ -1,5 +1,6 @@
 // A delivery on a disk that fails at each of its calls, and stops within each: what the fork took
-// of it stands whole or not at all, and the next run, in which no stream is open, goes on from there.
+// of it stands whole or not at all, and the next run, in which no stream is open,
+// goes on from there.
 use crate::record_stops::{STEPS, calls_of};
 use crate::run::{Ran, run_plain};
 use crate::stops::{CALLS, PICKS, play_failing, replies};

@@ -1,5 +1,5 @@
-// A turn on a disk that fails at each of its calls, and stops within each: the next run's turn goes on
-// from what stands, and is quiet.
+// A turn on a disk that fails at each of its calls, and stops within each: the next run's turn goes
+// on from what stands, and is quiet.
 use crate::record_stops::{STEPS, calls_of};
 use crate::run::{Ran, run_made, run_plain};
 use crate::short::add_script_line;
@@ -76,8 +76,8 @@ fn compare_calls(alloc: Global, last: u64) -> Result<(), Fail> {
     Err(Fail::new(format_args!("a turn makes {calls} calls of the disk")))
 }
 
-// The call fails and the run stops within it or behind it, or the call doesn't fail and the run stops
-// within it.
+// The call fails and the run stops within it or behind it, or the call doesn't fail and the run
+// stops within it.
 fn try_call(alloc: Global, call: u64, gate: bool) -> Result<(), Fail> {
     let open = if gate { ALL } else { NONE };
     try_fault(alloc, call, [NONE, open])?;
@@ -141,7 +141,8 @@ fn turn_told(output: &str) -> Option<usize> {
         .position(|turn| output.strip_prefix(*turn) == Some(DIGESTS))
 }
 
-// A hundred documents that differ on both sides, in batches of ten: each is pushed twice, and pulled.
+// A hundred documents that differ on both sides, in batches of ten: each is pushed twice,
+// and pulled.
 #[test]
 fn a_hundred_conflicts_take_31_exchanges(rt: HostRuntime) -> Result<(), Fail> {
     let alloc = rt.alloc();

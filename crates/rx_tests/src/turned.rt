@@ -97,7 +97,8 @@ fn check_writes(alloc: Global, handler: &str, script: &str, output: &str) -> Res
     Ok(())
 }
 
-// Lines at random, after those that make a fork m's, with turns and digests in between and at the end.
+// Lines at random, after those that make a fork m's,
+// with turns and digests in between and at the end.
 fn random_script(alloc: Global, random: &mut Random, handler: &str) -> Result<String, AllocError> {
     let begin = BEGIN.replace(alloc, "SCHEMA", S2)?;
     let mut script = begin.as_str().replace(alloc, "HANDLER", handler)?;

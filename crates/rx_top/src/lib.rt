@@ -3,7 +3,8 @@
 //!
 //! `rx` is the call that the program makes. What it promises of each command is a record of specs/:
 //! `PlaysScript` of `run`, `ServesCollection` of `serve`, `ReportsJournal` of `check`,
-//! `TriesScript` of `trial` and `CopiesJournal` of `compact`. It knows nothing of what a line means.
+//! `TriesScript` of `trial` and `CopiesJournal` of `compact`. It knows nothing of what a line
+//! means.
 #![tactic(auto)]
 
 mod blank;

@@ -43,8 +43,8 @@ pub(crate) fn run<S: Source, K: Sink, D: Disk, N: Dial>(
     requires low { 9 ≤ limit }
     requires high { limit < 2 ^ 32 }
     ensures plays { (heard : List Heard)
-        × PlaysScript S.Source K.Sink D.Disk N.Dial N.W.tells (host_of handlers.now hooks.now) heard limit
-        result
+        × PlaysScript S.Source K.Sink D.Disk N.Dial N.W.tells (host_of handlers.now hooks.now)
+        heard limit result
         source.old source.new out.old out.new disk.old disk.new
         dial.old dial.new }
 {
@@ -71,16 +71,17 @@ fn open_and_play<S: Source, K: Sink, D: Disk, N: Dial>(
     // tells its content and over any other.
     ensures run { (heard : List Heard) × (S.tells → FromStart D.Disk disk.old (λ bodies w.
         Plays line_effect HoldsOfTurn K.tells (K.written out.old) (K.written out.new)
-        (S.left source.old) (S.left source.new) (opened (host_of handlers.now hooks.now) heard w) result
-        (HearsAll N.W.tells (opened (host_of handlers.now hooks.now) heard w) (stands N.Dial dial.old)
-        (stands N.Dial dial.new) result)
-        (KeepsRun in_groups (host_of handlers.now hooks.now) heard D.Disk disk.old disk.new bodies w limit
-        result)))
+        (S.left source.old) (S.left source.new)
+        (opened (host_of handlers.now hooks.now) heard w) result
+        (HearsAll N.W.tells (opened (host_of handlers.now hooks.now) heard w)
+        (stands N.Dial dial.old) (stands N.Dial dial.new) result)
+        (KeepsRun in_groups (host_of handlers.now hooks.now) heard D.Disk disk.old disk.new
+        bodies w limit result)))
         × (S.tells → (w : World) × Plays line_effect HoldsOfTurn K.tells (K.written out.old)
         (K.written out.new) (S.left source.old) (S.left source.new)
         (opened (host_of handlers.now hooks.now) heard w) result
-        (HearsAll N.W.tells (opened (host_of handlers.now hooks.now) heard w) (stands N.Dial dial.old)
-        (stands N.Dial dial.new) result)
+        (HearsAll N.W.tells (opened (host_of handlers.now hooks.now) heard w)
+        (stands N.Dial dial.old) (stands N.Dial dial.new) result)
         (λ done rest. ⊤)) }
     ensures legal { FromStart D.Disk disk.old (λ bodies w.
         StaysLegal D.Disk disk.old disk.new bodies) }

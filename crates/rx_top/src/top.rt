@@ -77,8 +77,9 @@ pub fn rx<S: Source, K: Sink, D: Disk, L: Listen, N: Dial, C: Clock, E: Disk>(
     ensures runs { (path : List ℕ) (limit : ℕ)
         → command_of words.now.words.items ≡ Some (Run path limit)
         → ((heard : List Heard)
-        × PlaysScript S.Source K.Sink D.Disk N.Dial N.W.tells (host_of handlers.now hooks.now) heard limit
-        result source.old source.new out.old out.new disk.old disk.new dial.old dial.new)
+        × PlaysScript S.Source K.Sink D.Disk N.Dial N.W.tells (host_of handlers.now hooks.now)
+        heard limit result
+        source.old source.new out.old out.new disk.old disk.new dial.old dial.new)
         ⊎ LacksMemory result K.tells (K.faults out.old) (K.faults out.new) (K.written out.old)
         (K.written out.new)
         (reach source.old disk.old door.old dial.old clock.old copy.old)
@@ -107,8 +108,8 @@ pub fn rx<S: Source, K: Sink, D: Disk, L: Listen, N: Dial, C: Clock, E: Disk>(
     ensures tries { (path : List ℕ) (seed count limit : ℕ)
         → command_of words.now.words.items ≡ Some (Trial path seed count limit)
         → ((heard : List Heard)
-        × TriesScript K.Sink D.Disk N.Dial N.W.tells (host_of handlers.now hooks.now) heard limit seed count
-        result out.old out.new disk.old disk.new dial.old dial.new)
+        × TriesScript K.Sink D.Disk N.Dial N.W.tells (host_of handlers.now hooks.now)
+        heard limit seed count result out.old out.new disk.old disk.new dial.old dial.new)
         ⊎ LacksMemory result K.tells (K.faults out.old) (K.faults out.new) (K.written out.old)
         (K.written out.new)
         (reach source.old disk.old door.old dial.old clock.old copy.old)

@@ -45,8 +45,8 @@ pub(crate) fn trial<K: Sink, D: Disk, N: Dial>(
     requires low { 9 ≤ limit }
     requires high { limit < 2 ^ 32 }
     ensures tries { (heard : List Heard)
-        × TriesScript K.Sink D.Disk N.Dial N.W.tells (host_of handlers.now hooks.now) heard limit seed count
-        result out.old out.new disk.old disk.new dial.old dial.new }
+        × TriesScript K.Sink D.Disk N.Dial N.W.tells (host_of handlers.now hooks.now)
+        heard limit seed count result out.old out.new disk.old disk.new dial.old dial.new }
 {
     let told = open_and_play(alloc, limit, seed, count, disk, dial, handlers, hooks);
     tell(out, &told)
@@ -69,15 +69,15 @@ fn open_and_play<D: Disk, N: Dial>(
     // tells its content and over any other.
     ensures plays { (heard : List Heard) × FromStart D.Disk disk.old (λ bodies w.
         DoesLines (script seed count) (result_err result)
-        (HearsAll N.W.tells (opened (host_of handlers.now hooks.now) heard w) (stands N.Dial dial.old)
-        (stands N.Dial dial.new) (as_run (result_err result)))
-        (KeepsRun singly (host_of handlers.now hooks.now) heard D.Disk disk.old disk.new bodies w limit
-        (as_run (result_err result)))
+        (HearsAll N.W.tells (opened (host_of handlers.now hooks.now) heard w)
+        (stands N.Dial dial.old) (stands N.Dial dial.new) (as_run (result_err result)))
+        (KeepsRun singly (host_of handlers.now hooks.now) heard D.Disk disk.old disk.new
+        bodies w limit (as_run (result_err result)))
         × IfOk result (λ text. string_bytes text
         ≡ summary_of (script seed count) (opened (host_of handlers.now hooks.now) heard w)))
         × (w : World) × DoesLines (script seed count) (result_err result)
-        (HearsAll N.W.tells (opened (host_of handlers.now hooks.now) heard w) (stands N.Dial dial.old)
-        (stands N.Dial dial.new) (as_run (result_err result)))
+        (HearsAll N.W.tells (opened (host_of handlers.now hooks.now) heard w)
+        (stands N.Dial dial.old) (stands N.Dial dial.new) (as_run (result_err result)))
         (λ done rest. ⊤)
         × IfOk result (λ text. string_bytes text
         ≡ summary_of (script seed count) (opened (host_of handlers.now hooks.now) heard w)) }
@@ -124,8 +124,8 @@ fn play_lines<D: Disk, N: Dial>(
         (HearsAll N.W.tells (standing_of (kinds_of handlers.now) heard first)
         (stands N.Dial dial.old)
         (stands N.Dial dial.new) (as_run (result_err result)))
-        (KeepsFrom singly (standing_of (kinds_of handlers.now) heard first) D.Disk disk.old disk.new first
-        (as_run (result_err result)))
+        (KeepsFrom singly (standing_of (kinds_of handlers.now) heard first)
+        D.Disk disk.old disk.new first (as_run (result_err result)))
         × IfOk result (λ p.
         ComesTo lines.old (standing_of (kinds_of handlers.now) heard first) p.0 p.1) }
     ensures not_journal { D.tells → IsErrOf result stop.NotJournal → ⊥ }

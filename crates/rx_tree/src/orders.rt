@@ -13,7 +13,8 @@ pub(crate) fn levels_down(
     levels: usize,
     collection: u32,
 ) -> Result<Vec<u32>, AllocError>
-    ensures { IfOk result (λ order. order.items ≡ levels_down (forks_of forks.now) levels collection) }
+    ensures { IfOk result
+        (λ order. order.items ≡ levels_down (forks_of forks.now) levels collection) }
 {
     let mut order = Vec::new(alloc);
     if levels == 0 {
@@ -34,7 +35,8 @@ pub(crate) fn levels_up(
     levels: usize,
     collection: u32,
 ) -> Result<Vec<u32>, AllocError>
-    ensures { IfOk result (λ order. order.items ≡ levels_up (forks_of forks.now) levels collection) }
+    ensures { IfOk result
+        (λ order. order.items ≡ levels_up (forks_of forks.now) levels collection) }
 {
     let mut order = Vec::new(alloc);
     if levels == 0 {

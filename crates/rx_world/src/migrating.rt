@@ -61,8 +61,9 @@ pub(crate) fn check_group<H: Holder>(
 ) -> Result<(), MigrateFault>
     requires whole { AreWhole H.held H.is_broken parts.now.holders.entries }
     requires forest { IsForest (by_bytes parts.now.replications.entries) }
-    ensures { Due Memory result (group_fits (is_in_group (by_bytes parts.now.replications.entries) collection.now.name) schema.now steps.now
-        collection.now (world_in H.held (holders_of parts.now))) }
+    ensures { Due Memory result
+        (group_fits (is_in_group (by_bytes parts.now.replications.entries) collection.now.name)
+        schema.now steps.now collection.now (world_in H.held (holders_of parts.now))) }
 {
     let old = collection.schema();
     if !is_next_version(schema, old) {
