@@ -49,19 +49,19 @@ impl Bound {
         self.values.as_slice()
     }
 
-    /// For tests: whether it stands behind the keys that begin with its values.
-    pub fn is_after(&self) -> bool
-        ensures { result ≡ self.now.after }
-    {
-        self.after
-    }
-
     /// Its bytes, as the index keeps them: they stand in the order of the positions.
     pub fn name(&self) -> &Name
         ensures name { result.now ≡ packed self.now }
         ensures lawful { AreLawful self.now.values }
     {
         &self.name
+    }
+
+    /// For tests: whether it stands behind the keys that begin with its values.
+    pub fn is_after(&self) -> bool
+        ensures { result ≡ self.now.after }
+    {
+        self.after
     }
 }
 

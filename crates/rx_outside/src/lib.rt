@@ -2,17 +2,10 @@
 //! them; and why work over a journal ends early.
 #![tactic(auto)]
 
-mod calls;
 mod clock;
 mod dial;
 mod failed;
 mod listen;
-mod memory_clock;
-mod memory_dial;
-mod memory_door;
-mod memory_sink;
-mod memory_source;
-mod memory_wire;
 mod sending;
 mod sink;
 mod source;
@@ -24,20 +17,12 @@ mod tcp_door;
 mod tcp_wire;
 mod waiting;
 mod wire;
-mod wires;
 mod writing;
 
-pub use calls::Calls;
 pub use clock::Clock;
 pub use dial::Dial;
 pub use failed::Failed;
 pub use listen::Listen;
-pub use memory_clock::MemoryClock;
-pub use memory_dial::MemoryDial;
-pub use memory_door::MemoryDoor;
-pub use memory_sink::MemorySink;
-pub use memory_source::MemorySource;
-pub use memory_wire::MemoryWire;
 pub use sending::send_all;
 pub use sink::Sink;
 pub use source::Source;
@@ -50,3 +35,21 @@ pub use tcp_wire::TcpWire;
 pub use waiting::{BYTES_A_SECOND, WIRE_SECONDS, Waiting};
 pub use wire::Wire;
 pub use writing::write_all;
+
+// For tests.
+mod calls;
+mod memory_clock;
+mod memory_dial;
+mod memory_door;
+mod memory_sink;
+mod memory_source;
+mod memory_wire;
+mod wires;
+
+pub use calls::Calls;
+pub use memory_clock::MemoryClock;
+pub use memory_dial::MemoryDial;
+pub use memory_door::MemoryDoor;
+pub use memory_sink::MemorySink;
+pub use memory_source::MemorySource;
+pub use memory_wire::MemoryWire;

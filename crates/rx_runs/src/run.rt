@@ -137,7 +137,7 @@ impl<V> Run<V> {
         Pairs::new(first, whole, below(self.chunks[j].1.pairs(), high))
     }
 
-    /// How many pairs there are of names that are at least `low` and below `high`.
+    /// For tests: how many pairs there are of names that are at least `low` and below `high`.
     pub fn count_between(&self, low: &[u8], high: &[u8]) -> usize
         ensures { result ≡ length (between self.now low.now high.now) }
     {

@@ -1,7 +1,7 @@
 use std::alloc::AllocFailed;
 use thiserror::Error;
 
-/// Why a collection doesn't become a fork.
+/// For tests: why a collection doesn't become a fork.
 #[derive(Debug, Drop, Error)]
 pub enum TreeFault {
     #[error("it is a fork already")]

@@ -7,6 +7,9 @@ mod orders;
 mod roots;
 mod tree;
 
-pub use fault::TreeFault;
 pub use roots::MOST_COLLECTIONS;
-pub use tree::{Tree, tree_laws};
+pub use tree::tree_laws;
+
+// For tests.
+pub use fault::TreeFault;
+pub use tree::Tree;

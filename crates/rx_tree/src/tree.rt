@@ -9,8 +9,8 @@ use crate::roots::{MOST_COLLECTIONS, join, own_roots};
 use std::alloc::{AllocError, Global};
 use std::marker::Model;
 
-/// Forks, each with its master, in the order in which they became forks. A collection goes by its
-/// number in the order of making.
+/// For tests, as rx_world has its replications by name: forks, each with its master, in the order
+/// in which they became forks. A collection goes by its number in the order of making.
 #[derive(Drop)]
 pub struct Tree {
     forks: Vec<(u32, u32)>,

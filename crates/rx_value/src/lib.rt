@@ -25,6 +25,7 @@ pub use reading::{read_fields, read_fields_beside};
 pub use rx_text::RxText;
 pub use state::{MARK, State};
 pub use value::{LARGEST, Value, is_number, is_text, order, order_laws, text_of};
-pub use writing::{
-    fields_json, fields_text, put_fields, put_state, state_json, text, write_fields, write_state,
-};
+pub use writing::{put_fields, put_state, write_state};
+
+// For tests.
+pub use writing::{fields_json, fields_text, state_json, text, write_fields};

@@ -21,20 +21,6 @@ use serde_json::{Map, Value as Json};
 use std::alloc::{AllocError, Global};
 use std::mem;
 
-/// For tests, as the program puts tokens: appends the compact JSON object of the fields.
-pub fn write_fields(text: &mut String, fields: &Fields) -> Result<(), AllocError>
-    ensures ok { OnOk result (string_bytes text.new
-        ≡ string_bytes text.old ++ compact_text (fields_data fields.now)) }
-    ensures front { (more : List ℕ) × (string_bytes text.new ≡ string_bytes text.old ++ more) }
-{
-    let empty = String::new(*text.allocator());
-    let mut writer = Writer::new(mem::replace(text, empty).into_bytes());
-    let written = put_fields(&mut writer, fields);
-    // A writer gives UTF-8 after what it was given.
-    *text = unsafe { String::from_utf8_unchecked(writer.into_inner()) };
-    written
-}
-
 /// Appends the compact JSON object of the state, which `text` gives as a text of its own.
 pub fn write_state(text: &mut String, state: &State) -> Result<(), AllocError>
     ensures ok { OnOk result (string_bytes text.new
@@ -111,6 +97,20 @@ fn put_value(writer: &mut Writer, value: &Value) -> Result<(), AllocError>
     }
 }
 
+/// For tests, as the program puts tokens: appends the compact JSON object of the fields.
+pub fn write_fields(text: &mut String, fields: &Fields) -> Result<(), AllocError>
+    ensures ok { OnOk result (string_bytes text.new
+        ≡ string_bytes text.old ++ compact_text (fields_data fields.now)) }
+    ensures front { (more : List ℕ) × (string_bytes text.new ≡ string_bytes text.old ++ more) }
+{
+    let empty = String::new(*text.allocator());
+    let mut writer = Writer::new(mem::replace(text, empty).into_bytes());
+    let written = put_fields(&mut writer, fields);
+    // A writer gives UTF-8 after what it was given.
+    *text = unsafe { String::from_utf8_unchecked(writer.into_inner()) };
+    written
+}
+
 /// For tests: the compact JSON object of the fields, which `read_fields` reads back.
 pub fn fields_text(alloc: Global, fields: &Fields) -> Result<RxText, AllocError>
     ensures text { IfOk result (λ t. t ≡ compact_text (fields_data fields.now)) }
@@ -141,7 +141,7 @@ fn compact(alloc: Global, json: &Json) -> Result<RxText, AllocError>
     RxText::from_string(alloc, json.to_string(alloc)?)
 }
 
-/// The JSON object of the fields.
+/// For tests: the JSON object of the fields.
 pub fn fields_json(alloc: Global, fields: &Fields) -> Result<Json, AllocError>
     ensures data { IfOk result (λ j. view j ≡ fields_data fields.now) }
     ensures fields { AreFields fields.now }
@@ -149,7 +149,7 @@ pub fn fields_json(alloc: Global, fields: &Fields) -> Result<Json, AllocError>
     Ok(Json::Object(fields_map(alloc, fields)?))
 }
 
-/// The JSON object of the state: its fields, with the deletion mark.
+/// For tests: the JSON object of the state: its fields, with the deletion mark.
 pub fn state_json(alloc: Global, state: &State) -> Result<Json, AllocError>
     ensures data { IfOk result (λ j. view j ≡ state_data state.now) }
     ensures fields { AreFields state.now.fields }
