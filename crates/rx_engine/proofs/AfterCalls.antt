@@ -18,7 +18,7 @@ use Rattle.rx_sync.specs.Turn.{Turned}
 use Rattle.rx_world.specs.Made.{IsMadeWorld}
 use Rattle.rx_world.specs.Sound.{IsSoundWorld}
 use Rattle.rx_world.specs.World.{World}
-use Rattle.rx_engine.specs.Calling.{Call, CanCall, called}
+use Rattle.rx_engine.specs.Calling.{WantedCall, CanCall, called}
 use Rattle.rx_engine.specs.Callings.{IsDialledBy, IsRemoteMadeByName, TurnsRemotely}
 use Rattle.rx_engine.specs.Dialled.{DialStanding}
 use Rattle.rx_engine.specs.Marks.{AreMarked, AreMarkedBut}
@@ -35,7 +35,7 @@ use Rattle.rx_journal.specs.declared.journal.Journal.{Journal}
 
 -- ---- a turn of the standing, as the code has its parts
 
-module _ (c : Call) (s : Standing) (session : Session) (now : ℕ) (asks : List (List ℕ × Asks))
+module _ (c : WantedCall) (s : Standing) (session : Session) (now : ℕ) (asks : List (List ℕ × Asks))
     (sessions : session ≡ s.session) (moments : now ≡ s.session.moment) (same : asks ≡ s.asks) where
   to_parts : (P : Session → ℕ → List (List ℕ × Asks) → Type 0)
       → P s.session s.session.moment s.asks → P session now asks
@@ -92,7 +92,7 @@ module _ (c : Call) (s : Standing) (session : Session) (now : ℕ) (asks : List 
 
 -- ---- after it
 
-module _ (c : Call) (s : Standing) (some : 1 ≤ c.batch) (made : IsMadeWorld s.session.world)
+module _ (c : WantedCall) (s : Standing) (some : 1 ≤ c.batch) (made : IsMadeWorld s.session.world)
     (sound : IsSoundWorld s.session.world) (can : CanCall s.kinds s.session c.name)
     (remembers : AreRemembered s.session.world s.asks) where
   abbrev w : World

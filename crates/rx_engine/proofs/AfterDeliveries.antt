@@ -27,7 +27,7 @@ use Rattle.rx_engine.specs.Marks.{AreMarked, AreMarkedBut}
 use Rattle.rx_engine.specs.Play.{Follows, play_of}
 use Rattle.rx_engine.specs.Remembered.{AreRemembered}
 use Rattle.rx_engine.specs.Standing.{Standing}
-use Rattle.rx_engine.specs.Streams.{Deliver, delivered_by, session_delivered}
+use Rattle.rx_engine.specs.Streams.{WantedDelivery, delivered_by, session_delivered}
 use Rattle.rx_engine.specs.declared.deliveries.Begun.{Begun}
 use Rattle.rx_engine.specs.declared.delivering.Delivered.{Delivered as Made}
 use Rattle.rx_engine.specs.declared.engine.Engine.{Engine}
@@ -38,7 +38,8 @@ use Rattle.rx_engine.proofs.Marking.{marked_then}
 use Rattle.rx_engine.proofs.Plays.{written-world}
 use Rattle.rx_engine.proofs.Remembering.{remembered_after}
 
-module _ (d : Deliver) (s : Session) (made : IsMadeWorld s.world) (sound : IsSoundWorld s.world)
+module _ (d : WantedDelivery) (s : Session) (made : IsMadeWorld s.world)
+    (sound : IsSoundWorld s.world)
     (streamed : AreStreamed s.world s.streams) (is_open : IsSome (stream_of d.name s)) where
   abbrev w : World
   w = s.world
@@ -111,7 +112,7 @@ line_waits line s made sound streamed d at due =
 
 -- ---- as the code has its parts
 
-module _ (d : Deliver) (e : Engine) (b : Begun) (is : IsBegun d e b) where
+module _ (d : WantedDelivery) (e : Engine) (b : Begun) (is : IsBegun d e b) where
   abbrev begins : Session
   begins = e.session.session
 

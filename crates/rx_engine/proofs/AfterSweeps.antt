@@ -5,7 +5,7 @@ use Rattle.rx_reply.specs.declared.turn.TurnEnd.TheVariants.{Quiet, Clock}
 use Rattle.rx_session.specs.Session.{Session}
 use Rattle.rx_sync.specs.Asks.{Asks}
 use Rattle.rx_sync.specs.Exchange.{world_after}
-use Rattle.rx_sync.specs.Sweep.{AreEqualIn, HoldsOnly, IsInTree, MaySweep, Sweep as Terms, Swept, sweep, sweep_from}
+use Rattle.rx_sync.specs.Sweep.{AreEqualIn, HoldsOnly, IsInTree, MaySweep, Sweep, Swept, sweep, sweep_from}
 use Rattle.rx_sync.specs.declared.sweeping.Step.{Step}
 use Rattle.rx_sync.proofs.Sweeps.{quiet_sweep_is_equal}
 use Rattle.rx_sync.proofs.SweepsInTime.{sweep_ends_in_time}
@@ -17,7 +17,7 @@ use Rattle.rx_engine.specs.Lines.{Task, sweeps, task}
 use Rattle.rx_engine.specs.Meaning.{sweep_meaning}
 use Rattle.rx_engine.specs.Remembered.{AreRemembered}
 use Rattle.rx_engine.specs.Standing.{Standing}
-use Rattle.rx_engine.specs.Sweeping.{Sweep, swept}
+use Rattle.rx_engine.specs.Sweeping.{WantedSweep, swept}
 use Rattle.rx_engine.specs.Sweeps.{sweep_terms}
 use Rattle.rx_engine.specs.declared.engine.Engine.{Engine}
 use Rattle.rx_engine.specs.declared.output.Output.{Output}
@@ -25,7 +25,8 @@ use Rattle.rx_engine.proofs.CanSweeps.{IsSweptAt, swept_over}
 use Rattle.rx_engine.proofs.Plays.{written-world}
 use Rattle.rx_engine.proofs.Remembering.{remembers_lawful}
 
-module _ (v : Sweep) (s : Standing) (session : Session) (now : ℕ) (asks : List (List ℕ × Asks))
+module _ (v : WantedSweep) (s : Standing) (session : Session) (now : ℕ)
+    (asks : List (List ℕ × Asks))
     (sessions : session ≡ s.session) (moments : now ≡ s.session.moment) (same : asks ≡ s.asks) where
   pub swept_here : sweep (sweep_terms v.batch v.budget now s.kinds) v.steps session.world asks
       ≡ swept v s
@@ -39,14 +40,14 @@ module _ (v : Sweep) (s : Standing) (session : Session) (now : ℕ) (asks : List
 
 -- ---- a line that sweeps, or doesn't
 
-module _ (number : ℕ) (line : List ℕ) (s : Standing) (v : Sweep)
+module _ (number : ℕ) (line : List ℕ) (s : Standing) (v : WantedSweep)
     (is : task s.kinds line s.session ≡ sweeps v) (some : 1 ≤ v.batch)
     (made : IsMadeWorld s.session.world) (sound : IsSoundWorld s.session.world)
     (remembers : AreRemembered s.session.world s.asks) where
   abbrev w : World
   w = s.session.world
 
-  abbrev terms : Terms
+  abbrev terms : Sweep
   terms = sweep_terms v.batch v.budget s.session.moment s.kinds
 
   module _ (root : List ℕ) (at : IsSweptAt s.kinds root s.session v) where
@@ -90,10 +91,10 @@ module _ (number : ℕ) (line : List ℕ) (s : Standing) (v : Sweep)
         ∙ written-world (swept v s).records s.session in
         subst (λ (y : World). AreEqualIn y c root) (sym then)
         (quiet_equal root (swept_over s.kinds line s.session v root batch budget asks is)
-        (ap (λ (y : Sweep). (swept y s).ended) same ∙ ended) c inside);
+        (ap (λ (y : WantedSweep). (swept y s).ended) same ∙ ended) c inside);
     in_time = λ root batch budget asks u at.
         let same : v ≡ u = cc in
-        subst (λ (y : Sweep). (keys : List (List ℕ)) → HoldsOnly w root keys
+        subst (λ (y : WantedSweep). (keys : List (List ℕ)) → HoldsOnly w root keys
         → 3 * length keys + 1 ≤ y.budget
         → ((swept y s).ended ≡ Quiet) ⊎ ((swept y s).ended ≡ Clock)) same
         (ends_in_time root (swept_over s.kinds line s.session v root batch budget asks is));
@@ -101,7 +102,7 @@ module _ (number : ℕ) (line : List ℕ) (s : Standing) (v : Sweep)
 
 -- nothing is to be said of another line
 pub not_swept : (line : List ℕ) (s : Standing) (t : Task) → task s.kinds line s.session ≡ t
-    → ((v : Sweep) → t ≡ sweeps v → ⊥) → (r : Result (Engine × Output) Stop)
+    → ((v : WantedSweep) → t ≡ sweeps v → ⊥) → (r : Result (Engine × Output) Stop)
     → IfOk r (λ x. IsWellSwept line s (session_of x.0).world)
 not_swept line s t is none (Err stop) = tt
 not_swept line s t is none (Ok x) = record {

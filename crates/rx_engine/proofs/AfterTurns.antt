@@ -18,7 +18,7 @@ use Rattle.rx_engine.specs.Marks.{AreMarked, AreMarkedBut}
 use Rattle.rx_engine.specs.Play.{Follows, IsMadeByName}
 use Rattle.rx_engine.specs.Remembered.{AreRemembered}
 use Rattle.rx_engine.specs.Standing.{Standing}
-use Rattle.rx_engine.specs.Turning.{CanTurn, Turn as ToTurn, terms, turned, written}
+use Rattle.rx_engine.specs.Turning.{CanTurn, WantedTurn, terms, turned, written}
 use Rattle.rx_engine.specs.declared.play.Play.{Play}
 use Rattle.rx_engine.specs.declared.turning.Turned.{Turned as Made}
 use Rattle.rx_engine.proofs.Marking.{marked_then}
@@ -27,7 +27,7 @@ use Rattle.rx_engine.proofs.Remembering.{remembered_after, remembered_put, remem
 
 -- ---- a turn of the standing, as the code has its parts
 
-module _ (u : ToTurn) (s : Standing) (session : Session) (now : ℕ) (asks : List (List ℕ × Asks))
+module _ (u : WantedTurn) (s : Standing) (session : Session) (now : ℕ) (asks : List (List ℕ × Asks))
     (sessions : session ≡ s.session) (moments : now ≡ s.session.moment) (same : asks ≡ s.asks) where
   -- the turn
   abbrev pub here : Turned
@@ -67,7 +67,7 @@ module _ (u : ToTurn) (s : Standing) (session : Session) (now : ℕ) (asks : Lis
 
 -- ---- after it
 
-module _ (u : ToTurn) (s : Standing) (some : 1 ≤ u.batch) (made : IsMadeWorld s.session.world)
+module _ (u : WantedTurn) (s : Standing) (some : 1 ≤ u.batch) (made : IsMadeWorld s.session.world)
     (sound : IsSoundWorld s.session.world) (can : CanTurn s.kinds s.session u.name)
     (remembers : AreRemembered s.session.world s.asks) where
   abbrev w : World

@@ -9,7 +9,7 @@ use Rattle.rx_store.specs.Safe.{IsCrashSafe}
 use Rattle.rx_store.proofs.Crashes.{ran_out}
 use Rattle.rx_store.proofs.Growing.{stays}
 use Rattle.rx_sync.specs.Remote.{Heard, RemoteTurned}
-use Rattle.rx_engine.specs.Calling.{Call, called, to_hear}
+use Rattle.rx_engine.specs.Calling.{WantedCall, called, to_hear}
 use Rattle.rx_engine.specs.Callings.{IsDialledBy, TurnsRemotely}
 use Rattle.rx_engine.specs.Dialled.{DialStanding}
 use Rattle.rx_engine.specs.Engine.{Answers, AnswersCall, IsAt, limit_of, session_of, standing_of}
@@ -18,9 +18,9 @@ use Rattle.rx_engine.specs.Lines.{Task, answered, turns, calls, sweeps, delivers
 use Rattle.rx_engine.specs.Meaning.{Meaning, bodies_of, meaning, turn_meaning}
 use Rattle.rx_engine.specs.Outcome.{Outcome}
 use Rattle.rx_engine.specs.Standing.{Standing}
-use Rattle.rx_engine.specs.Sweeping.{Sweep}
-use Rattle.rx_engine.specs.Streams.{Deliver}
-use Rattle.rx_engine.specs.Turning.{Turn as ToTurn}
+use Rattle.rx_engine.specs.Sweeping.{WantedSweep}
+use Rattle.rx_engine.specs.Streams.{WantedDelivery}
+use Rattle.rx_engine.specs.Turning.{WantedTurn}
 use Rattle.rx_engine.specs.declared.engine.Engine.{Engine}
 use Rattle.rx_engine.specs.declared.output.Output.{Output}
 use Rattle.rx_engine.proofs.Meanings.{call_so}
@@ -57,26 +57,26 @@ module _ {D : Type 0} (d : Ghosts D) (tells : Type 0) (kinds : Kinds) (number : 
       subst (λ (t : Task). IsShownBy tells t (standing []) dial dial' [] (IsOk r))
       (sym is) (refl, same)
 
-  pub shown_turn : (u : ToTurn) → to_do ≡ turns u → dial' ≡ dial
+  pub shown_turn : (u : WantedTurn) → to_do ≡ turns u → dial' ≡ dial
       → IsShownBy tells to_do (standing []) dial dial' [] (IsOk r)
   shown_turn u is same =
       subst (λ (t : Task). IsShownBy tells t (standing []) dial dial' [] (IsOk r))
       (sym is) (refl, same)
 
-  pub shown_sweep : (v : Sweep) → to_do ≡ sweeps v → dial' ≡ dial
+  pub shown_sweep : (v : WantedSweep) → to_do ≡ sweeps v → dial' ≡ dial
       → IsShownBy tells to_do (standing []) dial dial' [] (IsOk r)
   shown_sweep v is same =
       subst (λ (t : Task). IsShownBy tells t (standing []) dial dial' [] (IsOk r))
       (sym is) (refl, same)
 
-  pub shown_delivery : (u : Deliver) → to_do ≡ delivers u → dial' ≡ dial
+  pub shown_delivery : (u : WantedDelivery) → to_do ≡ delivers u → dial' ≡ dial
       → IsShownBy tells to_do (standing []) dial dial' [] (IsOk r)
   shown_delivery u is same =
       subst (λ (t : Task). IsShownBy tells t (standing []) dial dial' [] (IsOk r))
       (sym is) (refl, same)
 
   -- it made one
-  module _ (c : Call) (is : to_do ≡ calls c)
+  module _ (c : WantedCall) (is : to_do ≡ calls c)
       (made : TurnsRemotely d old new (limit_of e) (IsAt d old e) (λ p. IsAt d new p.0)
       (λ heard. called c (standing heard)) (AnswersCall number c.name kinds e)
       (IsDialledBy tells (session_of e).world c.name dial dial') r) where

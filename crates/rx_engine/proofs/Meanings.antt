@@ -27,14 +27,14 @@ use Rattle.rx_sync.specs.Turn.{Turned}
 use Rattle.rx_world.specs.World.{World}
 use Rattle.rx_engine.specs.Engine.{Answers, IsAfterDelivery, IsAfterTurn, IsBounded, IsUnharmedBy, LeavesAll, LevelIsEqual, OfOkTurn, QuietIsLevel, asks_in, session_of, standing_of, IsAfterSweep}
 use Rattle.rx_engine.specs.Judged.{IsJudged, IsPrinted, MayDoJudged}
-use Rattle.rx_engine.specs.Calling.{Call as ToCall, called, to_hear}
+use Rattle.rx_engine.specs.Calling.{WantedCall, called, to_hear}
 use Rattle.rx_engine.specs.Lines.{IsIdleTask, Task, answered, turns, calls, sweeps, delivers, task}
 use Rattle.rx_engine.specs.Meaning.{Meaning, asks_kept, delivery_meaning, lines_of, meaning, meaning_of, records_of, task_meaning, turn_meaning, sweep_meaning}
 use Rattle.rx_engine.specs.Outcome.{Outcome}
 use Rattle.rx_engine.specs.Shown.{call_of, deliver_of, doing_of, turn_of, sweep_of}
 use Rattle.rx_engine.specs.Standing.{Standing, standing_with}
-use Rattle.rx_engine.specs.Streams.{Deliver as ToDeliver, delivered_by}
-use Rattle.rx_engine.specs.Turning.{Turn as ToTurn, terms, turned}
+use Rattle.rx_engine.specs.Streams.{WantedDelivery, delivered_by}
+use Rattle.rx_engine.specs.Turning.{WantedTurn, terms, turned}
 use Rattle.rx_engine.specs.declared.changing.AfterTurn.{AfterTurn}
 use Rattle.rx_engine.specs.declared.deliveries.AfterDelivery.{AfterDelivery}
 use Rattle.rx_engine.specs.declared.engine.Engine.{Engine}
@@ -44,7 +44,7 @@ use Rattle.rx_engine.specs.declared.judging.Printed.{Printed}
 use Rattle.rx_engine.specs.declared.output.Output.{Output}
 use Rattle.rx_engine.specs.declared.remote.Call.{Call}
 use Rattle.rx_engine.specs.declared.streams.Deliver.{Deliver}
-use Rattle.rx_engine.specs.Sweeping.{Sweep as ToSweep, swept}
+use Rattle.rx_engine.specs.Sweeping.{WantedSweep, swept}
 use Rattle.rx_reply.specs.declared.swept.Swept.{Swept as SweptTurn}
 use Rattle.rx_engine.specs.declared.sweeps.AfterSweep.{AfterSweep}
 use Rattle.rx_engine.specs.declared.sweeping.Sweep.{Sweep}
@@ -298,7 +298,7 @@ turned_so number name t s m e o made here text emitted refused end = record {
   ended = end ∙ ap (λ (e : TurnEnd). Some e) made.ended;
 }
 
-module _ (number : ℕ) (line : List ℕ) (s : Standing) (u : ToTurn)
+module _ (number : ℕ) (line : List ℕ) (s : Standing) (u : WantedTurn)
     (is : task s.kinds line s.session ≡ turns u) where
   -- its meaning is the line's
   pub turn_so : turn_meaning number u.name (turned u s) s ≡ meaning number line s
@@ -312,8 +312,8 @@ module _ (number : ℕ) (line : List ℕ) (s : Standing) (u : ToTurn)
   level_so (Err stop) level = tt
   level_so (Ok x) level = λ t at quiet.
       let same : u ≡ t = cc in
-      subst (λ (t : ToTurn). IsLevel (session_of x.0).world t.name) same
-      (level (ap (λ (t : ToTurn). (turned t s).ended) same ∙ quiet))
+      subst (λ (t : WantedTurn). IsLevel (session_of x.0).world t.name) same
+      (level (ap (λ (t : WantedTurn). (turned t s).ended) same ∙ quiet))
 
   -- where its link does nothing, its exchanges are bounded
   module _ (some : 1 ≤ u.batch)
@@ -324,7 +324,7 @@ module _ (number : ℕ) (line : List ℕ) (s : Standing) (u : ToTurn)
           → OfOkTurn P line s
       ok_so {P} law t at ok =
           let same : u ≡ t = cc in
-          subst (λ (t : ToTurn). AreOk t.link
+          subst (λ (t : WantedTurn). AreOk t.link
           → P (terms t.name s.session.moment s.kinds) t.batch t.budget t.link s.session.world
           (asks_of t.name s.asks)) same
           (law (terms u.name s.session.moment s.kinds) u.batch u.budget u.link s.session.world
@@ -353,7 +353,7 @@ module _ (number : ℕ) (line : List ℕ) (s : Standing) (u : ToTurn)
 
 -- ---- a line that makes a turn to a master elsewhere
 
-module _ (number : ℕ) (line : List ℕ) (s : Standing) (d : ToCall)
+module _ (number : ℕ) (line : List ℕ) (s : Standing) (d : WantedCall)
     (is : task s.kinds line s.session ≡ calls d) where
   -- its meaning is the line's
   pub call_so : turn_meaning number d.name (called d s).turned (to_hear (called d s).later s)
@@ -386,7 +386,7 @@ module _ (number : ℕ) (line : List ℕ) (s : Standing) (d : ToCall)
       → IsUnharmedBy line s
   unharmed_so some may c at =
       let same : d ≡ c = cc in
-      subst (λ (c : ToCall). EachIsUnharmed (terms c.name s.session.moment s.kinds) c.batch
+      subst (λ (c : WantedCall). EachIsUnharmed (terms c.name s.session.moment s.kinds) c.batch
       c.budget s.heard s.session.world (asks_of c.name s.asks)) same
       (remote_turn_unharmed (terms d.name s.session.moment s.kinds) d.batch d.budget s.heard
       s.session.world (asks_of d.name s.asks) some may)
@@ -398,7 +398,8 @@ module _ (number : ℕ) (line : List ℕ) (s : Standing) (d : ToCall)
 -- ---- a line that makes the turns of a tree
 
 -- the engine and the output are those of the sweep's meaning
-pub swept_so : (number : ℕ) (v : ToSweep) (s : Standing) (m : AfterSweep) (e : Engine) (o : Output)
+pub swept_so : (number : ℕ) (v : WantedSweep) (s : Standing) (m : AfterSweep)
+    (e : Engine) (o : Output)
     → IsAfterSweep (swept v s) s m → e ≡ m.engine
     → string_bytes o.text
     ≡ answer_lines number (sweep m.turns m.ended) ++ lines_of m.emissions.items
@@ -423,7 +424,7 @@ swept_so number v s m e o made here text emitted refused end =
       ended = end ∙ ap (λ (e : TurnEnd). Some e) made.ended;
     }
 
-module _ (number : ℕ) (line : List ℕ) (s : Standing) (v : ToSweep)
+module _ (number : ℕ) (line : List ℕ) (s : Standing) (v : WantedSweep)
     (is : task s.kinds line s.session ≡ sweeps v) where
   -- its meaning is the line's
   pub sweep_so : sweep_meaning number v s ≡ meaning number line s
@@ -456,7 +457,7 @@ module _ (number : ℕ) (line : List ℕ) (s : Standing) (v : ToSweep)
 -- ---- a line that delivers
 
 -- the engine and the output are those of the delivery's meaning
-pub delivered_so : (number : ℕ) (d : ToDeliver) (s : Standing) (m : AfterDelivery) (e : Engine)
+pub delivered_so : (number : ℕ) (d : WantedDelivery) (s : Standing) (m : AfterDelivery) (e : Engine)
     (o : Output) → IsAfterDelivery d s m → e ≡ m.engine
     → string_bytes o.text
     ≡ answer_lines number (deliver m.given m.level m.resync) ++ lines_of m.emissions.items
@@ -487,7 +488,7 @@ delivered_so number d s m e o made here text emitted refused end =
       ended = end;
     }
 
-module _ (number : ℕ) (line : List ℕ) (s : Standing) (d : ToDeliver)
+module _ (number : ℕ) (line : List ℕ) (s : Standing) (d : WantedDelivery)
     (is : task s.kinds line s.session ≡ delivers d) where
   -- its meaning is the line's
   pub delivery_so : delivery_meaning number d s ≡ meaning number line s
@@ -523,9 +524,9 @@ module _ (number : ℕ) (line : List ℕ) (s : Standing) (d : ToDeliver)
       let then : (session_of x.0).world ≡ world_after m.records s.session.world =
       ap (λ (y : Standing). y.session.world) answers.next
       ∙ written-world m.records (with_emptied d.name s.session) in
-      subst (λ (e : ToDeliver). IsLevel (session_of x.0).world e.name) same
+      subst (λ (e : WantedDelivery). IsLevel (session_of x.0).world e.name) same
       (subst (λ (w : World). IsLevel w d.name) (sym then)
-      (equal (ap (λ (e : ToDeliver).
+      (equal (ap (λ (e : WantedDelivery).
       is_level (world_after (delivered_by e s.session).records s.session.world) e.name) same
       ∙ level)))
 

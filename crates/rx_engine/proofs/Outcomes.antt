@@ -48,8 +48,8 @@ use Rattle.rx_engine.specs.Hooking.{hook_line, hooks_in, max_hooks, takes}
 use Rattle.rx_engine.specs.Migrate.{migrate_line, names_of_group, of_migration, of_observed}
 use Rattle.rx_engine.specs.Outcome.{Outcome, answer_alone, collection_at, write_outcome}
 use Rattle.rx_engine.specs.Replicate.{has_handler, has_schema, master_at, master_of, replicate_line}
-use Rattle.rx_engine.specs.Sweeping.{Sweep as ToSweep, swept_at}
-use Rattle.rx_engine.specs.Streams.{Deliver as ToDeliver, deliver_over, replication_at, stream_at, stream_line, unstream_line}
+use Rattle.rx_engine.specs.Sweeping.{WantedSweep, swept_at}
+use Rattle.rx_engine.specs.Streams.{WantedDelivery, deliver_over, replication_at, stream_at, stream_line, unstream_line}
 use Rattle.rx_engine.specs.Turning.{turned_at}
 use Rattle.rx_engine.specs.Queries.{max_queries, observe_line, query_on, rows_found}
 use Rattle.rx_engine.specs.Writes.{collection_with, commit_all, commit_one}
@@ -420,12 +420,13 @@ no_turn (Ok r) name batch budget link o is =
     turn_no_outcome r.master name batch budget link o is
 no_turn (Err fault) name batch budget link o is = cc
 
-no_sweep : (r : Result ToSweep Fault) (o : Outcome) → (r >> λ v. Ok (sweeps v)) ≡ Ok (answered o)
+no_sweep : (r : Result WantedSweep Fault) (o : Outcome)
+    → (r >> λ v. Ok (sweeps v)) ≡ Ok (answered o)
     → ⊥
 no_sweep (Ok v) o is = cc
 no_sweep (Err fault) o is = cc
 
-no_delivery : (r : Result StreamHere Fault) (d : ToDeliver) (o : Outcome)
+no_delivery : (r : Result StreamHere Fault) (d : WantedDelivery) (o : Outcome)
     → (r >> λ st. Ok (delivers d)) ≡ Ok (answered o) → ⊥
 no_delivery (Ok st) d o is = cc
 no_delivery (Err fault) d o is = cc

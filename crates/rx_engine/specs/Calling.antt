@@ -12,14 +12,14 @@ use Rattle.rx_engine.specs.Turning.{terms}
 
 -- exchanges of the replication of a name with its master at a port: of so many documents, so many
 -- at most
-pub record Call : Type 0 where
+pub record WantedCall : Type 0 where
   pub name : List ℕ
   pub port : ℕ
   pub batch : ℕ
   pub budget : ℕ
 
 -- the turn that they are, by what is to be heard
-abbrev pub called : Call → Standing → RemoteTurned
+abbrev pub called : WantedCall → Standing → RemoteTurned
 called c s =
     remote_turn (terms c.name s.session.moment s.kinds) c.batch c.budget s.heard s.session.world
     (asks_of c.name s.asks)

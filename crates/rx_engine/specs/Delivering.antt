@@ -20,7 +20,7 @@ use Rattle.rx_engine.specs.Engine.{asks_in, session_of}
 use Rattle.rx_engine.specs.Marks.{AreMarked, AreMarkedBut}
 use Rattle.rx_engine.specs.Play.{Follows, play_of}
 use Rattle.rx_engine.specs.Remembered.{AreRemembered}
-use Rattle.rx_engine.specs.Streams.{Deliver}
+use Rattle.rx_engine.specs.Streams.{WantedDelivery}
 use Rattle.rx_engine.specs.declared.deliveries.AfterDelivery.{AfterDelivery}
 use Rattle.rx_engine.specs.declared.deliveries.Aside.{Aside}
 use Rattle.rx_engine.specs.declared.deliveries.Begun.{Begun}
@@ -60,7 +60,7 @@ pub record IsDeliveredOn (d : Delivered) (p q : Made) : Type 0 where
 -- ---- its beginning and its end
 
 -- an engine gave what the stream had queued, for a delivery
-pub record IsBegun (d : Deliver) (e : Engine) (b : Begun) : Type 0 where
+pub record IsBegun (d : WantedDelivery) (e : Engine) (b : Begun) : Type 0 where
   pub play : b.play ≡ play_of e.journal (with_emptied d.name (session_of e))
   pub events : b.events.items ≡ queued_in d.name (session_of e)
   pub now : b.now ≡ (session_of e).moment

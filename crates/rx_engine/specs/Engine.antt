@@ -8,7 +8,7 @@ use Rattle.rx_store.specs.Safe.{HasDiskCause, IsCrashSafe}
 use Rattle.rx_reply.specs.Reply.{answer_lines}
 use Rattle.rx_handler.specs.Handlers.{Kinds}
 use Rattle.rx_reply.specs.declared.turn.TurnEnd.TheVariants.{Quiet, Clock}
-use Rattle.rx_script.specs.Asked.{Sweep as SweepOver}
+use Rattle.rx_script.specs.Asked.{Sweep}
 use Rattle.rx_script.specs.Line.{line_of}
 use Rattle.rx_script.specs.declared.happening.Happening.{Happening}
 use Rattle.rx_session.specs.Emissions.{emissions, settled_session}
@@ -25,14 +25,14 @@ use Rattle.rx_sync.specs.Sweep.{AreEqualIn, HoldsOnly, IsInTree, Swept}
 use Rattle.rx_sync.specs.Turn.{Turned}
 use Rattle.rx_value.specs.Named.{put_named}
 use Rattle.rx_world.specs.World.{World}
-use Rattle.rx_engine.specs.Calling.{Call}
+use Rattle.rx_engine.specs.Calling.{WantedCall}
 use Rattle.rx_engine.specs.Lines.{answered, turns, calls, sweeps, delivers, task}
 use Rattle.rx_engine.specs.Meaning.{Meaning, bodies_of, meaning, turn_meaning}
 use Rattle.rx_engine.specs.Outcome.{Outcome}
 use Rattle.rx_engine.specs.Standing.{Standing, standing_with}
-use Rattle.rx_engine.specs.Streams.{Deliver, delivered_by, session_delivered}
-use Rattle.rx_engine.specs.Sweeping.{Sweep, swept}
-use Rattle.rx_engine.specs.Turning.{Turn, terms, turned, written}
+use Rattle.rx_engine.specs.Streams.{WantedDelivery, delivered_by, session_delivered}
+use Rattle.rx_engine.specs.Sweeping.{WantedSweep, swept}
+use Rattle.rx_engine.specs.Turning.{WantedTurn, terms, turned, written}
 use Rattle.rx_engine.specs.declared.changing.AfterTurn.{AfterTurn}
 use Rattle.rx_engine.specs.declared.deliveries.AfterDelivery.{AfterDelivery}
 use Rattle.rx_engine.specs.declared.sweeps.AfterSweep.{AfterSweep}
@@ -124,26 +124,26 @@ pub record AnswersCall (number : ℕ) (name : List ℕ) (kinds : Kinds) (e : Eng
 -- engine
 abbrev pub QuietIsLevel : List ℕ → Standing → Engine → Type 0
 QuietIsLevel line s e =
-    (t : Turn) → task s.kinds line s.session ≡ turns t → (turned t s).ended ≡ Quiet
+    (t : WantedTurn) → task s.kinds line s.session ≡ turns t → (turned t s).ended ≡ Quiet
     → IsLevel (session_of e).world t.name
 
 -- where the line is a delivery that is answered level, its fork and its master have the same states
 -- in the engine
 abbrev pub LevelIsEqual : List ℕ → Standing → Engine → Type 0
 LevelIsEqual line s e =
-    (d : Deliver) → task s.kinds line s.session ≡ delivers d
+    (d : WantedDelivery) → task s.kinds line s.session ≡ delivers d
     → is_level (world_after (delivered_by d s.session).records s.session.world) d.name ≡ true
     → IsLevel (session_of e).world d.name
 
 -- where the line is a delivery to a fork that has something to push, it writes nothing
 abbrev pub WaitsForPushes : List ℕ → Standing → Type 0
 WaitsForPushes line s =
-    (d : Deliver) → task s.kinds line s.session ≡ delivers d
+    (d : WantedDelivery) → task s.kinds line s.session ≡ delivers d
     → pending_in s.session.world d.name ≢ Some 0 → (delivered_by d s.session).records ≡ []
 
 -- an engine is as it is after a delivery, the emissions are those due then, and its lines and its
 -- end are the delivery's
-pub record IsAfterDelivery (d : Deliver) (s : Standing) (m : AfterDelivery) : Type 0 where
+pub record IsAfterDelivery (d : WantedDelivery) (s : Standing) (m : AfterDelivery) : Type 0 where
   pub session : session_of m.engine ≡ settled_session (session_delivered d s.session)
   pub asks : asks_in m.engine ≡ s.asks
   pub due : m.emissions.items ≡ emissions (session_delivered d s.session)
@@ -163,10 +163,10 @@ pub record IsAfterSweep (t : Swept) (s : Standing) (m : AfterSweep) : Type 0 whe
   pub ended : m.ended ≡ t.ended
 
 -- where the line sweeps over the tree of a collection, this holds of them
-abbrev pub OfSweep : (List ℕ → Sweep → Type 0) → List ℕ → Standing → Type 0
+abbrev pub OfSweep : (List ℕ → WantedSweep → Type 0) → List ℕ → Standing → Type 0
 OfSweep P line s =
-    (root : List ℕ) (batch budget : ℕ) → line_of line ≡ Ok (SweepOver root batch budget)
-    → (v : Sweep) → task s.kinds line s.session ≡ sweeps v → P root v
+    (root : List ℕ) (batch budget : ℕ) → line_of line ≡ Ok (Sweep root batch budget)
+    → (v : WantedSweep) → task s.kinds line s.session ≡ sweeps v → P root v
 
 -- a line that sweeps, and the world after it
 pub record IsWellSwept (line : List ℕ) (s : Standing) (next : World) : Type 0 where
@@ -187,7 +187,7 @@ pub record IsWellSwept (line : List ℕ) (s : Standing) (next : World) : Type 0 
 abbrev pub OfOkTurn
     : (Terms → ℕ → ℕ → List Happening → World → Asks → Type 0) → List ℕ → Standing → Type 0
 OfOkTurn P line s =
-    (t : Turn) → task s.kinds line s.session ≡ turns t → AreOk t.link
+    (t : WantedTurn) → task s.kinds line s.session ≡ turns t → AreOk t.link
     → P (terms t.name s.session.moment s.kinds) t.batch t.budget t.link s.session.world
     (asks_of t.name s.asks)
 
@@ -206,7 +206,7 @@ pub record IsBounded (line : List ℕ) (s : Standing) : Type 0 where
 -- heard
 abbrev pub IsUnharmedBy : List ℕ → Standing → Type 0
 IsUnharmedBy line s =
-    (c : Call) → task s.kinds line s.session ≡ calls c
+    (c : WantedCall) → task s.kinds line s.session ≡ calls c
     → EachIsUnharmed (terms c.name s.session.moment s.kinds) c.batch c.budget s.heard
     s.session.world
     (asks_of c.name s.asks)

@@ -7,7 +7,7 @@ use Rattle.rx_outside.specs.declared.stop.Stop.TheVariants.{Memory}
 use Rattle.rx_store.specs.Safe.{IsCrashSafe}
 use Rattle.rx_sync.specs.Remote.{Heard}
 use Rattle.rx_wire.specs.declared.message.Request.{Request}
-use Rattle.rx_engine.specs.Calling.{Call, called, to_hear}
+use Rattle.rx_engine.specs.Calling.{WantedCall, called, to_hear}
 use Rattle.rx_engine.specs.Callings.{HasMade, IsDialledBy}
 use Rattle.rx_engine.specs.Dialled.{DialStanding}
 use Rattle.rx_engine.specs.Engine.{Answers, IsAt, limit_of, session_of, standing_of}
@@ -19,7 +19,7 @@ use Rattle.rx_engine.specs.declared.output.Output.{Output}
 
 -- the dial shows what was heard in a turn: the requests that it made were sent; all of them but at
 -- a stop
-pub record IsShown (tells : Type 0) (c : Call) (s : Standing) (old new : DialStanding)
+pub record IsShown (tells : Type 0) (c : WantedCall) (s : Standing) (old new : DialStanding)
     (heard : List Heard) (Done : Type 0) : Type 0 where
   pub requests : List Request
   pub made : (later : List Heard)

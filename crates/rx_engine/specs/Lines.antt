@@ -13,7 +13,7 @@ use Rattle.rx_script.specs.declared.fault.LineFault.TheVariants.{Unexpected}
 use Rattle.rx_script.specs.declared.happening.Happening.{Happening}
 use Rattle.rx_session.specs.Doing.{nothing, set_clock, restart as open_again}
 use Rattle.rx_session.specs.Session.{Session}
-use Rattle.rx_engine.specs.Calling.{Call}
+use Rattle.rx_engine.specs.Calling.{WantedCall}
 use Rattle.rx_writes.specs.Faults.{of_line}
 use Rattle.rx_engine.specs.Listing.{changes_line, digest_line}
 use Rattle.rx_engine.specs.Outcome.{Outcome, answer_alone}
@@ -23,9 +23,9 @@ use Rattle.rx_engine.specs.Hooking.{hook_line}
 use Rattle.rx_engine.specs.Migrate.{migrate_line}
 use Rattle.rx_engine.specs.Replicate.{master_of, replicate_line}
 use Rattle.rx_engine.specs.Standing.{Standing}
-use Rattle.rx_engine.specs.Streams.{Deliver as ToDeliver, deliver_over, stream_at, stream_line, unstream_line}
-use Rattle.rx_engine.specs.Sweeping.{Sweep as ToSweep, swept_at}
-use Rattle.rx_engine.specs.Turning.{Turn as ToTurn, turn_here, turned_at}
+use Rattle.rx_engine.specs.Streams.{WantedDelivery, deliver_over, stream_at, stream_line, unstream_line}
+use Rattle.rx_engine.specs.Sweeping.{WantedSweep, swept_at}
+use Rattle.rx_engine.specs.Turning.{WantedTurn, turn_here, turned_at}
 use Rattle.rx_writes.specs.declared.fault.Fault.{Fault}
 use Rattle.rx_writes.specs.declared.fault.Fault.TheVariants.{Refused, Memory}
 
@@ -73,10 +73,10 @@ asked_outcome kinds (Digest coll) s = digest_line coll s
 -- turns of a tree, or a delivery, which are answered once they are made
 pub data Task : Type 0 where
   answered : Outcome → Task
-  turns : ToTurn → Task
-  calls : Call → Task
-  sweeps : ToSweep → Task
-  delivers : ToDeliver → Task
+  turns : WantedTurn → Task
+  calls : WantedCall → Task
+  sweeps : WantedSweep → Task
+  delivers : WantedDelivery → Task
 
 -- the turn to a master; nothing is said of the link to one elsewhere
 abbrev pub turn_to : MasterName → List ℕ → ℕ → ℕ → Option (List Happening) → Result Task Fault

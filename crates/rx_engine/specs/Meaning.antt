@@ -19,8 +19,8 @@ use Rattle.rx_engine.specs.Calling.{called, to_hear}
 use Rattle.rx_engine.specs.Lines.{Task, answered, turns, calls, sweeps, delivers, task}
 use Rattle.rx_engine.specs.Outcome.{Outcome}
 use Rattle.rx_engine.specs.Standing.{Standing, asks_after}
-use Rattle.rx_engine.specs.Streams.{Deliver, delivered_by, session_delivered}
-use Rattle.rx_engine.specs.Sweeping.{Sweep, swept}
+use Rattle.rx_engine.specs.Streams.{WantedDelivery, delivered_by, session_delivered}
+use Rattle.rx_engine.specs.Sweeping.{WantedSweep, swept}
 use Rattle.rx_engine.specs.Turning.{turned, written}
 use Rattle.rx_world.specs.World.{World}
 
@@ -85,7 +85,7 @@ turn_meaning number name t s = record {
 }
 
 -- of a sweep
-abbrev pub sweep_meaning : ℕ → Sweep → Standing → Meaning
+abbrev pub sweep_meaning : ℕ → WantedSweep → Standing → Meaning
 sweep_meaning number v s =
     let t = swept v s in
     let then = written t.records s.session in
@@ -99,7 +99,7 @@ sweep_meaning number v s =
     }
 
 -- of a delivery
-abbrev pub delivery_meaning : ℕ → Deliver → Standing → Meaning
+abbrev pub delivery_meaning : ℕ → WantedDelivery → Standing → Meaning
 delivery_meaning number d s =
     let m = delivered_by d s.session in
     let then = session_delivered d s.session in

@@ -8,7 +8,7 @@ use Rattle.rx_handler.specs.Shown.{kinds_of}
 use Rattle.rx_handler.specs.declared.handlers.Handlers.{Handlers}
 use Rattle.rx_session.specs.Session.{Session}
 use Rattle.rx_update.specs.Hooks.{HookKinds}
-use Rattle.rx_update.specs.Shown.{kinds_of as known_by}
+use Rattle.rx_update.specs.Shown.{hook_kinds}
 use Rattle.rx_update.specs.declared.hooks.Hooks.{Hooks}
 use Rattle.rx_sync.specs.Remote.{Heard}
 use Rattle.rx_engine.specs.Standing.{Standing, standing_with}
@@ -42,7 +42,7 @@ host_with kinds hooks = record { kinds = kinds; hooks = hooks }
 
 abbrev pub host_of
     : {a : _} {b : _} {c : _} {x : _} {y : _} {z : _} → Handlers a b c → Hooks x y z → Host
-host_of handlers hooks = host_with (kinds_of handlers) (known_by hooks)
+host_of handlers hooks = host_with (kinds_of handlers) (hook_kinds hooks)
 
 -- how things stand after an opening, where that is to be heard
 unfoldable pub opened : Host → List Heard → World → Standing

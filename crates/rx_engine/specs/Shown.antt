@@ -5,21 +5,21 @@ use Rattle.rx_record.specs.Shown.{content}
 use Rattle.rx_session.specs.Doing.{Doing, write, migrate, restart, MayDo}
 use Rattle.rx_session.specs.Session.{Session, stream_of}
 use Rattle.rx_session.specs.Shown.{done_by}
-use Rattle.rx_engine.specs.Calling.{Call}
+use Rattle.rx_engine.specs.Calling.{WantedCall}
 use Rattle.rx_engine.specs.Lines.{Task, answered, turns, calls, sweeps, delivers}
 use Rattle.rx_world.proofs.Sounds.{IsNoExchange}
 use Rattle.rx_engine.specs.Outcome.{Outcome}
-use Rattle.rx_engine.specs.Streams.{Deliver}
-use Rattle.rx_engine.specs.Sweeping.{Sweep}
-use Rattle.rx_engine.specs.Turning.{Turn}
+use Rattle.rx_engine.specs.Streams.{WantedDelivery}
+use Rattle.rx_engine.specs.Sweeping.{WantedSweep}
+use Rattle.rx_engine.specs.Turning.{WantedTurn}
 use Rattle.rx_engine.specs.declared.outcome.Outcome.{Outcome as Planned}
 use Rattle.rx_engine.specs.declared.outcome.LineDoing.{LineDoing}
 use Rattle.rx_engine.specs.declared.outcome.Task.{Task as ToDo}
 use Rattle.rx_engine.specs.declared.outcome.Task.TheVariants.{Answered, Turns, Calls, Sweeps, Delivers}
-use Rattle.rx_engine.specs.declared.remote.Call.{Call as ToCall}
-use Rattle.rx_engine.specs.declared.streams.Deliver.{Deliver as ToDeliver}
-use Rattle.rx_engine.specs.declared.sweeping.Sweep.{Sweep as ToSweep}
-use Rattle.rx_engine.specs.declared.turning.Turn.{Turn as Made}
+use Rattle.rx_engine.specs.declared.remote.Call.{Call}
+use Rattle.rx_engine.specs.declared.streams.Deliver.{Deliver}
+use Rattle.rx_engine.specs.declared.sweeping.Sweep.{Sweep}
+use Rattle.rx_engine.specs.declared.turning.Turn.{Turn}
 use Rattle.rx_engine.specs.declared.outcome.LineDoing.TheVariants.{InSession, Migrate, Restart}
 
 abbrev pub doing_of : LineDoing → Doing
@@ -35,16 +35,16 @@ abbrev pub WritesNoExchange : Doing → Type 0
 WritesNoExchange (write c) = IsNoExchange c
 WritesNoExchange _ = ⊤
 
-abbrev pub turn_of : Made → Turn
+abbrev pub turn_of : Turn → WantedTurn
 turn_of t = record { name = t.name; batch = t.batch; budget = t.budget; link = t.link.items }
 
-abbrev pub call_of : ToCall → Call
+abbrev pub call_of : Call → WantedCall
 call_of c = record { name = c.name; port = c.port; batch = c.batch; budget = c.budget }
 
-abbrev pub deliver_of : ToDeliver → Deliver
+abbrev pub deliver_of : Deliver → WantedDelivery
 deliver_of d = record { name = d.name; link = d.link.items }
 
-abbrev pub sweep_of : ToSweep → Sweep
+abbrev pub sweep_of : Sweep → WantedSweep
 sweep_of v = record { steps = v.steps.items; batch = v.batch; budget = v.budget }
 
 abbrev pub task_of : ToDo → Task

@@ -41,21 +41,21 @@ unstream_line name s =
 -- ---- delivering
 
 -- what the stream of a name has queued is to be delivered over such a link
-pub record Deliver : Type 0 where
+pub record WantedDelivery : Type 0 where
   pub name : List ℕ
   pub link : List Delivery
 
 -- nothing is done to the events, where nothing is said of the link
-abbrev pub deliver_over : List ℕ → Option (List Delivery) → Deliver
+abbrev pub deliver_over : List ℕ → Option (List Delivery) → WantedDelivery
 deliver_over name link = record { name = name; link = unwrap_or link [] }
 
 -- what it comes to
-abbrev pub delivered_by : Deliver → Session → Delivered
+abbrev pub delivered_by : WantedDelivery → Session → Delivered
 delivered_by d s = delivered d.name s.moment 1 d.link (queued_in d.name s) s.world
 
 -- the session after it: the queue was taken, the records were written,
 -- and what is kept was put back
-abbrev pub session_delivered : Deliver → Session → Session
+abbrev pub session_delivered : WantedDelivery → Session → Session
 session_delivered d s =
     let m = delivered_by d s in
     with_kept d.name m.kept (written m.records (with_emptied d.name s))

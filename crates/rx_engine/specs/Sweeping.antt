@@ -20,29 +20,29 @@ use Rattle.rx_engine.specs.Standing.{Standing}
 -- ---- whether a sweep is made
 
 -- these turns, one after another: of so many documents an exchange, so many exchanges at most each
-pub record Sweep : Type 0 where
+pub record WantedSweep : Type 0 where
   pub steps : List Step
   pub batch : ℕ
   pub budget : ℕ
 
 -- the handler of a turn's replication is there
-abbrev pub is_handled : Kinds → World → Step → Bool
-is_handled kinds w step =
+abbrev pub is_step_handled : Kinds → World → Step → Bool
+is_step_handled kinds w step =
     option_map_or (λ r. is_some (named kinds r.handler)) (named w.replications step.name) false
 
 -- the sweep over the tree of a collection, which is to be held, as is the handler of each
 -- replication of the tree
-abbrev pub swept_at : Kinds → List ℕ → ℕ → ℕ → Session → Result Sweep Fault
+abbrev pub swept_at : Kinds → List ℕ → ℕ → ℕ → Session → Result WantedSweep Fault
 swept_at kinds name batch budget s =
     collection_at name s >> λ _.
-    demand (list_all (is_handled kinds s.world) (sweep_steps s.world name)) (Refused NoHandler)
+    demand (list_all (is_step_handled kinds s.world) (sweep_steps s.world name)) (Refused NoHandler)
     >> λ _.
     Ok (record { steps = sweep_steps s.world name; batch = batch; budget = budget })
 
 -- ---- what it does
 
 -- its records, its turns, and how the last one ended
-abbrev pub swept : Sweep → Standing → Swept
+abbrev pub swept : WantedSweep → Standing → Swept
 swept v s =
     sweep (record { batch = v.batch; budget = v.budget; now = s.session.moment; kinds = s.kinds })
     v.steps s.session.world s.asks

@@ -6,7 +6,7 @@ use Rattle.rx_handler.specs.Handlers.{Kinds}
 use Rattle.rx_reply.specs.declared.swept.Swept.{Swept as SweptTurn}
 use Rattle.rx_session.specs.Session.{Session}
 use Rattle.rx_sync.specs.Asks.{Asks}
-use Rattle.rx_sync.specs.Sweep.{Sweep as Terms, Swept}
+use Rattle.rx_sync.specs.Sweep.{Sweep, Swept}
 use Rattle.rx_sync.specs.Turn.{Turned}
 use Rattle.rx_sync.specs.declared.sweeping.Step.{Step}
 use Rattle.rx_world.specs.Made.{IsMadeWorld}
@@ -20,7 +20,7 @@ use Rattle.rx_engine.specs.declared.remembered.Remembered.{Remembered}
 use Rattle.rx_engine.specs.declared.sweeping.MadeSweep.{MadeSweep}
 
 -- of so many documents an exchange, and so many exchanges at most each turn, at that moment
-abbrev pub sweep_terms : ℕ → ℕ → ℕ → Kinds → Terms
+abbrev pub sweep_terms : ℕ → ℕ → ℕ → Kinds → Sweep
 sweep_terms batch budget now kinds =
     record { batch = batch; budget = budget; now = now; kinds = kinds }
 

@@ -24,7 +24,7 @@ use Rattle.rx_writes.specs.declared.fault.Fault.TheVariants.{Refused}
 -- ---- whether a turn is made
 
 -- exchanges of the replication of a name: of so many documents, so many at most, over such a link
-pub record Turn : Type 0 where
+pub record WantedTurn : Type 0 where
   pub name : List ℕ
   pub batch : ℕ
   pub budget : ℕ
@@ -44,7 +44,7 @@ turned_at kinds name s =
 
 -- the turn that is made, where the master is of this journal: nothing is done to its exchanges,
 -- where nothing is said of the link
-abbrev pub turn_here : List ℕ → ℕ → ℕ → Option (List Happening) → Turn
+abbrev pub turn_here : List ℕ → ℕ → ℕ → Option (List Happening) → WantedTurn
 turn_here name batch budget link =
     record { name = name; batch = batch; budget = budget; link = unwrap_or link [] }
 
@@ -60,7 +60,7 @@ abbrev pub terms : List ℕ → ℕ → Kinds → Terms
 terms name now kinds = record { name = name; now = now; kinds = kinds }
 
 -- its records, its exchanges, and how it ended
-abbrev pub turned : Turn → Standing → Turned
+abbrev pub turned : WantedTurn → Standing → Turned
 turned t s =
     turn (terms t.name s.session.moment s.kinds) t.batch t.budget t.link s.session.world
     (asks_of t.name s.asks)

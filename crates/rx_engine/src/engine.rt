@@ -9,10 +9,10 @@ ghost use Rattle.rx_sync.specs.Remote.{Heard};
 ghost use Rattle.rx_session.specs.Streams.{AreStreamed};
 ghost use Rattle.rx_store.specs.Holds.{IsIllegalFile, IsJournalOfSome, IsLegalFile};
 ghost use Rattle.rx_store.specs.Safe.{HasDiskCause, IsCrashSafe};
-ghost use Rattle.rx_update.specs.Shown.{kinds_of as known_by};
+ghost use Rattle.rx_update.specs.Shown.{hook_kinds};
 ghost use Rattle.rx_value.specs.Named.{named};
 ghost use Rattle.rx_world.specs.World.{World};
-ghost use Rattle.rx_engine.specs.Calling.{Call};
+ghost use Rattle.rx_engine.specs.Calling.{WantedCall};
 ghost use Rattle.rx_engine.specs.Lines.{IsIdle, IsRestart, calls, task};
 ghost use Rattle.rx_engine.specs.Opening.{epoch_body, host_with, opened};
 
@@ -65,11 +65,11 @@ impl Engine {
             → IsLegalFile (D.content disk.old) bodies w
             → IfOk result (λ engine. (kinds : Kinds) (heard : List Heard)
             → standing_of kinds heard engine
-            ≡ opened (host_with kinds (known_by hooks.now)) heard w) }
+            ≡ opened (host_with kinds (hook_kinds hooks.now)) heard w) }
         ensures begun { IfOk result (λ engine. (w : World)
             × ((kinds : Kinds) (heard : List Heard)
             → standing_of kinds heard engine
-            ≡ opened (host_with kinds (known_by hooks.now)) heard w)) }
+            ≡ opened (host_with kinds (hook_kinds hooks.now)) heard w)) }
         ensures limit { IfOk result (λ engine. limit_of engine ≡ limit) }
 
         // Over a legal file: what holds at each moment, at `Ok`, and at `Full`.
@@ -167,7 +167,7 @@ impl Engine {
             → LeavesAll number text.now (standing_of (kinds_of handlers.now) heard self) p.0 p.1) }
 
         // A line that makes no turn to a master elsewhere leaves the dial, whatever comes of it.
-        ensures undialled { ((c : Call)
+        ensures undialled { ((c : WantedCall)
             → task (kinds_of handlers.now) text.now (session_of self) ≡ calls c → ⊥)
             → dial.new ≡ dial.old }
 

@@ -8,7 +8,7 @@ ghost use Rattle.rx_session.specs.Placed.{world_of};
 ghost use Rattle.rx_sync.specs.Sweep.{sweep, turn_in};
 ghost use Rattle.rx_engine.specs.Lines.{sweep_line};
 ghost use Rattle.rx_engine.specs.Shown.{task_of, MayDoTask};
-ghost use Rattle.rx_engine.specs.Sweeping.{is_handled, is_quiet};
+ghost use Rattle.rx_engine.specs.Sweeping.{is_step_handled, is_quiet};
 ghost use Rattle.rx_engine.specs.Sweeps.{CanSweep, IsGoodPlay, IsStepped, IsSwept, sweep_terms};
 ghost use Rattle.rx_engine.specs.Turning.{CanTurn};
 ghost use Rattle.rx_writes.specs.declared.fault.Fault.TheVariants.{Memory};
@@ -76,18 +76,18 @@ pub(crate) fn sweep_line<'a>(
 // Whether the handler of each turn's replication is there.
 fn are_handled(world: &World<Live>, handlers: &Handlers, steps: &[Step]) -> bool
     ensures { result
-        ≡ list_all (is_handled (kinds_of handlers.now) (world_of world.now)) steps.now }
+        ≡ list_all (is_step_handled (kinds_of handlers.now) (world_of world.now)) steps.now }
 {
     for step in steps {
-        if !is_handled(world, handlers, step) {
+        if !is_step_handled(world, handlers, step) {
             return false;
         }
     }
     true
 }
 
-fn is_handled(world: &World<Live>, handlers: &Handlers, step: &Step) -> bool
-    ensures { result ≡ is_handled (kinds_of handlers.now) (world_of world.now) step.now }
+fn is_step_handled(world: &World<Live>, handlers: &Handlers, step: &Step) -> bool
+    ensures { result ≡ is_step_handled (kinds_of handlers.now) (world_of world.now) step.now }
 {
     match world.replication(step.name.as_str()) {
         Some(replication) => handlers.find(replication.handler.as_str()).is_some(),

@@ -1,6 +1,6 @@
 -- Lines that call no master elsewhere hear nothing.
 use Rattle.std.proofs.Common.{◌≡◌, ◌<◌, ◌∙◌, refl, sym, ap, subst, ℕ, ◌+◌, Bool, true, false, Ok, List, [], ◌∷◌, ◌++◌, append-nil}
-use Rattle.rx_engine.specs.Calling.{Call}
+use Rattle.rx_engine.specs.Calling.{WantedCall}
 use Rattle.rx_engine.specs.Dialled.{DialStanding}
 use Rattle.rx_engine.specs.Hearing.{IsShownBy}
 use Rattle.rx_engine.specs.Lines.{Task, answered, turns, calls, sweeps, delivers, task}
@@ -18,7 +18,7 @@ use Rattle.rx_world.specs.World.{World}
 use Rattle.rx_tests.specs.Headline.{CallsNoOne}
 
 none_by_task : (wires : Type 0) (t : Task) (s : Standing) (old new : DialStanding)
-    (heard : List Heard) → ((c : Call) → t ≡ calls c → ⊥)
+    (heard : List Heard) → ((c : WantedCall) → t ≡ calls c → ⊥)
     → IsShownBy wires t s old new heard (Unit {0}) → heard ≡ []
 none_by_task wires (answered o) s old new heard none shown = shown.0
 none_by_task wires (turns t) s old new heard none shown = shown.0

@@ -1,6 +1,6 @@
 -- What a script over an empty journal comes to.
 use Rattle.std.specs.Prelude.{◌≡◌, ℕ, List, [], false, if◌then◌else◌}
-use Rattle.rx_engine.specs.Calling.{Call}
+use Rattle.rx_engine.specs.Calling.{WantedCall}
 use Rattle.rx_engine.specs.Lines.{calls, task}
 use Rattle.rx_engine.specs.Opening.{Host, opened}
 use Rattle.rx_engine.specs.Standing.{Standing}
@@ -15,7 +15,7 @@ use Rattle.rx_world.specs.World.{World, empty}
 -- the line makes no turn to a master elsewhere
 abbrev pub CallsNoOne : ℕ → List ℕ → Standing → Standing → Type 0
 CallsNoOne n line s next =
-    is_blank line ≡ false → (c : Call) → task s.kinds line s.session ≡ calls c → ⊥
+    is_blank line ≡ false → (c : WantedCall) → task s.kinds line s.session ≡ calls c → ⊥
 
 -- It was played to its end, by what was heard of masters elsewhere. A script that calls none hears
 -- nothing.

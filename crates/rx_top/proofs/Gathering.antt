@@ -4,13 +4,13 @@ use Rattle.std.proofs.Common.{◌≡◌, ◌∙◌, refl, sym, ap, subst, ℕ, �
 use Rattle.std.proofs.Math.Bool.{or-false}
 use Rattle.rx_disk.specs.declared.disk.Disk.{Ghosts}
 use Rattle.rx_engine.specs.Ahead.{AddsTo, IsAhead, PlaysAhead}
-use Rattle.rx_engine.specs.Calling.{Call}
+use Rattle.rx_engine.specs.Calling.{WantedCall}
 use Rattle.rx_engine.specs.Engine.{IsAt, limit_of, session_of, standing_of}
 use Rattle.rx_engine.specs.Lines.{answered, calls, delivers, sweeps, task, turns}
 use Rattle.rx_engine.specs.Meaning.{meaning}
-use Rattle.rx_engine.specs.Streams.{Deliver}
-use Rattle.rx_engine.specs.Sweeping.{Sweep}
-use Rattle.rx_engine.specs.Turning.{Turn}
+use Rattle.rx_engine.specs.Streams.{WantedDelivery}
+use Rattle.rx_engine.specs.Sweeping.{WantedSweep}
+use Rattle.rx_engine.specs.Turning.{WantedTurn}
 use Rattle.rx_engine.specs.Standing.{Standing}
 use Rattle.rx_engine.specs.declared.engine.Engine.{Engine}
 use Rattle.rx_engine.specs.declared.output.Output.{Output}
@@ -258,16 +258,16 @@ module _ (kinds : Kinds) (line : List ℕ) (g : Group) where
             (does heard) (plays.adds heard);
       }
     where
-      no_turn : (t : Turn) → task kinds line (session_of g.engine) ≡ turns t → ⊥
+      no_turn : (t : WantedTurn) → task kinds line (session_of g.engine) ≡ turns t → ⊥
       no_turn t is = let both : answered plays.outcome ≡ turns t = sym plays.is ∙ is in cc
 
-      no_delivery : (d : Deliver) → task kinds line (session_of g.engine) ≡ delivers d → ⊥
+      no_delivery : (d : WantedDelivery) → task kinds line (session_of g.engine) ≡ delivers d → ⊥
       no_delivery d is = let both : answered plays.outcome ≡ delivers d = sym plays.is ∙ is in cc
 
-      no_sweep : (v : Sweep) → task kinds line (session_of g.engine) ≡ sweeps v → ⊥
+      no_sweep : (v : WantedSweep) → task kinds line (session_of g.engine) ≡ sweeps v → ⊥
       no_sweep v is = let both : answered plays.outcome ≡ sweeps v = sym plays.is ∙ is in cc
 
-      no_call : (c : Call) → task kinds line (session_of g.engine) ≡ calls c → ⊥
+      no_call : (c : WantedCall) → task kinds line (session_of g.engine) ≡ calls c → ⊥
       no_call c is = let both : answered plays.outcome ≡ calls c = sym plays.is ∙ is in cc
 
 -- ---- all of them

@@ -1,6 +1,6 @@
 -- How a dial shows what was heard in lines, one after another.
 use Rattle.std.proofs.Common.{◌≡◌, ◌∙◌, refl, sym, ap, subst, cond, true, ℕ, ◌+◌, List, [], ◌∷◌, ◌++◌, length, Bool, false, true≢false, inl, Result, Ok, Err, arith}
-use Rattle.rx_engine.specs.Calling.{Call, to_hear}
+use Rattle.rx_engine.specs.Calling.{WantedCall, to_hear}
 use Rattle.rx_engine.specs.Dialled.{DialStanding}
 use Rattle.rx_engine.specs.Engine.{session_of, standing_of}
 use Rattle.rx_engine.specs.Hearing.{IsShownBy}
@@ -118,7 +118,7 @@ hears-append wires n (y ∷ ys) ms s k old between new is before these = (
 -- ---- lines that make no turn to a master elsewhere
 
 -- what is to be heard stays so
-same_task : (n : ℕ) (t : Task) (s : Standing) → ((c : Call) → t ≡ calls c → ⊥)
+same_task : (n : ℕ) (t : Task) (s : Standing) → ((c : WantedCall) → t ≡ calls c → ⊥)
     → (task_meaning n t s).next.heard ≡ s.heard
 same_task n (answered o) s none = refl
 same_task n (turns u) s none = refl
@@ -137,7 +137,7 @@ same_full n l s false full none =
 
 -- and the dial shows nothing of one
 nobody_shown : (wires : Type 0) (t : Task) (s : Standing) (dial : DialStanding)
-    → ((c : Call) → t ≡ calls c → ⊥) → IsShownBy wires t s dial dial [] (Unit {0})
+    → ((c : WantedCall) → t ≡ calls c → ⊥) → IsShownBy wires t s dial dial [] (Unit {0})
 nobody_shown wires (answered o) s dial none = (refl, refl)
 nobody_shown wires (turns u) s dial none = (refl, refl)
 nobody_shown wires (sweeps v) s dial none = (refl, refl)

@@ -5,7 +5,7 @@ use Rattle.rx_engine.specs.Lines.{Task, turns, task}
 use Rattle.rx_engine.specs.Meaning.{meaning, task_meaning, turn_meaning}
 use Rattle.rx_sync.specs.Asks.{asks_of}
 use Rattle.rx_engine.specs.Standing.{Standing}
-use Rattle.rx_engine.specs.Turning.{Turn, turned}
+use Rattle.rx_engine.specs.Turning.{WantedTurn, turned}
 use Rattle.rx_engine.proofs.Plays.{written-world}
 use Rattle.rx_handler.specs.Handlers.{Kinds}
 use Rattle.rx_sync.proofs.Bound.{turns_in_time}
@@ -19,7 +19,7 @@ use Rattle.rx_top.specs.Script.{effect_of, line_effect, no_effect}
 use Rattle.rx_top.specs.TurnLines.{AreTurnsOf, TurnLinesEndInTime, exchanges_by, turn_made, with_those_behind}
 
 -- a turn of a line, as one of turns that follow each other
-abbrev as_next : Turn → Standing → NextTurn
+abbrev as_next : WantedTurn → Standing → NextTurn
 as_next t s = record {
   batch = t.batch;
   budget = t.budget;
@@ -43,7 +43,7 @@ all_ok name n (l ∷ ls) s are =
 
 -- ---- how things stand after the line of a turn
 
-module _ (n : ℕ) (l : List ℕ) (s : Standing) (t : Turn) (full : is_blank l ≡ false)
+module _ (n : ℕ) (l : List ℕ) (s : Standing) (t : WantedTurn) (full : is_blank l ≡ false)
     (is : task s.kinds l s.session ≡ turns t) where
   next_is : (line_effect n l s).next ≡ (turn_meaning n t.name (turned t s) s).next
   unfolding meaning

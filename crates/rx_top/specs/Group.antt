@@ -3,7 +3,7 @@ use Rattle.rx_serve.specs.Lines.{cut}
 use Rattle.std.specs.Prelude.{◌≡◌, ◌||◌, ℕ, ◌+◌, List, [], ◌++◌, length, Bool, true, false, Option, None, Some, Result, Ok, Err, IfOk, OnOk, IsErrOf, string_bytes}
 use Rattle.rx_disk.specs.declared.disk.Disk.{Ghosts}
 use Rattle.rx_engine.specs.Ahead.{AddsTo, IsAhead, IsLeft}
-use Rattle.rx_engine.specs.Calling.{Call}
+use Rattle.rx_engine.specs.Calling.{WantedCall}
 use Rattle.rx_engine.specs.Engine.{IsAt, limit_of, standing_of}
 use Rattle.rx_engine.specs.Lines.{calls, task}
 use Rattle.rx_engine.specs.Standing.{Standing}
@@ -39,7 +39,7 @@ max_group_bytes = 1048576
 -- a line makes no turn to a master elsewhere
 abbrev pub CallsNobody : ℕ → List ℕ → Standing → Standing → Type 0
 CallsNobody n line s next =
-    is_blank line ≡ false → (c : Call) → task s.kinds line s.session ≡ calls c → ⊥
+    is_blank line ≡ false → (c : WantedCall) → task s.kinds line s.session ≡ calls c → ⊥
 
 -- what the next line does to a group
 abbrev pub does_next : Kinds → List Heard → List ℕ → Group → Effect Standing

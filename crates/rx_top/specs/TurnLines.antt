@@ -2,7 +2,7 @@
 use Rattle.std.specs.Prelude.{◌≡◌, ℕ, ◌+◌, ◌≤◌, List, [], ◌∷◌, length, false, Option, Some, None, if◌then◌else◌}
 use Rattle.rx_engine.specs.Lines.{Task, turns, task}
 use Rattle.rx_engine.specs.Standing.{Standing}
-use Rattle.rx_engine.specs.Turning.{Turn, turned}
+use Rattle.rx_engine.specs.Turning.{WantedTurn, turned}
 use Rattle.rx_sync.specs.Bound.{AreOk, ForLink, enough, is_done}
 use Rattle.rx_sync.specs.Laws.{IsReady}
 use Rattle.rx_sync.specs.Turn.{Turned}
@@ -14,7 +14,7 @@ use Rattle.rx_top.specs.Script.{line_effect}
 abbrev pub AreTurnsOf : List ℕ → ℕ → List (List ℕ) → Standing → Type 0
 AreTurnsOf name n [] s = Unit {0}
 AreTurnsOf name n (l ∷ ls) s =
-    (t : Turn) × (is_blank l ≡ false) × (task s.kinds l s.session ≡ turns t) × (t.name ≡ name)
+    (t : WantedTurn) × (is_blank l ≡ false) × (task s.kinds l s.session ≡ turns t) × (t.name ≡ name)
     × (1 ≤ t.batch) × AreOk t.link × AreTurnsOf name (n + 1) ls (line_effect n l s).next
 
 -- the turn that a task is, where it is one

@@ -6,8 +6,8 @@ use Rattle.rx_update.specs.declared.attached.Attachments.{Attachments}
 use Rattle.rx_update.specs.declared.hooks.Hooks.{Hooks}
 
 -- what each does, by its name
-abbrev pub kinds_of : {x : _} {f : _} {g : _} → Hooks x f g → HookKinds
-kinds_of hooks = map (λ h. (h.name, h.kind)) hooks.held.items
+abbrev pub hook_kinds : {x : _} {f : _} {g : _} → Hooks x f g → HookKinds
+hook_kinds hooks = map (λ h. (h.name, h.kind)) hooks.held.items
 
 -- the hooks that a run knows, and those that stand before its writes
 abbrev pub hooking_of : Attachments → Hooking

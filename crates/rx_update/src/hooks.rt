@@ -2,7 +2,7 @@ ghost use Rattle.std.specs.Prelude.{◌≡◌, ◌++◌, ◌∷◌, [], IfOk, On
 ghost use Rattle.rx_value.specs.Due.{Due};
 ghost use Rattle.rx_value.specs.Named.{named};
 ghost use Rattle.rx_update.specs.Hooks.{room_for};
-ghost use Rattle.rx_update.specs.Shown.{kinds_of};
+ghost use Rattle.rx_update.specs.Shown.{hook_kinds};
 ghost use Rattle.rx_update.specs.declared.fault.HookFault.TheVariants.{Memory};
 
 use crate::fault::HookFault;
@@ -19,7 +19,7 @@ pub struct Hooks {
 
 impl Hooks {
     pub fn new(alloc: Global) -> Hooks
-        ensures { kinds_of result ≡ [] }
+        ensures { hook_kinds result ≡ [] }
     {
         Hooks {
             held: Vec::new(alloc),
@@ -28,10 +28,10 @@ impl Hooks {
 
     /// Adds a hook at the end. A name is there once.
     pub fn add(&mut self, hook: Hook) -> Result<(), HookFault>
-        ensures exact { Due Memory result (room_for hook.name (kinds_of self.old)) }
-        ensures ok { OnOk result (kinds_of self.new
-            ≡ kinds_of self.old ++ (hook.name, hook.kind) ∷ []) }
-        ensures err { OnErr result (kinds_of self.new ≡ kinds_of self.old) }
+        ensures exact { Due Memory result (room_for hook.name (hook_kinds self.old)) }
+        ensures ok { OnOk result (hook_kinds self.new
+            ≡ hook_kinds self.old ++ (hook.name, hook.kind) ∷ []) }
+        ensures err { OnErr result (hook_kinds self.new ≡ hook_kinds self.old) }
     {
         if self.find(hook.name().as_str()).is_some() {
             return Err(HookFault::Twice(hook.into_name()));
@@ -44,7 +44,7 @@ impl Hooks {
 
     /// The names and kinds of all, in the order of adding.
     pub fn known(&self, alloc: Global) -> Result<Vec<(RxText, HookKind)>, AllocError>
-        ensures { IfOk result (λ known. known.items ≡ kinds_of self.now) }
+        ensures { IfOk result (λ known. known.items ≡ hook_kinds self.now) }
     {
         let mut known = Vec::with_capacity(alloc, self.held.len())?;
         for hook in &self.held {
@@ -55,7 +55,7 @@ impl Hooks {
 
     /// The hook of that name.
     pub fn find(&self, name: &str) -> Option<&Hook>
-        ensures { option_map (λ h. h.now.kind) result ≡ named (kinds_of self.now) name.now }
+        ensures { option_map (λ h. h.now.kind) result ≡ named (hook_kinds self.now) name.now }
     {
         for hook in &self.held {
             if name == hook.name().as_str() {
