@@ -51,7 +51,7 @@ written_above after rows (l ∷ ls) =
 -- ---- slots
 
 -- a slot with another document of the same key
-slot_after : (rows : List Stored) (s t : ℕ) (x : Stored) → s < length rows
+pub slot_after : (rows : List Stored) (s t : ℕ) (x : Stored) → s < length rows
     → ((t ≡ s) × (slice_get (set rows s x) t ≡ Some x)) ⊎ (slice_get (set rows s x) t
     ≡ slice_get rows t)
 slot_after [] s t x lt = absurd (omega arith)
@@ -149,7 +149,7 @@ slot_end [] x = refl
 slot_end (r ∷ rows) x = slot_end rows x
 
 -- that or an earlier one
-slot_more : (rows : List Stored) (t : ℕ) (x d : Stored) → slice_get (rows ++ x ∷ []) t ≡ Some d
+pub slot_more : (rows : List Stored) (t : ℕ) (x d : Stored) → slice_get (rows ++ x ∷ []) t ≡ Some d
     → (slice_get rows t ≡ Some d) ⊎ ((t ≡ length rows) × (d ≡ x))
 slot_more [] zero x d at = let same : x ≡ d = cc in inr (refl, sym same)
 slot_more [] (suc t) x d at = absurd (cc)

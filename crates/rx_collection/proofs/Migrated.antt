@@ -1,7 +1,7 @@
 -- A collection is whole after the steps of a migration.
 use Rattle.std.proofs.Common.{◌≡◌, ℕ, zero, suc, List, [], ◌∷◌, ◌++◌, map, length, set, take, drop, Option, Some, None, option_map, slice_get, refl, sym, ap, ◌∙◌, subst}
 use Rattle.std.proofs.lemmas.List.{length-map}
-use Rattle.std.proofs.lemmas.Option.{slice_get-map}
+use Rattle.std.proofs.lemmas.Option.{slice_get-map, slice_get_within}
 use Rattle.std.specs.List.{AllByRecursion}
 use Rattle.std.specs.List.Sorted.{IsStrictlySortedBy}
 use Rattle.std.specs.Map.{keys_of}
@@ -20,6 +20,8 @@ use Rattle.rx_runs.specs.Rows.{shown, with_value, AllUnder}
 use Rattle.rx_schema.specs.declared.shape.Shape.{Shape}
 use Rattle.rx_collection.specs.Lawful.{IsHeldAt, IsLawful}
 use Rattle.rx_collection.specs.Held.{held_with}
+use Rattle.rx_collection.specs.Hints.{AreKnown, IsPlaced}
+use Rattle.rx_collection.specs.declared.hints.Hints.{Hints}
 use Rattle.rx_collection.specs.Log.{IsLog, IsLogged, IsWhole, IsWrite, places, with_place}
 use Rattle.rx_collection.specs.Migrated.{CarryAfter, documents_after, state_after, stored_after}
 
@@ -119,6 +121,17 @@ module _ (steps : List Step) where
         let was = row_was rows s d at in
         subst (λ (x : Stored). IsLogged x.lwt s log) was.made (logged.complete s was.x was.there);
     rising = subst (IsStrictlySortedBy place_cmp) (sym (places_after rows log)) logged.rising;
+  }
+
+  -- the keys of slots stay, and so do their places
+  pub known_after : (hints : Hints) (rows : List Stored) → AreKnown hints rows
+      → AreKnown hints (map (stored_after steps) rows)
+  known_after hints rows known = record {
+    placed = λ whole s d lt there.
+        let was = row_was rows s d there in
+        subst (IsPlaced hints.places.items s)
+        (sym (key_after was.x.state) ∙ ap (λ (x : Stored). x.state.key) was.made)
+        (known.placed whole s was.x (slice_get_within rows s was.x was.there) was.there);
   }
 
   -- ---- documents

@@ -5,3 +5,4 @@ pub mod Since
 pub mod Lawful
 pub mod Log
 pub mod Migrated
+pub mod Hints

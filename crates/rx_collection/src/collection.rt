@@ -36,13 +36,15 @@ pub struct Collection {
 impl Model for Collection {
     ghost use Rattle.rx_runs.specs.Rows.{shown};
     ghost use Rattle.rx_collection.specs.Held.{Held, held_with};
+    ghost use Rattle.rx_collection.specs.Hints.{AreKnown};
     ghost use Rattle.rx_collection.specs.Log.{IsWhole};
 
     ghost Value = { Held };
 
     ghost view = { λ c. held_with c.name c.schema (shown c.rows c.names) };
 
-    ghost invariant = { λ c. IsWhole c.name c.schema c.rows c.names c.log.items };
+    ghost invariant = { λ c. IsWhole c.name c.schema c.rows c.names c.log.items
+        × AreKnown c.hints c.rows };
 }
 
 impl Collection {

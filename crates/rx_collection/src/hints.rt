@@ -1,107 +1,169 @@
-ghost use Rattle.std.specs.Prelude.{◌≡◌, true, IfSome};
+// Where the slot of a key is, without a search.
+ghost use Rattle.std.specs.Prelude.{◌≡◌, ◌<◌, ◌==◌, ◌+◌, ◌↔◌, ℕ, List, [], length, set, slice_get, true, Some, IfSome, IfNone, IfOk};
+ghost use Rattle.std.specs.List.{position};
 ghost use Rattle.rx_collection.specs.Log.{HasKey};
+ghost use Rattle.rx_collection.specs.Hints.{mixed, key_hash, start_of, walk, words_hash, bytes_number, IsPlaced, AreHinted, AreKnown, LeadsTo};
 
 use rx_document::Stored;
 use rx_runs::Slots;
 use std::alloc::{AllocError, Global};
 
-// How many places there are at first, less one.
-const FIRST: u32 = 63;
+// How many places there are at first.
+const FIRST: usize = 64;
 
 // How many places are tried for a key.
-const PROBES: u32 = 16;
+const TRIES: usize = 1024;
 
-/// Where the slot of a key may be found without a search: an open table of slots by a hash of
-/// their keys. A place is 0, or a slot and 1, with bits of the hash above those of any slot.
+/// The slots of keys: an open table by a hash of the key. A place has a slot and 1, or 0 where it
+/// is free, and the hash of the key of the document there.
 ///
-/// A hint needs no proof. The document in a slot that it gives is looked at, and where that has
-/// another key, or no hint was found, the names are searched. So what is in the table, and whether
-/// it has all slots, costs time alone.
+/// While the table is whole each document has a place, the first that was free of those that are
+/// tried for its key. So a key that isn't found before a free place is no document's. A document
+/// that finds no place, as where there is no memory to grow, leaves the table without it until it
+/// grows: what isn't found is searched for then.
 #[derive(Drop)]
 pub(crate) struct Hints {
     alloc: Global,
-    // A power of two of them, or none.
-    places: Vec<u32>,
-    // The bits of a place's number, and of a slot and 1.
-    mask: u32,
+    places: Vec<(u32, u32)>,
+    whole: bool,
 }
 
 impl Hints {
-    pub fn new(alloc: Global) -> Hints {
+    pub fn new(alloc: Global) -> Hints
+        ensures { AreKnown result [] }
+    {
         Hints {
             alloc,
             places: Vec::new(alloc),
-            mask: 0,
+            whole: true,
         }
     }
 
-    /// The slot of a key, where a hint leads to it.
-    pub fn find(&self, rows: &Slots<Stored>, key: &str) -> Option<u32>
-        ensures { IfSome result (λ s. HasKey rows.now s key.now) }
+    /// Whether each document has a place.
+    pub fn is_whole(&self) -> bool
+        ensures { result ≡ self.now.whole }
     {
-        let (bits, first) = halves(hash_of(key.as_bytes()));
-        for i in 0..PROBES {
-            let place = *self
-                .places
-                .get((first.wrapping_add(i) & self.mask) as usize)?;
-            if place == 0 {
-                return None;
-            }
-            let slot = (place & self.mask).wrapping_sub(1);
-            if place & !self.mask == bits & !self.mask && has_key(rows, slot, key) {
+        self.whole
+    }
+
+    /// The slot of a key. Where none is found and the table is whole, no document has the key.
+    pub fn find(&self, rows: &Slots<Stored>, key: &str) -> Option<u32>
+        ensures some { IfSome result (λ s. HasKey rows.now s key.now) }
+        ensures none { IfNone result (AreHinted self.now.places.items rows.now (length rows.now)
+            → (s : ℕ) → HasKey rows.now s key.now → ⊥) }
+    {
+        let hash = hash_of(key.as_bytes());
+        for (after, place_hash) in walk(self.places.as_slice(), hash) {
+            let slot = after.checked_sub(1)?;
+            if *place_hash == hash && has_key(rows, slot, key) {
                 return Some(slot);
             }
         }
         None
     }
 
-    /// Takes up the last document. Where there is no memory it may be left out.
-    pub fn note(&mut self, rows: &Slots<Stored>, slot: u32) {
-        if self.places.len() / 4 * 3 <= rows.len() && self.mask < u32::MAX {
+    /// Takes up the last document. Where it finds no place the table isn't whole.
+    pub fn note(&mut self, rows: &Slots<Stored>, slot: u32)
+        requires last { length rows.now ≡ slot + 1 }
+        requires known { self.old.whole ≡ true → AreHinted self.old.places.items rows.now slot }
+        ensures { AreKnown self.new rows.now }
+    {
+        if self.places.len() / 4 * 3 <= rows.len() {
             if let Ok(hints) = self.doubled(rows) {
                 *self = hints;
                 return;
             }
         }
-        self.add(rows, slot);
+        if !self.add(rows, slot) {
+            self.whole = false;
+        }
     }
 
     // The hints of all documents, in twice the places.
-    fn doubled(&self, rows: &Slots<Stored>) -> Result<Hints, AllocError> {
-        let mask = self.mask.wrapping_mul(2) | FIRST;
+    fn doubled(&self, rows: &Slots<Stored>) -> Result<Hints, AllocError>
+        ensures { IfOk result (λ hints. AreKnown hints rows.now) }
+    {
+        let Ok(slots) = u32::try_from(rows.len()) else {
+            return Err(AllocError);
+        };
+        let count = self.places.len().saturating_mul(2).max(FIRST);
         let mut hints = Hints {
             alloc: self.alloc,
-            places: vec![in self.alloc; 0; mask as usize + 1]?,
-            mask,
+            places: vec![in self.alloc; (0, 0); count]?,
+            whole: true,
         };
-        for slot in 0..u32::try_from(rows.len()).unwrap_or(u32::MAX) {
-            hints.add(rows, slot);
+        for slot in 0..slots {
+            if !hints.add(rows, slot) {
+                hints.whole = false;
+            }
         }
         Ok(hints)
     }
 
-    // Takes a document up, if one of its places is free.
-    fn add(&mut self, rows: &Slots<Stored>, slot: u32) {
-        if slot >= self.mask || slot as usize >= rows.len() {
-            return;
-        }
-        let key = rows.at(slot as usize).state.key.as_str();
-        let (bits, first) = halves(hash_of(key.as_bytes()));
-        for i in 0..PROBES {
-            let number = (first.wrapping_add(i) & self.mask) as usize;
-            if let Some(place) = self.places.get_mut(number) {
-                if *place == 0 {
-                    *place = (bits & !self.mask) | (slot + 1);
-                    return;
-                }
-            }
-        }
+    // Takes a document up, if there is a place for it.
+    fn add(&mut self, rows: &Slots<Stored>, slot: u32) -> bool
+        requires { slot < length rows.now }
+        ensures whole { self.new.whole ≡ self.old.whole }
+        ensures kept { (s : ℕ) (key : List ℕ) → IsPlaced self.old.places.items s key
+            → IsPlaced self.new.places.items s key }
+        ensures added { result ≡ true
+            → AreHinted self.old.places.items rows.now slot
+            → AreHinted self.new.places.items rows.now (slot + 1) }
+    {
+        let Some(after) = slot.checked_add(1) else {
+            return false;
+        };
+        let hash = hash_of(rows.at(slot as usize).state.key.as_str().as_bytes());
+        let Some(free) = free_place(self.places.as_slice(), hash) else {
+            return false;
+        };
+        self.places[free] = (after, hash);
+        true
     }
+}
+
+// The first place that is free of those that are tried for a hash.
+fn free_place(places: &[(u32, u32)], hash: u32) -> Option<usize>
+    ensures within { IfSome result (λ i. i < length places.now) }
+    ensures free { IfSome result (λ i. (p : ℕ × ℕ) → slice_get places.now i ≡ Some p → p.0 ≡ 0) }
+    ensures led { IfSome result (λ i. (p : ℕ × ℕ) → LeadsTo p (walk (set places.now i p) hash)) }
+{
+    if places.is_empty() {
+        return None;
+    }
+    let tries = first_free(walk(places, hash))?;
+    Some(start_of(places.len(), hash) + tries)
+}
+
+fn first_free(places: &[(u32, u32)]) -> Option<usize>
+    ensures { result ≡ position (λ p. p.0 == 0) places.now }
+{
+    places.iter().position(|place| place.0 == 0)
+}
+
+// The places that are tried for a hash.
+fn walk(places: &[(u32, u32)], hash: u32) -> &[(u32, u32)]
+    ensures { result.now ≡ walk places.now hash }
+{
+    if places.is_empty() {
+        return places;
+    }
+    let from = &places[start_of(places.len(), hash)..];
+    &from[..TRIES.min(from.len())]
+}
+
+// Where they start. No walk starts among the last places, so that it has some to go on to.
+fn start_of(count: usize, hash: u32) -> usize
+    requires { 0 < count }
+    ensures value { result ≡ start_of count hash }
+    ensures within { result < count }
+{
+    hash as usize % (count - count / 16)
 }
 
 // Whether there is a document in that slot, and it has that key.
 fn has_key(rows: &Slots<Stored>, slot: u32, key: &str) -> bool
-    ensures { result ≡ true → HasKey rows.now slot key.now }
+    ensures { (result ≡ true) ↔ HasKey rows.now slot key.now }
 {
     if slot as usize >= rows.len() {
         return false;
@@ -110,29 +172,37 @@ fn has_key(rows: &Slots<Stored>, slot: u32, key: &str) -> bool
 }
 
 // A few multiplications, over eight bytes at a time.
-fn hash_of(key: &[u8]) -> u64 {
+fn hash_of(key: &[u8]) -> u32
+    ensures { result ≡ key_hash key.now }
+{
     let (words, rest) = key.as_chunks::<8>();
-    let mut hash = 0;
+    let front = words_hash(key.len() as u64, words);
+    (mixed(front ^ number(rest)) >> 32) as u32
+}
+
+fn words_hash(first: u64, words: &[[u8; 8]]) -> u64
+    ensures { result ≡ words_hash first words.now }
+{
+    let mut hash = first;
     for word in words {
         hash = mixed(hash ^ u64::from_le_bytes(*word));
     }
-    let mut last = 0;
-    for byte in rest {
-        last = (last << 8) | *byte as u64;
+    hash
+}
+
+fn number(bytes: &[u8]) -> u64
+    ensures { result ≡ bytes_number 0 bytes.now }
+{
+    let mut number: u64 = 0;
+    for byte in bytes {
+        number = number.wrapping_mul(256).wrapping_add(*byte as u64);
     }
-    mixed(mixed(hash ^ last) ^ key.len() as u64)
+    number
 }
 
-fn mixed(word: u64) -> u64 {
-    let product = word.wrapping_mul(0x9e37_79b9_7f4a_7c15);
+fn mixed(number: u64) -> u64
+    ensures { result ≡ mixed number }
+{
+    let product = number.wrapping_mul(0x9e37_79b9_7f4a_7c15);
     product ^ (product >> 29)
-}
-
-// The lower and the higher half.
-fn halves(hash: u64) -> (u32, u32) {
-    let [a, b, c, d, e, f, g, h] = hash.to_le_bytes();
-    (
-        u32::from_le_bytes([a, b, c, d]),
-        u32::from_le_bytes([e, f, g, h]),
-    )
 }

@@ -4,6 +4,7 @@ ghost use Rattle.rx_runs.specs.Rows.{AreSlots};
 ghost use Rattle.std.specs.List.{filter};
 ghost use Rattle.std.specs.Vec.{vec_len, vec_capacity};
 ghost use Rattle.rx_collection.specs.Log.{standing_at, written, is_up_to, is_standing, AreKeyed, IsWritten};
+ghost use Rattle.rx_collection.specs.Hints.{AreKnown};
 
 use crate::hints::Hints;
 use rx_document::{Place, Stored};
@@ -75,18 +76,23 @@ pub(crate) fn slot_of(
     hints: &Hints,
     key: &str,
 ) -> Option<u32>
-    requires { AreKeyed rows.now names.now }
+    requires slots { AreSlots rows.now names.now }
+    requires keyed { AreKeyed rows.now names.now }
+    requires known { AreKnown hints.now rows.now }
     ensures { result ≡ named names.now key.now }
 {
     match hints.find(rows, key) {
         Some(slot) => Some(slot),
+        None if hints.is_whole() => None,
         None => names.get(key.as_bytes()).copied(),
     }
 }
 
 // The slot of the document in whose place a row comes.
 fn old_slot(names: &Run<u32>, rows: &Slots<Stored>, hints: &Hints, row: &Stored) -> Option<u32>
+    requires slots { AreSlots rows.now names.now }
     requires keyed { AreKeyed rows.now names.now }
+    requires known { AreKnown hints.now rows.now }
     requires first { row.now.rev.height ≡ 1 → named names.now row.now.state.key ≡ None }
     ensures { result ≡ named names.now row.now.state.key }
 {
@@ -107,8 +113,10 @@ pub(crate) fn write(
 ) -> Result<u32, AllocError>
     requires slots { AreSlots rows.old names.old }
     requires keyed { AreKeyed rows.old names.old }
+    requires known { AreKnown hints.old rows.old }
     requires first { row.rev.height ≡ 1 → named names.old row.state.key ≡ None }
     ensures ok { IfOk result (λ s. IsWritten rows.old names.old row rows.new names.new s) }
+    ensures known { AreKnown hints.new rows.new }
     ensures err_rows { OnErr result (rows.new ≡ rows.old) }
     ensures err_names { OnErr result (names.new ≡ names.old) }
 {

@@ -8,7 +8,7 @@ use Rattle.rx_collection.proofs.collection.Collection.at.Goals as goal
 pub returns-clause-held : goal.returns-clause-held
 returns-clause-held c =
     let i = c.self.inside in
-    let w = c.self.invariant in
+    let w = c.self.invariant.0 in
     let d = c.at.result.now in
     sym (ap (λ (h : Held). named h.documents d.state.key) c.self.view_is)
     ∙ shown_some i.rows i.names d.state.key c.args.slot d w.slots.within

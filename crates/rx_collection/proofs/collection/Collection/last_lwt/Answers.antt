@@ -7,7 +7,7 @@ use Rattle.rx_collection.proofs.collection.Collection.last_lwt.Goals as goal
 pub returns-in-Some-clause-value : goal.returns-in-Some-clause-value
 returns-in-Some-clause-value c =
     let i = c.self.inside in
-    let w = c.self.invariant in
+    let w = c.self.invariant.0 in
     let log = i.log.items in
     let at : slice_get log (length log - 1) ≡ Some c.in-Some.write.now =
     sym (c.in-Some.ensures.value ∙ ap (λ l. slice_get l (length l - 1)) c.as_slice.ensures.value) in
@@ -19,7 +19,7 @@ returns-in-Some-clause-value c =
 pub returns-in-None-clause-value : goal.returns-in-None-clause-value
 returns-in-None-clause-value c =
     let i = c.self.inside in
-    let w = c.self.invariant in
+    let w = c.self.invariant.0 in
     let log = i.log.items in
     let none : slice_get log (length log - 1) ≡ None =
     sym (c.in-None.ensures.value ∙ ap (λ l. slice_get l (length l - 1)) c.as_slice.ensures.value) in

@@ -2,20 +2,22 @@ use Rattle.std.proofs.Common.{◌∙◌, List, ap, sym, subst}
 use Rattle.rx_document.specs.declared.stored.Stored.{Stored}
 use Rattle.rx_runs.specs.Rows.{shown}
 use Rattle.rx_collection.specs.Held.{Held, held_with}
+use Rattle.rx_collection.specs.Hints.{AreKnown}
 use Rattle.rx_collection.specs.Log.{IsWhole}
 use Rattle.rx_collection.specs.Migrated.{CarryAfter, migrated_collection}
-use Rattle.rx_collection.proofs.Migrated.{shown_after, whole_after}
+use Rattle.rx_collection.proofs.Migrated.{known_after, shown_after, whole_after}
 use Rattle.rx_collection.proofs.collection.Collection.migrated.Goals as goal
 
 pub invariant_of-migrated : goal.invariant_of-migrated
 invariant_of-migrated c =
     let i = c.migrated.inside in
-    subst (λ (rows : List Stored). IsWhole i.name c.args.schema rows i.names i.log.items)
-    (sym c.in_ok-migrate_rows.ensures)
-    (whole_after c.args.steps.now i.name i.schema c.args.schema i.rows i.names i.log.items
-    c.migrated.invariant
-    (subst (λ (h : Held). CarryAfter c.args.schema c.args.steps.now h.documents)
-    (sym c.migrated.view_is) c.requires))
+    subst (λ (rows : List Stored). IsWhole i.name c.args.schema rows i.names i.log.items
+    × AreKnown i.hints rows)
+    (sym c.in_ok-migrate_rows.ensures) (
+      whole_after c.args.steps.now i.name i.schema c.args.schema i.rows i.names i.log.items c.migrated.invariant.0
+          (subst (λ (h : Held). CarryAfter c.args.schema c.args.steps.now h.documents) (sym c.migrated.view_is) c.requires),
+      known_after c.args.steps.now i.hints i.rows c.migrated.invariant.1,
+    )
 
 pub returns : goal.returns
 returns c =

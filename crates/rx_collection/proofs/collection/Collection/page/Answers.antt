@@ -10,7 +10,7 @@ use Rattle.rx_collection.proofs.collection.Collection.page.Goals as goal
 pub returns-in-None-clause-documents : goal.returns-in-None-clause-documents
 returns-in-None-clause-documents c =
     let i = c.self.inside in
-    let w = c.self.invariant in
+    let w = c.self.invariant.0 in
     let n = c.args.n in
     ap (λ l. take n (written i.rows l)) c.as_slice-log.ensures.value
     ∙ page_none i.schema.primary i.rows i.names i.log.items n w.slots w.logged w.lawful.rising
@@ -21,7 +21,7 @@ returns-in-None-clause-documents c =
 pub returns-in-Some-clause-documents : goal.returns-in-Some-clause-documents
 returns-in-Some-clause-documents c =
     let i = c.self.inside in
-    let w = c.self.invariant in
+    let w = c.self.invariant.0 in
     let n = c.args.n in
     let q = c.in-Some.place.now in
     let log = c.as_slice-log.result.now in

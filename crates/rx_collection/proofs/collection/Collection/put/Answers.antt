@@ -11,20 +11,22 @@ pub write-requires-clause-first : goal.write-requires-clause-first
 write-requires-clause-first c one =
     let i = c.self.inside in
     let next = subst (λ h. IsNext h c.args.row) (sym c.self.view_is) c.requires in
-    none_slotted i.rows i.names c.args.row.state.key c.self.invariant.slots
+    none_slotted i.rows i.names c.args.row.state.key c.self.invariant.0.slots
     (none_before_first (held_with i.name i.schema (shown i.rows i.names)) c.args.row
-    c.self.invariant.lawful next one)
+    c.self.invariant.0.lawful next one)
 
 pub invariant_of-self-2 : goal.invariant_of-self-2
 invariant_of-self-2 c =
     let i = c.self.inside in
     let next = subst (λ h. IsNext h c.args.row) (sym c.self.view_is) c.requires in
     let log = c.push_reserved.ensures.items ∙ ap (λ l. l ++ (c.args.row.lwt, c.in_ok-slot.slot)
-    ∷ []) c.reserve.ensures.same in
-    subst (IsWhole i.name i.schema c.write.new.rows c.write.new.names) (sym log)
-    (whole_put i.name i.schema i.rows i.names i.log.items c.args.row c.write.new.rows
-    c.write.new.names c.in_ok-slot.slot
-    c.self.invariant next c.in_ok-slot.ensures.ok).0
+    ∷ []) c.reserve.ensures.same in (
+      subst (IsWhole i.name i.schema c.write.new.rows c.write.new.names) (sym log)
+          (whole_put i.name i.schema i.rows i.names i.log.items c.args.row c.write.new.rows
+          c.write.new.names c.in_ok-slot.slot
+          c.self.invariant.0 next c.in_ok-slot.ensures.ok).0,
+      c.write.ensures.known,
+    )
 
 pub returns-clause-ok : goal.returns-clause-ok
 returns-clause-ok c =
@@ -33,5 +35,5 @@ returns-clause-ok c =
     c.compact.ensures ∙ ap (held_with i.name i.schema)
     (whole_put i.name i.schema i.rows i.names i.log.items c.args.row c.write.new.rows
     c.write.new.names c.in_ok-slot.slot
-    c.self.invariant next c.in_ok-slot.ensures.ok).1
+    c.self.invariant.0 next c.in_ok-slot.ensures.ok).1
     ∙ ap (λ h. with_row h c.args.row) c.self.view_is
