@@ -51,7 +51,10 @@ led_first e zero ps j lt taken = absurd (omega arith)
 led_first e (suc k) [] j lt taken = absurd (omega arith)
 led_first e (suc k) (p ∷ ps) zero lt taken = inl refl
 led_first e (suc k) (p ∷ ps) (suc j) lt taken =
-    inr (taken 0 (omega arith), led_first e k ps j (omega arith) (λ i h. taken (suc i) (omega arith)))
+    inr (
+      taken 0 (omega arith),
+      led_first e k ps j (omega arith) (λ i h. taken (suc i) (omega arith)),
+    )
 
 pub led_there : (places : List (ℕ × ℕ)) (e : ℕ × ℕ) (hash j : ℕ) → j < length (walk places hash)
     → ((i : ℕ) → i < j → (get_or (walk places hash) i (0, 0)).0 ≢ 0)
@@ -100,7 +103,8 @@ module _ (places : List (ℕ × ℕ)) (hash j : ℕ)
   short =
       let m = start_of (length places) hash in
       let lt : j < min 1024 (length places - m) =
-      subst (λ n. j < n) (length-take 1024 (drop m places) ∙ ap (min 1024) (length-drop m places)) at.0 in
+      subst (λ n. j < n)
+      (length-take 1024 (drop m places) ∙ ap (min 1024) (length-drop m places)) at.0 in
       (omega arith, omega arith)
 
   pub free_within : start_of (length places) hash + j < length places
@@ -131,7 +135,8 @@ placed_still places i x s key taken free placed =
     let e : ℕ × ℕ = (s + 1, h) in
     subst (λ n. LeadsTo e (take 1024 (drop (start_of n h) (set places i x))))
     (sym (length-set places i x))
-    (led_on e x 1024 (start_of (length places) h) places i (λ no. omega (arith, no)) taken free placed)
+    (led_on e x 1024 (start_of (length places) h) places i
+    (λ no. omega (arith, no)) taken free placed)
 
 -- ---- documents
 
@@ -275,6 +280,7 @@ module _ (ps : List (ℕ × ℕ)) (i : ℕ) (lt : i < length ps) where
   led_free s hash none led =
       elim (subst (LeadsTo (s + 1, hash)) (drop_more ps i (0, 0) lt) led) [
         | inl is ↦
-            let some : 0 ≡ s + 1 = sym none ∙ ap (λ (q : ℕ × ℕ). q.0) is in absurd (omega (arith, some))
+            let some : 0 ≡ s + 1 = sym none ∙ ap (λ (q : ℕ × ℕ). q.0) is in
+            absurd (omega (arith, some))
         | inr on ↦ absurd (on.0 none)
       ]

@@ -10,7 +10,8 @@ returns c =
     let hash = c.args.hash in
     let tries = c.in_ok-tries.tries in
     let first : position (λ p. p.0 == 0) (walk places hash) ≡ Some tries =
-    ap (position (λ p. p.0 == 0)) (sym c.walk.ensures) ∙ sym c.first_free.ensures ∙ c.in_ok-tries.was in
+    ap (position (λ p. p.0 == 0)) (sym c.walk.ensures) ∙ sym c.first_free.ensures
+    ∙ c.in_ok-tries.was in
     rw c.start_of.ensures.value record {
       within = free_within places hash tries first;
       free = free_there places hash tries first;

@@ -22,10 +22,13 @@ note-requires c =
     let rows = c.args.rows.now in
     let more = c.in_ok-slot-in-None.ensures in
     record {
-      last = ap length more.rows ∙ length-append rows (c.args.row ∷ []) ∙ ap (λ n. n + 1) (sym more.slot);
+      last = ap length more.rows ∙ length-append rows (c.args.row ∷ [])
+          ∙ ap (λ n. n + 1) (sym more.slot);
       known = λ whole.
-          subst (λ (ds : List Stored). AreHinted c.args.hints.now.places.items ds c.in_ok-slot-in-None.slot)
+          subst (λ (ds : List Stored).
+          AreHinted c.args.hints.now.places.items ds c.in_ok-slot-in-None.slot)
           (sym more.rows)
           (subst (AreHinted c.args.hints.now.places.items (rows ++ c.args.row ∷ [])) (sym more.slot)
-          (hinted_before c.args.hints.now.places.items rows c.args.row (c.requires.known.placed whole)));
+          (hinted_before c.args.hints.now.places.items rows c.args.row
+          (c.requires.known.placed whole)));
     }

@@ -14,8 +14,10 @@ invariant_of-migrated c =
     subst (λ (rows : List Stored). IsWhole i.name c.args.schema rows i.names i.log.items
     × AreKnown i.hints rows)
     (sym c.in_ok-migrate_rows.ensures) (
-      whole_after c.args.steps.now i.name i.schema c.args.schema i.rows i.names i.log.items c.migrated.invariant.0
-          (subst (λ (h : Held). CarryAfter c.args.schema c.args.steps.now h.documents) (sym c.migrated.view_is) c.requires),
+      whole_after c.args.steps.now i.name i.schema c.args.schema i.rows i.names i.log.items
+          c.migrated.invariant.0
+          (subst (λ (h : Held). CarryAfter c.args.schema c.args.steps.now h.documents)
+          (sym c.migrated.view_is) c.requires),
       known_after c.args.steps.now i.hints i.rows c.migrated.invariant.1,
     )
 

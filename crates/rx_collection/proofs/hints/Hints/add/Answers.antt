@@ -29,5 +29,6 @@ returns-clause-added c = λ yes hinted.
     placed_still places i (c.in-Some.after, c.hash_of-hash.result) s e.state.key
     (λ none. omega (arith, c.in-Some.ensures.1, none)) free (hinted s e lt there))
     c.at.ensures
-    (placed_now places c.as_slice.result.now i c.in-Some.after c.hash_of-hash.result slot d.state.key
+    (placed_now places c.as_slice.result.now i c.in-Some.after c.hash_of-hash.result
+    slot d.state.key
     c.as_slice.ensures.value c.in-Some.ensures.1 hash c.in-Some-free_place.ensures.led)

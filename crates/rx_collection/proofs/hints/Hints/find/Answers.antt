@@ -32,7 +32,8 @@ loop-after-preserved c = λ s has led.
     omega (arith, c.in_ok-slot.ensures.1, ap (λ (q : ℕ × ℕ). q.0) is) in
     elim c.else-place_hash-hash.branch [
       | else-place_hash-hash-via-then-place_hash-hash+else-has_key w ↦
-          true≢false (sym (w.has_key.ensures.1 (subst (λ t. HasKey c.args.rows.now t key) (sym slot) has))
+          true≢false (sym
+          (w.has_key.ensures.1 (subst (λ t. HasKey c.args.rows.now t key) (sym slot) has))
           ∙ w.if-has_key.false)
       | else-place_hash-hash-via-else-place_hash-hash w ↦
           let there = ap (λ (q : ℕ × ℕ). q.1) is ∙ sym hash in
