@@ -36,9 +36,8 @@ IsFront cs c =
 
 -- These records are on a disk or to be written, in a file of the second version, and counted. At
 -- each moment from the first on an image is a front of them.
-pub record HasWritten {
-    D : Type 0} (d : Ghosts D) (first now : D) (copy : Copying) (cs : List Content)
-    : Type 0 where
+pub record HasWritten {D : Type 0} (d : Ghosts D) (first now : D) (copy : Copying)
+    (cs : List Content) : Type 0 where
   pub bodies : List (List ℕ)
   pub more : List (List ℕ)
   pub split : map content_bytes cs ≡ bodies ++ more
@@ -85,8 +84,8 @@ pub record Adds {D : Type 0} (d : Ghosts D) (old new : D) (copy : Copying) (more
 
 -- the disk holds a copy of a world, and each image of it has the same records; these are counted,
 -- and so are its bytes
-pub record IsCopied {
-    D : Type 0} (d : Ghosts D) (disk : D) (w : World) (made : Copied) : Type 0 where
+pub record IsCopied {D : Type 0} (d : Ghosts D) (disk : D) (w : World)
+    (made : Copied) : Type 0 where
   pub content : IsLegalFile (d.content disk) (map content_bytes (plan w)) w
   pub images : ImagesStandFor d disk (map content_bytes (plan w))
   pub records : made.records ≡ length (plan w)

@@ -677,8 +677,7 @@ module _ {D : Type 0} (t : Terms) (batch : ℕ) (d : Ghosts D) (old : D) (first 
 
   -- the turn is made, and its records are on the disk
   pub call_made : {b : Bool} (now : D) (play : Play) (a : Asks) (es : List Exchanged)
-      (end : TurnEnd)
-      (wire : WireStanding) → IsCallOver now play a es end wire
+      (end : TurnEnd) (wire : WireStanding) → IsCallOver now play a es end wire
       → TurnsRemotely d old now first.journal.limit (IsPlayAt d old first)
       (λ (m : Made). IsPlayAt d now m.play) total (IsRemoteMade first.playing a)
       (IsHeardOver tells first.playing.world t.name w0 wire)

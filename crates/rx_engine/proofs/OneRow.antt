@@ -58,8 +58,7 @@ no_other _ row is other = cc
 
 module _ (coll : List ℕ) (reads : Held → Result State Fault) (answer : List ℕ → Answer)
     (s : Session) (c : Held) (state : State) (at : collection_at coll s ≡ Ok c)
-    (called : c.name ≡ coll)
-    (read : reads c ≡ Ok state) where
+    (called : c.name ≡ coll) (read : reads c ≡ Ok state) where
   abbrev one_state : Result Outcome Fault
   one_state = collection_at coll s >> λ c. reads c >> λ state. commit_one coll answer c state s
 

@@ -220,8 +220,7 @@ module _ (kinds : Kinds) (batch budget now : ℕ) (first : Play) (steps : List S
           record {
             good = good;
             can = can_all_then kinds batch budget now some p r is.good step.name can_step q
-                stepped.follows
-                (drop (i + 1) steps) can_here.1;
+                stepped.follows (drop (i + 1) steps) can_here.1;
             done = is.done ++ made_turn.records;
             follows = so_far;
             records = is.records

@@ -208,5 +208,4 @@ abbrev pub IsUnharmedBy : List ℕ → Standing → Type 0
 IsUnharmedBy line s =
     (c : WantedCall) → task s.kinds line s.session ≡ calls c
     → EachIsUnharmed (terms c.name s.session.moment s.kinds) c.batch c.budget s.heard
-    s.session.world
-    (asks_of c.name s.asks)
+    s.session.world (asks_of c.name s.asks)

@@ -35,8 +35,8 @@ is_step_handled kinds w step =
 abbrev pub swept_at : Kinds → List ℕ → ℕ → ℕ → Session → Result WantedSweep Fault
 swept_at kinds name batch budget s =
     collection_at name s >> λ _.
-    demand (list_all (is_step_handled kinds s.world) (sweep_steps s.world name)) (Refused NoHandler)
-    >> λ _.
+    demand (list_all (is_step_handled kinds s.world) (sweep_steps s.world name))
+    (Refused NoHandler) >> λ _.
     Ok (record { steps = sweep_steps s.world name; batch = batch; budget = budget })
 
 -- ---- what it does

@@ -53,13 +53,13 @@ commit_one coll answer c state s =
 
 abbrev pub insert_line : List ℕ → Data → Session → Result Outcome Fault
 insert_line coll d s =
-    collection_at coll s
-    >> λ c. insert_state c s.hooks.attached d >> λ state. commit_one coll insert c state s
+    collection_at coll s >> λ c.
+    insert_state c s.hooks.attached d >> λ state. commit_one coll insert c state s
 
 abbrev pub upsert_line : List ℕ → Data → Session → Result Outcome Fault
 upsert_line coll d s =
-    collection_at coll s
-    >> λ c. upsert_state c s.hooks.attached d >> λ state. commit_one coll upsert c state s
+    collection_at coll s >> λ c.
+    upsert_state c s.hooks.attached d >> λ state. commit_one coll upsert c state s
 
 abbrev pub patch_line : List ℕ → List ℕ → Data → Option (List ℕ) → Session → Result Outcome Fault
 patch_line coll key set rev s =
@@ -73,8 +73,8 @@ update_line coll key d rev s =
 
 abbrev pub remove_line : List ℕ → List ℕ → Option (List ℕ) → Session → Result Outcome Fault
 remove_line coll key rev s =
-    collection_at coll s
-    >> λ c. remove_state c s.hooks.attached key rev >> λ state. commit_one coll remove c state s
+    collection_at coll s >> λ c.
+    remove_state c s.hooks.attached key rev >> λ state. commit_one coll remove c state s
 
 -- ---- many documents
 

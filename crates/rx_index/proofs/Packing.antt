@@ -202,8 +202,7 @@ next_made v f xs i x h at =
     ∙ map-append f (take i xs) (x ∷ [])))
 
 pub made_bytes : {X : Type 0} (v : Option Value) (f : X → Option Value) (xs : List X)
-    (i : ℕ) (x : X)
-    (so all : List ℕ) → i < length xs → x ≡ get_or xs i x
+    (i : ℕ) (x : X) (so all : List ℕ) → i < length xs → x ≡ get_or xs i x
     → so ≡ values_bytes (v ∷ map f (take i xs)) false → all ≡ so ++ value_bytes (f x)
     → all ≡ values_bytes (v ∷ map f (take (i + 1) xs)) false
 made_bytes v f xs i x so all h at is more =

@@ -16,8 +16,7 @@ collection_is_kind : IsKind content_bytes IsWritable (collection_kind, collectio
 collection_is_kind =
     next content_bytes IsWritable text_format (λ l. collection_kind ∷ l) _ (λ name name_fits.
     last content_bytes IsWritable text_format (λ l. collection_kind ∷ (text_bytes name ++ l))
-    (collection name)
-    (λ schema. refl) (λ schema schema_fits. (name_fits, schema_fits)))
+    (collection name) (λ schema. refl) (λ schema schema_fits. (name_fits, schema_fits)))
 
 rows_is_kind : IsKind content_bytes IsWritable (rows_kind, written_of)
 rows_is_kind =

@@ -20,8 +20,8 @@ use Rattle.rx_record.proofs.Within.{IsWithin, grows, either, flag_within, number
 use Rattle.rx_record.proofs.Kept.{value_keeps, state_keeps, states_writable, rows_writable}
 
 -- a fault stands within the bytes, and what was read stands in them and keeps K
-pub record IsFormat {
-    A : Type 0} (bytes : A → List ℕ) (of : List ℕ → Reading A) (K : A → Type 0) : Type 0 where
+pub record IsFormat {A : Type 0} (bytes : A → List ℕ) (of : List ℕ → Reading A)
+    (K : A → Type 0) : Type 0 where
   pub within : (bs : List ℕ) → AreBytes bs → IsWithin (of bs) (length bs)
   pub read : (bs : List ℕ) (x : A) (rest : List ℕ) → AreBytes bs → of bs ≡ Ok (x, rest)
       → IsRead bytes of bs x rest

@@ -25,8 +25,7 @@ module _ {A L : Type 0} (bytes : A → List ℕ) (name : A → L) (part : Option
   rising_within (suc n) last bs small =
       step_within (part last bs)
       (λ x more. rising_of name part n (Some (name x)) more ▸ λ xs rest. Ok (x ∷ xs, rest))
-      (length bs)
-      ((format last).within bs small)
+      (length bs) ((format last).within bs small)
       (λ x more is less.
       step_within (rising_of name part n (Some (name x)) more)
       (λ xs rest. Ok (x ∷ xs, rest)) (length bs)
@@ -66,8 +65,8 @@ module _ {A L : Type 0} (bytes : A → List ℕ) (name : A → L) (part : Option
           again = λ more.
               ap (λ l. count_of l ▸ λ n after. rising_of name part n None after)
               (append_assoc (number_bytes w32 (length xs)) (all_bytes bytes xs) more)
-              ∙ ap (λ k. count_of (number_bytes w32 k ++ (all_bytes bytes xs ++ more))
-              ▸ λ n after. rising_of name part n None after) many
+              ∙ ap (λ k. count_of (number_bytes w32 k ++ (all_bytes bytes xs ++ more)) ▸ λ n after.
+              rising_of name part n None after) many
               ∙ ap (λ m. m ▸ λ n after. rising_of name part n None after)
               (one.again (all_bytes bytes xs ++ more))
               ∙ things.read.again more;

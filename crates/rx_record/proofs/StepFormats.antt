@@ -43,15 +43,13 @@ set_is_kind : IsStepKind (set_kind, set_of)
 set_is_kind =
     next step_bytes IsWritableStep field_format (λ l. set_kind ∷ l) _ (λ field first.
     last step_bytes IsWritableStep value_format (λ l. set_kind ∷ (text_bytes field ++ l))
-    (λ v. Set field v)
-    (λ v. refl)
+    (λ v. Set field v) (λ v. refl)
     (λ v second. record { step = rw (first.0, second.0) refl; fits = (first.1, second.1) }))
 
 drop_is_kind : IsStepKind (drop_kind, drop_of)
 drop_is_kind =
     last step_bytes IsWritableStep field_format (λ l. drop_kind ∷ l) (λ field. Unset field)
-    (λ field. refl)
-    (λ field first. record { step = first.0; fits = first.1 })
+    (λ field. refl) (λ field first. record { step = first.0; fits = first.1 })
 
 scale_is_kind : IsStepKind (scale_kind, scale_of)
 scale_is_kind =

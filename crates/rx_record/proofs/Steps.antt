@@ -4,8 +4,8 @@ use Rattle.std.proofs.Math.Seq.{take-append_seam}
 use Rattle.rx_record.specs.Reading.{Reading, ◌▸◌, read_or}
 
 -- both parts were read
-pub record Parted {
-    A B : Type 0} (m : Reading A) (f : A → List ℕ → Reading B) (r : B × List ℕ) : Type 0 where
+pub record Parted {A B : Type 0} (m : Reading A) (f : A → List ℕ → Reading B)
+    (r : B × List ℕ) : Type 0 where
   pub part : A
   pub more : List ℕ
   pub first : m ≡ Ok (part, more)

@@ -48,8 +48,7 @@ byte_within (b ∷ bs) = omega arith
 pub flag_within : Bounded flag_of
 flag_within bs = onward (byte_of bs) (λ b more.
     if b == 0 then Ok (false, more) else if b == 1 then Ok (true, more) else Err (length bs))
-    (length bs)
-    (byte_within bs)
+    (length bs) (byte_within bs)
     (λ b more less. either (b == 0) (Ok (false, more))
     (if b == 1 then Ok (true, more) else Err (length bs)) (length bs)
     less (either (b == 1) (Ok (true, more)) (Err (length bs)) (length bs) less (omega arith)))
@@ -80,8 +79,7 @@ above_within last bs = onward (text_of bs)
 integer_within : Bounded integer_of
 integer_within bs = onward (number_of w64 bs) (λ n more.
     if is_number (cast_signed w64 n) then Ok (Int (cast_signed w64 n), more) else Err (length bs))
-    (length bs)
-    (number_within w64 bs)
+    (length bs) (number_within w64 bs)
     (λ n more less. either (is_number (cast_signed w64 n)) (Ok (Int (cast_signed w64 n), more))
     (Err (length bs)) (length bs) less (omega arith))
 
@@ -101,8 +99,7 @@ value_within bs = onward (byte_of bs) (λ kind more.
     (behind flag_of flag_within more (length bs) less) (λ b rest fewer. fewer))
     (either (kind == 1) (integer_of more)
     (if kind == 2 then (text_of more ▸ λ t rest. Ok (Text t, rest)) else Err (length bs))
-    (length bs)
-    (behind integer_of integer_within more (length bs) less)
+    (length bs) (behind integer_of integer_within more (length bs) less)
     (either (kind == 2) (text_of more ▸ λ t rest. Ok (Text t, rest)) (Err (length bs)) (length bs)
     (onward (text_of more) (λ t rest. Ok (Text t, rest)) (length bs)
     (behind text_of text_within more (length bs) less) (λ t rest fewer. fewer))
@@ -122,8 +119,7 @@ module _ {A L : Type 0} (name : A → L) (part : Option L → List ℕ → Readi
   rising_within (suc n) last bs =
       onward (part last bs)
       (λ x more. rising_of name part n (Some (name x)) more ▸ λ xs rest. Ok (x ∷ xs, rest))
-      (length bs)
-      (part_within last bs)
+      (length bs) (part_within last bs)
       (λ x more less.
       onward (rising_of name part n (Some (name x)) more) (λ xs rest. Ok (x ∷ xs, rest)) (length bs)
       (behind (rising_of name part n (Some (name x))) (rising_within n (Some (name x))) more

@@ -107,8 +107,7 @@ decides_reach c lawful p b is = (
   λ yes. any_named (λ (d : Stored). not (is_lt (place_cmp (place_of d) p))) c.documents
       lawful.rising (sym is ∙ yes),
   λ reach. is ∙ named_any (λ (d : Stored). not (is_lt (place_cmp (place_of d) p))) c.documents
-      reach.0 reach.1
-      reach.2 reach.3,
+      reach.0 reach.1 reach.2 reach.3,
 )
 
 -- each document at or below a place is known

@@ -219,8 +219,7 @@ from_same : (rs : Replications) (name : List ℕ) (r : Replication) → named rs
 from_same rs name r held = record { new = r; held = held; fork = refl; master = refl }
 
 from_exchange : (rs : Replications) (other name : List ℕ) (known : List State)
-    (up down : Option Place)
-    (r : Replication) → named rs name ≡ Some r
+    (up down : Option Place) (r : Replication) → named rs name ≡ Some r
     → StaysFrom (change_named rs other (with_exchange known up down)) name r
 from_exchange rs other name known up down r held =
     elim (bytes_eq name other) as (λ b. bytes_eq name other ≡ b

@@ -57,8 +57,7 @@ after_all P held written IsMadeFor made kept (remade in_group schema steps) old 
 -- rows are put into the holder of their name
 pub rows_after : {H : Type 0} (held : H → Held) (written : H → List Stored → H)
     (IsMadeFor : Held → H → Type 0) (entry : Content) (w : World) (name : List ℕ) (lwt : ℕ)
-    (rs : List RowOut)
-    (old new : List (List ℕ × H)) → entry ≡ rows name lwt rs
+    (rs : List RowOut) (old new : List (List ℕ × H)) → entry ≡ rows name lwt rs
     → new ≡ change_named old name (λ h. written h (stored_rows (held h).name lwt rs))
     → After held written IsMadeFor (touch entry w) old new
 rows_after held written IsMadeFor entry w name lwt rs old new is now =

@@ -185,8 +185,7 @@ module _ (steps : List Step) where
         → IsSoundIn (migrated_collections G s steps cs) (cond b (migrated_replication steps r) r)
     sound_after cs r true is both sound = λ fork at.
         let was = was_there (λ x. cond (G r.fork) (migrated_collection s steps x) x)
-        (named cs r.fork) fork
-        (sym (group_named cs r.fork) ∙ at) in
+        (named cs r.fork) fork (sym (group_named cs r.fork) ∙ at) in
         let same : migrated_collection s steps was.x ≡ fork =
         sym (ap (λ d. cond d (migrated_collection s steps was.x) was.x) is) ∙ was.made in
         subst (λ (x : Held). IsSoundWith (migrated_collections G s steps cs) r.master x
@@ -194,8 +193,7 @@ module _ (steps : List Step) where
         same (with_after cs r.master r was.x true is both (sound was.x was.there))
     sound_after cs r false is both sound = λ fork at.
         let was = was_there (λ x. cond (G r.fork) (migrated_collection s steps x) x)
-        (named cs r.fork) fork
-        (sym (group_named cs r.fork) ∙ at) in
+        (named cs r.fork) fork (sym (group_named cs r.fork) ∙ at) in
         let same : was.x ≡ fork =
         sym (ap (λ d. cond d (migrated_collection s steps was.x) was.x) is) ∙ was.made in
         subst (λ (x : Held). IsSoundWith (migrated_collections G s steps cs) r.master x r.side)

@@ -350,8 +350,7 @@ IsSoundTaking w name lwt written known up down =
 
 -- a legal exchange leaves a sound world where its own replication is sound then
 pub sound_exchange : (name : List ℕ) (lwt : ℕ) (written : List RowOut) (known : List State)
-    (up down : Option Place)
-    (w : World) → legal (exchange name lwt written known up down) w ≡ true
+    (up down : Option Place) (w : World) → legal (exchange name lwt written known up down) w ≡ true
     → IsOrdered (exchange name lwt written known up down) → IsMadeWorld w → IsSoundWorld w
     → IsSoundTaking w name lwt written known up down
     → IsSoundWorld (step (exchange name lwt written known up down) w)

@@ -128,8 +128,8 @@ module _ (c : Held) (hooks : List Attached) where
       AllByRecursion (Fits seen) ss × IsDistinct bytes_eq (map (λ s. s.key) ss)) is (tt, tt)
   rows_fit row seen (d ∷ ds) ss h =
       let first = ok_then (row_state c hooks row seen d) (λ state.
-      rows_states c hooks (row + 1) (put_in_order seen state.key tt) ds
-      >> λ states. Ok (state ∷ states)) ss h in
+      rows_states c hooks (row + 1) (put_in_order seen state.key tt) ds >> λ states.
+      Ok (state ∷ states)) ss h in
       let rest = ok_then (rows_states c hooks (row + 1) (put_in_order seen first.0.key tt) ds)
       (λ states. Ok (first.0 ∷ states)) ss first.2 in
       let is : first.0 ∷ rest.0 ≡ ss = cc (rest.2) in

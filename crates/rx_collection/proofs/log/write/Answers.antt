@@ -8,8 +8,7 @@ use Rattle.rx_collection.proofs.log.write.Goals as goal
 pub replace-old-requires : goal.replace-old-requires
 replace-old-requires c =
     named_slot (λ s. s < length c.args.rows.now) c.args.names.now c.args.row.state.key
-    c.in-Some.slot
-    c.requires.slots.within (sym c.in-Some.ensures)
+    c.in-Some.slot c.requires.slots.within (sym c.in-Some.ensures)
 
 pub returns-in-Some-clause-known : goal.returns-in-Some-clause-known
 returns-in-Some-clause-known c =

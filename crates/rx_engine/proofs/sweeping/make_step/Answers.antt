@@ -40,8 +40,7 @@ set-requires-clause-others g c =
     subst (λ (w : World). AreMarkedBut c.as_str-2.result.now w r.marks) (sym c.world-2.ensures)
     (subst (λ (n : List ℕ). AreMarkedBut n q.playing.world r.marks) (sym c.as_str-2.ensures)
     (others_then kinds c.args.wanted.now.batch c.args.wanted.now.budget c.args.now
-    c.requires.batch p r
-    c.requires.good name c.requires.can q follows))
+    c.requires.batch p r c.requires.good name c.requires.can q follows))
 
 pub returns-clause-good : goal.returns-clause-good
 returns-clause-good g c =

@@ -12,5 +12,4 @@ invariant-loop-step g l =
     IsSweeping kinds l.wanted.batch l.wanted.budget l.now l.fn.first l.step-items
     (sweep (sweep_terms l.wanted.batch l.wanted.budget l.now kinds) l.step-items
     l.fn.first.playing.world (by_bytes l.fn.remembered.asks.entries)) l.step-index
-    l.play l.remembered
-    l.turns
+    l.play l.remembered l.turns

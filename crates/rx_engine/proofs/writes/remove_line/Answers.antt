@@ -11,8 +11,7 @@ pub returns-in_err-doing-clause-exact : goal.returns-in_err-doing-clause-exact
 returns-in_err-doing-clause-exact g c =
     refused_on Memory outcome_of c.from_residual-in_err-doing.result
     (remove_line c.args.coll.now c.args.key c.args.rev.now c.args.session.now)
-    c.in_err-doing.field-0.0
-    c.from_residual-in_err-doing.ensures.1
+    c.in_err-doing.field-0.0 c.from_residual-in_err-doing.ensures.1
     (state_refused c.args.coll.now
     (λ held. remove_state held c.args.session.now.hooks.attached c.args.key c.args.rev.now) remove
     c.args.session.now c.in_ok-collection.collection.now c.in_ok-state.state

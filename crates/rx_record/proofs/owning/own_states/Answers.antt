@@ -19,8 +19,7 @@ loop-left-preserved c =
     let next = next_read (λ _. []) state_key state_of c.loop-left.left
     (option_map (λ t. t.now) c.loop-left.last)
     c.loop-left.rest.now _ _ _ c.loop-left-test.true c.in_ok-state.ensures.state
-    c.in_ok-state.ensures.key
-    c.loop-left.invariant.read in
+    c.in_ok-state.ensures.key c.loop-left.invariant.read in
     let others = read_or []
     (states_from (c.loop-left.left - 1) (Some c.in_ok-state.key.now) c.in_ok-state.behind.now) in
     let pushed : c.push.new.self.items ≡ c.loop-left.owned.items ++ c.in_ok-state.state ∷ [] =

@@ -16,8 +16,7 @@ loop-left-init c = record {
 pub own_step-requires : goal.own_step-requires
 own_step-requires c =
     first_read step_bytes no_name any_step_of c.loop-left.left None c.loop-left.rest.now
-    c.loop-left-test.true
-    c.loop-left.invariant.read
+    c.loop-left-test.true c.loop-left.invariant.read
 
 pub push-requires : goal.push-requires
 push-requires c = record {
@@ -32,8 +31,7 @@ loop-left-preserved c =
     let pushed : c.push.new.self ≡ c.loop-left.steps ++ step ∷ [] = search rules in
     record {
       read = read_on c.loop-left.left c.loop-left.rest.now step behind c.loop-left-test.true
-          c.in_ok-step.ensures.exact
-          c.loop-left.invariant.read;
+          c.in_ok-step.ensures.exact c.loop-left.invariant.read;
       all = c.loop-left.invariant.all
           ∙ front_on c.loop-left.left c.loop-left.steps c.loop-left.rest.now step behind
           c.loop-left-test.true c.in_ok-step.ensures.exact

@@ -39,8 +39,7 @@ loop-body-init g c =
       fewer = omega arith;
       size = omega arith;
       made = made_none (λ held h. g.F.Fn.post c.args.make.now (held, tt) (Ok h))
-          g.H.Holder.written first
-          c.begin-phase.ensures.none;
+          g.H.Holder.written first c.begin-phase.ensures.none;
       limit = refl;
       faults = omega arith;
     }

@@ -198,8 +198,7 @@ returns-in-Err-play_line-clause-exit g c =
           (c.lines.reader.unread ++ g.S.Source.left c.lines.source) left
           (c.in-Ok.ensures.next told) in
           let a = after_group s0 g.D.Disk g.K.Sink.tells g.N.W.Wire.tells
-          c.args.disk.now c.lines.disk
-          (stands g.N.Dial c.args.dial.now)
+          c.args.disk.now c.lines.disk (stands g.N.Dial c.args.dial.now)
           (stands g.N.Dial c.lines.dial) c.args.first c.lines.engine
           (g.K.Sink.written c.args.out.now) (g.K.Sink.written c.lines.out)
           (g.S.Source.left c.args.source.now) _ c.lines.number c.lines.refused kinds later
@@ -263,8 +262,7 @@ returns-in-Last-clause-exit g c =
           (c.lines.reader.unread ++ g.S.Source.left c.lines.source) left
           (c.in-Ok.ensures.next told) in
           let a = after_group s0 g.D.Disk g.K.Sink.tells g.N.W.Wire.tells
-          c.args.disk.now c.lines.disk
-          (stands g.N.Dial c.args.dial.now)
+          c.args.disk.now c.lines.disk (stands g.N.Dial c.args.dial.now)
           (stands g.N.Dial c.lines.dial) c.args.first c.lines.engine
           (g.K.Sink.written c.args.out.now) (g.K.Sink.written c.lines.out)
           (g.S.Source.left c.args.source.now) _ c.lines.number c.lines.refused kinds later
@@ -353,8 +351,7 @@ lines-preserved-then-group g c =
             (c.lines.reader.unread ++ g.S.Source.left c.lines.source) left
             (c.in-Ok.ensures.next told) in
             let a = after_group s0 g.D.Disk g.K.Sink.tells g.N.W.Wire.tells
-            c.args.disk.now c.lines.disk
-            (stands g.N.Dial c.args.dial.now)
+            c.args.disk.now c.lines.disk (stands g.N.Dial c.args.dial.now)
             (stands g.N.Dial c.lines.dial) c.args.first c.lines.engine
             (g.K.Sink.written c.args.out.now) (g.K.Sink.written c.lines.out)
             (g.S.Source.left c.args.source.now) _ c.lines.number c.lines.refused kinds later
@@ -374,8 +371,7 @@ lines-preserved-then-group g c =
           let had = c.lines.invariant.grown t bodies at in
           let grew = c.in-Ok-play_group.ensures.grows t (bodies ++ had.more) had.at in
           let now = grown_more g.D.Disk c.args.disk.now c.lines.disk c.play_group.new.disk
-          c.lines.engine
-          c.in-Ok-play_group.group.engine bodies grew.more had
+          c.lines.engine c.in-Ok-play_group.group.engine bodies grew.more had
           (grew.safe.moments
           (images_at g.D.Disk c.lines.disk c.lines.engine (bodies ++ had.more) had.at))
           grew.safe.at in

@@ -73,8 +73,7 @@ returns-in-Ok-open-clause-run g c =
           (g.S.Source.left c.args.source.now) (g.S.Source.left c.play.new.source) s c.play.result
           (HearsAll g.N.W.Wire.tells s n0 n2 c.play.result)
           (KeepsRun in_groups host heard g.D.Disk c.args.disk.now c.play.new.disk bodies
-          w c.args.limit
-          c.play.result)) found
+          w c.args.limit c.play.result)) found
           (said_as _ _
           (λ done rest kept. played_keeps in_groups host heard g.D.Disk bodies w c.args.limit
           c.args.disk.now c.open.new.disk c.play.new.disk c.in-Ok-open.engine c.play.result done
@@ -112,8 +111,7 @@ returns-clause-run g c =
           (KeepsRun in_groups host [] g.D.Disk c.args.disk.now c.open.new.disk bodies w c.args.limit
           (Err (Work c.in-Err-open.stop))) (heard_at_first host [] w) tt none
           (open_keeps in_groups host [] g.D.Disk bodies w c.args.limit c.args.disk.now
-          c.open.new.disk
-          c.in-Err-open.stop (lines input)
+          c.open.new.disk c.in-Err-open.stop (lines input)
           ((c.in-Err-open.ensures.safe t bodies w start.legal).moments start.alike)
           (λ s f le now. g.met.D.Disk.counts_now c.open.new.disk s f t le now)
           (c.in-Err-open.ensures.safe t bodies w start.legal).full

@@ -12,16 +12,14 @@ loop-step-preserved c = record {
   climbs =
       rw add-one (climb_end bytes_eq bytes_eq-Decides c.loop-step._step
       (forest_of (by_bytes c.args.replications.now.entries)) c.args.name.now c.loop-step.at.now
-      c.in-Some.master.now
-      c.loop-step.invariant.climbs (sym c.in-Some.ensures));
+      c.in-Some.master.now c.loop-step.invariant.climbs (sym c.in-Some.ensures));
   text = search rules;
 }
 
 pub returns-in-None : goal.returns-in-None
 returns-in-None c =
     sym (root_at (forest_of (by_bytes c.args.replications.now.entries)) c.requires c.loop-step._step
-    c.args.name.now
-    c.loop-step.at.now c.loop-step.invariant.climbs (sym c.in-None.ensures))
+    c.args.name.now c.loop-step.at.now c.loop-step.invariant.climbs (sym c.in-None.ensures))
 
 pub returns : goal.returns
 returns c =

@@ -51,7 +51,6 @@ loop-entry-preserved g c =
       made = subst (AreMadeFor (λ x h. g.F.Fn.post c.args.make.now (x, tt) (Ok h)))
           (sym c.in_ok-add.ensures.holders)
           (all_put_named (λ _ h. (x : Held) × g.F.Fn.post c.args.make.now (x, tt) (Ok h))
-          (by_bytes old)
-          (string_bytes entry.0) c.in_ok-holder.holder
+          (by_bytes old) (string_bytes entry.0) c.in_ok-holder.holder
           (entry.1.collection, post) c.loop-entry.invariant.made);
     }

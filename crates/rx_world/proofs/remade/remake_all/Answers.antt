@@ -95,8 +95,7 @@ loop-entry-preserved g c =
     record {
       made = one_more held broken (λ x h. g.F.Fn.post c.args.make.now (x, tt) (Ok h)) G s steps
           (by_bytes c.args.holders.entries) old (by_bytes c.add.new.holders.entries)
-          (by_bytes c.next.new.self)
-          (k, entry.1) c.in_ok-holder.holder c.requires.distinct
+          (by_bytes c.next.new.self) (k, entry.1) c.in_ok-holder.holder c.requires.distinct
           (subst (λ (es : List (String Global × g.row.H.Denot)).
           AreSoFar held (λ x h. g.F.Fn.post c.args.make.now (x, tt) (Ok h)) G s steps
           (by_bytes c.args.holders.entries) old (by_bytes es)) c.in-Some.ensures.steps
@@ -117,8 +116,7 @@ returns-clause-remade g c =
     none_left g.H.Holder.held g.H.Holder.is_broken
     (λ x h. g.F.Fn.post c.args.make.now (x, tt) (Ok h))
     (is_in_group (by_bytes c.args.replications.now.entries) c.args.name.now) c.args.schema.now
-    c.args.steps.now
-    (by_bytes c.args.holders.entries) (by_bytes c.loop-entry.all.entries)
+    c.args.steps.now (by_bytes c.args.holders.entries) (by_bytes c.loop-entry.all.entries)
     (by_bytes c.loop-entry.entry-iterator)
     (search rules) c.loop-entry.invariant.made
 
@@ -132,7 +130,6 @@ returns-clause-held g c =
     (none_left g.H.Holder.held g.H.Holder.is_broken
     (λ x h. g.F.Fn.post c.args.make.now (x, tt) (Ok h))
     (is_in_group (by_bytes c.args.replications.now.entries) c.args.name.now) c.args.schema.now
-    c.args.steps.now
-    (by_bytes c.args.holders.entries) (by_bytes c.loop-entry.all.entries)
+    c.args.steps.now (by_bytes c.args.holders.entries) (by_bytes c.loop-entry.all.entries)
     (by_bytes c.loop-entry.entry-iterator)
     (search rules) c.loop-entry.invariant.made)

@@ -22,8 +22,7 @@ made_moved i j l before new bs cs gone key same old was differ adds takes docume
     subst (λ fs. Holds (indexed_by fs l.keys) (put_in_order documents new.state.key new)) (sym same)
     (held_moved i.fields documents new i.keys r.held before (r.old_one ∙ was)
     (subst (λ (o : _). IfSome o (λ d. d.state.key ≡ new.state.key)) was r.keyed)
-    differ j.keys l.keys
-    (has_so true bs i j _ (unpacked-key i.fields new bs key) adds)
+    differ j.keys l.keys (has_so true bs i j _ (unpacked-key i.fields new bs key) adds)
     (has_so false cs j l _ (unpacked-key i.fields before cs gone) takes))
 
 pub add-requires : goal.add-requires

@@ -18,6 +18,5 @@ cut-requires c =
 pub returns : goal.returns
 returns c =
     followed (asked c.args.query.now) c.args.change.now c.in-Some.limit c.args.self.now
-    c.cut.new.self
-    c.take_out.new.rows c.put_in.new.rows (sym c.kept_limit.ensures ∙ c.in-Some.is)
+    c.cut.new.self c.take_out.new.rows c.put_in.new.rows (sym c.kept_limit.ensures ∙ c.in-Some.is)
     c.in_ok-take_out.ensures.others c.in_ok-put_in.ensures c.cut.ensures.few c.cut.ensures.first

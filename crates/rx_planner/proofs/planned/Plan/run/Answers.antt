@@ -61,8 +61,7 @@ returns g c =
           ∙ sorted_result q documents c.args.indexes.now c.args.self.now i.result i.is
           c.requires.planned c.requires.keyed c.requires.held c.range-ids.ensures.rising rows ids
           c.range-ids.result c.in_ok-rows.ensures.split c.range-ids.ensures.ids most
-          c.most_rows.ensures
-          full first (map now w.improve.new.rows.items) w.put_in_order.ensures
+          c.most_rows.ensures full first (map now w.improve.new.rows.items) w.put_in_order.ensures
           (w.in_ok-improve.ensures
           ∙ ap (λ n. take n (sorted (stored_before q) (first ++ due_among q documents ids)))
           (sym (length-map w.put_in_order.new.rows.items now)))
@@ -71,6 +70,5 @@ returns g c =
           ∙ ordered_result q documents c.args.indexes.now c.args.self.now i.result i.is
           c.requires.planned c.requires.keyed c.requires.held c.range-ids.ensures.rising rows ids
           c.range-ids.result c.in_ok-rows.ensures.split c.range-ids.ensures.ids most
-          c.most_rows.ensures
-          full w.if-not-self.false
+          c.most_rows.ensures full w.if-not-self.false
     ])

@@ -38,8 +38,7 @@ pub returns-clause-emissions : goal.returns-clause-emissions
 returns-clause-emissions c =
     let i = c.self.inside in
     subst (λ (s : Session). emissions (session_after (close_stream c.args.name.now) s) ≡ [])
-    c.self.view_is
-    (none_due i.world i.places.items c.self.invariant.quiet)
+    c.self.view_is (none_due i.world i.places.items c.self.invariant.quiet)
 
 pub returns-clause-before : goal.returns-clause-before
 returns-clause-before c =

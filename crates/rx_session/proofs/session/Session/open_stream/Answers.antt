@@ -59,8 +59,7 @@ returns-clause-emissions c =
     let i = c.self.inside in
     let o = c.args.opening in
     subst (λ (s : Session). emissions (session_after (doing.open_stream o.name o.master) s) ≡ [])
-    c.self.view_is
-    (none_due i.world i.places.items c.self.invariant.quiet)
+    c.self.view_is (none_due i.world i.places.items c.self.invariant.quiet)
 
 pub returns-clause-before : goal.returns-clause-before
 returns-clause-before c =
@@ -74,8 +73,7 @@ returns-in_err-new_stream-clause-emissions c =
     let i = c.self.inside in
     let o = c.args.opening in
     subst (λ (s : Session). emissions (session_after (doing.open_stream o.name o.master) s) ≡ [])
-    c.self.view_is
-    (none_due i.world i.places.items c.self.invariant.quiet)
+    c.self.view_is (none_due i.world i.places.items c.self.invariant.quiet)
 
 pub returns-in_err-new_stream-clause-before : goal.returns-in_err-new_stream-clause-before
 returns-in_err-new_stream-clause-before c =
@@ -89,8 +87,7 @@ returns-in_err-push-clause-emissions c =
     let i = c.self.inside in
     let o = c.args.opening in
     subst (λ (s : Session). emissions (session_after (doing.open_stream o.name o.master) s) ≡ [])
-    c.self.view_is
-    (none_due i.world i.places.items c.self.invariant.quiet)
+    c.self.view_is (none_due i.world i.places.items c.self.invariant.quiet)
 
 pub returns-in_err-push-clause-before : goal.returns-in_err-push-clause-before
 returns-in_err-push-clause-before c =

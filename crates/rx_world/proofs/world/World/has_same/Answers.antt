@@ -19,8 +19,7 @@ returns-then-hold_same g c =
       λ is. (
         c.hold_same.ensures.0 c.if-hold_same.true,
         same_by_name this_world that_world c.self.invariant.made.linked
-            c.other.invariant.made.linked
-            (sym these ∙ c.follow_same.ensures.0 is ∙ those),
+            c.other.invariant.made.linked (sym these ∙ c.follow_same.ensures.0 is ∙ those),
       ),
       λ both. c.follow_same.ensures.1 (these ∙ ap values_of both.1 ∙ sym those),
     )
