@@ -58,14 +58,8 @@ fn play_rows(alloc: Global, name: &str, facts: &str) -> Result<(), Fail> {
     let Some((facts, rows)) = facts.split_once("\n| ") else {
         return play(alloc, name, facts, &[]);
     };
-    let mut mark = "";
-    for line in rows.lines() {
-        match line.strip_prefix(mark) {
-            Some(row) => play_row(alloc, facts, row)?,
-            None if line.is_empty() || line.starts_with("//") => {}
-            None => return Err(Fail::new(format_args!("{name}: what is {line}"))),
-        }
-        mark = "| ";
+    for row in rows.split("\n| ") {
+        play_row(alloc, facts, row.lines().next().unwrap_or(""))?;
     }
     Ok(())
 }

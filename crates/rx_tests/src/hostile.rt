@@ -1,5 +1,6 @@
 // Masters elsewhere that answer what they shouldn't. The exchange is lost by its name, nothing is
 // written, and the next turn is the one that was due: over a right reply it goes on and is quiet.
+//
 // A character that a master sends stands for the byte of its number.
 use crate::case::play_all;
 use crate::random::Random;

@@ -1,5 +1,6 @@
 // Records of migrations that stand on the disk behind a document a, whose n is 1, and which no line
 // may have written. They are taken or the journal is left alone.
+//
 // A row has a name, the length of the record, and the steps with their count or the collection with
 // its schema; and where it is taken, the n of the document after it.
 use crate::case::play_all;

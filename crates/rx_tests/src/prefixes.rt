@@ -58,11 +58,16 @@ fn try_cut(alloc: Global, left: &[u8], last: Option<u8>) -> Result<u64, Fail> {
     } else {
         NO_REPORT
     };
-    match records(left.as_slice()) {
-        Some(count) => try_opened(alloc, left.as_slice(), count)?,
-        None => play(alloc, "no journal", refused, left.as_slice())?,
-    }
-    Ok(u64::from(records(left.as_slice()).is_some()))
+    try_left(alloc, left.as_slice(), refused)
+}
+
+fn try_left(alloc: Global, left: &[u8], refused: &str) -> Result<u64, Fail> {
+    let Some(count) = records(left) else {
+        play(alloc, "no journal", refused, left)?;
+        return Ok(0);
+    };
+    try_opened(alloc, left, count)?;
+    Ok(1)
 }
 
 // How many records a journal has, or none where it is no journal.

@@ -300,7 +300,8 @@ impl<'a> Lines<'a> {
 
 // The facts behind the number of lines that stand.
 fn facts_of(block: &str) -> &str {
-    block.split_once('\n').unwrap_or(("", block)).1
+    let (_, facts) = block.split_once('\n').unwrap_or(("", block));
+    facts
 }
 
 fn stops_behind(due: &str, ran: &Ran) -> bool {
