@@ -21,6 +21,8 @@ mod endless;
 #[cfg(test)]
 mod explained;
 #[cfg(test)]
+mod groups;
+#[cfg(test)]
 mod hashes;
 mod headline;
 #[cfg(test)]
@@ -44,6 +46,8 @@ mod migrating;
 #[cfg(test)]
 mod migration_records;
 #[cfg(test)]
+mod migration_stops;
+#[cfg(test)]
 mod pages;
 #[cfg(test)]
 mod planned;
@@ -59,6 +63,8 @@ mod queries;
 mod random;
 #[cfg(test)]
 mod reading;
+#[cfg(test)]
+mod record_stops;
 #[cfg(test)]
 mod replicating;
 #[cfg(test)]
@@ -84,9 +90,13 @@ mod statuses;
 #[cfg(test)]
 mod stops;
 #[cfg(test)]
+mod stream_stops;
+#[cfg(test)]
 mod streamed;
 #[cfg(test)]
 mod swept;
+#[cfg(test)]
+mod turn_stops;
 #[cfg(test)]
 mod turned;
 #[cfg(test)]
