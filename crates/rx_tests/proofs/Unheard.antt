@@ -49,8 +49,7 @@ pub unheard : {host : Host} {heard : List Heard} {wires : Type 0} {n0 n2 : DialS
     → HasRun host heard wires n0 n2 tells f0 f2 w0 w2 w input left status Kept → status < 2
     → EachLine line_effect CallsNoOne 1 (lines input) (opened host heard w) → heard ≡ []
 unheard {host = host} {heard = heard} {wires = wires} {n0 = n0} {n2 = n2} w input left
-    status has low
-    each =
+    status has low each =
     let s = opened host heard w in
     let run = has.run in
     let ok = is_ok has.ended (subst (λ (n : ℕ). n < 2) has.is_status low) in

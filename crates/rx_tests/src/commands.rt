@@ -4,13 +4,12 @@ use std::test::Fail;
 
 #[test]
 fn a_collection_is_served(rt: HostRuntime) -> Result<(), Fail> {
-    play_all(rt.alloc(), SERVED)
+    play_all(rt.alloc(), CASES)
 }
 
-const SERVED: &str = r#"
+const CASES: &str = r#"
 == an empty collection, and a line in another spelling
-> C(c)
-< made
+. C(c)
 $ serve journal c 4001 1
 * a peer
 @ {"ask":"pull","batch":100,"epoch":1,"n":1,"schema":"d3965597d0b8e1c41da9b2dc759684814b6376a695e3324ffc338dfea45c31a5"}
@@ -20,8 +19,7 @@ $ serve journal c 4001 1
 < {"connection":1,"end":"request","requests":1}
 
 == what a peer pushed is there for the next one, and for a script
-> C(c)
-< made
+. C(c)
 $ serve journal c 4001 2
 * a peer
 @ {"ask":"push","epoch":1,"n":1,"rows":[{"new":{"_deleted":false,"id":"a","n":1}}],"schema":"d3965597d0b8e1c41da9b2dc759684814b6376a695e3324ffc338dfea45c31a5"}
@@ -36,12 +34,7 @@ $ run journal
 < {"doc":{"id":"a","n":1},"line":L,"lwt":1,"ok":"get","rev":"1-c"}
 
 == a collection that isn't held, and one that is a fork
-> C(c)
-< made
-> C(f)
-< made
-> {"do":"replicate","name":"r","fork":"f","master":"c","handler":"master_wins"}
-< {"line":L,"ok":"replicate"}
+. C(c) C(f) {"do":"replicate","name":"r","fork":"f","master":"c","handler":"master_wins"}
 $ serve journal d 4001 1
 * a peer
 @ {"ask":"pull","batch":1,"epoch":1,"n":1,"schema":"d3965597d0b8e1c41da9b2dc759684814b6376a695e3324ffc338dfea45c31a5"}
@@ -57,8 +50,7 @@ $ serve journal c 4001 1
 < {"connection":1,"end":"peer","requests":0}
 
 == fewer peers dial than are awaited
-> C(c)
-< made
+. C(c)
 $ serve journal c 4001 2
 * a peer
 < {"connection":1,"end":"peer","requests":0}
@@ -66,17 +58,14 @@ $ serve journal c 4001 2
 ! 4
 
 == a journal that has no room for a push
-> C(c)
-< made
+. C(c)
 $ serve journal c 4001 1 --max-journal 204
 * a peer
 @ {"ask":"push","epoch":1,"n":1,"rows":[{"new":{"_deleted":false,"id":"a"}}],"schema":"d3965597d0b8e1c41da9b2dc759684814b6376a695e3324ffc338dfea45c31a5"}
 < {"limit":204,"stop":"full","would":245}
-! 8
 
 == what is no journal
 ^ 'hello,world'
 $ serve journal c 4001 1
 < {"stop":"not_journal"}
-! 7
 "#;

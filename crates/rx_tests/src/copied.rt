@@ -4,21 +4,11 @@ use crate::case::play_all;
 use std::test::Fail;
 
 #[test]
-fn a_journal_is_compacted(rt: HostRuntime) -> Result<(), Fail> {
-    play_all(rt.alloc(), COMPACTED)
+fn journals_that_begin_with_a_copy(rt: HostRuntime) -> Result<(), Fail> {
+    play_all(rt.alloc(), CASES)
 }
 
-#[test]
-fn a_copy_is_played_on(rt: HostRuntime) -> Result<(), Fail> {
-    play_all(rt.alloc(), COPIES)
-}
-
-#[test]
-fn what_is_no_copy_is_left_alone(rt: HostRuntime) -> Result<(), Fail> {
-    play_all(rt.alloc(), NO_COPIES)
-}
-
-const COMPACTED: &str = r#"
+const CASES: &str = r#"// A journal is compacted.
 == a journal without records
 $ compact journal copy
 < {"bytes":23,"from":9,"records":1}
@@ -39,12 +29,7 @@ $ run journal
 = 'RXJOURN2' 01 00000009 09 0000000000000001 01 00000009 05 0000000000000002 00
 
 == what is outdated is left out; revisions, write times and tombstones stay
-> C(c)
-< made
-> I(c,a,1)
-< insert 1-c
-> I(c,b,1)
-< insert 1-c
+. C(c) I(c,a,1) I(c,b,1)
 > {"do":"upsert","in":"c","doc":{"id":"a","n":2}}
 < {"line":L,"ok":"upsert","rev":"2-c"}
 > {"do":"remove","in":"c","key":"b"}
@@ -66,12 +51,10 @@ $ run journal
 ^ 'RXJOURN1' 01 00000009 05 0000000000000001 01 000000a4 01 00000001 'c' 0000009a '{"indexes":[],"primaryKey":"id","properties":{"id":{"maxLength":20,"type":"string"},"n":{"type":"integer"}},"required":["id"],"type":"object","version":0}' 00
 $ compact journal copy --max-journal 191
 < {"limit":191,"stop":"full","would":192}
-! 8
 % COPY 00
 /
 $ run journal
 < {"stop":"not_journal"}
-! 7
 
 == records come in their order: collections and replications, and what is in them
 ^ 'RXJOURN2' 01 000000a4 01 00000001 'f' 0000009a '{"indexes":[],"primaryKey":"id","properties":{"id":{"maxLength":20,"type":"string"},"n":{"type":"integer"}},"required":["id"],"type":"object","version":0}'
@@ -107,17 +90,15 @@ $ compact journal copy
 ^ 'RXJOURN3' 00 00
 $ compact journal copy
 < {"stop":"not_journal"}
-! 7
-"#;
 
-const COPIES: &str = r#"
+// A copy is played on.
+
 == a copy of a collection with a document, and records behind its end
 ^ COPY 01 0000003e 07 00000001 'c' 00000001 0000000000000005 0000000000000002 00000001 'a' 00 00000002 00000002 'id' 02 00000001 'a' 00000001 'n' 01 0000000000000001
 ^ 01 00000009 09 0000000000000003 00
 > {"do":"get","in":"c","key":"a"}
 < {"doc":{"id":"a","n":1},"line":L,"lwt":5,"ok":"get","rev":"2-c"}
-> I(c,b,1)
-< insert 1-c
+. I(c,b,1)
 = COPY 01 0000003e 07 00000001 'c' 00000001 0000000000000005 0000000000000002 00000001 'a' 00 00000002 00000002 'id' 02 00000001 'a' 00000001 'n' 01 0000000000000001
 = 01 00000009 09 0000000000000003 01 00000009 05 0000000000000004
 = 01 0000003e 02 00000001 'c' 0000000000000006 00000001 0000000000000001 00000001 'b' 00 00000002 00000002 'id' 02 00000001 'b' 00000001 'n' 01 0000000000000001
@@ -168,25 +149,13 @@ $ run journal
 ^ 01 00000009 09 0000000000000001 00
 > {"do":"get","in":"f","key":"a"}
 < {"doc":{"id":"a","n":1},"line":L,"lwt":1,"ok":"get","rev":"1-f"}
-"#;
 
-const NO_COPIES: &str = r#"
-== the end of the copy is wanting
-^ COPY 01 0000003e 07 00000001 'c' 00000001 0000000000000005 0000000000000002 00000001 'a' 00 00000002 00000002 'id' 02 00000001 'a' 00000001 'n' 01 0000000000000001 00
-< {"stop":"not_journal"}
-! 7
+// What is no copy is left alone.
 
-== a late end, behind a record of a run
-^ COPY 01 00000009 05 0000000000000001 01 00000009 09 0000000000000001 00
+== what is no copy
+^ §2
 < {"stop":"not_journal"}
-! 7
-
-== a copy of a world that is not sound: a checkpoint above the fork's last place
-^ 'RXJOURN2' 01 000000a4 01 00000001 'f' 0000009a '{"indexes":[],"primaryKey":"id","properties":{"id":{"maxLength":20,"type":"string"},"n":{"type":"integer"}},"required":["id"],"type":"object","version":0}'
-^ 01 000000a4 01 00000001 'm' 0000009a '{"indexes":[],"primaryKey":"id","properties":{"id":{"maxLength":20,"type":"string"},"n":{"type":"integer"}},"required":["id"],"type":"object","version":0}'
-^ 01 00000021 03 00000001 'r' 00000001 'f' 00 00000001 'm' 0000000b 'master_wins' 00
-^ 01 00000019 08 00000001 'r' 00000000 01 0000000000000001 00000001 'a' 00
-^ 01 00000009 09 0000000000000001 00
-< {"stop":"not_journal"}
-! 7
+| the end of the copy is wanting | COPY 01 0000003e 07 00000001 'c' 00000001 0000000000000005 0000000000000002 00000001 'a' 00 00000002 00000002 'id' 02 00000001 'a' 00000001 'n' 01 0000000000000001 00
+| a late end, behind a record of a run | COPY 01 00000009 05 0000000000000001 01 00000009 09 0000000000000001 00
+| a copy of a world that is not sound: a checkpoint above the fork's last place | 'RXJOURN2' 01 000000a4 01 00000001 'f' 0000009a '{"indexes":[],"primaryKey":"id","properties":{"id":{"maxLength":20,"type":"string"},"n":{"type":"integer"}},"required":["id"],"type":"object","version":0}' 01 000000a4 01 00000001 'm' 0000009a '{"indexes":[],"primaryKey":"id","properties":{"id":{"maxLength":20,"type":"string"},"n":{"type":"integer"}},"required":["id"],"type":"object","version":0}' 01 00000021 03 00000001 'r' 00000001 'f' 00 00000001 'm' 0000000b 'master_wins' 00 01 00000019 08 00000001 'r' 00000000 01 0000000000000001 00000001 'a' 00 01 00000009 09 0000000000000001 00
 "#;

@@ -1,6 +1,5 @@
 // Counts: by hand, and of random queries over random documents, which are the same by each index.
-use crate::case::compare_lines;
-use crate::indexed::{INDEXES, play_indexed};
+use crate::case::{compare_lines, play_all};
 use crate::random::Random;
 use crate::run::{Ran, run_made};
 use std::alloc::{AllocError, Global};
@@ -8,52 +7,12 @@ use std::test::Fail;
 
 #[test]
 fn counts_by_hand_are_the_same_by_each_index(rt: HostRuntime) -> Result<(), Fail> {
-    let made = format!(in rt.alloc(); "> {COLLECTION}\n< made\n")?;
-    play_indexed(rt.alloc(), made.as_str(), FACTS)
+    play_all(rt.alloc(), CASES)
 }
 
-// Of 1,000 documents whose number is their place, and whose flag is set where it is odd.
-#[test]
-fn a_count_is_that_of_the_keys_between_its_bounds(rt: HostRuntime) -> Result<(), Fail> {
-    let ran = run_made(rt.alloc(), span_script(rt.alloc())?)?;
-    compare_spans(&ran)
-}
-
-fn compare_spans(ran: &Ran) -> Result<(), Fail> {
-    if ran.ends_with(SPAN_REPLIES)? {
-        return Ok(());
-    }
-    Err(Fail::new("other counts"))
-}
-
-fn span_script(alloc: Global) -> Result<String, AllocError> {
-    let mut script = COLLECTION.replace(alloc, "INDEXES", r#"["s",["b","n"]]"#)?;
-    add_documents(&mut script)?;
-    script.push_str(SPANS)?;
-    Ok(script)
-}
-
-fn add_documents(script: &mut String) -> Result<(), AllocError> {
-    script.push_str("\n{\"do\":\"bulk\",\"in\":\"c\",\"docs\":[")?;
-    for i in 0..1_000u64 {
-        let comma = if i == 0 { "" } else { "," };
-        let is_odd = i % 2 == 1;
-        write!(
-            script,
-            "{comma}{{\"id\":\"t{i}\",\"b\":{is_odd},\"n\":{i}}}"
-        )?;
-    }
-    script.push_str("]}\n")
-}
-
-const SPANS: &str = r#"{"do":"count","in":"c","query":{"selector":{"b":true,"n":{"$gte":990}}}}
-{"do":"count","in":"c","query":{"selector":{"id":"t5"}}}
-"#;
-
-const SPAN_REPLIES: [&str; 2] = [
-    r#"{"count":5,"line":3,"ok":"count"}"#,
-    r#"{"count":1,"line":4,"ok":"count"}"#,
-];
+// The indexes of each schema.
+const INDEXES: &str =
+    r#"[] ["n"] ["b"] ["s","n"] [["b","n"]] [["n","b"],"s"] [["n","id"]] [["b","s","n"],["s"]]"#;
 
 const QUERIES: u64 = 300;
 
@@ -63,7 +22,7 @@ const QUERIES: u64 = 300;
 fn random_queries_are_answered_the_same_by_each_index(rt: HostRuntime) -> Result<(), Fail> {
     let lines = random_lines(rt.alloc())?;
     let mut first = String::new(rt.alloc());
-    for indexes in INDEXES.iter() {
+    for indexes in INDEXES.split_whitespace() {
         compare_answers(rt.alloc(), indexes, lines.as_str(), &mut first)?;
     }
     Ok(())
@@ -279,8 +238,10 @@ const COLLECTION: &str =
     r#"{"do":"collection","name":"c","schema":{"version":0,"primaryKey":"id","type":"object","properties":{"id":{"type":"string","maxLength":20},"b":{"type":"boolean"},"n":{"type":"integer","minimum":-1000,"maximum":1000,"multipleOf":1},"s":{"type":"string","maxLength":5}},"indexes":INDEXES}}"#;
 
 // Each field is missing somewhere, the text is empty once, and one document is taken out.
-const FACTS: &str =
-    r#"> {"do":"bulk","in":"c","docs":[{"b":true,"id":"a","n":1,"s":"x"},{"b":true,"id":"b","n":1},{"b":false,"id":"d","n":2,"s":""},{"b":true,"id":"e","s":"x"},{"id":"f","n":1,"s":"y"},{"b":false,"id":"g","n":2,"s":"x"},{"b":true,"id":"h","n":-3,"s":"y"}]}
+const CASES: &str = r#"
+== counts by hand are the same by each index
+. {"do":"collection","name":"c","schema":{"version":0,"primaryKey":"id","type":"object","properties":{"id":{"type":"string","maxLength":20},"b":{"type":"boolean"},"n":{"type":"integer","minimum":-1000,"maximum":1000,"multipleOf":1},"s":{"type":"string","maxLength":5}},"indexes":§1}}
+> {"do":"bulk","in":"c","docs":[{"b":true,"id":"a","n":1,"s":"x"},{"b":true,"id":"b","n":1},{"b":false,"id":"d","n":2,"s":""},{"b":true,"id":"e","s":"x"},{"id":"f","n":1,"s":"y"},{"b":false,"id":"g","n":2,"s":"x"},{"b":true,"id":"h","n":-3,"s":"y"}]}
 < {"line":L,"ok":"bulk","revs":["1-c","1-c","1-c","1-c","1-c","1-c","1-c"]}
 > {"do":"remove","in":"c","key":"g"}
 < {"line":L,"ok":"remove","rev":"2-c"}
@@ -336,4 +297,22 @@ const FACTS: &str =
 < {"count":1,"line":L,"ok":"count"}
 > {"do":"count","in":"c","query":{"skip":7,"sort":[{"n":"desc"}]}}
 < {"count":0,"line":L,"ok":"count"}
+| []
+| ["n"]
+| ["b"]
+| ["s","n"]
+| [["b","n"]]
+| [["n","b"],"s"]
+| [["n","id"]]
+| [["b","s","n"],["s"]]
+
+// Of 1,000 documents whose number is their place, and whose flag is set where it is odd.
+== a count is that of the keys between its bounds
+. {"do":"collection","name":"c","schema":{"version":0,"primaryKey":"id","type":"object","properties":{"id":{"type":"string","maxLength":20},"b":{"type":"boolean"},"n":{"type":"integer","minimum":-1000,"maximum":1000,"multipleOf":1},"s":{"type":"string","maxLength":5}},"indexes":["s",["b","n"]]}}
+> {"do":"bulk","in":"c","docs":[{"id":"t0","b":false,"n":0},{"id":"t1","b":true,"n":1},{"id":"t2","b":false,"n":2},{"id":"t3","b":true,"n":3},{"id":"t4","b":false,"n":4},{"id":"t5","b":true,"n":5},{"id":"t6","b":false,"n":6},{"id":"t7","b":true,"n":7},{"id":"t8","b":false,"n":8},{"id":"t9","b":true,"n":9},‹1..100|,|{"id":"t#0","b":false,"n":#0},{"id":"t#1","b":true,"n":#1},{"id":"t#2","b":false,"n":#2},{"id":"t#3","b":true,"n":#3},{"id":"t#4","b":false,"n":#4},{"id":"t#5","b":true,"n":#5},{"id":"t#6","b":false,"n":#6},{"id":"t#7","b":true,"n":#7},{"id":"t#8","b":false,"n":#8},{"id":"t#9","b":true,"n":#9}›]}
+< {"line":L,"ok":"bulk","revs":[‹0..1000|,|"1-c"›]}
+> {"do":"count","in":"c","query":{"selector":{"b":true,"n":{"$gte":990}}}}
+< {"count":5,"line":L,"ok":"count"}
+> {"do":"count","in":"c","query":{"selector":{"id":"t5"}}}
+< {"count":1,"line":L,"ok":"count"}
 "#;

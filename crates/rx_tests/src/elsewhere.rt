@@ -3,26 +3,13 @@ use crate::case::play_all;
 use std::test::Fail;
 
 #[test]
-fn an_exchange_is_lost_by_what_was_heard(rt: HostRuntime) -> Result<(), Fail> {
-    play_all(rt.alloc(), HEARD)
+fn turns_go_over_wires(rt: HostRuntime) -> Result<(), Fail> {
+    play_all(rt.alloc(), CASES)
 }
 
-#[test]
-fn a_turn_goes_over_one_wire(rt: HostRuntime) -> Result<(), Fail> {
-    play_all(rt.alloc(), TURNS)
-}
-
-#[test]
-fn a_replication_over_a_port_is_refused_as_any(rt: HostRuntime) -> Result<(), Fail> {
-    play_all(rt.alloc(), REFUSED)
-}
-
-const HEARD: &str = r#"
+const CASES: &str = r#"// An exchange is lost by what was heard.
 == a master that has nothing
-> C(f)
-< made
-> {"do":"replicate","name":"r","fork":"f","port":4001,"handler":"master_wins"}
-< {"line":L,"ok":"replicate"}
+. C(f) {"do":"replicate","name":"r","fork":"f","port":4001,"handler":"master_wins"}
 > {"do":"turn","name":"r"}
 +
 @ {"docs":[],"epoch":1,"n":1}
@@ -31,19 +18,13 @@ const HEARD: &str = r#"
 < {"end":"quiet","exchanges":1,"line":L,"ok":"turn"}
 
 == no master at the port
-> C(f)
-< made
-> {"do":"replicate","name":"r","fork":"f","port":4001,"handler":"master_wins"}
-< {"line":L,"ok":"replicate"}
+. C(f) {"do":"replicate","name":"r","fork":"f","port":4001,"handler":"master_wins"}
 > {"do":"turn","name":"r"}
 < {"exchange":1,"lost":"dial","sent":"pull"}
 < {"end":"lost","exchanges":1,"line":L,"ok":"turn"}
 
 == a request that cannot be sent
-> C(f)
-< made
-> {"do":"replicate","name":"r","fork":"f","port":4001,"handler":"master_wins"}
-< {"line":L,"ok":"replicate"}
+. C(f) {"do":"replicate","name":"r","fork":"f","port":4001,"handler":"master_wins"}
 > {"do":"turn","name":"r"}
 + 1
 @ {"docs":[],"epoch":1,"n":1}
@@ -51,10 +32,7 @@ const HEARD: &str = r#"
 < {"end":"lost","exchanges":1,"line":L,"ok":"turn"}
 
 == a reply that cannot be read
-> C(f)
-< made
-> {"do":"replicate","name":"r","fork":"f","port":4001,"handler":"master_wins"}
-< {"line":L,"ok":"replicate"}
+. C(f) {"do":"replicate","name":"r","fork":"f","port":4001,"handler":"master_wins"}
 > {"do":"turn","name":"r"}
 + 2
 @ {"docs":[],"epoch":1,"n":1}
@@ -63,10 +41,7 @@ const HEARD: &str = r#"
 < {"end":"lost","exchanges":1,"line":L,"ok":"turn"}
 
 == what is behind the line of a reply comes to nobody
-> C(f)
-< made
-> {"do":"replicate","name":"r","fork":"f","port":4001,"handler":"master_wins"}
-< {"line":L,"ok":"replicate"}
+. C(f) {"do":"replicate","name":"r","fork":"f","port":4001,"handler":"master_wins"}
 > {"do":"turn","name":"r"}
 +
 @ {"docs":[],"epoch":1,"n":1}
@@ -75,16 +50,10 @@ const HEARD: &str = r#"
 & {"ask":"pull","batch":100,"epoch":1,"n":1,"schema":"d3965597d0b8e1c41da9b2dc759684814b6376a695e3324ffc338dfea45c31a5"}
 < {"exchange":1,"rows":[],"sent":"pull"}
 < {"end":"quiet","exchanges":1,"line":L,"ok":"turn"}
-"#;
 
-const TURNS: &str = r#"
+// A turn goes over one wire.
 == a turn dials once, pushes and then pulls, and the next one goes on behind the place
-> C(f)
-< made
-> {"do":"replicate","name":"r","fork":"f","port":4001,"handler":"master_wins"}
-< {"line":L,"ok":"replicate"}
-> I(f,b,2)
-< insert 1-f
+. C(f) {"do":"replicate","name":"r","fork":"f","port":4001,"handler":"master_wins"} I(f,b,2)
 > {"do":"turn","name":"r"}
 +
 @ {"conflicts":[],"epoch":1,"n":1}
@@ -104,12 +73,7 @@ const TURNS: &str = r#"
 < {"end":"quiet","exchanges":1,"line":L,"ok":"turn"}
 
 == a conflict is settled by the handler
-> C(f)
-< made
-> {"do":"replicate","name":"r","fork":"f","port":4001,"handler":"master_wins"}
-< {"line":L,"ok":"replicate"}
-> I(f,a,2)
-< insert 1-f
+. C(f) {"do":"replicate","name":"r","fork":"f","port":4001,"handler":"master_wins"} I(f,a,2)
 > {"do":"turn","name":"r"}
 +
 @ {"conflicts":[{"_deleted":false,"id":"a","n":1}],"epoch":1,"n":1}
@@ -123,12 +87,7 @@ const TURNS: &str = r#"
 < {"doc":{"id":"a","n":1},"line":L,"lwt":2,"ok":"get","rev":"2-f"}
 
 == a push that is lost stays due, and is asked again by another number
-> C(f)
-< made
-> {"do":"replicate","name":"r","fork":"f","port":4001,"handler":"master_wins"}
-< {"line":L,"ok":"replicate"}
-> I(f,a,2)
-< insert 1-f
+. C(f) {"do":"replicate","name":"r","fork":"f","port":4001,"handler":"master_wins"} I(f,a,2)
 > {"do":"turn","name":"r"}
 + 2
 & {"ask":"push","epoch":1,"n":1,"rows":[{"new":{"_deleted":false,"id":"a","n":2}}],"schema":"d3965597d0b8e1c41da9b2dc759684814b6376a695e3324ffc338dfea45c31a5"}
@@ -145,24 +104,17 @@ const TURNS: &str = r#"
 < {"end":"quiet","exchanges":2,"line":L,"ok":"turn"}
 
 == a turn goes on until its budget is used
-> C(f)
-< made
-> {"do":"replicate","name":"r","fork":"f","port":4001,"handler":"master_wins"}
-< {"line":L,"ok":"replicate"}
+. C(f) {"do":"replicate","name":"r","fork":"f","port":4001,"handler":"master_wins"}
 > {"do":"turn","name":"r","batch":1,"budget":1}
 +
 @ {"docs":[{"_deleted":true,"id":"a","n":1}],"epoch":1,"n":1,"place":{"id":"a","lwt":1}}
 & {"ask":"pull","batch":1,"epoch":1,"n":1,"schema":"d3965597d0b8e1c41da9b2dc759684814b6376a695e3324ffc338dfea45c31a5"}
 < {"exchange":1,"place":{"id":"a","lwt":1},"rows":["a"],"sent":"pull"}
 < {"end":"more","exchanges":1,"line":L,"ok":"turn"}
-"#;
 
-const REFUSED: &str = r#"
+// A replication over a port is refused as any.
 == a link of a turn whose master is elsewhere
-> C(f)
-< made
-> {"do":"replicate","name":"r","fork":"f","port":4001,"handler":"master_wins"}
-< {"line":L,"ok":"replicate"}
+. C(f) {"do":"replicate","name":"r","fork":"f","port":4001,"handler":"master_wins"}
 > {"do":"turn","name":"r","link":["ok"]}
 < {"code":6,"line":L,"name":"link","refused":"unexpected"}
 > {"do":"turn","name":"r","link":[]}
@@ -171,10 +123,7 @@ const REFUSED: &str = r#"
 < {"code":18,"line":L,"refused":"no_replication"}
 
 == what a replication over a port is refused by
-> C(f)
-< made
-> {"do":"replicate","name":"r","fork":"f","port":4001,"handler":"master_wins"}
-< {"line":L,"ok":"replicate"}
+. C(f) {"do":"replicate","name":"r","fork":"f","port":4001,"handler":"master_wins"}
 > {"do":"replicate","name":"r","fork":"x","port":1,"handler":"nobody"}
 < {"code":9,"line":L,"refused":"exists"}
 > {"do":"replicate","name":"s","fork":"x","port":1,"handler":"nobody"}
@@ -185,16 +134,10 @@ const REFUSED: &str = r#"
 < {"code":19,"line":L,"refused":"no_handler"}
 > {"do":"replicate","name":"s","fork":"f","port":1,"handler":"join"}
 < {"code":21,"line":L,"refused":"chain"}
-> C(m)
-< made
-> {"do":"replicate","name":"s","fork":"m","port":4001,"handler":"join"}
-< {"line":L,"ok":"replicate"}
+. C(m) {"do":"replicate","name":"s","fork":"m","port":4001,"handler":"join"}
 > {"do":"replicate","name":"t","fork":"m","master":"f","handler":"join"}
 < {"code":21,"line":L,"refused":"chain"}
-> C(k)
-< made
-> {"do":"replicate","name":"t","fork":"k","master":"f","handler":"join"}
-< {"line":L,"ok":"replicate"}
+. C(k) {"do":"replicate","name":"t","fork":"k","master":"f","handler":"join"}
 > {"do":"restart"}
 < {"epoch":2,"line":L,"ok":"restart"}
 > {"do":"turn","name":"s"}

@@ -1,167 +1,17 @@
 // Indexes: results are the same by each of them, and a run looks at no more than stands between
 // its plan's bounds.
-use crate::case::{PIECE, play};
-use crate::run::{Ran, run_made};
-use crate::short::end_bulk;
-use std::alloc::{AllocError, Global};
+use crate::case::play_all;
 use std::test::Fail;
-
-// The indexes of the collection, in turn.
-pub const INDEXES: [&str; 8] = [
-    "[]",
-    r#"["n"]"#,
-    r#"["b"]"#,
-    r#"["s","n"]"#,
-    r#"[["b","n"]]"#,
-    r#"[["n","b"],"s"]"#,
-    r#"[["n","id"]]"#,
-    r#"[["b","s","n"],["s"]]"#,
-];
 
 #[test]
 fn results_are_the_same_by_each_index(rt: HostRuntime) -> Result<(), Fail> {
-    play_indexed(rt.alloc(), COLLECTION, FACTS)
+    play_all(rt.alloc(), CASES)
 }
 
-/// Plays the facts behind the collection, with each of the indexes.
-pub fn play_indexed(alloc: Global, collection: &str, facts: &str) -> Result<(), Fail> {
-    for indexes in INDEXES.iter() {
-        let made = collection.replace(alloc, "INDEXES", indexes)?;
-        play_behind(alloc, indexes, made, facts)?;
-    }
-    Ok(())
-}
-
-fn play_behind(alloc: Global, name: &str, mut made: String, facts: &str) -> Result<(), Fail> {
-    made.push_str(facts)?;
-    play(alloc, PIECE, name, made.as_str())
-}
-
-// Rows of a walk that isn't in the query's order: how many are skipped, and how many are left.
-const WINDOWS: [(u64, u64); 8] = [
-    (0, 1),
-    (0, 3),
-    (5, 20),
-    (0, 64),
-    (90, 20),
-    (150, 100),
-    (199, 5),
-    (200, 5),
-];
-
-#[test]
-fn a_window_is_cut_from_rows_in_another_order(rt: HostRuntime) -> Result<(), Fail> {
-    let mut facts = String::new(rt.alloc());
-    add_shuffled(rt.alloc(), &mut facts)?;
-    add_windows(&mut facts)?;
-    play_indexed(rt.alloc(), COLLECTION, facts.as_str())
-}
-
-fn add_windows(facts: &mut String) -> Result<(), AllocError> {
-    for (skip, limit) in WINDOWS.iter() {
-        add_window(*skip, *limit, facts)?;
-    }
-    Ok(())
-}
-
-const SHUFFLED_DOCUMENTS: u64 = 200;
-
-// Adds the query and its rows. The document i has the number 37 * i modulo 200, so that of the
-// number n is 173 * n modulo 200.
-fn add_window(skip: u64, limit: u64, facts: &mut String) -> Result<(), AllocError> {
-    write!(
-        facts,
-        "> {{\"do\":\"find\",\"in\":\"c\",\"query\":{{\"sort\":[{{\"n\":\"desc\"}}],\"skip\":{skip},\"limit\":{limit}}}}}\n"
-    )?;
-    facts.push_str("< {\"line\":L,\"ok\":\"find\",\"rows\":[")?;
-    let end = SHUFFLED_DOCUMENTS.min(skip.saturating_add(limit));
-    for place in skip..end {
-        let n = (SHUFFLED_DOCUMENTS - 1).saturating_sub(place);
-        let i = n.saturating_mul(173) % SHUFFLED_DOCUMENTS;
-        add_shuffled_one(place == skip, i, facts)?;
-    }
-    facts.push_str("]}\n")
-}
-
-// Adds the line that inserts the documents.
-fn add_shuffled(alloc: Global, facts: &mut String) -> Result<(), AllocError> {
-    facts.push_str(r#"> {"do":"bulk","in":"c","docs":["#)?;
-    for i in 0..SHUFFLED_DOCUMENTS {
-        add_shuffled_one(i == 0, i, facts)?;
-    }
-    end_bulk(alloc, SHUFFLED_DOCUMENTS as usize, facts)
-}
-
-fn add_shuffled_one(is_first: bool, i: u64, facts: &mut String) -> Result<(), AllocError> {
-    let n = i.saturating_mul(37) % SHUFFLED_DOCUMENTS;
-    let comma = if is_first { "" } else { "," };
-    write!(facts, "{comma}{{\"id\":\"k{i}\",\"n\":{n}}}")
-}
-
-const DOCUMENTS: u64 = 100_000;
-
-const DOCUMENTS_A_LINE: u64 = 20_000;
-
-const UPSERT_AND_COUNT: &str = r#"{"do":"upsert","in":"c","doc":{"id":"t0","n":2}}
-{"do":"count","in":"c","query":{"selector":{"r":7}}}
-"#;
-
-// A walk over all documents at each count, or at each change of the observed query, would be
-// 10,000,000,000 comparisons.
-#[test]
-fn upserts_and_counts_do_not_walk_all_documents(rt: HostRuntime) -> Result<(), Fail> {
-    let ran = run_made(rt.alloc(), upserts_and_counts(rt.alloc())?)?;
-    compare_last(&ran)
-}
-
-fn compare_last(ran: &Ran) -> Result<(), Fail> {
-    if ran.status == 0 && ran.ends_with(LAST_REPLIES)? {
-        return Ok(());
-    }
-    Err(Fail::new(format_args!("status {} or other lines", ran.status)))
-}
-
-const LAST_REPLIES: [&str; 2] = [
-    r#"{"line":200006,"ok":"upsert","rev":"100001-c"}"#,
-    r#"{"count":1,"line":200007,"ok":"count"}"#,
-];
-
-fn upserts_and_counts(alloc: Global) -> Result<String, AllocError> {
-    let mut script = String::from_str(alloc, RANKED)?;
-    for line in 0..DOCUMENTS / DOCUMENTS_A_LINE {
-        add_bulk(line.saturating_mul(DOCUMENTS_A_LINE), &mut script)?;
-    }
-    for _ in 0..DOCUMENTS {
-        script.push_str(UPSERT_AND_COUNT)?;
-    }
-    Ok(script)
-}
-
-// Adds the line of the documents from this number on.
-fn add_bulk(first: u64, script: &mut String) -> Result<(), AllocError> {
-    script.push_str(r#"{"do":"bulk","in":"c","docs":["#)?;
-    for i in 0..DOCUMENTS_A_LINE {
-        let n = first.saturating_add(i);
-        let comma = if i == 0 { "" } else { "," };
-        write!(script, "{comma}{{\"id\":\"t{n}\",\"r\":{n}}}")?;
-    }
-    script.push_str("]}\n")
-}
-
-const RANKED: &str =
-    r#"{"do":"collection","name":"c","schema":{"version":0,"primaryKey":"id","type":"object","properties":{"id":{"type":"string","maxLength":20},"n":{"type":"integer"},"r":{"type":"integer","minimum":0,"maximum":100000,"multipleOf":1}},"required":["id"],"indexes":["r"]}}
-{"do":"observe","name":"q","in":"c","query":{"selector":{"n":0}}}
-"#;
-
-// A collection with indexes to be named.
-const COLLECTION: &str =
-    r#"> {"do":"collection","name":"c","schema":{"version":0,"primaryKey":"id","type":"object","properties":{"id":{"type":"string","maxLength":20},"b":{"type":"boolean"},"n":{"type":"integer","minimum":-200,"maximum":200,"multipleOf":1},"s":{"type":"string","maxLength":5}},"indexes":INDEXES}}
-< made
-"#;
-
-const FACTS: &str =
-    r#"> {"do":"observe","name":"q","in":"c","query":{"selector":{"b":true},"sort":[{"n":"asc"}],"limit":2}}
-< {"line":L,"ok":"observe"}
+const CASES: &str = r#"
+== results are the same by each index
+. {"do":"collection","name":"c","schema":{"version":0,"primaryKey":"id","type":"object","properties":{"id":{"type":"string","maxLength":20},"b":{"type":"boolean"},"n":{"type":"integer","minimum":-200,"maximum":200,"multipleOf":1},"s":{"type":"string","maxLength":5}},"indexes":§1}}
+. {"do":"observe","name":"q","in":"c","query":{"selector":{"b":true},"sort":[{"n":"asc"}],"limit":2}}
 < {"emit":"q","rows":[]}
 > {"do":"bulk","in":"c","docs":[{"b":true,"id":"a","n":1,"s":"x"},{"b":true,"id":"b","n":1,"s":"y"},{"b":false,"id":"d","n":2,"s":"x"},{"b":true,"id":"e","s":"x"},{"id":"f","n":1},{"b":false,"id":"g","n":2,"s":"x"},{"b":true,"id":"h","n":-3,"s":"y"}]}
 < {"line":L,"ok":"bulk","revs":["1-c","1-c","1-c","1-c","1-c","1-c","1-c"]}
@@ -215,8 +65,7 @@ const FACTS: &str =
 < {"emit":"q","rows":[{"b":true,"id":"h","n":-3,"s":"y"},{"b":true,"id":"e","n":0}]}
 > {"do":"upsert","in":"c","doc":{"id":"b"}}
 < {"line":L,"ok":"upsert","rev":"2-c"}
-> {"do":"insert","in":"c","doc":{"b":false,"id":"c","n":2,"s":"x"}}
-< {"line":L,"ok":"insert","rev":"1-c"}
+. {"do":"insert","in":"c","doc":{"b":false,"id":"c","n":2,"s":"x"}}
 > {"do":"find","in":"c","query":{"selector":{"n":2}}}
 < {"line":L,"ok":"find","rows":[{"b":false,"id":"c","n":2,"s":"x"},{"b":false,"id":"g","n":2,"s":"x"}]}
 > {"do":"find","in":"c","query":{"selector":{"n":1}}}
@@ -281,4 +130,64 @@ $ run journal
 < {"line":L,"ok":"find","rows":[{"id":"d","n":-1,"s":"z"},{"b":true,"id":"e","n":0},{"id":"f","n":1}]}
 > {"do":"count","in":"c","query":{"selector":{"b":true}}}
 < {"count":2,"line":L,"ok":"count"}
+| []
+| ["n"]
+| ["b"]
+| ["s","n"]
+| [["b","n"]]
+| [["n","b"],"s"]
+| [["n","id"]]
+| [["b","s","n"],["s"]]
+
+// Document k has the number 37 times k, modulo 200.
+== a window is cut from rows in another order
+. {"do":"collection","name":"c","schema":{"version":0,"primaryKey":"id","type":"object","properties":{"id":{"type":"string","maxLength":20},"b":{"type":"boolean"},"n":{"type":"integer","minimum":-200,"maximum":200,"multipleOf":1},"s":{"type":"string","maxLength":5}},"indexes":§1}}
+> {"do":"bulk","in":"c","docs":[{"id":"k0","n":0},{"id":"k1","n":37},{"id":"k2","n":74},{"id":"k3","n":111},{"id":"k4","n":148},{"id":"k5","n":185},{"id":"k6","n":22},{"id":"k7","n":59},{"id":"k8","n":96},{"id":"k9","n":133},{"id":"k10","n":170},{"id":"k11","n":7},{"id":"k12","n":44},{"id":"k13","n":81},{"id":"k14","n":118},{"id":"k15","n":155},{"id":"k16","n":192},{"id":"k17","n":29},{"id":"k18","n":66},{"id":"k19","n":103},{"id":"k20","n":140},{"id":"k21","n":177},{"id":"k22","n":14},{"id":"k23","n":51},{"id":"k24","n":88},{"id":"k25","n":125},{"id":"k26","n":162},{"id":"k27","n":199},{"id":"k28","n":36},{"id":"k29","n":73},{"id":"k30","n":110},{"id":"k31","n":147},{"id":"k32","n":184},{"id":"k33","n":21},{"id":"k34","n":58},{"id":"k35","n":95},{"id":"k36","n":132},{"id":"k37","n":169},{"id":"k38","n":6},{"id":"k39","n":43},{"id":"k40","n":80},{"id":"k41","n":117},{"id":"k42","n":154},{"id":"k43","n":191},{"id":"k44","n":28},{"id":"k45","n":65},{"id":"k46","n":102},{"id":"k47","n":139},{"id":"k48","n":176},{"id":"k49","n":13},{"id":"k50","n":50},{"id":"k51","n":87},{"id":"k52","n":124},{"id":"k53","n":161},{"id":"k54","n":198},{"id":"k55","n":35},{"id":"k56","n":72},{"id":"k57","n":109},{"id":"k58","n":146},{"id":"k59","n":183},{"id":"k60","n":20},{"id":"k61","n":57},{"id":"k62","n":94},{"id":"k63","n":131},{"id":"k64","n":168},{"id":"k65","n":5},{"id":"k66","n":42},{"id":"k67","n":79},{"id":"k68","n":116},{"id":"k69","n":153},{"id":"k70","n":190},{"id":"k71","n":27},{"id":"k72","n":64},{"id":"k73","n":101},{"id":"k74","n":138},{"id":"k75","n":175},{"id":"k76","n":12},{"id":"k77","n":49},{"id":"k78","n":86},{"id":"k79","n":123},{"id":"k80","n":160},{"id":"k81","n":197},{"id":"k82","n":34},{"id":"k83","n":71},{"id":"k84","n":108},{"id":"k85","n":145},{"id":"k86","n":182},{"id":"k87","n":19},{"id":"k88","n":56},{"id":"k89","n":93},{"id":"k90","n":130},{"id":"k91","n":167},{"id":"k92","n":4},{"id":"k93","n":41},{"id":"k94","n":78},{"id":"k95","n":115},{"id":"k96","n":152},{"id":"k97","n":189},{"id":"k98","n":26},{"id":"k99","n":63},{"id":"k100","n":100},{"id":"k101","n":137},{"id":"k102","n":174},{"id":"k103","n":11},{"id":"k104","n":48},{"id":"k105","n":85},{"id":"k106","n":122},{"id":"k107","n":159},{"id":"k108","n":196},{"id":"k109","n":33},{"id":"k110","n":70},{"id":"k111","n":107},{"id":"k112","n":144},{"id":"k113","n":181},{"id":"k114","n":18},{"id":"k115","n":55},{"id":"k116","n":92},{"id":"k117","n":129},{"id":"k118","n":166},{"id":"k119","n":3},{"id":"k120","n":40},{"id":"k121","n":77},{"id":"k122","n":114},{"id":"k123","n":151},{"id":"k124","n":188},{"id":"k125","n":25},{"id":"k126","n":62},{"id":"k127","n":99},{"id":"k128","n":136},{"id":"k129","n":173},{"id":"k130","n":10},{"id":"k131","n":47},{"id":"k132","n":84},{"id":"k133","n":121},{"id":"k134","n":158},{"id":"k135","n":195},{"id":"k136","n":32},{"id":"k137","n":69},{"id":"k138","n":106},{"id":"k139","n":143},{"id":"k140","n":180},{"id":"k141","n":17},{"id":"k142","n":54},{"id":"k143","n":91},{"id":"k144","n":128},{"id":"k145","n":165},{"id":"k146","n":2},{"id":"k147","n":39},{"id":"k148","n":76},{"id":"k149","n":113},{"id":"k150","n":150},{"id":"k151","n":187},{"id":"k152","n":24},{"id":"k153","n":61},{"id":"k154","n":98},{"id":"k155","n":135},{"id":"k156","n":172},{"id":"k157","n":9},{"id":"k158","n":46},{"id":"k159","n":83},{"id":"k160","n":120},{"id":"k161","n":157},{"id":"k162","n":194},{"id":"k163","n":31},{"id":"k164","n":68},{"id":"k165","n":105},{"id":"k166","n":142},{"id":"k167","n":179},{"id":"k168","n":16},{"id":"k169","n":53},{"id":"k170","n":90},{"id":"k171","n":127},{"id":"k172","n":164},{"id":"k173","n":1},{"id":"k174","n":38},{"id":"k175","n":75},{"id":"k176","n":112},{"id":"k177","n":149},{"id":"k178","n":186},{"id":"k179","n":23},{"id":"k180","n":60},{"id":"k181","n":97},{"id":"k182","n":134},{"id":"k183","n":171},{"id":"k184","n":8},{"id":"k185","n":45},{"id":"k186","n":82},{"id":"k187","n":119},{"id":"k188","n":156},{"id":"k189","n":193},{"id":"k190","n":30},{"id":"k191","n":67},{"id":"k192","n":104},{"id":"k193","n":141},{"id":"k194","n":178},{"id":"k195","n":15},{"id":"k196","n":52},{"id":"k197","n":89},{"id":"k198","n":126},{"id":"k199","n":163}]}
+< {"line":L,"ok":"bulk","revs":[‹0..200|,|"1-c"›]}
+> {"do":"find","in":"c","query":{"sort":[{"n":"desc"}],"skip":0,"limit":1}}
+< {"line":L,"ok":"find","rows":[{"id":"k27","n":199}]}
+> {"do":"find","in":"c","query":{"sort":[{"n":"desc"}],"skip":0,"limit":3}}
+< {"line":L,"ok":"find","rows":[{"id":"k27","n":199},{"id":"k54","n":198},{"id":"k81","n":197}]}
+> {"do":"find","in":"c","query":{"sort":[{"n":"desc"}],"skip":5,"limit":20}}
+< {"line":L,"ok":"find","rows":[{"id":"k162","n":194},{"id":"k189","n":193},{"id":"k16","n":192},{"id":"k43","n":191},{"id":"k70","n":190},{"id":"k97","n":189},{"id":"k124","n":188},{"id":"k151","n":187},{"id":"k178","n":186},{"id":"k5","n":185},{"id":"k32","n":184},{"id":"k59","n":183},{"id":"k86","n":182},{"id":"k113","n":181},{"id":"k140","n":180},{"id":"k167","n":179},{"id":"k194","n":178},{"id":"k21","n":177},{"id":"k48","n":176},{"id":"k75","n":175}]}
+> {"do":"find","in":"c","query":{"sort":[{"n":"desc"}],"skip":0,"limit":64}}
+< {"line":L,"ok":"find","rows":[{"id":"k27","n":199},{"id":"k54","n":198},{"id":"k81","n":197},{"id":"k108","n":196},{"id":"k135","n":195},{"id":"k162","n":194},{"id":"k189","n":193},{"id":"k16","n":192},{"id":"k43","n":191},{"id":"k70","n":190},{"id":"k97","n":189},{"id":"k124","n":188},{"id":"k151","n":187},{"id":"k178","n":186},{"id":"k5","n":185},{"id":"k32","n":184},{"id":"k59","n":183},{"id":"k86","n":182},{"id":"k113","n":181},{"id":"k140","n":180},{"id":"k167","n":179},{"id":"k194","n":178},{"id":"k21","n":177},{"id":"k48","n":176},{"id":"k75","n":175},{"id":"k102","n":174},{"id":"k129","n":173},{"id":"k156","n":172},{"id":"k183","n":171},{"id":"k10","n":170},{"id":"k37","n":169},{"id":"k64","n":168},{"id":"k91","n":167},{"id":"k118","n":166},{"id":"k145","n":165},{"id":"k172","n":164},{"id":"k199","n":163},{"id":"k26","n":162},{"id":"k53","n":161},{"id":"k80","n":160},{"id":"k107","n":159},{"id":"k134","n":158},{"id":"k161","n":157},{"id":"k188","n":156},{"id":"k15","n":155},{"id":"k42","n":154},{"id":"k69","n":153},{"id":"k96","n":152},{"id":"k123","n":151},{"id":"k150","n":150},{"id":"k177","n":149},{"id":"k4","n":148},{"id":"k31","n":147},{"id":"k58","n":146},{"id":"k85","n":145},{"id":"k112","n":144},{"id":"k139","n":143},{"id":"k166","n":142},{"id":"k193","n":141},{"id":"k20","n":140},{"id":"k47","n":139},{"id":"k74","n":138},{"id":"k101","n":137},{"id":"k128","n":136}]}
+> {"do":"find","in":"c","query":{"sort":[{"n":"desc"}],"skip":90,"limit":20}}
+< {"line":L,"ok":"find","rows":[{"id":"k57","n":109},{"id":"k84","n":108},{"id":"k111","n":107},{"id":"k138","n":106},{"id":"k165","n":105},{"id":"k192","n":104},{"id":"k19","n":103},{"id":"k46","n":102},{"id":"k73","n":101},{"id":"k100","n":100},{"id":"k127","n":99},{"id":"k154","n":98},{"id":"k181","n":97},{"id":"k8","n":96},{"id":"k35","n":95},{"id":"k62","n":94},{"id":"k89","n":93},{"id":"k116","n":92},{"id":"k143","n":91},{"id":"k170","n":90}]}
+> {"do":"find","in":"c","query":{"sort":[{"n":"desc"}],"skip":150,"limit":100}}
+< {"line":L,"ok":"find","rows":[{"id":"k77","n":49},{"id":"k104","n":48},{"id":"k131","n":47},{"id":"k158","n":46},{"id":"k185","n":45},{"id":"k12","n":44},{"id":"k39","n":43},{"id":"k66","n":42},{"id":"k93","n":41},{"id":"k120","n":40},{"id":"k147","n":39},{"id":"k174","n":38},{"id":"k1","n":37},{"id":"k28","n":36},{"id":"k55","n":35},{"id":"k82","n":34},{"id":"k109","n":33},{"id":"k136","n":32},{"id":"k163","n":31},{"id":"k190","n":30},{"id":"k17","n":29},{"id":"k44","n":28},{"id":"k71","n":27},{"id":"k98","n":26},{"id":"k125","n":25},{"id":"k152","n":24},{"id":"k179","n":23},{"id":"k6","n":22},{"id":"k33","n":21},{"id":"k60","n":20},{"id":"k87","n":19},{"id":"k114","n":18},{"id":"k141","n":17},{"id":"k168","n":16},{"id":"k195","n":15},{"id":"k22","n":14},{"id":"k49","n":13},{"id":"k76","n":12},{"id":"k103","n":11},{"id":"k130","n":10},{"id":"k157","n":9},{"id":"k184","n":8},{"id":"k11","n":7},{"id":"k38","n":6},{"id":"k65","n":5},{"id":"k92","n":4},{"id":"k119","n":3},{"id":"k146","n":2},{"id":"k173","n":1},{"id":"k0","n":0}]}
+> {"do":"find","in":"c","query":{"sort":[{"n":"desc"}],"skip":199,"limit":5}}
+< {"line":L,"ok":"find","rows":[{"id":"k0","n":0}]}
+> {"do":"find","in":"c","query":{"sort":[{"n":"desc"}],"skip":200,"limit":5}}
+< {"line":L,"ok":"find","rows":[]}
+| []
+| ["n"]
+| ["b"]
+| ["s","n"]
+| [["b","n"]]
+| [["n","b"],"s"]
+| [["n","id"]]
+| [["b","s","n"],["s"]]
+
+// A walk over all documents at each count, or at each change of the observed query, would be
+// 10,000,000,000 comparisons.
+== upserts and counts do not walk all documents
+. {"do":"collection","name":"c","schema":{"version":0,"primaryKey":"id","type":"object","properties":{"id":{"type":"string","maxLength":20},"n":{"type":"integer"},"r":{"type":"integer","minimum":0,"maximum":100000,"multipleOf":1}},"required":["id"],"indexes":["r"]}}
+. {"do":"observe","name":"q","in":"c","query":{"selector":{"n":0}}}
+< {"emit":"q","rows":[]}
+> {"do":"bulk","in":"c","docs":[‹0..20000|,|{"id":"t#","r":#}›]}
+< {"line":L,"ok":"bulk","revs":[‹0..20000|,|"1-c"›]}
+> {"do":"bulk","in":"c","docs":[‹20000..40000|,|{"id":"t#","r":#}›]}
+< {"line":L,"ok":"bulk","revs":[‹0..20000|,|"1-c"›]}
+> {"do":"bulk","in":"c","docs":[‹40000..60000|,|{"id":"t#","r":#}›]}
+< {"line":L,"ok":"bulk","revs":[‹0..20000|,|"1-c"›]}
+> {"do":"bulk","in":"c","docs":[‹60000..80000|,|{"id":"t#","r":#}›]}
+< {"line":L,"ok":"bulk","revs":[‹0..20000|,|"1-c"›]}
+> {"do":"bulk","in":"c","docs":[‹80000..100000|,|{"id":"t#","r":#}›]}
+< {"line":L,"ok":"bulk","revs":[‹0..20000|,|"1-c"›]}
+‹1..100001|
+|> {"do":"upsert","in":"c","doc":{"id":"t0","n":2}}
+< {"line":L,"ok":"upsert","rev":"⁺-c"}
+> {"do":"count","in":"c","query":{"selector":{"r":7}}}
+< {"count":1,"line":L,"ok":"count"}›
 "#;

@@ -3,26 +3,11 @@ use crate::case::play_all;
 use std::test::Fail;
 
 #[test]
-fn records_have_these_bytes(rt: HostRuntime) -> Result<(), Fail> {
-    play_all(rt.alloc(), WRITTEN)
+fn journals_have_these_bytes_and_are_taken_or_left_alone(rt: HostRuntime) -> Result<(), Fail> {
+    play_all(rt.alloc(), CASES)
 }
 
-#[test]
-fn a_journal_that_is_legal_is_played_on(rt: HostRuntime) -> Result<(), Fail> {
-    play_all(rt.alloc(), LEGAL)
-}
-
-#[test]
-fn a_journal_that_is_not_legal_is_left_alone(rt: HostRuntime) -> Result<(), Fail> {
-    play_all(rt.alloc(), ILLEGAL)
-}
-
-#[test]
-fn a_journal_ends_within_its_limit(rt: HostRuntime) -> Result<(), Fail> {
-    play_all(rt.alloc(), LIMITS)
-}
-
-const WRITTEN: &str = r#"
+const CASES: &str = r#"// What records are.
 == an empty run makes a journal with its epoch
 = 52584a4f55524e31 01 00000009 05 0000000000000001 00
 
@@ -34,18 +19,14 @@ $ run another
 = 52584a4f55524e31 01 00000009 05 0000000000000001 01 00000009 05 0000000000000002 01 00000009 05 0000000000000003 00
 
 == a collection is its name and its canonical schema
-> C(c)
-< made
+. C(c)
 = 'RXJOURN1' 01 00000009 05 0000000000000001
 = 01 000000a4 01 00000001 'c' 0000009a
 = '{"indexes":[],"primaryKey":"id","properties":{"id":{"maxLength":20,"type":"string"},"n":{"type":"integer"}},"required":["id"],"type":"object","version":0}'
 = 00
 
 == an insert is one row
-> C(c)
-< made
-> I(c,a,1)
-< insert 1-c
+. C(c) I(c,a,1)
 = BASE 01 0000003e 02 00000001 'c' 0000000000000001 00000001
 = 0000000000000001 00000001 'a' 00 00000002 00000002 'id' 02 00000001 'a' 00000001 'n' 01 0000000000000001
 = 00
@@ -59,10 +40,8 @@ $ run another
 = 00
 
 == a commit has its rows by rising keys, with flags, numbers and texts, and a tombstone keeps its fields
-> {"do":"collection","name":"d","schema":{LEAST,"properties":{"k":{"type":"string","maxLength":8},"b":{"type":"boolean"},"n":{"type":"integer"}}}}
-< made
-> {"do":"tick","at":258}
-< {"line":L,"ok":"tick"}
+. {"do":"collection","name":"d","schema":{LEAST,"properties":{"k":{"type":"string","maxLength":8},"b":{"type":"boolean"},"n":{"type":"integer"}}}}
+. {"do":"tick","at":258}
 > {"do":"bulk","in":"d","docs":[{"k":"é","n":-7},{"k":"a","b":true}]}
 < {"line":L,"ok":"bulk","revs":["1-d","1-d"]}
 > {"do":"remove","in":"d","key":"a"}
@@ -82,16 +61,12 @@ $ run another
 = 00
 
 == lines that write nothing
-> C(c)
-< made
+. C(c)
 > C(c)
 < {"line":L,"new":false,"ok":"collection"}
 > {"do":"bulk","in":"c","docs":[]}
 < {"line":L,"ok":"bulk","revs":[]}
-> {"do":"tick","at":5}
-< {"line":L,"ok":"tick"}
-> {"do":"observe","name":"q","in":"c","query":{}}
-< {"line":L,"ok":"observe"}
+. {"do":"tick","at":5} {"do":"observe","name":"q","in":"c","query":{}}
 < {"emit":"q","rows":[]}
 > {"do":"find","in":"c","query":{}}
 < {"line":L,"ok":"find","rows":[]}
@@ -104,10 +79,7 @@ $ run another
 = BASE 00
 
 == a write of what is held is a row
-> C(c)
-< made
-> I(c,a,1)
-< insert 1-c
+. C(c) I(c,a,1)
 > {"do":"patch","in":"c","key":"a","set":{}}
 < {"line":L,"ok":"patch","rev":"2-c"}
 = BASE 01 0000003e 02 00000001 'c' 0000000000000001 00000001
@@ -115,17 +87,13 @@ $ run another
 = 01 0000003e 02 00000001 'c' 0000000000000002 00000001
 = 0000000000000002 00000001 'a' 00 00000002 00000002 'id' 02 00000001 'a' 00000001 'n' 01 0000000000000001
 = 00
-"#;
 
-const LEGAL: &str = r#"
+// A journal that is legal is played on.
+
 == a document is held by the next run
-> C(c)
-< made
-> {"do":"observe","name":"q","in":"c","query":{"selector":{"n":1}}}
-< {"line":L,"ok":"observe"}
+. C(c) {"do":"observe","name":"q","in":"c","query":{"selector":{"n":1}}}
 < {"emit":"q","rows":[]}
-> I(c,a,1)
-< {"line":L,"ok":"insert","rev":"1-c"}
+. I(c,a,1)
 < {"emit":"q","rows":[{"id":"a","n":1}]}
 > I(c,a,1)
 < {"code":14,"line":L,"refused":"conflict","rev":"1-c"}
@@ -134,22 +102,14 @@ $ run journal
 < {"code":14,"line":L,"refused":"conflict","rev":"1-c"}
 
 == documents, revisions, tombstones and times are held, queries and the moment are not
-> C(c)
-< made
-> C(d)
-< made
-> {"do":"tick","at":40}
-< {"line":L,"ok":"tick"}
+. C(c) C(d) {"do":"tick","at":40}
 > {"do":"bulk","in":"c","docs":[{"id":"a","n":1},{"id":"b","n":2},{"id":"e"}]}
 < {"line":L,"ok":"bulk","revs":["1-c","1-c","1-c"]}
 > {"do":"remove","in":"c","key":"a"}
 < {"line":L,"ok":"remove","rev":"2-c"}
 > {"do":"patch","in":"c","key":"b","set":{"n":3}}
 < {"line":L,"ok":"patch","rev":"2-c"}
-> I(d,z,-1)
-< insert 1-d
-> {"do":"observe","name":"q","in":"c","query":{}}
-< {"line":L,"ok":"observe"}
+. I(d,z,-1) {"do":"observe","name":"q","in":"c","query":{}}
 < {"emit":"q","rows":[{"id":"b","n":3},{"id":"e"}]}
 $ run journal
 > C(c)
@@ -168,12 +128,10 @@ $ run journal
 < insert 3-c
 > {"do":"get","in":"c","key":"a"}
 < {"doc":{"id":"a","n":5},"line":L,"lwt":43,"ok":"get","rev":"3-c"}
-> I(d,y,1)
-< insert 1-d
+. I(d,y,1)
 > {"do":"get","in":"d","key":"y"}
 < {"doc":{"id":"y","n":1},"line":L,"lwt":41,"ok":"get","rev":"1-d"}
-> {"do":"observe","name":"q","in":"c","query":{}}
-< {"line":L,"ok":"observe"}
+. {"do":"observe","name":"q","in":"c","query":{}}
 < {"emit":"q","rows":[{"id":"a","n":5},{"id":"b","n":3},{"id":"e"}]}
 $ run journal
 > {"do":"count","in":"c","query":{}}
@@ -211,8 +169,7 @@ $ run journal
 
 == no epoch needs to stand in it
 ^ 'RXJOURN1' 01 000000a4 01 00000001 'c' 0000009a '{"indexes":[],"primaryKey":"id","properties":{"id":{"maxLength":20,"type":"string"},"n":{"type":"integer"}},"required":["id"],"type":"object","version":0}' 00
-> I(c,a,1)
-< insert 1-c
+. I(c,a,1)
 = 'RXJOURN1' 01 000000a4 01 00000001 'c' 0000009a '{"indexes":[],"primaryKey":"id","properties":{"id":{"maxLength":20,"type":"string"},"n":{"type":"integer"}},"required":["id"],"type":"object","version":0}'
 = 01 00000009 05 0000000000000001
 = 01 0000003e 02 00000001 'c' 0000000000000001 00000001 0000000000000001 00000001 'a' 00 00000002 00000002 'id' 02 00000001 'a' 00000001 'n' 01 0000000000000001
@@ -227,8 +184,7 @@ $ run journal
 ^ BASE 01 0000003e 02 00000001 'c' 00000000000003e8 00000001 0000000000000001 00000001 'a' 00 00000002 00000002 'id' 02 00000001 'a' 00000001 'n' 01 001fffffffffffff 00
 > {"do":"get","in":"c","key":"a"}
 < {"doc":{"id":"a","n":9007199254740991},"line":L,"lwt":1000,"ok":"get","rev":"1-c"}
-> I(c,b,1)
-< insert 1-c
+. I(c,b,1)
 > {"do":"get","in":"c","key":"b"}
 < {"doc":{"id":"b","n":1},"line":L,"lwt":1001,"ok":"get","rev":"1-c"}
 
@@ -247,274 +203,84 @@ $ run journal
 < {"line":L,"ok":"find","rows":[]}
 > I(c,a,1)
 < insert 2-c
-"#;
 
-const ILLEGAL: &str = r#"
+// A journal that is not legal is left alone.
+
 == a file of more than nine bytes has a header
 ^ 'hello' 20 'world'
 < {"stop":"not_journal"}
-! 7
 
 == the second version's header, and no copy
 ^ 'RXJOURN2' 00 00
 > C(c)
 < {"stop":"not_journal"}
-! 7
 
-== a header of which a byte is wrong
-^ 'rXJOURN1' 01 00000009 05 0000000000000001 00
+== what is no journal
+^ §2
 < {"stop":"not_journal"}
-! 7
+| a header of which a byte is wrong | 'rXJOURN1' 01 00000009 05 0000000000000001 00
+| an open gate with one byte behind it | 'RXJOURN1' 01 00
+| a file that ends in the place of a gate | 'RXJOURN1' 01 00000009 05 0000000000000001
+| a file that ends within a record | 'RXJOURN1' 01 00000009 05 00000000000000
+| a record longer than the file | 'RXJOURN1' 01 ffffffff 05 0000000000000001 00
+| a record without a byte | 'RXJOURN1' 01 00000000 00
+| a first epoch that is 2 | 'RXJOURN1' 01 00000009 05 0000000000000002 00
+| a first epoch that is 0 | 'RXJOURN1' 01 00000009 05 0000000000000000 00
+| an epoch that jumps | 'RXJOURN1' 01 00000009 05 0000000000000001 01 00000009 05 0000000000000003 00
+| an epoch that stays | 'RXJOURN1' 01 00000009 05 0000000000000001 01 00000009 05 0000000000000001 00
+| an epoch with a byte behind it | 'RXJOURN1' 01 0000000a 05 0000000000000001 00 00
+| an epoch that is cut short | 'RXJOURN1' 01 00000008 05 00000000000000 01 00000009 05 0000000000000001 00
+| a record of kind 0 | BASE 01 00000009 00 0000000000000002 00
+| a record of kind 9 | BASE 01 00000009 09 0000000000000002 00
+| a record of kind 255 | BASE 01 00000001 ff 00
+| a second collection of the same name | BASE 01 000000a4 01 00000001 'c' 0000009a '{"indexes":[],"primaryKey":"id","properties":{"id":{"maxLength":20,"type":"string"},"n":{"type":"integer"}},"required":["id"],"type":"object","version":0}' 00
+| a collection whose name is none | BASE 01 000000a4 01 00000001 'C' 0000009a '{"indexes":[],"primaryKey":"id","properties":{"id":{"maxLength":20,"type":"string"},"n":{"type":"integer"}},"required":["id"],"type":"object","version":0}' 00
+| a schema that is not its canonical text | BASE 01 00000097 01 00000001 'd' 0000008d '{"version":0,"primaryKey":"id","type":"object","properties":{"id":{"type":"string","maxLength":20},"n":{"type":"integer"}},"required":["id"]}' 00
+| a schema that is none | BASE 01 0000000c 01 00000001 'd' 00000002 '{}' 00
+| a schema that is no JSON | BASE 01 0000000b 01 00000001 'd' 00000001 '{' 00
+| rows of a collection that is not held | BASE 01 0000003e 02 00000001 'd' 0000000000000001 00000001 0000000000000001 00000001 'a' 00 00000002 00000002 'id' 02 00000001 'a' 00000001 'n' 01 0000000000000001 00
+| no rows | BASE 01 00000012 02 00000001 'c' 0000000000000001 00000000 00
+| a write time of 0 | BASE 01 0000003e 02 00000001 'c' 0000000000000000 00000001 0000000000000001 00000001 'a' 00 00000002 00000002 'id' 02 00000001 'a' 00000001 'n' 01 0000000000000001 00
+| a write time past the last | BASE 01 0000003e 02 00000001 'c' 0020000000000000 00000001 0000000000000001 00000001 'a' 00 00000002 00000002 'id' 02 00000001 'a' 00000001 'n' 01 0000000000000001 00
+| a write time that stays | BASE 01 0000003e 02 00000001 'c' 0000000000000005 00000001 0000000000000001 00000001 'a' 00 00000002 00000002 'id' 02 00000001 'a' 00000001 'n' 01 0000000000000001 01 0000003e 02 00000001 'c' 0000000000000005 00000001 0000000000000001 00000001 'b' 00 00000002 00000002 'id' 02 00000001 'b' 00000001 'n' 01 0000000000000001 00
+| a write time that falls | BASE 01 0000003e 02 00000001 'c' 0000000000000005 00000001 0000000000000001 00000001 'a' 00 00000002 00000002 'id' 02 00000001 'a' 00000001 'n' 01 0000000000000001 01 0000003e 02 00000001 'c' 0000000000000004 00000001 0000000000000001 00000001 'b' 00 00000002 00000002 'id' 02 00000001 'b' 00000001 'n' 01 0000000000000001 00
+| a first height of 2 | BASE 01 0000003e 02 00000001 'c' 0000000000000001 00000001 0000000000000002 00000001 'a' 00 00000002 00000002 'id' 02 00000001 'a' 00000001 'n' 01 0000000000000001 00
+| a first height of 0 | BASE 01 0000003e 02 00000001 'c' 0000000000000001 00000001 0000000000000000 00000001 'a' 00 00000002 00000002 'id' 02 00000001 'a' 00000001 'n' 01 0000000000000001 00
+| a height that stays | BASE 01 0000003e 02 00000001 'c' 0000000000000001 00000001 0000000000000001 00000001 'a' 00 00000002 00000002 'id' 02 00000001 'a' 00000001 'n' 01 0000000000000001 01 0000003e 02 00000001 'c' 0000000000000002 00000001 0000000000000001 00000001 'a' 00 00000002 00000002 'id' 02 00000001 'a' 00000001 'n' 01 0000000000000001 00
+| a height that jumps | BASE 01 0000003e 02 00000001 'c' 0000000000000001 00000001 0000000000000001 00000001 'a' 00 00000002 00000002 'id' 02 00000001 'a' 00000001 'n' 01 0000000000000001 01 0000003e 02 00000001 'c' 0000000000000002 00000001 0000000000000003 00000001 'a' 00 00000002 00000002 'id' 02 00000001 'a' 00000001 'n' 01 0000000000000001 00
+| a state without its key among the fields | BASE 01 00000032 02 00000001 'c' 0000000000000001 00000001 0000000000000001 00000001 'a' 00 00000001 00000001 'n' 01 0000000000000001 00
+| a state with another key among the fields | BASE 01 0000003e 02 00000001 'c' 0000000000000001 00000001 0000000000000001 00000001 'a' 00 00000002 00000002 'id' 02 00000001 'b' 00000001 'n' 01 0000000000000001 00
+| a state with an unknown field | BASE 01 0000003e 02 00000001 'c' 0000000000000001 00000001 0000000000000001 00000001 'a' 00 00000002 00000002 'id' 02 00000001 'a' 00000001 'z' 01 0000000000000001 00
+| a state with a field of another kind | BASE 01 0000003b 02 00000001 'c' 0000000000000001 00000001 0000000000000001 00000001 'a' 00 00000002 00000002 'id' 02 00000001 'a' 00000001 'n' 02 00000001 'x' 00
+| a tombstone that is not valid | BASE 01 0000003b 02 00000001 'c' 0000000000000001 00000001 0000000000000001 00000001 'a' 01 00000002 00000002 'id' 02 00000001 'a' 00000001 'n' 02 00000001 'x' 00
+| a key that is too long | BASE 01 00000064 02 00000001 'c' 0000000000000001 00000001 0000000000000001 00000014 'abcdefghijklmnopqrst' 00 00000002 00000002 'id' 02 00000014 'abcdefghijklmnopqrst' 00000001 'n' 01 0000000000000001 01 00000066 02 00000001 'c' 0000000000000002 00000001 0000000000000001 00000015 'abcdefghijklmnopqrstu' 00 00000002 00000002 'id' 02 00000015 'abcdefghijklmnopqrstu' 00000001 'n' 01 0000000000000001 00
+| rows by falling keys | BASE 01 0000006a 02 00000001 'c' 0000000000000001 00000002 0000000000000001 00000001 'b' 00 00000002 00000002 'id' 02 00000001 'b' 00000001 'n' 01 0000000000000001 0000000000000001 00000001 'a' 00 00000002 00000002 'id' 02 00000001 'a' 00000001 'n' 01 0000000000000001 00
+| two rows of one key | BASE 01 0000006a 02 00000001 'c' 0000000000000001 00000002 0000000000000001 00000001 'a' 00 00000002 00000002 'id' 02 00000001 'a' 00000001 'n' 01 0000000000000001 0000000000000002 00000001 'a' 00 00000002 00000002 'id' 02 00000001 'a' 00000001 'n' 01 0000000000000001 00
+| fields by falling names | BASE 01 0000003e 02 00000001 'c' 0000000000000001 00000001 0000000000000001 00000001 'a' 00 00000002 00000001 'n' 01 0000000000000001 00000002 'id' 02 00000001 'a' 00
+| a value of kind 3 | BASE 01 0000003e 02 00000001 'c' 0000000000000001 00000001 0000000000000001 00000001 'a' 00 00000002 00000002 'id' 02 00000001 'a' 00000001 'n' 03 0000000000000001 00
+| a number out of range | BASE 01 0000003e 02 00000001 'c' 0000000000000001 00000001 0000000000000001 00000001 'a' 00 00000002 00000002 'id' 02 00000001 'a' 00000001 'n' 01 0020000000000000 00
+| a deletion mark that is neither 0 nor 1 | BASE 01 0000003e 02 00000001 'c' 0000000000000001 00000001 0000000000000001 00000001 'a' 02 00000002 00000002 'id' 02 00000001 'a' 00000001 'n' 01 0000000000000001 00
+| a text that is not UTF-8 | BASE 01 0000003e 02 00000001 'c' 0000000000000001 00000001 0000000000000001 00000001 ff 00 00000002 00000002 'id' 02 00000001 ff 00000001 'n' 01 0000000000000001 00
+| rows with a byte behind them | BASE 01 0000003f 02 00000001 'c' 0000000000000001 00000001 0000000000000001 00000001 'a' 00 00000002 00000002 'id' 02 00000001 'a' 00000001 'n' 01 0000000000000001 00 00
+| more rows are counted than stand there | BASE 01 0000003e 02 00000001 'c' 0000000000000001 00000002 0000000000000001 00000001 'a' 00 00000002 00000002 'id' 02 00000001 'a' 00000001 'n' 01 0000000000000001 00
 
-== an open gate with one byte behind it
-^ 'RXJOURN1' 01 00
-< {"stop":"not_journal"}
-! 7
+// A journal ends within its limit.
 
-== a file that ends in the place of a gate
-^ 'RXJOURN1' 01 00000009 05 0000000000000001
-< {"stop":"not_journal"}
-! 7
-
-== a file that ends within a record
-^ 'RXJOURN1' 01 00000009 05 00000000000000
-< {"stop":"not_journal"}
-! 7
-
-== a record longer than the file
-^ 'RXJOURN1' 01 ffffffff 05 0000000000000001 00
-< {"stop":"not_journal"}
-! 7
-
-== a record without a byte
-^ 'RXJOURN1' 01 00000000 00
-< {"stop":"not_journal"}
-! 7
-
-== a first epoch that is 2
-^ 'RXJOURN1' 01 00000009 05 0000000000000002 00
-< {"stop":"not_journal"}
-! 7
-
-== a first epoch that is 0
-^ 'RXJOURN1' 01 00000009 05 0000000000000000 00
-< {"stop":"not_journal"}
-! 7
-
-== an epoch that jumps
-^ 'RXJOURN1' 01 00000009 05 0000000000000001 01 00000009 05 0000000000000003 00
-< {"stop":"not_journal"}
-! 7
-
-== an epoch that stays
-^ 'RXJOURN1' 01 00000009 05 0000000000000001 01 00000009 05 0000000000000001 00
-< {"stop":"not_journal"}
-! 7
-
-== an epoch with a byte behind it
-^ 'RXJOURN1' 01 0000000a 05 0000000000000001 00 00
-< {"stop":"not_journal"}
-! 7
-
-== an epoch that is cut short
-^ 'RXJOURN1' 01 00000008 05 00000000000000 01 00000009 05 0000000000000001 00
-< {"stop":"not_journal"}
-! 7
-
-== a record of kind 0
-^ BASE 01 00000009 00 0000000000000002 00
-< {"stop":"not_journal"}
-! 7
-
-== a record of kind 9
-^ BASE 01 00000009 09 0000000000000002 00
-< {"stop":"not_journal"}
-! 7
-
-== a record of kind 255
-^ BASE 01 00000001 ff 00
-< {"stop":"not_journal"}
-! 7
-
-== a second collection of the same name
-^ BASE 01 000000a4 01 00000001 'c' 0000009a '{"indexes":[],"primaryKey":"id","properties":{"id":{"maxLength":20,"type":"string"},"n":{"type":"integer"}},"required":["id"],"type":"object","version":0}' 00
-< {"stop":"not_journal"}
-! 7
-
-== a collection whose name is none
-^ BASE 01 000000a4 01 00000001 'C' 0000009a '{"indexes":[],"primaryKey":"id","properties":{"id":{"maxLength":20,"type":"string"},"n":{"type":"integer"}},"required":["id"],"type":"object","version":0}' 00
-< {"stop":"not_journal"}
-! 7
-
-== a schema that is not its canonical text
-^ BASE 01 00000097 01 00000001 'd' 0000008d '{"version":0,"primaryKey":"id","type":"object","properties":{"id":{"type":"string","maxLength":20},"n":{"type":"integer"}},"required":["id"]}' 00
-< {"stop":"not_journal"}
-! 7
-
-== a schema that is none
-^ BASE 01 0000000c 01 00000001 'd' 00000002 '{}' 00
-< {"stop":"not_journal"}
-! 7
-
-== a schema that is no JSON
-^ BASE 01 0000000b 01 00000001 'd' 00000001 '{' 00
-< {"stop":"not_journal"}
-! 7
-
-== rows of a collection that is not held
-^ BASE 01 0000003e 02 00000001 'd' 0000000000000001 00000001 0000000000000001 00000001 'a' 00 00000002 00000002 'id' 02 00000001 'a' 00000001 'n' 01 0000000000000001 00
-< {"stop":"not_journal"}
-! 7
-
-== no rows
-^ BASE 01 00000012 02 00000001 'c' 0000000000000001 00000000 00
-< {"stop":"not_journal"}
-! 7
-
-== a write time of 0
-^ BASE 01 0000003e 02 00000001 'c' 0000000000000000 00000001 0000000000000001 00000001 'a' 00 00000002 00000002 'id' 02 00000001 'a' 00000001 'n' 01 0000000000000001 00
-< {"stop":"not_journal"}
-! 7
-
-== a write time past the last
-^ BASE 01 0000003e 02 00000001 'c' 0020000000000000 00000001 0000000000000001 00000001 'a' 00 00000002 00000002 'id' 02 00000001 'a' 00000001 'n' 01 0000000000000001 00
-< {"stop":"not_journal"}
-! 7
-
-== a write time that stays
-^ BASE 01 0000003e 02 00000001 'c' 0000000000000005 00000001 0000000000000001 00000001 'a' 00 00000002 00000002 'id' 02 00000001 'a' 00000001 'n' 01 0000000000000001
-^ 01 0000003e 02 00000001 'c' 0000000000000005 00000001 0000000000000001 00000001 'b' 00 00000002 00000002 'id' 02 00000001 'b' 00000001 'n' 01 0000000000000001 00
-< {"stop":"not_journal"}
-! 7
-
-== a write time that falls
-^ BASE 01 0000003e 02 00000001 'c' 0000000000000005 00000001 0000000000000001 00000001 'a' 00 00000002 00000002 'id' 02 00000001 'a' 00000001 'n' 01 0000000000000001
-^ 01 0000003e 02 00000001 'c' 0000000000000004 00000001 0000000000000001 00000001 'b' 00 00000002 00000002 'id' 02 00000001 'b' 00000001 'n' 01 0000000000000001 00
-< {"stop":"not_journal"}
-! 7
-
-== a first height of 2
-^ BASE 01 0000003e 02 00000001 'c' 0000000000000001 00000001 0000000000000002 00000001 'a' 00 00000002 00000002 'id' 02 00000001 'a' 00000001 'n' 01 0000000000000001 00
-< {"stop":"not_journal"}
-! 7
-
-== a first height of 0
-^ BASE 01 0000003e 02 00000001 'c' 0000000000000001 00000001 0000000000000000 00000001 'a' 00 00000002 00000002 'id' 02 00000001 'a' 00000001 'n' 01 0000000000000001 00
-< {"stop":"not_journal"}
-! 7
-
-== a height that stays
-^ BASE 01 0000003e 02 00000001 'c' 0000000000000001 00000001 0000000000000001 00000001 'a' 00 00000002 00000002 'id' 02 00000001 'a' 00000001 'n' 01 0000000000000001
-^ 01 0000003e 02 00000001 'c' 0000000000000002 00000001 0000000000000001 00000001 'a' 00 00000002 00000002 'id' 02 00000001 'a' 00000001 'n' 01 0000000000000001 00
-< {"stop":"not_journal"}
-! 7
-
-== a height that jumps
-^ BASE 01 0000003e 02 00000001 'c' 0000000000000001 00000001 0000000000000001 00000001 'a' 00 00000002 00000002 'id' 02 00000001 'a' 00000001 'n' 01 0000000000000001
-^ 01 0000003e 02 00000001 'c' 0000000000000002 00000001 0000000000000003 00000001 'a' 00 00000002 00000002 'id' 02 00000001 'a' 00000001 'n' 01 0000000000000001 00
-< {"stop":"not_journal"}
-! 7
-
-== a state without its key among the fields
-^ BASE 01 00000032 02 00000001 'c' 0000000000000001 00000001 0000000000000001 00000001 'a' 00 00000001 00000001 'n' 01 0000000000000001 00
-< {"stop":"not_journal"}
-! 7
-
-== a state with another key among the fields
-^ BASE 01 0000003e 02 00000001 'c' 0000000000000001 00000001 0000000000000001 00000001 'a' 00 00000002 00000002 'id' 02 00000001 'b' 00000001 'n' 01 0000000000000001 00
-< {"stop":"not_journal"}
-! 7
-
-== a state with an unknown field
-^ BASE 01 0000003e 02 00000001 'c' 0000000000000001 00000001 0000000000000001 00000001 'a' 00 00000002 00000002 'id' 02 00000001 'a' 00000001 'z' 01 0000000000000001 00
-< {"stop":"not_journal"}
-! 7
-
-== a state with a field of another kind
-^ BASE 01 0000003b 02 00000001 'c' 0000000000000001 00000001 0000000000000001 00000001 'a' 00 00000002 00000002 'id' 02 00000001 'a' 00000001 'n' 02 00000001 'x' 00
-< {"stop":"not_journal"}
-! 7
-
-== a tombstone that is not valid
-^ BASE 01 0000003b 02 00000001 'c' 0000000000000001 00000001 0000000000000001 00000001 'a' 01 00000002 00000002 'id' 02 00000001 'a' 00000001 'n' 02 00000001 'x' 00
-< {"stop":"not_journal"}
-! 7
-
-== a key that is too long
-^ BASE 01 00000064 02 00000001 'c' 0000000000000001 00000001 0000000000000001 00000014 'abcdefghijklmnopqrst' 00 00000002 00000002 'id' 02 00000014 'abcdefghijklmnopqrst' 00000001 'n' 01 0000000000000001
-^ 01 00000066 02 00000001 'c' 0000000000000002 00000001 0000000000000001 00000015 'abcdefghijklmnopqrstu' 00 00000002 00000002 'id' 02 00000015 'abcdefghijklmnopqrstu' 00000001 'n' 01 0000000000000001 00
-< {"stop":"not_journal"}
-! 7
-
-== rows by falling keys
-^ BASE 01 0000006a 02 00000001 'c' 0000000000000001 00000002
-^ 0000000000000001 00000001 'b' 00 00000002 00000002 'id' 02 00000001 'b' 00000001 'n' 01 0000000000000001
-^ 0000000000000001 00000001 'a' 00 00000002 00000002 'id' 02 00000001 'a' 00000001 'n' 01 0000000000000001 00
-< {"stop":"not_journal"}
-! 7
-
-== two rows of one key
-^ BASE 01 0000006a 02 00000001 'c' 0000000000000001 00000002
-^ 0000000000000001 00000001 'a' 00 00000002 00000002 'id' 02 00000001 'a' 00000001 'n' 01 0000000000000001
-^ 0000000000000002 00000001 'a' 00 00000002 00000002 'id' 02 00000001 'a' 00000001 'n' 01 0000000000000001 00
-< {"stop":"not_journal"}
-! 7
-
-== fields by falling names
-^ BASE 01 0000003e 02 00000001 'c' 0000000000000001 00000001 0000000000000001 00000001 'a' 00 00000002 00000001 'n' 01 0000000000000001 00000002 'id' 02 00000001 'a' 00
-< {"stop":"not_journal"}
-! 7
-
-== a value of kind 3
-^ BASE 01 0000003e 02 00000001 'c' 0000000000000001 00000001 0000000000000001 00000001 'a' 00 00000002 00000002 'id' 02 00000001 'a' 00000001 'n' 03 0000000000000001 00
-< {"stop":"not_journal"}
-! 7
-
-== a number out of range
-^ BASE 01 0000003e 02 00000001 'c' 0000000000000001 00000001 0000000000000001 00000001 'a' 00 00000002 00000002 'id' 02 00000001 'a' 00000001 'n' 01 0020000000000000 00
-< {"stop":"not_journal"}
-! 7
-
-== a deletion mark that is neither 0 nor 1
-^ BASE 01 0000003e 02 00000001 'c' 0000000000000001 00000001 0000000000000001 00000001 'a' 02 00000002 00000002 'id' 02 00000001 'a' 00000001 'n' 01 0000000000000001 00
-< {"stop":"not_journal"}
-! 7
-
-== a text that is not UTF-8
-^ BASE 01 0000003e 02 00000001 'c' 0000000000000001 00000001 0000000000000001 00000001 ff 00 00000002 00000002 'id' 02 00000001 ff 00000001 'n' 01 0000000000000001 00
-< {"stop":"not_journal"}
-! 7
-
-== rows with a byte behind them
-^ BASE 01 0000003f 02 00000001 'c' 0000000000000001 00000001 0000000000000001 00000001 'a' 00 00000002 00000002 'id' 02 00000001 'a' 00000001 'n' 01 0000000000000001 00 00
-< {"stop":"not_journal"}
-! 7
-
-== more rows are counted than stand there
-^ BASE 01 0000003e 02 00000001 'c' 0000000000000001 00000002 0000000000000001 00000001 'a' 00 00000002 00000002 'id' 02 00000001 'a' 00000001 'n' 01 0000000000000001 00
-< {"stop":"not_journal"}
-! 7
-"#;
-
-const LIMITS: &str = r#"
 == the epoch passes the limit
 $ run journal --max-journal 22
 < {"limit":22,"stop":"full","would":23}
-! 8
 = 'RXJOURN1' 00
 
 == the header that stands is not written again
 ^ 'RXJOURN1' ff
 $ run journal --max-journal 22
 < {"limit":22,"stop":"full","would":23}
-! 8
 = 'RXJOURN1' ff
 
 == a file that is no journal yet gets its header
 ^ 'hello'
 $ run journal --max-journal 22
 < {"limit":22,"stop":"full","would":23}
-! 8
 = 'RXJOURN1' 00
 
 == the epoch ends at the limit
@@ -525,42 +291,33 @@ $ run journal --max-journal 23
 $ run journal --max-journal 9
 > C(c)
 < {"limit":9,"stop":"full","would":23}
-! 8
 = 'RXJOURN1' 00
 
 == the greatest limit
 $ run journal --max-journal 4294967295
-> C(c)
-< made
+. C(c)
 = BASE 00
 
 == an insert passes the limit, and what was answered before stands
 $ run journal --max-journal 258
-> C(c)
-< made
+. C(c)
 > {"do":"fly"}
 < {"code":4,"line":L,"name":"fly","refused":"unknown_do"}
 > I(c,a,1)
 > I(c,b,1)
 < {"limit":258,"stop":"full","would":259}
-! 8
 = BASE 00
 $ run journal --max-journal 272
 > {"do":"get","in":"c","key":"a"}
 < {"code":15,"line":L,"refused":"no_document"}
 > I(c,a,1)
 < {"limit":272,"stop":"full","would":273}
-! 8
 $ run journal --max-journal 287
-> I(c,a,1)
-< insert 1-c
+. I(c,a,1)
 
 == an insert ends at the limit
 $ run journal --max-journal 259
-> C(c)
-< made
-> I(c,a,1)
-< insert 1-c
+. C(c) I(c,a,1)
 > I(c,a,1)
 < {"code":14,"line":L,"refused":"conflict","rev":"1-c"}
 
@@ -568,31 +325,20 @@ $ run journal --max-journal 259
 $ run journal --max-journal 191
 > C(c)
 < {"limit":191,"stop":"full","would":192}
-! 8
 = 'RXJOURN1' 01 00000009 05 0000000000000001 00
 
 == a bulk passes the limit as a whole
 $ run journal --max-journal 300
-> C(c)
-< made
+. C(c)
 > {"do":"bulk","in":"c","docs":[{"id":"a","n":1},{"id":"b","n":1}]}
 < {"limit":300,"stop":"full","would":303}
-! 8
 = BASE 00
 
 == the second record of a turn passes the limit, and the first stands
 $ run journal --max-journal 610
-> C(m)
-< made
-> C(f)
-< made
-> {"do":"replicate","name":"r","fork":"f","master":"m","handler":"master_wins"}
-< {"line":L,"ok":"replicate"}
-> I(f,a,1)
-< insert 1-f
+. C(m) C(f) {"do":"replicate","name":"r","fork":"f","master":"m","handler":"master_wins"} I(f,a,1)
 > {"do":"turn","name":"r"}
 < {"limit":610,"stop":"full","would":611}
-! 8
 $ run journal
 > {"do":"turn","name":"r"}
 < {"conflicts":["a"],"exchange":1,"rows":["a"],"sent":"push"}
@@ -601,17 +347,9 @@ $ run journal
 
 == the first record of a turn passes the limit
 $ run journal --max-journal 532
-> C(m)
-< made
-> C(f)
-< made
-> {"do":"replicate","name":"r","fork":"f","master":"m","handler":"master_wins"}
-< {"line":L,"ok":"replicate"}
-> I(f,a,1)
-< insert 1-f
+. C(m) C(f) {"do":"replicate","name":"r","fork":"f","master":"m","handler":"master_wins"} I(f,a,1)
 > {"do":"turn","name":"r"}
 < {"limit":532,"stop":"full","would":533}
-! 8
 $ run journal
 > {"do":"turn","name":"r"}
 < {"conflicts":[],"exchange":1,"rows":["a"],"sent":"push"}
@@ -623,7 +361,6 @@ $ run journal
 $ run journal --max-journal 100
 > C(d)
 < {"limit":100,"stop":"full","would":206}
-! 8
 = BASE 00
 
 == bytes behind the closed gate do not count for the limit

@@ -21,8 +21,6 @@ mod endless;
 #[cfg(test)]
 mod explained;
 #[cfg(test)]
-mod groups;
-#[cfg(test)]
 mod hashes;
 mod headline;
 #[cfg(test)]
@@ -46,8 +44,6 @@ mod migrating;
 #[cfg(test)]
 mod migration_records;
 #[cfg(test)]
-mod migration_stops;
-#[cfg(test)]
 mod pages;
 #[cfg(test)]
 mod planned;
@@ -63,8 +59,6 @@ mod queries;
 mod random;
 #[cfg(test)]
 mod reading;
-#[cfg(test)]
-mod record_stops;
 #[cfg(test)]
 mod replicating;
 #[cfg(test)]
@@ -90,13 +84,9 @@ mod statuses;
 #[cfg(test)]
 mod stops;
 #[cfg(test)]
-mod stream_stops;
-#[cfg(test)]
 mod streamed;
 #[cfg(test)]
 mod swept;
-#[cfg(test)]
-mod turn_stops;
 #[cfg(test)]
 mod turned;
 #[cfg(test)]

@@ -1,14 +1,20 @@
 // How many collections and observed queries there may be.
 use crate::case::play_all;
-use std::alloc::AllocError;
 use std::test::Fail;
 
-const COLLECTIONS: u64 = 64;
+#[test]
+fn there_are_64_collections_and_256_queries_at_most(rt: HostRuntime) -> Result<(), Fail> {
+    play_all(rt.alloc(), CASES)
+}
 
-const QUERIES: u64 = 256;
-
-// Where there are as many as may be.
-const FULL: &str = r#"> C(x)
+const CASES: &str = r#"
+== as many as may be
+‹0..64|
+|. C(c#)›
+‹0..256|
+|. {"do":"observe","name":"q#","in":"c0","query":{}}
+< {"emit":"q#","rows":[]}›
+> C(x)
 < {"code":23,"line":L,"refused":"too_many"}
 > C(c0)
 < {"line":L,"new":false,"ok":"collection"}
@@ -24,38 +30,10 @@ const FULL: &str = r#"> C(x)
 < {"code":9,"line":L,"refused":"exists"}
 > {"do":"observe","name":"x","in":"x","query":{}}
 < {"code":10,"line":L,"name":"x","refused":"no_collection"}
-> I(c63,a,1)
-< insert 1-c63
+. I(c63,a,1)
 $ run journal
 > C(x)
 < {"code":23,"line":L,"refused":"too_many"}
 > {"do":"count","in":"c63","query":{}}
 < {"count":1,"line":L,"ok":"count"}
 "#;
-
-#[test]
-fn there_are_64_collections_and_256_queries_at_most(rt: HostRuntime) -> Result<(), Fail> {
-    let alloc = rt.alloc();
-    let mut case = String::from_str(alloc, "\n== as many as may be\n")?;
-    add_collections(&mut case)?;
-    add_queries(&mut case)?;
-    case.push_str(FULL)?;
-    play_all(alloc, case.as_str())
-}
-
-fn add_collections(case: &mut String) -> Result<(), AllocError> {
-    for i in 0..COLLECTIONS {
-        write!(case, "> C(c{i})\n< made\n")?;
-    }
-    Ok(())
-}
-
-fn add_queries(case: &mut String) -> Result<(), AllocError> {
-    for i in 0..QUERIES {
-        write!(
-            case,
-            "> {{\"do\":\"observe\",\"name\":\"q{i}\",\"in\":\"c0\",\"query\":{{}}}}\n< {{\"line\":L,\"ok\":\"observe\"}}\n< {{\"emit\":\"q{i}\",\"rows\":[]}}\n"
-        )?;
-    }
-    Ok(())
-}

@@ -8,15 +8,9 @@ fn changes_and_digests_tell_of_all_states(rt: HostRuntime) -> Result<(), Fail> {
     play_all(rt.alloc(), CASES)
 }
 
-#[test]
-fn what_they_ask_is_tested_in_order(rt: HostRuntime) -> Result<(), Fail> {
-    play_all(rt.alloc(), REFUSALS)
-}
-
 const CASES: &str = r#"
 == changes come a page at a time
-> C(c)
-< made
+. C(c)
 > {"do":"bulk","in":"c","docs":[{"id":"a"},{"id":"b"},{"id":"d"},{"id":"e"},{"id":"g"}]}
 < {"line":L,"ok":"bulk","revs":["1-c","1-c","1-c","1-c","1-c"]}
 > {"do":"changes","in":"c","batch":2}
@@ -33,8 +27,7 @@ const CASES: &str = r#"
 < {"docs":[{"_deleted":false,"id":"a"}],"line":L,"ok":"changes","place":{"id":"a","lwt":1}}
 
 == pages go on over commits and a tombstone
-> C(c)
-< made
+. C(c)
 > {"do":"bulk","in":"c","docs":[{"id":"b","n":2},{"id":"a"},{"id":"d"}]}
 < {"line":L,"ok":"bulk","revs":["1-c","1-c","1-c"]}
 > {"do":"remove","in":"c","key":"b"}
@@ -56,8 +49,7 @@ $ run journal
 < {"docs":[{"_deleted":false,"id":"a","n":-1}],"line":L,"ok":"changes","place":{"id":"a","lwt":3}}
 
 == what has no documents has no changes
-> C(c)
-< made
+. C(c)
 > {"do":"changes","in":"c"}
 < {"docs":[],"line":L,"ok":"changes"}
 > {"do":"changes","in":"c","since":{"id":"a","lwt":1}}
@@ -67,30 +59,23 @@ $ run journal
 = BASE 00
 
 == the mark stands among the fields by its bytes
-> {"do":"collection","name":"c","schema":{"version":0,"primaryKey":"id","type":"object","properties":{"N":{"type":"boolean"},"id":{"type":"string","maxLength":20}}}}
-< made
-> {"do":"insert","in":"c","doc":{"id":"x","N":true}}
-< insert 1-c
+. {"do":"collection","name":"c","schema":{"version":0,"primaryKey":"id","type":"object","properties":{"N":{"type":"boolean"},"id":{"type":"string","maxLength":20}}}}
+. {"do":"insert","in":"c","doc":{"id":"x","N":true}}
 > {"do":"changes","in":"c"}
 < {"docs":[{"N":true,"_deleted":false,"id":"x"}],"line":L,"ok":"changes","place":{"id":"x","lwt":1}}
 > {"do":"digest","in":"c"}
 < {"count":1,"digest":"6c27ddd39af4e8ad7db9f312d66aebb56af34553aaeedb38bc5bdf8dc193d693","line":L,"ok":"digest"}
 
 == a digest is of states alone
-> C(c)
-< made
-> C(d)
-< made
+. C(c) C(d)
 > {"do":"bulk","in":"c","docs":[{"id":"b"},{"id":"a","n":1}]}
 < {"line":L,"ok":"bulk","revs":["1-c","1-c"]}
 > {"do":"digest","in":"c"}
 < {"count":2,"digest":"a21aeb7c70b0ee1b4239c7c4249b31e421bf1c081b4ed03822f11b4ce170b99f","line":L,"ok":"digest"}
-> I(d,a,3)
-< insert 1-d
+. I(d,a,3)
 > {"do":"upsert","in":"d","doc":{"id":"a","n":1}}
 < {"line":L,"ok":"upsert","rev":"2-d"}
-> {"do":"insert","in":"d","doc":{"id":"b"}}
-< insert 1-d
+. {"do":"insert","in":"d","doc":{"id":"b"}}
 > {"do":"digest","in":"d"}
 < {"count":2,"digest":"a21aeb7c70b0ee1b4239c7c4249b31e421bf1c081b4ed03822f11b4ce170b99f","line":L,"ok":"digest"}
 > {"do":"remove","in":"d","key":"b"}
@@ -103,35 +88,26 @@ $ run journal
 < {"count":2,"digest":"10428ad79fde19b7f63b314c0f0c93bcb4a5d5460ac2cbe5003f6b494cd932a1","line":L,"ok":"digest"}
 
 == a state is hashed as it is printed
-> C(c)
-< made
-> {"do":"insert","in":"c","doc":{"id":"a\"\\\u00e9"}}
-< insert 1-c
+. C(c) {"do":"insert","in":"c","doc":{"id":"a\"\\\u00e9"}}
 > {"do":"digest","in":"c"}
 < {"count":1,"digest":"d1d2c4c32ca88b97ecca64416a5035a0fe25c85d54d00494890c3151e5bed792","line":L,"ok":"digest"}
 
 == they change nothing
-> C(c)
-< made
-> {"do":"observe","name":"q","in":"c","query":{}}
-< {"line":L,"ok":"observe"}
+. C(c) {"do":"observe","name":"q","in":"c","query":{}}
 < {"emit":"q","rows":[]}
-> {"do":"tick","at":7}
-< {"line":L,"ok":"tick"}
+. {"do":"tick","at":7}
 > {"do":"changes","in":"c"}
 < {"docs":[],"line":L,"ok":"changes"}
 > {"do":"digest","in":"c"}
 < {"count":0,"digest":"e3b0c44298fc1c149afbf4c8996fb92427ae41e4649b934ca495991b7852b855","line":L,"ok":"digest"}
-> I(c,a,1)
-< insert 1-c
+. I(c,a,1)
 < {"emit":"q","rows":[{"id":"a","n":1}]}
 > {"do":"changes","in":"c"}
 < {"docs":[{"_deleted":false,"id":"a","n":1}],"line":L,"ok":"changes","place":{"id":"a","lwt":7}}
 > {"do":"explain","name":"q"}
 < {"actions":{"insertFirst":1},"asked":6,"changes":1,"full":0,"line":L,"ok":"explain"}
-"#;
 
-const REFUSALS: &str = r#"
+// What they ask is tested in order.
 == members, then kinds, then names, then limits, then the collection
 > {"do":"changes","batch":0,"x":1}
 < {"code":5,"line":L,"name":"in","refused":"missing"}
@@ -163,8 +139,7 @@ const REFUSALS: &str = r#"
 < {"code":10,"line":L,"name":"c","refused":"no_collection"}
 
 == a batch is a whole number, and then one from 1 to 100
-> C(c)
-< made
+. C(c)
 > {"do":"changes","in":"c","batch":-1}
 < {"code":20,"line":L,"name":"batch","refused":"batch"}
 > {"do":"changes","in":"c","batch":101}

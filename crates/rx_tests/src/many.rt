@@ -1,18 +1,72 @@
 // Many documents: put in by bulk lines, and read back in the same run and in the next.
-use crate::case::play;
-use crate::short::end_bulk;
-use std::alloc::{AllocError, Global};
+use crate::case::play_all;
 use std::test::Fail;
 
-const LINES: u64 = 20;
+#[test]
+fn two_hundred_thousand_documents_are_stored_and_read_back(rt: HostRuntime) -> Result<(), Fail> {
+    play_all(rt.alloc(), CASES)
+}
 
-const DOCUMENTS_A_LINE: u64 = 10_000;
-
-// How much a read gives.
-const PIECE: usize = 65_536;
-
-// Lines that read the 200,000 documents back. Each has its number in its key.
-const READS: &str = r#"> {"do":"count","in":"c","query":{}}
+const CASES: &str = r#"
+== two hundred thousand documents
+: 65536
+. C(c)
+> {"do":"bulk","in":"c","docs":[‹0..10000|,|{"id":"k#","n":#}›]}
+< {"line":L,"ok":"bulk","revs":[‹0..10000|,|"1-c"›]}
+> {"do":"bulk","in":"c","docs":[‹10000..20000|,|{"id":"k#","n":#}›]}
+< {"line":L,"ok":"bulk","revs":[‹0..10000|,|"1-c"›]}
+> {"do":"bulk","in":"c","docs":[‹20000..30000|,|{"id":"k#","n":#}›]}
+< {"line":L,"ok":"bulk","revs":[‹0..10000|,|"1-c"›]}
+> {"do":"bulk","in":"c","docs":[‹30000..40000|,|{"id":"k#","n":#}›]}
+< {"line":L,"ok":"bulk","revs":[‹0..10000|,|"1-c"›]}
+> {"do":"bulk","in":"c","docs":[‹40000..50000|,|{"id":"k#","n":#}›]}
+< {"line":L,"ok":"bulk","revs":[‹0..10000|,|"1-c"›]}
+> {"do":"bulk","in":"c","docs":[‹50000..60000|,|{"id":"k#","n":#}›]}
+< {"line":L,"ok":"bulk","revs":[‹0..10000|,|"1-c"›]}
+> {"do":"bulk","in":"c","docs":[‹60000..70000|,|{"id":"k#","n":#}›]}
+< {"line":L,"ok":"bulk","revs":[‹0..10000|,|"1-c"›]}
+> {"do":"bulk","in":"c","docs":[‹70000..80000|,|{"id":"k#","n":#}›]}
+< {"line":L,"ok":"bulk","revs":[‹0..10000|,|"1-c"›]}
+> {"do":"bulk","in":"c","docs":[‹80000..90000|,|{"id":"k#","n":#}›]}
+< {"line":L,"ok":"bulk","revs":[‹0..10000|,|"1-c"›]}
+> {"do":"bulk","in":"c","docs":[‹90000..100000|,|{"id":"k#","n":#}›]}
+< {"line":L,"ok":"bulk","revs":[‹0..10000|,|"1-c"›]}
+> {"do":"bulk","in":"c","docs":[‹100000..110000|,|{"id":"k#","n":#}›]}
+< {"line":L,"ok":"bulk","revs":[‹0..10000|,|"1-c"›]}
+> {"do":"bulk","in":"c","docs":[‹110000..120000|,|{"id":"k#","n":#}›]}
+< {"line":L,"ok":"bulk","revs":[‹0..10000|,|"1-c"›]}
+> {"do":"bulk","in":"c","docs":[‹120000..130000|,|{"id":"k#","n":#}›]}
+< {"line":L,"ok":"bulk","revs":[‹0..10000|,|"1-c"›]}
+> {"do":"bulk","in":"c","docs":[‹130000..140000|,|{"id":"k#","n":#}›]}
+< {"line":L,"ok":"bulk","revs":[‹0..10000|,|"1-c"›]}
+> {"do":"bulk","in":"c","docs":[‹140000..150000|,|{"id":"k#","n":#}›]}
+< {"line":L,"ok":"bulk","revs":[‹0..10000|,|"1-c"›]}
+> {"do":"bulk","in":"c","docs":[‹150000..160000|,|{"id":"k#","n":#}›]}
+< {"line":L,"ok":"bulk","revs":[‹0..10000|,|"1-c"›]}
+> {"do":"bulk","in":"c","docs":[‹160000..170000|,|{"id":"k#","n":#}›]}
+< {"line":L,"ok":"bulk","revs":[‹0..10000|,|"1-c"›]}
+> {"do":"bulk","in":"c","docs":[‹170000..180000|,|{"id":"k#","n":#}›]}
+< {"line":L,"ok":"bulk","revs":[‹0..10000|,|"1-c"›]}
+> {"do":"bulk","in":"c","docs":[‹180000..190000|,|{"id":"k#","n":#}›]}
+< {"line":L,"ok":"bulk","revs":[‹0..10000|,|"1-c"›]}
+> {"do":"bulk","in":"c","docs":[‹190000..200000|,|{"id":"k#","n":#}›]}
+< {"line":L,"ok":"bulk","revs":[‹0..10000|,|"1-c"›]}
+> {"do":"count","in":"c","query":{}}
+< {"count":200000,"line":L,"ok":"count"}
+> {"do":"count","in":"c","query":{"selector":{"n":{"$mod":[2,1]}}}}
+< {"count":100000,"line":L,"ok":"count"}
+> {"do":"find","in":"c","query":{"selector":{"n":{"$gte":199998}},"sort":[{"n":"desc"}]}}
+< {"line":L,"ok":"find","rows":[{"id":"k199999","n":199999},{"id":"k199998","n":199998}]}
+> {"do":"find","in":"c","query":{"sort":[{"n":"desc"}],"skip":199998}}
+< {"line":L,"ok":"find","rows":[{"id":"k1","n":1},{"id":"k0","n":0}]}
+> {"do":"get","in":"c","key":"k0"}
+< {"doc":{"id":"k0","n":0},"line":L,"lwt":1,"ok":"get","rev":"1-c"}
+> {"do":"get","in":"c","key":"k123456"}
+< {"doc":{"id":"k123456","n":123456},"line":L,"lwt":13,"ok":"get","rev":"1-c"}
+> {"do":"get","in":"c","key":"k200000"}
+< {"code":15,"line":L,"refused":"no_document"}
+$ run journal
+> {"do":"count","in":"c","query":{}}
 < {"count":200000,"line":L,"ok":"count"}
 > {"do":"count","in":"c","query":{"selector":{"n":{"$mod":[2,1]}}}}
 < {"count":100000,"line":L,"ok":"count"}
@@ -27,28 +81,3 @@ const READS: &str = r#"> {"do":"count","in":"c","query":{}}
 > {"do":"get","in":"c","key":"k200000"}
 < {"code":15,"line":L,"refused":"no_document"}
 "#;
-
-#[test]
-fn two_hundred_thousand_documents_are_stored_and_read_back(rt: HostRuntime) -> Result<(), Fail> {
-    let alloc = rt.alloc();
-    let mut facts = String::new(alloc);
-    facts.push_str("> C(c)\n< made\n")?;
-    for number in 0..LINES {
-        add_bulk(alloc, number, &mut facts)?;
-    }
-    facts.push_str(READS)?;
-    facts.push_str("$ run journal\n")?;
-    facts.push_str(READS)?;
-    play(alloc, PIECE, "many documents", facts.as_str())
-}
-
-// Adds the bulk line with this number, counted from 0, and what it is answered.
-fn add_bulk(alloc: Global, number: u64, facts: &mut String) -> Result<(), AllocError> {
-    facts.push_str("> {\"do\":\"bulk\",\"in\":\"c\",\"docs\":[")?;
-    for i in 0..DOCUMENTS_A_LINE {
-        let n = number.saturating_mul(DOCUMENTS_A_LINE).saturating_add(i);
-        let comma = if i == 0 { "" } else { "," };
-        write!(facts, "{comma}{{\"id\":\"k{n}\",\"n\":{n}}}")?;
-    }
-    end_bulk(alloc, DOCUMENTS_A_LINE as usize, facts)
-}

@@ -1,128 +1,16 @@
 // The line that takes a collection, and all that follows it here, to the next version of a schema.
-//
-// In these cases a word stands for each of the texts of `WORDS`.
 use crate::case::play_all;
-use std::alloc::{AllocError, Global};
 use std::test::Fail;
 
 #[test]
-fn a_group_goes_to_the_next_version(rt: HostRuntime) -> Result<(), Fail> {
-    play_long(rt.alloc(), GONE)
+fn a_group_goes_to_the_next_version_or_is_refused(rt: HostRuntime) -> Result<(), Fail> {
+    play_all(rt.alloc(), CASES)
 }
 
-#[test]
-fn a_migration_is_refused_by_its_members(rt: HostRuntime) -> Result<(), Fail> {
-    play_long(rt.alloc(), MEMBERS)
-}
-
-#[test]
-fn a_migration_is_refused_by_what_is_stored(rt: HostRuntime) -> Result<(), Fail> {
-    play_long(rt.alloc(), REFUSED)
-}
-
-#[test]
-fn heights_times_and_checkpoints_stay(rt: HostRuntime) -> Result<(), Fail> {
-    play_long(rt.alloc(), KEPT)
-}
-
-#[test]
-fn requests_of_the_group_are_forgotten(rt: HostRuntime) -> Result<(), Fail> {
-    play_long(rt.alloc(), FORGOTTEN)
-}
-
-#[test]
-fn hooks_of_the_group_are_dropped(rt: HostRuntime) -> Result<(), Fail> {
-    play_long(rt.alloc(), HOOKED)
-}
-
-#[test]
-fn a_group_of_many_comes_together_afterwards(rt: HostRuntime) -> Result<(), Fail> {
-    play_long(rt.alloc(), GROUPS)
-}
-
-#[test]
-fn masters_and_forks_elsewhere_stay_behind(rt: HostRuntime) -> Result<(), Fail> {
-    play_long(rt.alloc(), ELSEWHERE)
-}
-
-/// Plays each case of a text in which those words stand.
-pub fn play_long(alloc: Global, cases: &str) -> Result<(), Fail> {
-    let cases = long(alloc, cases)?;
-    play_all(alloc, cases.as_str())
-}
-
-fn long(alloc: Global, cases: &str) -> Result<String, AllocError> {
-    let mut text = String::from_str(alloc, cases)?;
-    for (word, meant) in WORDS.iter() {
-        text = text.as_str().replace(alloc, word, meant)?;
-    }
-    with_drops(alloc, text.as_str())
-}
-
-// DROPS are 63 steps that drop a field, each with a comma behind it.
-fn with_drops(alloc: Global, text: &str) -> Result<String, AllocError> {
-    let drops = "{\"drop\":\"x\"},".repeat(alloc, 63)?;
-    text.replace(alloc, "DROPS", drops.as_str())
-}
-
-// A master with its fork; schemas of version 1, and of version 2; and hashes.
-const WORDS: [(&str, &str); 11] = [
-    (
-        "FORKED",
-        r#"> C(m)
-< made
-> C(f)
-< made
-> {"do":"replicate","name":"r","fork":"f","master":"m","handler":"master_wins"}
-< {"line":L,"ok":"replicate"}"#,
-    ),
-    (
-        "NEXT",
-        r#"{"version":1,"primaryKey":"id","type":"object","properties":{"id":{"type":"string","maxLength":20},"n":{"type":"integer"}},"required":["id"]}"#,
-    ),
-    (
-        "AFTER",
-        r#"{"version":2,"primaryKey":"id","type":"object","properties":{"id":{"type":"string","maxLength":20},"n":{"type":"integer"}},"required":["id"]}"#,
-    ),
-    (
-        "COUNTED",
-        r#"{"version":1,"primaryKey":"id","type":"object","properties":{"id":{"type":"string","maxLength":20},"count":{"type":"integer"},"on":{"type":"boolean"}},"required":["id","on"]}"#,
-    ),
-    (
-        "SMALL",
-        r#"{"version":1,"primaryKey":"id","type":"object","properties":{"id":{"type":"string","maxLength":20},"n":{"type":"integer","maximum":4}},"required":["id"]}"#,
-    ),
-    (
-        "BARE",
-        r#"{"version":1,"primaryKey":"id","type":"object","properties":{"id":{"type":"string","maxLength":20}},"required":["id"]}"#,
-    ),
-    (
-        "KEYED",
-        r#"{"version":1,"primaryKey":"k","type":"object","properties":{"id":{"type":"string","maxLength":20},"k":{"type":"string","maxLength":20},"n":{"type":"integer"}}}"#,
-    ),
-    (
-        "INDEXED",
-        r#"{"version":1,"primaryKey":"id","type":"object","properties":{"id":{"type":"string","maxLength":20},"n":{"type":"integer","minimum":0,"maximum":1000,"multipleOf":1}},"indexes":["n"]}"#,
-    ),
-    (
-        "HASH0",
-        r#""d3965597d0b8e1c41da9b2dc759684814b6376a695e3324ffc338dfea45c31a5""#,
-    ),
-    (
-        "HASH1",
-        r#""01764e3aa27fdee0726888133ba66396704a2ebdb622584b2cf7e7ebcc9cad9a""#,
-    ),
-    (
-        "HASHC",
-        r#""f90a33a8938f858d26ec865ec8cf91467d14049e8eb9184690ab5b76a39f8fde""#,
-    ),
-];
-
-const GONE: &str = r#"
+const CASES: &str = r#"// A group goes to the next version.
 == a number gets another name and grows tenfold, and a flag is set
 FORKED
-> I(m,a,1)
-< insert 1-m
+. I(m,a,1)
 > {"do":"turn","name":"r"}
 < {"exchange":1,"place":{"id":"a","lwt":1},"rows":["a"],"sent":"pull"}
 < {"end":"quiet","exchanges":1,"line":L,"ok":"turn"}
@@ -133,11 +21,7 @@ FORKED
 > {"do":"turn","name":"r"}
 < {"exchange":1,"place":{"id":"a","lwt":1},"rows":[],"sent":"pull"}
 < {"end":"quiet","exchanges":1,"line":L,"ok":"turn"}
-= 'RXJOURN1' 01 00000009 05 0000000000000001
-= 01 000000a4 01 00000001 'm' 0000009a
-= '{"indexes":[],"primaryKey":"id","properties":{"id":{"maxLength":20,"type":"string"},"n":{"type":"integer"}},"required":["id"],"type":"object","version":0}'
-= 01 000000a4 01 00000001 'f' 0000009a
-= '{"indexes":[],"primaryKey":"id","properties":{"id":{"maxLength":20,"type":"string"},"n":{"type":"integer"}},"required":["id"],"type":"object","version":0}'
+= BOTH
 = 01 00000021 03 00000001 'r' 00000001 'f' 00 00000001 'm' 0000000b 'master_wins' 00
 = 01 0000003e 02 00000001 'm' 0000000000000001 00000001
 = 0000000000000001 00000001 'a' 00 00000002 00000002 'id' 02 00000001 'a' 00000001 'n' 01 0000000000000001
@@ -163,8 +47,7 @@ $ run journal
 
 == without the flag that is required no document goes
 FORKED
-> I(m,a,1)
-< insert 1-m
+. I(m,a,1)
 > {"do":"turn","name":"r"}
 < {"exchange":1,"place":{"id":"a","lwt":1},"rows":["a"],"sent":"pull"}
 < {"end":"quiet","exchanges":1,"line":L,"ok":"turn"}
@@ -174,10 +57,7 @@ FORKED
 < {"doc":{"id":"a","n":1},"line":L,"lwt":1,"ok":"get","rev":"1-f"}
 
 == the greatest factor, and what the steps may not be
-> C(m)
-< made
-> I(m,a,5)
-< insert 1-m
+. C(m) I(m,a,5)
 > {"do":"migrate","in":"m","schema":AFTER,"steps":[]}
 < {"cause":"version","code":28,"line":L,"name":"m","refused":"migration"}
 > {"do":"migrate","in":"m","schema":NEXT,"steps":[{"drop":"id"}]}
@@ -186,23 +66,18 @@ FORKED
 < {"cause":"invalid","code":28,"line":L,"name":"m","refused":"migration"}
 > {"do":"migrate","in":"m","schema":NEXT,"steps":[{"scale":"n","by":1001}]}
 < {"code":7,"line":L,"name":"steps","refused":"wrong_type"}
-> {"do":"observe","name":"q","in":"m","query":{}}
-< {"line":L,"ok":"observe"}
+. {"do":"observe","name":"q","in":"m","query":{}}
 < {"emit":"q","rows":[{"id":"a","n":5}]}
 > {"do":"migrate","in":"m","schema":NEXT,"steps":[{"scale":"n","by":1000}]}
 < {"code":29,"line":L,"name":"q","refused":"observed"}
-> {"do":"unobserve","name":"q"}
-< {"line":L,"ok":"unobserve"}
+. {"do":"unobserve","name":"q"}
 > {"do":"migrate","in":"m","schema":NEXT,"steps":[{"scale":"n","by":1000}]}
 < {"collections":["m"],"line":L,"ok":"migrate"}
 > {"do":"get","in":"m","key":"a"}
 < {"doc":{"id":"a","n":5000},"line":L,"lwt":1,"ok":"get","rev":"1-m"}
 
 == one migration behind another, and what the new schema is held to
-> C(m)
-< made
-> I(m,a,1)
-< insert 1-m
+. C(m) I(m,a,1)
 > {"do":"migrate","in":"m","schema":NEXT,"steps":[{"scale":"n","by":10}]}
 < {"collections":["m"],"line":L,"ok":"migrate"}
 > {"do":"migrate","in":"m","schema":AFTER,"steps":[{"scale":"n","by":10}]}
@@ -216,14 +91,11 @@ $ run journal
 < {"code":12,"line":L,"refused":"schema_differs"}
 > {"do":"collection","name":"m","schema":AFTER}
 < {"line":L,"new":false,"ok":"collection"}
-> C(f)
-< made
+. C(f)
 > {"do":"replicate","name":"r","fork":"f","master":"m","handler":"join"}
 < {"code":12,"line":L,"refused":"schema_differs"}
-> {"do":"collection","name":"g","schema":AFTER}
-< made
-> {"do":"replicate","name":"r","fork":"g","master":"m","handler":"join"}
-< {"line":L,"ok":"replicate"}
+. {"do":"collection","name":"g","schema":AFTER}
+. {"do":"replicate","name":"r","fork":"g","master":"m","handler":"join"}
 > {"do":"turn","name":"r"}
 < {"exchange":1,"place":{"id":"a","lwt":1},"rows":["a"],"sent":"pull"}
 < {"end":"quiet","exchanges":1,"line":L,"ok":"turn"}
@@ -231,12 +103,7 @@ $ run journal
 < {"doc":{"id":"a","n":100},"line":L,"lwt":1,"ok":"get","rev":"1-g"}
 
 == a text is set, a field that is there is not, and a number may become a text
-> C(m)
-< made
-> I(m,a,1)
-< insert 1-m
-> {"do":"insert","in":"m","doc":{"id":"b"}}
-< insert 1-m
+. C(m) I(m,a,1) {"do":"insert","in":"m","doc":{"id":"b"}}
 > {"do":"migrate","in":"m","schema":{"version":1,"primaryKey":"id","type":"object","properties":{"id":{"type":"string","maxLength":20},"n":{"type":"integer"},"t":{"type":"string","maxLength":3}},"required":["n","t"]},"steps":[{"set":"n","value":-7},{"set":"t","value":"xyzz"}]}
 < {"cause":"invalid","code":28,"line":L,"name":"m","refused":"migration"}
 > {"do":"migrate","in":"m","schema":{"version":1,"primaryKey":"id","type":"object","properties":{"id":{"type":"string","maxLength":20},"n":{"type":"integer"},"t":{"type":"string","maxLength":3}},"required":["n","t"]},"steps":[{"set":"n","value":-7},{"set":"t","value":"xyz"}]}
@@ -249,39 +116,33 @@ $ run journal
 < {"line":L,"ok":"find","rows":[{"id":"a","n":"xyz"},{"id":"b","n":"xyz"}]}
 
 == queries go by the new schema's index
-> C(m)
-< made
+. C(m)
 > {"do":"bulk","in":"m","docs":[{"id":"a","n":1},{"id":"b","n":2},{"id":"d"}]}
 < {"line":L,"ok":"bulk","revs":["1-m","1-m","1-m"]}
 > {"do":"migrate","in":"m","schema":INDEXED,"steps":[{"scale":"n","by":100},{"set":"n","value":500}]}
 < {"collections":["m"],"line":L,"ok":"migrate"}
 > {"do":"find","in":"m","query":{"selector":{"n":{"$gte":200}},"sort":[{"n":"desc"}]}}
 < {"line":L,"ok":"find","rows":[{"id":"d","n":500},{"id":"b","n":200}]}
-> {"do":"observe","name":"q","in":"m","query":{"sort":[{"n":"desc"}],"limit":1}}
-< {"line":L,"ok":"observe"}
+. {"do":"observe","name":"q","in":"m","query":{"sort":[{"n":"desc"}],"limit":1}}
 < {"emit":"q","rows":[{"id":"d","n":500}]}
-> I(m,e,700)
-< {"line":L,"ok":"insert","rev":"1-m"}
+. I(m,e,700)
 < {"emit":"q","rows":[{"id":"e","n":700}]}
 
 == its record passes the limit, and what was answered before stands
 $ run journal --max-journal 829
 FORKED
-> I(m,a,1)
-< insert 1-m
+. I(m,a,1)
 > {"do":"turn","name":"r"}
 < {"exchange":1,"place":{"id":"a","lwt":1},"rows":["a"],"sent":"pull"}
 < {"end":"quiet","exchanges":1,"line":L,"ok":"turn"}
 > {"do":"migrate","in":"m","schema":COUNTED,"steps":[{"rename":"n","to":"count"},{"scale":"count","by":10},{"set":"on","value":true}]}
 > {"do":"get","in":"f","key":"a"}
 < {"limit":829,"stop":"full","would":830}
-! 8
 $ run journal --max-journal 844
 > {"do":"migrate","in":"f","schema":COUNTED,"steps":[{"rename":"n","to":"count"},{"scale":"count","by":10},{"set":"on","value":true}]}
 < {"collections":["m","f"],"line":L,"ok":"migrate"}
-"#;
 
-const MEMBERS: &str = r#"
+// A migration is refused by its members.
 == a member that isn't there, and another one
 > {"do":"migrate","zz":1}
 < {"code":5,"line":L,"name":"in","refused":"missing"}
@@ -329,22 +190,17 @@ const MEMBERS: &str = r#"
 < {"code":10,"line":L,"name":"m","refused":"no_collection"}
 
 == 64 steps are taken
-> C(m)
-< made
-> I(m,a,1)
-< insert 1-m
+. C(m) I(m,a,1)
 > {"do":"migrate","in":"m","schema":NEXT,"steps":[DROPS{"scale":"n","by":3}]}
 < {"collections":["m"],"line":L,"ok":"migrate"}
 > {"do":"get","in":"m","key":"a"}
 < {"doc":{"id":"a","n":3},"line":L,"lwt":1,"ok":"get","rev":"1-m"}
-"#;
 
-const REFUSED: &str = r#"
+// A migration is refused by what is stored.
 == the collection, the schema, its version, and then the key
 > {"do":"migrate","in":"m","schema":5,"steps":[]}
 < {"code":10,"line":L,"name":"m","refused":"no_collection"}
-> C(m)
-< made
+. C(m)
 > {"do":"migrate","in":"m","schema":5,"steps":[{"drop":"id"}]}
 < {"cause":"not_object","code":11,"line":L,"refused":"schema"}
 > {"do":"migrate","in":"m","schema":{"version":65536,"primaryKey":"id","type":"object","properties":{}},"steps":[]}
@@ -353,16 +209,12 @@ const REFUSED: &str = r#"
 < {"cause":"version","code":28,"line":L,"name":"m","refused":"migration"}
 > {"do":"migrate","in":"m","schema":S1,"steps":[]}
 < {"cause":"version","code":28,"line":L,"name":"m","refused":"migration"}
-> {"do":"collection","name":"z","schema":{"version":65535,"primaryKey":"id","type":"object","properties":{"id":{"type":"string","maxLength":20},"n":{"type":"integer"}}}}
-< made
+. {"do":"collection","name":"z","schema":{"version":65535,"primaryKey":"id","type":"object","properties":{"id":{"type":"string","maxLength":20},"n":{"type":"integer"}}}}
 > {"do":"migrate","in":"z","schema":S1,"steps":[]}
 < {"cause":"version","code":28,"line":L,"name":"z","refused":"migration"}
 
 == the key has another name, or a step names it, which is told before the documents
-> C(m)
-< made
-> I(m,a,5)
-< insert 1-m
+. C(m) I(m,a,5)
 > {"do":"migrate","in":"m","schema":KEYED,"steps":[]}
 < {"cause":"primary","code":28,"line":L,"name":"m","refused":"migration"}
 > {"do":"migrate","in":"m","schema":KEYED,"steps":[{"rename":"id","to":"k"}]}
@@ -381,10 +233,7 @@ const REFUSED: &str = r#"
 < {"collections":["m"],"line":L,"ok":"migrate"}
 
 == a document that would be none, a deleted one too
-> C(m)
-< made
-> I(m,a,5)
-< insert 1-m
+. C(m) I(m,a,5)
 > {"do":"migrate","in":"m","schema":SMALL,"steps":[]}
 < {"cause":"invalid","code":28,"line":L,"name":"m","refused":"migration"}
 > {"do":"migrate","in":"m","schema":NEXT,"steps":[{"rename":"n","to":"k"}]}
@@ -403,29 +252,16 @@ const REFUSED: &str = r#"
 < {"collections":["m"],"line":L,"ok":"migrate"}
 
 == the first collection that was made, whichever the line names
-> C(f)
-< made
-> C(m)
-< made
-> {"do":"replicate","name":"r","fork":"f","master":"m","handler":"master_wins"}
-< {"line":L,"ok":"replicate"}
-> I(m,a,5)
-< insert 1-m
+. C(f) C(m) {"do":"replicate","name":"r","fork":"f","master":"m","handler":"master_wins"} I(m,a,5)
 > {"do":"migrate","in":"f","schema":SMALL,"steps":[]}
 < {"cause":"invalid","code":28,"line":L,"name":"m","refused":"migration"}
-> I(f,b,5)
-< insert 1-f
+. I(f,b,5)
 > {"do":"migrate","in":"m","schema":SMALL,"steps":[]}
 < {"cause":"invalid","code":28,"line":L,"name":"f","refused":"migration"}
 
 == what is known, by the first replication that was made, behind all collections
 FORKED
-> C(g)
-< made
-> {"do":"replicate","name":"a","fork":"g","master":"m","handler":"master_wins"}
-< {"line":L,"ok":"replicate"}
-> I(m,a,5)
-< insert 1-m
+. C(g) {"do":"replicate","name":"a","fork":"g","master":"m","handler":"master_wins"} I(m,a,5)
 > {"do":"turn","name":"r"}
 < {"exchange":1,"place":{"id":"a","lwt":1},"rows":["a"],"sent":"pull"}
 < {"end":"quiet","exchanges":1,"line":L,"ok":"turn"}
@@ -456,10 +292,7 @@ FORKED
 < {"collections":["m","f","g"],"line":L,"ok":"migrate"}
 
 == a fork of a master elsewhere, behind what its states are refused for, before what is observed
-> C(f)
-< made
-> {"do":"replicate","name":"r","fork":"f","port":4001,"handler":"master_wins"}
-< {"line":L,"ok":"replicate"}
+. C(f) {"do":"replicate","name":"r","fork":"f","port":4001,"handler":"master_wins"}
 > {"do":"turn","name":"r"}
 +
 @ {"docs":[{"_deleted":false,"id":"b","n":9}],"epoch":1,"n":1,"place":{"id":"b","lwt":5}}
@@ -472,8 +305,7 @@ FORKED
 < {"line":L,"ok":"patch","rev":"2-f"}
 > {"do":"migrate","in":"f","schema":SMALL,"steps":[]}
 < {"cause":"invalid","code":28,"line":L,"name":"r","refused":"migration"}
-> {"do":"observe","name":"q","in":"f","query":{}}
-< {"line":L,"ok":"observe"}
+. {"do":"observe","name":"q","in":"f","query":{}}
 < {"emit":"q","rows":[{"id":"b","n":1}]}
 > {"do":"migrate","in":"f","schema":NEXT,"steps":[]}
 < {"code":30,"line":L,"refused":"remote"}
@@ -481,72 +313,53 @@ FORKED
 < {"cause":"invalid","code":28,"line":L,"name":"r","refused":"migration"}
 > {"do":"migrate","in":"f","schema":AFTER,"steps":[]}
 < {"cause":"version","code":28,"line":L,"name":"f","refused":"migration"}
-> {"do":"unobserve","name":"q"}
-< {"line":L,"ok":"unobserve"}
+. {"do":"unobserve","name":"q"}
 > {"do":"migrate","in":"f","schema":NEXT,"steps":[]}
 < {"code":30,"line":L,"refused":"remote"}
-> C(g)
-< made
+. C(g)
 > {"do":"migrate","in":"g","schema":SMALL,"steps":[]}
 < {"collections":["g"],"line":L,"ok":"migrate"}
-> C(h)
-< made
-> {"do":"replicate","name":"s","fork":"h","master":"f","handler":"master_wins"}
-< {"line":L,"ok":"replicate"}
+. C(h) {"do":"replicate","name":"s","fork":"h","master":"f","handler":"master_wins"}
 > {"do":"migrate","in":"h","schema":NEXT,"steps":[]}
 < {"code":30,"line":L,"refused":"remote"}
 
 == the first observed query of the group, in the order of observing, also behind a restart
 FORKED
-> C(c)
-< made
-> {"do":"observe","name":"z","in":"c","query":{}}
-< {"line":L,"ok":"observe"}
+. C(c) {"do":"observe","name":"z","in":"c","query":{}}
 < {"emit":"z","rows":[]}
-> {"do":"observe","name":"q","in":"f","query":{}}
-< {"line":L,"ok":"observe"}
+. {"do":"observe","name":"q","in":"f","query":{}}
 < {"emit":"q","rows":[]}
-> {"do":"observe","name":"o","in":"m","query":{}}
-< {"line":L,"ok":"observe"}
+. {"do":"observe","name":"o","in":"m","query":{}}
 < {"emit":"o","rows":[]}
 > {"do":"migrate","in":"m","schema":NEXT,"steps":[]}
 < {"code":29,"line":L,"name":"q","refused":"observed"}
 > {"do":"migrate","in":"c","schema":NEXT,"steps":[]}
 < {"code":29,"line":L,"name":"z","refused":"observed"}
-> I(m,a,5)
-< {"line":L,"ok":"insert","rev":"1-m"}
+. I(m,a,5)
 < {"emit":"o","rows":[{"id":"a","n":5}]}
 > {"do":"migrate","in":"m","schema":SMALL,"steps":[]}
 < {"cause":"invalid","code":28,"line":L,"name":"m","refused":"migration"}
-> {"do":"unobserve","name":"q"}
-< {"line":L,"ok":"unobserve"}
+. {"do":"unobserve","name":"q"}
 > {"do":"restart"}
 < {"epoch":2,"line":L,"ok":"restart"}
 > {"do":"migrate","in":"f","schema":NEXT,"steps":[]}
 < {"code":29,"line":L,"name":"o","refused":"observed"}
-> {"do":"unobserve","name":"o"}
-< {"line":L,"ok":"unobserve"}
+. {"do":"unobserve","name":"o"}
 > {"do":"migrate","in":"f","schema":NEXT,"steps":[]}
 < {"collections":["m","f"],"line":L,"ok":"migrate"}
-> {"do":"observe","name":"q","in":"m","query":{"selector":{"n":5}}}
-< {"line":L,"ok":"observe"}
+. {"do":"observe","name":"q","in":"m","query":{"selector":{"n":5}}}
 < {"emit":"q","rows":[{"id":"a","n":5}]}
-"#;
 
-const KEPT: &str = r#"
+// Heights, times and checkpoints stay.
 == revisions, tombstones, write times, and the present moment
-> C(c)
-< made
-> {"do":"tick","at":40}
-< {"line":L,"ok":"tick"}
+. C(c) {"do":"tick","at":40}
 > {"do":"bulk","in":"c","docs":[{"id":"a","n":1},{"id":"b","n":2},{"id":"e"}]}
 < {"line":L,"ok":"bulk","revs":["1-c","1-c","1-c"]}
 > {"do":"remove","in":"c","key":"a"}
 < {"line":L,"ok":"remove","rev":"2-c"}
 > {"do":"patch","in":"c","key":"b","set":{"n":3}}
 < {"line":L,"ok":"patch","rev":"2-c"}
-> {"do":"tick","at":50}
-< {"line":L,"ok":"tick"}
+. {"do":"tick","at":50}
 > {"do":"migrate","in":"c","schema":COUNTED,"steps":[{"rename":"n","to":"count"},{"set":"on","value":false}]}
 < {"collections":["c"],"line":L,"ok":"migrate"}
 > {"do":"changes","in":"c"}
@@ -580,12 +393,7 @@ $ run journal
 < {"count":3,"digest":"89e623ea43da85ed02c3e245a946b9361d3f8a71f89a01591b5724d3cd5e23f1","line":L,"ok":"digest"}
 
 == no write time is needed
-> C(c)
-< made
-> {"do":"tick","at":9007199254740991}
-< {"line":L,"ok":"tick"}
-> I(c,a,1)
-< insert 1-c
+. C(c) {"do":"tick","at":9007199254740991} I(c,a,1)
 > {"do":"migrate","in":"c","schema":NEXT,"steps":[{"scale":"n","by":7}]}
 < {"collections":["c"],"line":L,"ok":"migrate"}
 > {"do":"get","in":"c","key":"a"}
@@ -595,18 +403,12 @@ $ run journal
 
 == a turn goes on from both checkpoints, in the next run too
 FORKED
-> I(m,a,1)
-< insert 1-m
-> I(m,b,2)
-< insert 1-m
-> I(m,d,3)
-< insert 1-m
+. I(m,a,1) I(m,b,2) I(m,d,3)
 > {"do":"turn","name":"r","batch":1,"budget":2}
 < {"exchange":1,"place":{"id":"a","lwt":1},"rows":["a"],"sent":"pull"}
 < {"exchange":2,"place":{"id":"b","lwt":2},"rows":["b"],"sent":"pull"}
 < {"end":"more","exchanges":2,"line":L,"ok":"turn"}
-> I(f,e,4)
-< insert 1-f
+. I(f,e,4)
 > {"do":"turn","name":"r","budget":1}
 < {"conflicts":[],"exchange":1,"rows":["e"],"sent":"push"}
 < {"end":"more","exchanges":1,"line":L,"ok":"turn"}
@@ -628,8 +430,7 @@ $ run journal
 
 == a change that the steps take away isn't pushed
 FORKED
-> I(m,a,1)
-< insert 1-m
+. I(m,a,1)
 > {"do":"turn","name":"r"}
 < {"exchange":1,"place":{"id":"a","lwt":1},"rows":["a"],"sent":"pull"}
 < {"end":"quiet","exchanges":1,"line":L,"ok":"turn"}
@@ -647,14 +448,10 @@ FORKED
 
 == a query of another collection hears nothing, and stays warm
 FORKED
-> C(c)
-< made
-> I(m,a,1)
-< insert 1-m
+. C(c) I(m,a,1)
 > {"do":"bulk","in":"c","docs":[{"id":"a","n":1},{"id":"b","n":2},{"id":"d","n":3}]}
 < {"line":L,"ok":"bulk","revs":["1-c","1-c","1-c"]}
-> {"do":"observe","name":"q","in":"c","query":{"sort":[{"n":"asc"}],"skip":2}}
-< {"line":L,"ok":"observe"}
+. {"do":"observe","name":"q","in":"c","query":{"sort":[{"n":"asc"}],"skip":2}}
 < {"emit":"q","rows":[{"id":"d","n":3}]}
 > {"do":"migrate","in":"m","schema":NEXT,"steps":[{"scale":"n","by":3}]}
 < {"collections":["m","f"],"line":L,"ok":"migrate"}
@@ -664,20 +461,13 @@ FORKED
 < {"actions":{"doNothing":1},"asked":13,"changes":1,"full":0,"line":L,"ok":"explain"}
 > {"do":"migrate","in":"f","schema":AFTER,"steps":[]}
 < {"collections":["m","f"],"line":L,"ok":"migrate"}
-> I(c,e,9)
-< {"line":L,"ok":"insert","rev":"1-c"}
+. I(c,e,9)
 < {"emit":"q","rows":[{"id":"d","n":3},{"id":"e","n":9}]}
 
 == the field by which the greater wins is gone, or was scaled
 FORKED
-> C(g)
-< made
-> {"do":"replicate","name":"s","fork":"g","master":"m","handler":"greater","field":"n"}
-< {"line":L,"ok":"replicate"}
-> I(m,a,3)
-< insert 1-m
-> I(g,a,4)
-< insert 1-g
+. C(g) {"do":"replicate","name":"s","fork":"g","master":"m","handler":"greater","field":"n"}
+. I(m,a,3) I(g,a,4)
 > {"do":"migrate","in":"m","schema":NEXT,"steps":[{"scale":"n","by":2}]}
 < {"collections":["m","f","g"],"line":L,"ok":"migrate"}
 > {"do":"turn","name":"s"}
@@ -694,26 +484,11 @@ FORKED
 > {"do":"turn","name":"r"}
 < {"exchange":1,"place":{"id":"a","lwt":2},"rows":["a"],"sent":"pull"}
 < {"end":"quiet","exchanges":1,"line":L,"ok":"turn"}
-"#;
 
-const FORGOTTEN: &str = r#"
+// Requests of the group are forgotten.
 == a late request of the group comes no more, and one of another group does
-> C(m)
-< made
-> C(f)
-< made
-> {"do":"replicate","name":"r","fork":"f","master":"m","handler":"fork_wins"}
-< {"line":L,"ok":"replicate"}
-> C(p)
-< made
-> C(g)
-< made
-> {"do":"replicate","name":"s","fork":"g","master":"p","handler":"fork_wins"}
-< {"line":L,"ok":"replicate"}
-> I(f,a,1)
-< insert 1-f
-> I(g,a,1)
-< insert 1-g
+. C(m) C(f) {"do":"replicate","name":"r","fork":"f","master":"m","handler":"fork_wins"} C(p) C(g)
+. {"do":"replicate","name":"s","fork":"g","master":"p","handler":"fork_wins"} I(f,a,1) I(g,a,1)
 > {"do":"turn","name":"r","link":["lose_request"]}
 < {"exchange":1,"lost":"lose_request","rows":["a"],"sent":"push"}
 < {"end":"lost","exchanges":1,"line":L,"ok":"turn"}
@@ -741,18 +516,8 @@ const FORGOTTEN: &str = r#"
 < {"doc":{"id":"a","n":2},"line":L,"lwt":3,"ok":"get","rev":"3-g"}
 
 == that of a fork of a fork comes no more either, behind a request from then on
-> C(m)
-< made
-> C(f)
-< made
-> C(g)
-< made
-> {"do":"replicate","name":"r","fork":"f","master":"m","handler":"fork_wins"}
-< {"line":L,"ok":"replicate"}
-> {"do":"replicate","name":"s","fork":"g","master":"f","handler":"fork_wins"}
-< {"line":L,"ok":"replicate"}
-> I(g,a,1)
-< insert 1-g
+. C(m) C(f) C(g) {"do":"replicate","name":"r","fork":"f","master":"m","handler":"fork_wins"}
+. {"do":"replicate","name":"s","fork":"g","master":"f","handler":"fork_wins"} I(g,a,1)
 > {"do":"turn","name":"s","link":["lose_request"]}
 < {"exchange":1,"lost":"lose_request","rows":["a"],"sent":"push"}
 < {"end":"lost","exchanges":1,"line":L,"ok":"turn"}
@@ -773,8 +538,7 @@ const FORGOTTEN: &str = r#"
 FORKED
 > {"do":"migrate","in":"m","schema":NEXT,"steps":[]}
 < {"collections":["m","f"],"line":L,"ok":"migrate"}
-> I(f,a,1)
-< insert 1-f
+. I(f,a,1)
 > {"do":"turn","name":"r","link":["lose_request"]}
 < {"exchange":1,"lost":"lose_request","rows":["a"],"sent":"push"}
 < {"end":"lost","exchanges":1,"line":L,"ok":"turn"}
@@ -789,8 +553,7 @@ FORKED
 
 == a request that was handled before the line is not handled again behind it
 FORKED
-> I(f,a,1)
-< insert 1-f
+. I(f,a,1)
 > {"do":"turn","name":"r","budget":1}
 < {"conflicts":[],"exchange":1,"rows":["a"],"sent":"push"}
 < {"end":"more","exchanges":1,"line":L,"ok":"turn"}
@@ -811,16 +574,14 @@ FORKED
 
 == a stale reply is dropped, whether there is one or none
 FORKED
-> I(f,a,1)
-< insert 1-f
+. I(f,a,1)
 > {"do":"turn","name":"r"}
 < {"conflicts":[],"exchange":1,"rows":["a"],"sent":"push"}
 < {"exchange":2,"place":{"id":"a","lwt":1},"rows":["a"],"sent":"pull"}
 < {"end":"quiet","exchanges":2,"line":L,"ok":"turn"}
 > {"do":"migrate","in":"m","schema":NEXT,"steps":[{"scale":"n","by":10}]}
 < {"collections":["m","f"],"line":L,"ok":"migrate"}
-> I(m,b,2)
-< insert 1-m
+. I(m,b,2)
 > {"do":"turn","name":"r","link":["stale"]}
 < {"exchange":1,"lost":"stale","sent":"pull"}
 < {"end":"lost","exchanges":1,"line":L,"ok":"turn"}
@@ -832,64 +593,38 @@ FORKED
 < {"end":"quiet","exchanges":1,"line":L,"ok":"turn"}
 > {"do":"find","in":"f","query":{}}
 < {"line":L,"ok":"find","rows":[{"id":"a","n":10},{"id":"b","n":2}]}
-"#;
 
-const HOOKED: &str = r#"
+// Hooks of the group are dropped.
 == hooks of the group run no more, and those of another collection do
 FORKED
-> C(c)
-< made
-> {"do":"hook","in":"f","when":"insert","hook":"zero","field":"n"}
-< {"line":L,"ok":"hook"}
-> {"do":"hook","in":"c","when":"insert","hook":"zero","field":"n"}
-< {"line":L,"ok":"hook"}
-> {"do":"hook","in":"m","when":"save","hook":"count","field":"n"}
-< {"line":L,"ok":"hook"}
-> I(m,a,1)
-< insert 1-m
+. C(c) {"do":"hook","in":"f","when":"insert","hook":"zero","field":"n"}
+. {"do":"hook","in":"c","when":"insert","hook":"zero","field":"n"}
+. {"do":"hook","in":"m","when":"save","hook":"count","field":"n"} I(m,a,1)
 > {"do":"migrate","in":"m","schema":NEXT,"steps":[]}
 < {"collections":["m","f"],"line":L,"ok":"migrate"}
-> {"do":"insert","in":"c","doc":{"id":"b"}}
-< insert 1-c
+. {"do":"insert","in":"c","doc":{"id":"b"}}
 > {"do":"get","in":"c","key":"b"}
 < {"doc":{"id":"b","n":0},"line":L,"lwt":1,"ok":"get","rev":"1-c"}
 > {"do":"patch","in":"m","key":"a","set":{}}
 < {"line":L,"ok":"patch","rev":"2-m"}
 > {"do":"get","in":"m","key":"a"}
 < {"doc":{"id":"a","n":1},"line":L,"lwt":2,"ok":"get","rev":"2-m"}
-> {"do":"insert","in":"f","doc":{"id":"b"}}
-< insert 1-f
+. {"do":"insert","in":"f","doc":{"id":"b"}}
 > {"do":"get","in":"f","key":"b"}
 < {"doc":{"id":"b"},"line":L,"lwt":1,"ok":"get","rev":"1-f"}
 
 == a hook's field goes, and writes go on without it
-> C(m)
-< made
-> {"do":"hook","in":"m","when":"insert","hook":"zero","field":"n"}
-< {"line":L,"ok":"hook"}
+. C(m) {"do":"hook","in":"m","when":"insert","hook":"zero","field":"n"}
 > {"do":"migrate","in":"m","schema":BARE,"steps":[{"drop":"n"}]}
 < {"collections":["m"],"line":L,"ok":"migrate"}
-> {"do":"insert","in":"m","doc":{"id":"a"}}
-< insert 1-m
-"#;
+. {"do":"insert","in":"m","doc":{"id":"a"}}
 
-const GROUPS: &str = r#"
+// A group of many comes together afterwards.
 == a master, three forks and a fork of one of them, each with what is to be pushed
 FORKED
-> C(g)
-< made
-> C(h)
-< made
-> C(k)
-< made
-> {"do":"replicate","name":"s","fork":"g","master":"m","handler":"fork_wins"}
-< {"line":L,"ok":"replicate"}
-> {"do":"replicate","name":"t","fork":"h","master":"m","handler":"master_wins"}
-< {"line":L,"ok":"replicate"}
-> {"do":"replicate","name":"u","fork":"k","master":"h","handler":"master_wins"}
-< {"line":L,"ok":"replicate"}
-> I(m,a,1)
-< insert 1-m
+. C(g) C(h) C(k) {"do":"replicate","name":"s","fork":"g","master":"m","handler":"fork_wins"}
+. {"do":"replicate","name":"t","fork":"h","master":"m","handler":"master_wins"}
+. {"do":"replicate","name":"u","fork":"k","master":"h","handler":"master_wins"} I(m,a,1)
 > {"do":"turn","name":"r"}
 < {"exchange":1,"place":{"id":"a","lwt":1},"rows":["a"],"sent":"pull"}
 < {"end":"quiet","exchanges":1,"line":L,"ok":"turn"}
@@ -906,10 +641,7 @@ FORKED
 < {"line":L,"ok":"patch","rev":"2-f"}
 > {"do":"patch","in":"g","key":"a","set":{"n":3}}
 < {"line":L,"ok":"patch","rev":"2-g"}
-> I(h,d,4)
-< insert 1-h
-> I(k,e,5)
-< insert 1-k
+. I(h,d,4) I(k,e,5)
 > {"do":"migrate","in":"k","schema":COUNTED,"steps":[{"rename":"n","to":"count"},{"scale":"count","by":10},{"set":"on","value":true}]}
 < {"collections":["m","f","g","h","k"],"line":L,"ok":"migrate"}
 > {"do":"turn","name":"r"}
@@ -961,40 +693,21 @@ $ run journal
 < {"doc":{"count":30,"id":"a","on":true},"line":L,"lwt":3,"ok":"get","rev":"3-g"}
 
 == a group in the order of making, and what isn't joined to it
-> C(f)
-< made
-> C(x)
-< made
-> C(m)
-< made
-> C(y)
-< made
-> {"do":"replicate","name":"s","fork":"y","master":"x","handler":"join"}
-< {"line":L,"ok":"replicate"}
-> {"do":"replicate","name":"r","fork":"f","master":"m","handler":"join"}
-< {"line":L,"ok":"replicate"}
-> I(y,a,9)
-< insert 1-y
+. C(f) C(x) C(m) C(y) {"do":"replicate","name":"s","fork":"y","master":"x","handler":"join"}
+. {"do":"replicate","name":"r","fork":"f","master":"m","handler":"join"} I(y,a,9)
 > {"do":"migrate","in":"m","schema":SMALL,"steps":[]}
 < {"collections":["f","m"],"line":L,"ok":"migrate"}
 > {"do":"replicate","name":"t","fork":"m","master":"y","handler":"join"}
 < {"code":12,"line":L,"refused":"schema_differs"}
 > {"do":"migrate","in":"y","schema":SMALL,"steps":[{"drop":"n"}]}
 < {"collections":["x","y"],"line":L,"ok":"migrate"}
-> {"do":"replicate","name":"t","fork":"m","master":"y","handler":"join"}
-< {"line":L,"ok":"replicate"}
+. {"do":"replicate","name":"t","fork":"m","master":"y","handler":"join"}
 > {"do":"migrate","in":"f","schema":AFTER,"steps":[]}
 < {"collections":["f","x","m","y"],"line":L,"ok":"migrate"}
-"#;
 
-const ELSEWHERE: &str = r#"
+// Masters and forks elsewhere stay behind.
 == the numbers of another group's requests go on
-> C(m)
-< made
-> C(c)
-< made
-> {"do":"replicate","name":"r","fork":"c","port":4001,"handler":"master_wins"}
-< {"line":L,"ok":"replicate"}
+. C(m) C(c) {"do":"replicate","name":"r","fork":"c","port":4001,"handler":"master_wins"}
 > {"do":"turn","name":"r"}
 +
 @ {"docs":[],"epoch":1,"n":1}
@@ -1011,10 +724,7 @@ const ELSEWHERE: &str = r#"
 < {"end":"quiet","exchanges":1,"line":L,"ok":"turn"}
 
 == a fork elsewhere of the schema before isn't served, and one of the new schema is
-> C(m)
-< made
-> I(m,a,1)
-< insert 1-m
+. C(m) I(m,a,1)
 > {"do":"migrate","in":"m","schema":NEXT,"steps":[{"scale":"n","by":10}]}
 < {"collections":["m"],"line":L,"ok":"migrate"}
 $ serve journal m 4001 2
@@ -1028,10 +738,7 @@ $ serve journal m 4001 2
 < {"connection":2,"end":"peer","requests":1}
 
 == a fork whose master elsewhere went on is lost, and a new one of the next version isn't
-> C(f)
-< made
-> {"do":"replicate","name":"r","fork":"f","port":4001,"handler":"master_wins"}
-< {"line":L,"ok":"replicate"}
+. C(f) {"do":"replicate","name":"r","fork":"f","port":4001,"handler":"master_wins"}
 > {"do":"turn","name":"r"}
 +
 @ {"fault":"schema"}
@@ -1040,10 +747,8 @@ $ serve journal m 4001 2
 < {"end":"lost","exchanges":1,"line":L,"ok":"turn"}
 > {"do":"migrate","in":"f","schema":NEXT,"steps":[]}
 < {"code":30,"line":L,"refused":"remote"}
-> {"do":"collection","name":"g","schema":NEXT}
-< made
-> {"do":"replicate","name":"s","fork":"g","port":4001,"handler":"master_wins"}
-< {"line":L,"ok":"replicate"}
+. {"do":"collection","name":"g","schema":NEXT}
+. {"do":"replicate","name":"s","fork":"g","port":4001,"handler":"master_wins"}
 > {"do":"turn","name":"s"}
 +
 @ {"docs":[],"epoch":1,"n":1}

@@ -49,7 +49,7 @@ fn journal(alloc: Global) -> Result<Vec<u8>, AllocError> {
 fn script(alloc: Global) -> Result<String, AllocError> {
     let mut script = String::new(alloc);
     for line in LINES {
-        add_script_line(alloc, line, &mut script)?;
+        add_script_line(line, &mut script)?;
     }
     Ok(script)
 }

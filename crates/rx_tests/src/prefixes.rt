@@ -1,8 +1,7 @@
-// The journal of a whole run, cut to each length. It opens where at most 9 bytes are left, or where
-// it ends with a closed gate behind a whole record; else it is no journal, and is left as it is.
-use crate::record_stops::LINES;
-use crate::run::{Ran, report, run_plain};
-use crate::stops::play_failing;
+// The journal of a whole run, cut to each length. It opens where at most 9 bytes are left, or where it
+// ends with a closed gate behind a whole record; else it is no journal, and is left as it is.
+use crate::case::play;
+use crate::stops::whole;
 use std::alloc::{AllocError, Global};
 use std::test::Fail;
 
@@ -17,18 +16,29 @@ const EPOCHS: [u64; 9] = [0, 1, 1, 1, 1, 1, 1, 2, 2];
 // The last byte of what is left: what it was, or each kind of a closed gate.
 const LASTS: [Option<u8>; 4] = [None, Some(0), Some(2), Some(255)];
 
-const NO_JOURNAL: &str = "{\"stop\":\"not_journal\"}\n";
+const NO_REPORT: &str = r#"$ check journal
+< {"stop":"not_journal"}
+"#;
+
+const NO_JOURNAL: &str = r#"$ check journal
+< {"stop":"not_journal"}
+$ run journal
+< {"stop":"not_journal"}
+"#;
 
 #[test]
-fn a_journal_cut_to_any_length_is_reported_or_refused(rt: HostRuntime) -> Result<(), Fail> {
-    let whole = play_failing(rt.alloc(), &LINES, 0)?;
-    check_all(rt.alloc(), whole.disk.bytes())
+fn a_journal_cut_to_any_length_opens_or_is_left_alone(rt: HostRuntime) -> Result<(), Fail> {
+    let whole = whole(rt.alloc(), LINES)?;
+    try_lengths(rt.alloc(), whole.disk.bytes())
 }
 
-fn check_all(alloc: Global, bytes: &[u8]) -> Result<(), Fail> {
+fn try_lengths(alloc: Global, bytes: &[u8]) -> Result<(), Fail> {
     let mut legal = 0u64;
     for length in 0..=bytes.len() {
-        legal = legal.saturating_add(check_reports(alloc, bytes, length)?);
+        let (left, _) = bytes.split_at_checked(length).unwrap_or((bytes, &[]));
+        for last in LASTS {
+            legal = legal.saturating_add(try_cut(alloc, left, last)?);
+        }
     }
     // Up to 9 bytes with each last one; seven gates that three bytes close, and the closed one.
     if bytes.len() == 783 && legal == 40 + 21 + 4 {
@@ -37,72 +47,27 @@ fn check_all(alloc: Global, bytes: &[u8]) -> Result<(), Fail> {
     Err(Fail::new(format_args!("{legal} legal, of {} bytes", bytes.len())))
 }
 
-#[test]
-fn a_journal_cut_to_any_length_opens_or_is_left_alone(rt: HostRuntime) -> Result<(), Fail> {
-    let whole = play_failing(rt.alloc(), &LINES, 0)?;
-    check_cuts(rt.alloc(), whole.disk.bytes())
-}
-
-fn check_cuts(alloc: Global, bytes: &[u8]) -> Result<(), Fail> {
-    for length in 0..=bytes.len() {
-        check_cut(alloc, bytes, length)?;
+// Whether what is left is a journal with this last byte, as a number.
+fn try_cut(alloc: Global, left: &[u8], last: Option<u8>) -> Result<u64, Fail> {
+    let mut left = left.to_vec(alloc)?;
+    if let (Some(byte), Some(last)) = (left.last_mut(), last) {
+        *byte = last;
     }
-    Ok(())
+    let refused = if last.is_none() {
+        NO_JOURNAL
+    } else {
+        NO_REPORT
+    };
+    try_left(alloc, left.as_slice(), refused)
 }
 
-fn check_cut(alloc: Global, bytes: &[u8], length: usize) -> Result<(), Fail> {
-    let left = cut(alloc, bytes, length, None)?;
-    check_run(alloc, left.as_slice(), records(left.as_slice()))
-}
-
-#[test]
-fn a_journal_closed_behind_any_record_opens(rt: HostRuntime) -> Result<(), Fail> {
-    let whole = play_failing(rt.alloc(), &LINES, 0)?;
-    check_gates(rt.alloc(), whole.disk.bytes())
-}
-
-fn check_gates(alloc: Global, bytes: &[u8]) -> Result<(), Fail> {
-    for (count, gate) in GATES.iter().enumerate() {
-        check_closed(alloc, bytes, gate.saturating_add(1), count)?;
-    }
-    Ok(())
-}
-
-fn check_closed(alloc: Global, bytes: &[u8], length: usize, count: usize) -> Result<(), Fail> {
-    let left = cut(alloc, bytes, length, Some(0))?;
-    check_run(alloc, left.as_slice(), Some(count))
-}
-
-// How many are legal of the journals of this length, by their last bytes.
-fn check_reports(alloc: Global, bytes: &[u8], length: usize) -> Result<u64, Fail> {
-    let mut legal = 0u64;
-    for last in LASTS {
-        legal = legal.saturating_add(u64::from(is_legal(alloc, bytes, length, last)?));
-    }
-    Ok(legal)
-}
-
-fn is_legal(alloc: Global, bytes: &[u8], length: usize, last: Option<u8>) -> Result<bool, Fail> {
-    let left = cut(alloc, bytes, length, last)?;
-    let count = records(left.as_slice());
-    check_report(alloc, left.as_slice(), count)?;
-    Ok(count.is_some())
-}
-
-fn cut(
-    alloc: Global,
-    bytes: &[u8],
-    length: usize,
-    last: Option<u8>,
-) -> Result<Vec<u8>, AllocError> {
-    let (front, _) = bytes.split_at_checked(length).unwrap_or((bytes, &[]));
-    let mut left = front.to_vec(alloc)?;
-    if let Some(last) = last {
-        if left.pop().is_some() {
-            left.push(last)?;
-        }
-    }
-    Ok(left)
+fn try_left(alloc: Global, left: &[u8], refused: &str) -> Result<u64, Fail> {
+    let Some(count) = records(left) else {
+        play(alloc, "no journal", refused, left)?;
+        return Ok(0);
+    };
+    try_opened(alloc, left, count)?;
+    Ok(1)
 }
 
 // How many records a journal has, or none where it is no journal.
@@ -118,73 +83,39 @@ fn records(left: &[u8]) -> Option<usize> {
         .position(|gate| gate.saturating_add(1) == left.len())
 }
 
-// What a report says of so many records, or of no journal.
-fn check_report(alloc: Global, left: &[u8], count: Option<usize>) -> Result<(), Fail> {
-    let report = report(alloc, left)?;
-    compare_report(alloc, &report, left, count)
-}
-
-fn compare_report(
-    alloc: Global,
-    report: &Ran,
-    left: &[u8],
-    count: Option<usize>,
-) -> Result<(), Fail> {
-    if report.disk.bytes() == left && is_due(alloc, report, left.len(), count)? {
-        return Ok(());
-    }
-    Err(Fail::new(format_args!("{} bytes: {}", left.len(), report.text()?)))
-}
-
-fn is_due(alloc: Global, report: &Ran, len: usize, count: Option<usize>) -> Result<bool, Fail> {
-    let Some(count) = count else {
-        return Ok(report.status == 7 && report.text()?.ends_with(NO_JOURNAL));
-    };
-    let due = last_line(alloc, len.max(9), count)?;
-    Ok(report.status == 0 && report.text()?.ends_with(due.as_str()))
-}
-
-// An empty script adds the record of its epoch, or leaves what is no journal.
-fn check_run(alloc: Global, left: &[u8], count: Option<usize>) -> Result<(), Fail> {
-    let ran = run_plain(alloc, "", left)?;
-    compare_run(alloc, &ran, left, count)
-}
-
-fn compare_run(alloc: Global, ran: &Ran, left: &[u8], count: Option<usize>) -> Result<(), Fail> {
-    match count {
-        Some(count) if ran.came_to(0, "") => check_epoch(alloc, left, count, ran.disk.bytes()),
-        None if ran.came_to(7, NO_JOURNAL) => left_alone(ran, left),
-        _ => Err(Fail::new(format_args!("{} bytes: status {}", left.len(), ran.status))),
-    }
-}
-
-// The journal has the record of one epoch more than was left.
-fn check_epoch(alloc: Global, left: &[u8], count: usize, journal: &[u8]) -> Result<(), Fail> {
-    let epoch = epoch_of(count).saturating_add(1);
+// It is reported, and an empty script adds the record of its epoch.
+fn try_opened(alloc: Global, left: &[u8], count: usize) -> Result<(), Fail> {
+    let epoch = EPOCHS.get(count).copied().unwrap_or(0);
+    let mut facts = String::new(alloc);
+    add_report(left.len().max(9), epoch, count, &mut facts)?;
+    facts.push_str("$ run journal\n")?;
     let end = left.len().max(9).saturating_add(14);
-    let line = report_line(alloc, end, epoch, count.saturating_add(1))?;
-    if report(alloc, journal)?.text()?.ends_with(line.as_str()) {
-        return Ok(());
-    }
-    Err(Fail::new(format_args!("{} bytes: another record", left.len())))
+    add_report(
+        end,
+        epoch.saturating_add(1),
+        count.saturating_add(1),
+        &mut facts,
+    )?;
+    play(alloc, "a journal", facts.as_str(), left)
 }
 
-fn left_alone(ran: &Ran, left: &[u8]) -> Result<(), Fail> {
-    if ran.disk.bytes() != left {
-        return Err(Fail::new(format_args!("{} bytes: not left alone", left.len())));
-    }
-    Ok(())
+// Adds a report that ends with so many bytes, this epoch and so many records.
+fn add_report(end: usize, epoch: u64, count: usize, facts: &mut String) -> Result<(), AllocError> {
+    write!(
+        facts,
+        "$ check journal\n# 1 {{\"end\":{end},\"epoch\":{epoch},\"records\":{count}}}\n"
+    )
 }
 
-fn epoch_of(count: usize) -> u64 {
-    EPOCHS.get(count).copied().unwrap_or(0)
-}
-
-// The last line of a report on a part of the journal that has so many records.
-fn last_line(alloc: Global, end: usize, count: usize) -> Result<String, AllocError> {
-    report_line(alloc, end, epoch_of(count), count)
-}
-
-fn report_line(alloc: Global, end: usize, epoch: u64, count: usize) -> Result<String, AllocError> {
-    format!(in alloc; "{{\"end\":{end},\"epoch\":{epoch},\"records\":{count}}}\n")
-}
+const LINES: &str = r#". C(m)
+. C(f)
+. {"do":"replicate","name":"r","fork":"f","master":"m","handler":"master_wins"}
+. I(m,a,1)
+> {"do":"turn","name":"r"}
+< {"exchange":1,"place":{"id":"a","lwt":1},"rows":["a"],"sent":"pull"}
+< {"end":"quiet","exchanges":1,"line":L,"ok":"turn"}
+> {"do":"restart"}
+< {"epoch":2,"line":L,"ok":"restart"}
+> {"do":"migrate","in":"m","schema":{"version":1,"primaryKey":"id","type":"object","properties":{"id":{"type":"string","maxLength":20},"n":{"type":"integer"}},"required":["id"]},"steps":[{"scale":"n","by":10}]}
+< {"collections":["m","f"],"line":L,"ok":"migrate"}
+"#;

@@ -3,19 +3,13 @@ use crate::case::play_all;
 use std::test::Fail;
 
 #[test]
-fn a_query_orders_documents_and_cuts_them(rt: HostRuntime) -> Result<(), Fail> {
-    play_all(rt.alloc(), RESULTS)
+fn queries_order_documents_and_cut_them_or_are_refused(rt: HostRuntime) -> Result<(), Fail> {
+    play_all(rt.alloc(), CASES)
 }
 
-#[test]
-fn a_query_is_refused_for_its_first_fault(rt: HostRuntime) -> Result<(), Fail> {
-    play_all(rt.alloc(), REFUSED)
-}
-
-const RESULTS: &str = r#"
+const CASES: &str = r#"
 == rows stand in the order of the sort, and then by the key
-> {"do":"collection","name":"c","schema":{"version":0,"primaryKey":"id","type":"object","properties":{"id":{"type":"string","maxLength":20},"b":{"type":"boolean"},"n":{"type":"integer"},"s":{"type":"string"}}}}
-< made
+. {"do":"collection","name":"c","schema":{"version":0,"primaryKey":"id","type":"object","properties":{"id":{"type":"string","maxLength":20},"b":{"type":"boolean"},"n":{"type":"integer"},"s":{"type":"string"}}}}
 > {"do":"bulk","in":"c","docs":[{"b":true,"id":"a","n":1,"s":"x"},{"b":true,"id":"b","n":1,"s":"y"},{"b":false,"id":"d","n":2,"s":"x"},{"b":true,"id":"e","s":"x"},{"id":"f","n":1},{"b":false,"id":"g","n":2,"s":"x"},{"b":true,"id":"h","n":-3,"s":"y"}]}
 < {"line":L,"ok":"bulk","revs":["1-c","1-c","1-c","1-c","1-c","1-c","1-c"]}
 > {"do":"find","in":"c","query":{}}
@@ -44,8 +38,7 @@ const RESULTS: &str = r#"
 < {"line":L,"ok":"find","rows":[{"b":true,"id":"h","n":-3,"s":"y"},{"b":false,"id":"g","n":2,"s":"x"},{"id":"f","n":1},{"b":true,"id":"e","s":"x"},{"b":false,"id":"d","n":2,"s":"x"},{"b":true,"id":"b","n":1,"s":"y"},{"b":true,"id":"a","n":1,"s":"x"}]}
 
 == three sort fields in mixed directions, with ties and missing values
-> {"do":"collection","name":"c","schema":{"version":0,"primaryKey":"id","type":"object","properties":{"id":{"type":"string","maxLength":20},"b":{"type":"boolean"},"n":{"type":"integer"},"s":{"type":"string"}}}}
-< made
+. {"do":"collection","name":"c","schema":{"version":0,"primaryKey":"id","type":"object","properties":{"id":{"type":"string","maxLength":20},"b":{"type":"boolean"},"n":{"type":"integer"},"s":{"type":"string"}}}}
 > {"do":"bulk","in":"c","docs":[{"b":true,"id":"a","n":1,"s":"x"},{"b":true,"id":"b","n":1,"s":"y"},{"b":false,"id":"d","n":2,"s":"x"},{"b":true,"id":"e","s":"x"},{"id":"f","n":1},{"b":false,"id":"g","n":2,"s":"x"},{"b":true,"id":"h","n":-3,"s":"y"}]}
 < {"line":L,"ok":"bulk","revs":["1-c","1-c","1-c","1-c","1-c","1-c","1-c"]}
 > {"do":"find","in":"c","query":{"sort":[{"b":"desc"},{"s":"asc"},{"n":"desc"}]}}
@@ -60,8 +53,7 @@ const RESULTS: &str = r#"
 < {"line":L,"ok":"find","rows":[{"id":"f","n":1},{"b":false,"id":"d","n":2,"s":"x"},{"b":false,"id":"g","n":2,"s":"x"},{"b":true,"id":"a","n":1,"s":"x"},{"b":true,"id":"e","s":"x"},{"b":true,"id":"b","n":1,"s":"y"},{"b":true,"id":"h","n":-3,"s":"y"}]}
 
 == a window begins behind the skipped rows and ends at its limit
-> {"do":"collection","name":"c","schema":{"version":0,"primaryKey":"id","type":"object","properties":{"id":{"type":"string","maxLength":20},"b":{"type":"boolean"},"n":{"type":"integer"},"s":{"type":"string"}}}}
-< made
+. {"do":"collection","name":"c","schema":{"version":0,"primaryKey":"id","type":"object","properties":{"id":{"type":"string","maxLength":20},"b":{"type":"boolean"},"n":{"type":"integer"},"s":{"type":"string"}}}}
 > {"do":"bulk","in":"c","docs":[{"b":true,"id":"a","n":1,"s":"x"},{"b":true,"id":"b","n":1,"s":"y"},{"b":false,"id":"d","n":2,"s":"x"},{"b":true,"id":"e","s":"x"},{"id":"f","n":1},{"b":false,"id":"g","n":2,"s":"x"},{"b":true,"id":"h","n":-3,"s":"y"}]}
 < {"line":L,"ok":"bulk","revs":["1-c","1-c","1-c","1-c","1-c","1-c","1-c"]}
 > {"do":"find","in":"c","query":{"skip":0}}
@@ -122,8 +114,7 @@ const RESULTS: &str = r#"
 < {"count":1,"line":L,"ok":"count"}
 
 == what was removed matches no query
-> {"do":"collection","name":"c","schema":{"version":0,"primaryKey":"id","type":"object","properties":{"id":{"type":"string","maxLength":20},"b":{"type":"boolean"},"n":{"type":"integer"},"s":{"type":"string"}}}}
-< made
+. {"do":"collection","name":"c","schema":{"version":0,"primaryKey":"id","type":"object","properties":{"id":{"type":"string","maxLength":20},"b":{"type":"boolean"},"n":{"type":"integer"},"s":{"type":"string"}}}}
 > {"do":"bulk","in":"c","docs":[{"b":true,"id":"a","n":1,"s":"x"},{"b":true,"id":"b","n":1,"s":"y"},{"b":false,"id":"d","n":2,"s":"x"},{"b":true,"id":"e","s":"x"},{"id":"f","n":1},{"b":false,"id":"g","n":2,"s":"x"},{"b":true,"id":"h","n":-3,"s":"y"}]}
 < {"line":L,"ok":"bulk","revs":["1-c","1-c","1-c","1-c","1-c","1-c","1-c"]}
 > {"do":"remove","in":"c","key":"a"}
@@ -138,20 +129,17 @@ const RESULTS: &str = r#"
 < {"line":L,"ok":"find","rows":[{"b":true,"id":"a","n":1,"s":"x"},{"b":true,"id":"b","n":1,"s":"y"},{"id":"f","n":1}]}
 
 == an empty collection has no rows
-> {"do":"collection","name":"c","schema":{"version":0,"primaryKey":"id","type":"object","properties":{"id":{"type":"string","maxLength":20},"b":{"type":"boolean"},"n":{"type":"integer"},"s":{"type":"string"}}}}
-< made
+. {"do":"collection","name":"c","schema":{"version":0,"primaryKey":"id","type":"object","properties":{"id":{"type":"string","maxLength":20},"b":{"type":"boolean"},"n":{"type":"integer"},"s":{"type":"string"}}}}
 > {"do":"find","in":"c","query":{}}
 < {"line":L,"ok":"find","rows":[]}
 > {"do":"count","in":"c","query":{}}
 < {"count":0,"line":L,"ok":"count"}
 > {"do":"find","in":"c","query":{"selector":{"n":{"$exists":false}},"sort":[{"n":"desc"}],"skip":1,"limit":1}}
 < {"line":L,"ok":"find","rows":[]}
-"#;
 
-const REFUSED: &str = r#"
+// A query is refused for its first fault.
 == each fault of a query
-> {"do":"collection","name":"c","schema":{"version":0,"primaryKey":"id","type":"object","properties":{"id":{"type":"string","maxLength":20},"b":{"type":"boolean"},"n":{"type":"integer"},"s":{"type":"string"}}}}
-< made
+. {"do":"collection","name":"c","schema":{"version":0,"primaryKey":"id","type":"object","properties":{"id":{"type":"string","maxLength":20},"b":{"type":"boolean"},"n":{"type":"integer"},"s":{"type":"string"}}}}
 > {"do":"count","in":"c","query":[]}
 < {"cause":"not_object","code":16,"line":L,"refused":"query"}
 > {"do":"count","in":"c","query":{"z":1,"fields":1,"selector":1}}
@@ -230,8 +218,7 @@ const REFUSED: &str = r#"
 < {"cause":"limit","code":16,"line":L,"refused":"query"}
 
 == the first of two faults of a query
-> {"do":"collection","name":"c","schema":{"version":0,"primaryKey":"id","type":"object","properties":{"id":{"type":"string","maxLength":20},"b":{"type":"boolean"},"n":{"type":"integer"},"s":{"type":"string"}}}}
-< made
+. {"do":"collection","name":"c","schema":{"version":0,"primaryKey":"id","type":"object","properties":{"id":{"type":"string","maxLength":20},"b":{"type":"boolean"},"n":{"type":"integer"},"s":{"type":"string"}}}}
 > {"do":"count","in":"c","query":{"limit":-1,"skip":-1,"sort":1,"selector":1,"x":1}}
 < {"cause":"member","code":16,"line":L,"name":"x","refused":"query"}
 > {"do":"count","in":"c","query":{"limit":-1,"skip":-1,"sort":1,"selector":{"x":1}}}

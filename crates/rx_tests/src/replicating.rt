@@ -4,36 +4,11 @@ use crate::case::play_all;
 use std::test::Fail;
 
 #[test]
-fn a_replication_or_a_turn_is_refused_by_its_members(rt: HostRuntime) -> Result<(), Fail> {
-    play_all(rt.alloc(), MEMBERS)
+fn a_turn_brings_a_fork_and_its_master_together_or_is_refused(rt: HostRuntime) -> Result<(), Fail> {
+    play_all(rt.alloc(), CASES)
 }
 
-#[test]
-fn a_replication_is_refused_by_what_is_stored(rt: HostRuntime) -> Result<(), Fail> {
-    play_all(rt.alloc(), BEGINNING)
-}
-
-#[test]
-fn a_turn_is_refused_by_its_replication(rt: HostRuntime) -> Result<(), Fail> {
-    play_all(rt.alloc(), REFUSED_TURNS)
-}
-
-#[test]
-fn a_turn_brings_a_fork_and_its_master_together(rt: HostRuntime) -> Result<(), Fail> {
-    play_all(rt.alloc(), TURNS)
-}
-
-#[test]
-fn a_link_loses_what_it_is_told_to(rt: HostRuntime) -> Result<(), Fail> {
-    play_all(rt.alloc(), LINKS)
-}
-
-#[test]
-fn observed_sides_tell_what_a_turn_brought(rt: HostRuntime) -> Result<(), Fail> {
-    play_all(rt.alloc(), OBSERVED)
-}
-
-const MEMBERS: &str = r#"
+const CASES: &str = r#"// A replication or a turn is refused by its members.
 == a replication without a member
 > {"do":"replicate"}
 < {"code":5,"line":L,"name":"name","refused":"missing"}
@@ -153,19 +128,12 @@ const MEMBERS: &str = r#"
 < {"code":20,"line":L,"name":"budget","refused":"batch"}
 > {"do":"turn","name":"r","batch":100,"budget":100001}
 < {"code":20,"line":L,"name":"budget","refused":"batch"}
-"#;
 
-const BEGINNING: &str = r#"
+// A replication is refused by what is stored.
 == the name of a replication is taken, which is told before what isn't held
-> C(m)
-< made
-> C(f)
-< made
-> {"do":"observe","name":"r","in":"f","query":{}}
-< {"line":L,"ok":"observe"}
+. C(m) C(f) {"do":"observe","name":"r","in":"f","query":{}}
 < {"emit":"r","rows":[]}
-> {"do":"replicate","name":"r","fork":"f","master":"m","handler":"master_wins"}
-< {"line":L,"ok":"replicate"}
+. {"do":"replicate","name":"r","fork":"f","master":"m","handler":"master_wins"}
 > {"do":"replicate","name":"r","fork":"f","master":"m","handler":"master_wins"}
 < {"code":9,"line":L,"refused":"exists"}
 > {"do":"replicate","name":"r","fork":"x","master":"y","handler":"nobody"}
@@ -179,8 +147,7 @@ $ run journal
 < {"code":9,"line":L,"refused":"exists"}
 
 == the fork is held, then the master, which is told before the handler
-> C(f)
-< made
+. C(f)
 > {"do":"replicate","name":"r","fork":"x","master":"y","handler":"nobody"}
 < {"code":10,"line":L,"name":"x","refused":"no_collection"}
 > {"do":"replicate","name":"r","fork":"f","master":"y","handler":"nobody"}
@@ -189,10 +156,7 @@ $ run journal
 < {"code":19,"line":L,"refused":"no_handler"}
 
 == a handler is there and takes the field, which is told before the chain
-> C(m)
-< made
-> C(f)
-< made
+. C(m) C(f)
 > {"do":"replicate","name":"r","fork":"f","master":"f","handler":"nobody"}
 < {"code":19,"line":L,"refused":"no_handler"}
 > {"do":"replicate","name":"r","fork":"f","master":"m","handler":"Join"}
@@ -211,72 +175,50 @@ $ run journal
 < {"code":19,"line":L,"refused":"no_handler"}
 > {"do":"replicate","name":"r","fork":"f","master":"m","handler":"join","field":"n"}
 < {"code":19,"line":L,"refused":"no_handler"}
-> {"do":"replicate","name":"r","fork":"f","master":"m","handler":"greater","field":"n"}
-< {"line":L,"ok":"replicate"}
+. {"do":"replicate","name":"r","fork":"f","master":"m","handler":"greater","field":"n"}
 
 == the field is one of the fork's schema, which is told before the schemas
-> {"do":"collection","name":"a","schema":{"version":0,"primaryKey":"id","type":"object","properties":{"id":{"type":"string","maxLength":20},"m":{"type":"number","multipleOf":1}}}}
-< made
-> C(b)
-< made
+. {"do":"collection","name":"a","schema":{"version":0,"primaryKey":"id","type":"object","properties":{"id":{"type":"string","maxLength":20},"m":{"type":"number","multipleOf":1}}}}
+. C(b)
 > {"do":"replicate","name":"r","fork":"a","master":"b","handler":"greater","field":"n"}
 < {"code":19,"line":L,"refused":"no_handler"}
 > {"do":"replicate","name":"r","fork":"a","master":"b","handler":"greater","field":"m"}
 < {"code":12,"line":L,"refused":"schema_differs"}
 
 == no collection follows itself, two masters, or one that leads back to it; a fork may be followed
-> C(m)
-< made
-> C(f)
-< made
+. C(m) C(f)
 > {"do":"replicate","name":"r","fork":"f","master":"f","handler":"join"}
 < {"code":21,"line":L,"refused":"chain"}
-> {"do":"replicate","name":"r","fork":"f","master":"m","handler":"master_wins"}
-< {"line":L,"ok":"replicate"}
-> C(g)
-< made
-> {"do":"replicate","name":"s","fork":"g","master":"f","handler":"join"}
-< {"line":L,"ok":"replicate"}
+. {"do":"replicate","name":"r","fork":"f","master":"m","handler":"master_wins"} C(g)
+. {"do":"replicate","name":"s","fork":"g","master":"f","handler":"join"}
 > {"do":"replicate","name":"t","fork":"g","master":"m","handler":"join"}
 < {"code":21,"line":L,"refused":"chain"}
 > {"do":"replicate","name":"t","fork":"m","master":"f","handler":"join"}
 < {"code":21,"line":L,"refused":"chain"}
 > {"do":"replicate","name":"t","fork":"m","master":"g","handler":"join"}
 < {"code":21,"line":L,"refused":"chain"}
-> C(h)
-< made
-> {"do":"replicate","name":"t","fork":"h","master":"g","handler":"join"}
-< {"line":L,"ok":"replicate"}
+. C(h) {"do":"replicate","name":"t","fork":"h","master":"g","handler":"join"}
 > {"do":"replicate","name":"u","fork":"m","master":"h","handler":"join"}
 < {"code":21,"line":L,"refused":"chain"}
-> C(k)
-< made
-> {"do":"replicate","name":"u","fork":"m","master":"k","handler":"join"}
-< {"line":L,"ok":"replicate"}
+. C(k) {"do":"replicate","name":"u","fork":"m","master":"k","handler":"join"}
 > {"do":"replicate","name":"v","fork":"k","master":"h","handler":"join"}
 < {"code":21,"line":L,"refused":"chain"}
 
 == a fork has the schema of its master, which is told after the chain
-> C(m)
-< made
-> {"do":"collection","name":"f","schema":S2}
-< made
+. C(m) {"do":"collection","name":"f","schema":S2}
 > {"do":"replicate","name":"r","fork":"f","master":"m","handler":"join"}
 < {"code":12,"line":L,"refused":"schema_differs"}
 > {"do":"collection","name":"g","schema":{"type":"object","title":"the same","required":["id","id"],"properties":{"n":{"type":"integer"},"id":{"maxLength":20,"type":"string"}},"primaryKey":"id","version":0}}
 < made
-> {"do":"replicate","name":"r","fork":"g","master":"m","handler":"join"}
-< {"line":L,"ok":"replicate"}
+. {"do":"replicate","name":"r","fork":"g","master":"m","handler":"join"}
 > {"do":"replicate","name":"s","fork":"f","master":"g","handler":"join"}
 < {"code":12,"line":L,"refused":"schema_differs"}
 > {"do":"replicate","name":"s","fork":"g","master":"f","handler":"join"}
 < {"code":21,"line":L,"refused":"chain"}
-"#;
 
-const REFUSED_TURNS: &str = r#"
+// A turn is refused by its replication.
 == a turn of no replication
-> C(f)
-< made
+. C(f)
 > {"do":"turn","name":"f"}
 < {"code":18,"line":L,"refused":"no_replication"}
 > {"do":"turn","name":"r","batch":1,"budget":100000,"link":["ok","lose_request","lose_reply","twice",{"late":1},{"late":16},"stale"]}
@@ -286,8 +228,7 @@ const REFUSED_TURNS: &str = r#"
 ^ BASE 01 000000a4 01 00000001 'f' 0000009a
 ^ '{"indexes":[],"primaryKey":"id","properties":{"id":{"maxLength":20,"type":"string"},"n":{"type":"integer"}},"required":["id"],"type":"object","version":0}'
 ^ 01 0000001c 03 00000001 'r' 00000001 'f' 00 00000001 'c' 00000006 'nobody' 00 00
-> I(f,a,1)
-< insert 1-f
+. I(f,a,1)
 > {"do":"turn","name":"r"}
 < {"code":19,"line":L,"refused":"no_handler"}
 
@@ -327,29 +268,16 @@ const REFUSED_TURNS: &str = r#"
 < {"end":"lost","exchanges":1,"line":L,"ok":"turn"}
 > {"do":"turn","name":"r","link":["ok"]}
 < {"code":6,"line":L,"name":"link","refused":"unexpected"}
-"#;
 
-const TURNS: &str = r#"
+// A turn brings a fork and its master together.
 == a turn of two empty collections
-> C(m)
-< made
-> C(f)
-< made
-> {"do":"replicate","name":"r","fork":"f","master":"m","handler":"master_wins"}
-< {"line":L,"ok":"replicate"}
+. C(m) C(f) {"do":"replicate","name":"r","fork":"f","master":"m","handler":"master_wins"}
 > {"do":"turn","name":"r"}
 < {"exchange":1,"rows":[],"sent":"pull"}
 < {"end":"quiet","exchanges":1,"line":L,"ok":"turn"}
 
 == an edit that goes back to what the master had is no edit
-> C(m)
-< made
-> C(f)
-< made
-> {"do":"replicate","name":"r","fork":"f","master":"m","handler":"master_wins"}
-< {"line":L,"ok":"replicate"}
-> I(m,a,1)
-< insert 1-m
+. C(m) C(f) {"do":"replicate","name":"r","fork":"f","master":"m","handler":"master_wins"} I(m,a,1)
 > {"do":"turn","name":"r"}
 < {"exchange":1,"place":{"id":"a","lwt":1},"rows":["a"],"sent":"pull"}
 < {"end":"quiet","exchanges":1,"line":L,"ok":"turn"}
@@ -366,16 +294,8 @@ const TURNS: &str = r#"
 < {"doc":{"id":"a","n":3},"line":L,"lwt":4,"ok":"get","rev":"4-f"}
 
 == a fork that wins is pushed again
-> C(m)
-< made
-> C(f)
-< made
-> {"do":"replicate","name":"r","fork":"f","master":"m","handler":"fork_wins"}
-< {"line":L,"ok":"replicate"}
-> I(m,a,1)
-< insert 1-m
-> I(f,a,2)
-< insert 1-f
+. C(m) C(f) {"do":"replicate","name":"r","fork":"f","master":"m","handler":"fork_wins"}
+. I(m,a,1) I(f,a,2)
 > {"do":"turn","name":"r"}
 < {"conflicts":["a"],"exchange":1,"rows":["a"],"sent":"push"}
 < {"conflicts":[],"exchange":2,"rows":["a"],"sent":"push"}
@@ -387,16 +307,10 @@ const TURNS: &str = r#"
 < {"doc":{"id":"a","n":2},"line":L,"lwt":2,"ok":"get","rev":"2-m"}
 
 == on a tie the master is the greater
-> {"do":"collection","name":"m","schema":S2}
-< made
-> {"do":"collection","name":"f","schema":S2}
-< made
-> {"do":"replicate","name":"r","fork":"f","master":"m","handler":"greater","field":"n"}
-< {"line":L,"ok":"replicate"}
-> {"do":"insert","in":"m","doc":{"id":"a","n":1,"t":"x"}}
-< insert 1-m
-> {"do":"insert","in":"f","doc":{"id":"a","n":1,"t":"y"}}
-< insert 1-f
+. {"do":"collection","name":"m","schema":S2} {"do":"collection","name":"f","schema":S2}
+. {"do":"replicate","name":"r","fork":"f","master":"m","handler":"greater","field":"n"}
+. {"do":"insert","in":"m","doc":{"id":"a","n":1,"t":"x"}}
+. {"do":"insert","in":"f","doc":{"id":"a","n":1,"t":"y"}}
 > {"do":"turn","name":"r"}
 < {"conflicts":["a"],"exchange":1,"rows":["a"],"sent":"push"}
 < {"exchange":2,"place":{"id":"a","lwt":1},"rows":["a"],"sent":"pull"}
@@ -407,16 +321,10 @@ const TURNS: &str = r#"
 < {"doc":{"id":"a","n":1,"t":"x"},"line":L,"lwt":1,"ok":"get","rev":"1-m"}
 
 == a fork that joins keeps the greater of each field
-> {"do":"collection","name":"m","schema":S2}
-< made
-> {"do":"collection","name":"f","schema":S2}
-< made
-> {"do":"replicate","name":"r","fork":"f","master":"m","handler":"join"}
-< {"line":L,"ok":"replicate"}
-> {"do":"insert","in":"m","doc":{"id":"a","n":5}}
-< insert 1-m
-> {"do":"insert","in":"f","doc":{"id":"a","n":1,"t":"y"}}
-< insert 1-f
+. {"do":"collection","name":"m","schema":S2} {"do":"collection","name":"f","schema":S2}
+. {"do":"replicate","name":"r","fork":"f","master":"m","handler":"join"}
+. {"do":"insert","in":"m","doc":{"id":"a","n":5}}
+. {"do":"insert","in":"f","doc":{"id":"a","n":1,"t":"y"}}
 > {"do":"turn","name":"r"}
 < {"conflicts":["a"],"exchange":1,"rows":["a"],"sent":"push"}
 < {"conflicts":[],"exchange":2,"rows":["a"],"sent":"push"}
@@ -426,14 +334,7 @@ const TURNS: &str = r#"
 < {"doc":{"id":"a","n":5,"t":"y"},"line":L,"lwt":2,"ok":"get","rev":"2-m"}
 
 == a removal goes over the link as any other state
-> C(m)
-< made
-> C(f)
-< made
-> {"do":"replicate","name":"r","fork":"f","master":"m","handler":"master_wins"}
-< {"line":L,"ok":"replicate"}
-> I(m,a,1)
-< insert 1-m
+. C(m) C(f) {"do":"replicate","name":"r","fork":"f","master":"m","handler":"master_wins"} I(m,a,1)
 > {"do":"turn","name":"r"}
 < {"exchange":1,"place":{"id":"a","lwt":1},"rows":["a"],"sent":"pull"}
 < {"end":"quiet","exchanges":1,"line":L,"ok":"turn"}
@@ -449,12 +350,7 @@ const TURNS: &str = r#"
 < {"docs":[{"_deleted":true,"id":"a","n":1}],"line":L,"ok":"changes","place":{"id":"a","lwt":2}}
 
 == a turn ends where its budget is used, and the next one goes on
-> C(m)
-< made
-> C(f)
-< made
-> {"do":"replicate","name":"r","fork":"f","master":"m","handler":"master_wins"}
-< {"line":L,"ok":"replicate"}
+. C(m) C(f) {"do":"replicate","name":"r","fork":"f","master":"m","handler":"master_wins"}
 > {"do":"bulk","in":"m","docs":[{"id":"a"},{"id":"b"},{"id":"c"}]}
 < {"line":L,"ok":"bulk","revs":["1-m","1-m","1-m"]}
 > {"do":"turn","name":"r","batch":1,"budget":2}
@@ -475,55 +371,23 @@ const TURNS: &str = r#"
 < {"end":"quiet","exchanges":4,"line":L,"ok":"turn"}
 
 == a master that has no later write time ends a turn before its first exchange
-> C(m)
-< made
-> C(f)
-< made
-> {"do":"replicate","name":"r","fork":"f","master":"m","handler":"master_wins"}
-< {"line":L,"ok":"replicate"}
-> {"do":"tick","at":9007199254740991}
-< {"line":L,"ok":"tick"}
-> I(m,a,1)
-< insert 1-m
-> {"do":"tick","at":0}
-< {"line":L,"ok":"tick"}
-> I(f,b,1)
-< insert 1-f
+. C(m) C(f) {"do":"replicate","name":"r","fork":"f","master":"m","handler":"master_wins"}
+. {"do":"tick","at":9007199254740991} I(m,a,1) {"do":"tick","at":0} I(f,b,1)
 > {"do":"turn","name":"r"}
 < {"end":"clock","exchanges":0,"line":L,"ok":"turn"}
 
 == a fork that has no later write time ends a turn, and what the master took stands
-> C(m)
-< made
-> C(f)
-< made
-> {"do":"replicate","name":"r","fork":"f","master":"m","handler":"master_wins"}
-< {"line":L,"ok":"replicate"}
-> {"do":"tick","at":9007199254740991}
-< {"line":L,"ok":"tick"}
-> I(f,a,1)
-< insert 1-f
-> {"do":"tick","at":0}
-< {"line":L,"ok":"tick"}
-> I(m,b,1)
-< insert 1-m
+. C(m) C(f) {"do":"replicate","name":"r","fork":"f","master":"m","handler":"master_wins"}
+. {"do":"tick","at":9007199254740991} I(f,a,1) {"do":"tick","at":0} I(m,b,1)
 > {"do":"turn","name":"r"}
 < {"conflicts":[],"exchange":1,"rows":["a"],"sent":"push"}
 < {"end":"clock","exchanges":1,"line":L,"ok":"turn"}
 > {"do":"get","in":"m","key":"a"}
 < {"doc":{"id":"a","n":1},"line":L,"lwt":2,"ok":"get","rev":"1-m"}
-"#;
 
-const LINKS: &str = r#"
+// A link loses what it is told to.
 == a lost reply is made good without a handler
-> C(m)
-< made
-> C(f)
-< made
-> {"do":"replicate","name":"r","fork":"f","master":"m","handler":"master_wins"}
-< {"line":L,"ok":"replicate"}
-> I(f,a,1)
-< insert 1-f
+. C(m) C(f) {"do":"replicate","name":"r","fork":"f","master":"m","handler":"master_wins"} I(f,a,1)
 > {"do":"turn","name":"r","link":["lose_reply"]}
 < {"exchange":1,"lost":"lose_reply","rows":["a"],"sent":"push"}
 < {"end":"lost","exchanges":1,"line":L,"ok":"turn"}
@@ -531,8 +395,7 @@ const LINKS: &str = r#"
 < {"conflicts":["a"],"exchange":1,"rows":["a"],"sent":"push"}
 < {"exchange":2,"place":{"id":"a","lwt":1},"rows":["a"],"sent":"pull"}
 < {"end":"quiet","exchanges":2,"line":L,"ok":"turn"}
-> I(m,b,2)
-< insert 1-m
+. I(m,b,2)
 > {"do":"restart"}
 < {"epoch":2,"line":L,"ok":"restart"}
 > {"do":"turn","name":"r","link":["stale"]}
@@ -545,14 +408,7 @@ const LINKS: &str = r#"
 < {"doc":{"id":"a","n":1},"line":L,"lwt":1,"ok":"get","rev":"1-f"}
 
 == a push that comes late finds its state held, and a link may be longer than the turn
-> C(m)
-< made
-> C(f)
-< made
-> {"do":"replicate","name":"r","fork":"f","master":"m","handler":"master_wins"}
-< {"line":L,"ok":"replicate"}
-> I(f,a,1)
-< insert 1-f
+. C(m) C(f) {"do":"replicate","name":"r","fork":"f","master":"m","handler":"master_wins"} I(f,a,1)
 > {"do":"turn","name":"r","link":["lose_reply"]}
 < {"exchange":1,"lost":"lose_reply","rows":["a"],"sent":"push"}
 < {"end":"lost","exchanges":1,"line":L,"ok":"turn"}
@@ -562,14 +418,7 @@ const LINKS: &str = r#"
 < {"end":"quiet","exchanges":2,"line":L,"ok":"turn"}
 
 == a lost request is never handled
-> C(m)
-< made
-> C(f)
-< made
-> {"do":"replicate","name":"r","fork":"f","master":"m","handler":"master_wins"}
-< {"line":L,"ok":"replicate"}
-> I(f,a,1)
-< insert 1-f
+. C(m) C(f) {"do":"replicate","name":"r","fork":"f","master":"m","handler":"master_wins"} I(f,a,1)
 > {"do":"turn","name":"r","link":["lose_request","ok"]}
 < {"exchange":1,"lost":"lose_request","rows":["a"],"sent":"push"}
 < {"end":"lost","exchanges":1,"line":L,"ok":"turn"}
@@ -584,14 +433,7 @@ const LINKS: &str = r#"
 < {"end":"quiet","exchanges":1,"line":L,"ok":"turn"}
 
 == a request that is handled twice writes once
-> C(m)
-< made
-> C(f)
-< made
-> {"do":"replicate","name":"r","fork":"f","master":"m","handler":"master_wins"}
-< {"line":L,"ok":"replicate"}
-> I(f,a,1)
-< insert 1-f
+. C(m) C(f) {"do":"replicate","name":"r","fork":"f","master":"m","handler":"master_wins"} I(f,a,1)
 > {"do":"turn","name":"r","link":["twice","twice"]}
 < {"conflicts":[],"exchange":1,"rows":["a"],"sent":"push"}
 < {"exchange":2,"place":{"id":"a","lwt":1},"rows":["a"],"sent":"pull"}
@@ -600,14 +442,7 @@ const LINKS: &str = r#"
 < {"doc":{"id":"a","n":1},"line":L,"lwt":1,"ok":"get","rev":"1-m"}
 
 == a late push is taken again where the master is back at what it assumed
-> C(m)
-< made
-> C(f)
-< made
-> {"do":"replicate","name":"r","fork":"f","master":"m","handler":"master_wins"}
-< {"line":L,"ok":"replicate"}
-> I(f,a,1)
-< insert 1-f
+. C(m) C(f) {"do":"replicate","name":"r","fork":"f","master":"m","handler":"master_wins"} I(f,a,1)
 > {"do":"turn","name":"r","budget":1}
 < {"conflicts":[],"exchange":1,"rows":["a"],"sent":"push"}
 < {"end":"more","exchanges":1,"line":L,"ok":"turn"}
@@ -627,14 +462,7 @@ const LINKS: &str = r#"
 < {"doc":{"id":"a","n":2},"line":L,"lwt":2,"ok":"get","rev":"2-f"}
 
 == a late request from before a restart is forgotten
-> C(m)
-< made
-> C(f)
-< made
-> {"do":"replicate","name":"r","fork":"f","master":"m","handler":"master_wins"}
-< {"line":L,"ok":"replicate"}
-> I(f,a,1)
-< insert 1-f
+. C(m) C(f) {"do":"replicate","name":"r","fork":"f","master":"m","handler":"master_wins"} I(f,a,1)
 > {"do":"turn","name":"r","link":["lose_request"]}
 < {"exchange":1,"lost":"lose_request","rows":["a"],"sent":"push"}
 < {"end":"lost","exchanges":1,"line":L,"ok":"turn"}
@@ -650,14 +478,7 @@ const LINKS: &str = r#"
 < {"doc":{"id":"a","n":2},"line":L,"lwt":1,"ok":"get","rev":"1-m"}
 
 == a late request that was lost is handled first
-> C(m)
-< made
-> C(f)
-< made
-> {"do":"replicate","name":"r","fork":"f","master":"m","handler":"fork_wins"}
-< {"line":L,"ok":"replicate"}
-> I(f,a,1)
-< insert 1-f
+. C(m) C(f) {"do":"replicate","name":"r","fork":"f","master":"m","handler":"fork_wins"} I(f,a,1)
 > {"do":"turn","name":"r","link":["lose_request"]}
 < {"exchange":1,"lost":"lose_request","rows":["a"],"sent":"push"}
 < {"end":"lost","exchanges":1,"line":L,"ok":"turn"}
@@ -670,39 +491,26 @@ const LINKS: &str = r#"
 < {"end":"quiet","exchanges":3,"line":L,"ok":"turn"}
 > {"do":"get","in":"f","key":"a"}
 < {"doc":{"id":"a","n":2},"line":L,"lwt":3,"ok":"get","rev":"3-f"}
-"#;
 
-const OBSERVED: &str = r#"
+// Observed sides tell what a turn brought.
 == ten documents come into a window of three
 > {"do":"collection","name":"server","schema":{"title":"todo schema","version":0,"description":"todos","primaryKey":"id","type":"object","properties":{"id":{"type":"string","maxLength":100},"name":{"type":"string"},"done":{"type":"boolean"},"timestamp":{"type":"string","format":"date-time","maxLength":32},"rank":{"type":"number","minimum":0,"maximum":1000,"multipleOf":1}},"required":["id","name","done","timestamp"],"indexes":["timestamp",["done","rank"]]}}
 < made
 > {"do":"collection","name":"todos","schema":{"title":"todo schema","version":0,"description":"todos","primaryKey":"id","type":"object","properties":{"id":{"type":"string","maxLength":100},"name":{"type":"string"},"done":{"type":"boolean"},"timestamp":{"type":"string","format":"date-time","maxLength":32},"rank":{"type":"number","minimum":0,"maximum":1000,"multipleOf":1}},"required":["id","name","done","timestamp"],"indexes":["timestamp",["done","rank"]]}}
 < made
-> {"do":"replicate","name":"r","fork":"todos","master":"server","handler":"master_wins"}
-< {"line":L,"ok":"replicate"}
-> {"do":"observe","name":"open","in":"todos","query":{"selector":{"done":{"$eq":false}},"sort":[{"rank":"desc"}],"limit":3}}
-< {"line":L,"ok":"observe"}
+. {"do":"replicate","name":"r","fork":"todos","master":"server","handler":"master_wins"}
+. {"do":"observe","name":"open","in":"todos","query":{"selector":{"done":{"$eq":false}},"sort":[{"rank":"desc"}],"limit":3}}
 < {"emit":"open","rows":[]}
-> {"do":"insert","in":"server","doc":{"id":"t0","name":"n0","done":false,"timestamp":"2024-01-01T00:00:00Z","rank":0}}
-< insert 1-server
-> {"do":"insert","in":"server","doc":{"id":"t1","name":"n1","done":false,"timestamp":"2024-01-01T00:00:01Z","rank":1}}
-< insert 1-server
-> {"do":"insert","in":"server","doc":{"id":"t2","name":"n2","done":false,"timestamp":"2024-01-01T00:00:02Z","rank":2}}
-< insert 1-server
-> {"do":"insert","in":"server","doc":{"id":"t3","name":"n3","done":false,"timestamp":"2024-01-01T00:00:03Z","rank":3}}
-< insert 1-server
-> {"do":"insert","in":"server","doc":{"id":"t4","name":"n4","done":false,"timestamp":"2024-01-01T00:00:04Z","rank":4}}
-< insert 1-server
-> {"do":"insert","in":"server","doc":{"id":"t5","name":"n5","done":false,"timestamp":"2024-01-01T00:00:05Z","rank":5}}
-< insert 1-server
-> {"do":"insert","in":"server","doc":{"id":"t6","name":"n6","done":false,"timestamp":"2024-01-01T00:00:06Z","rank":6}}
-< insert 1-server
-> {"do":"insert","in":"server","doc":{"id":"t7","name":"n7","done":false,"timestamp":"2024-01-01T00:00:07Z","rank":7}}
-< insert 1-server
-> {"do":"insert","in":"server","doc":{"id":"t8","name":"n8","done":false,"timestamp":"2024-01-01T00:00:08Z","rank":8}}
-< insert 1-server
-> {"do":"insert","in":"server","doc":{"id":"t9","name":"n9","done":false,"timestamp":"2024-01-01T00:00:09Z","rank":9}}
-< insert 1-server
+. {"do":"insert","in":"server","doc":{"id":"t0","name":"n0","done":false,"timestamp":"2024-01-01T00:00:00Z","rank":0}}
+. {"do":"insert","in":"server","doc":{"id":"t1","name":"n1","done":false,"timestamp":"2024-01-01T00:00:01Z","rank":1}}
+. {"do":"insert","in":"server","doc":{"id":"t2","name":"n2","done":false,"timestamp":"2024-01-01T00:00:02Z","rank":2}}
+. {"do":"insert","in":"server","doc":{"id":"t3","name":"n3","done":false,"timestamp":"2024-01-01T00:00:03Z","rank":3}}
+. {"do":"insert","in":"server","doc":{"id":"t4","name":"n4","done":false,"timestamp":"2024-01-01T00:00:04Z","rank":4}}
+. {"do":"insert","in":"server","doc":{"id":"t5","name":"n5","done":false,"timestamp":"2024-01-01T00:00:05Z","rank":5}}
+. {"do":"insert","in":"server","doc":{"id":"t6","name":"n6","done":false,"timestamp":"2024-01-01T00:00:06Z","rank":6}}
+. {"do":"insert","in":"server","doc":{"id":"t7","name":"n7","done":false,"timestamp":"2024-01-01T00:00:07Z","rank":7}}
+. {"do":"insert","in":"server","doc":{"id":"t8","name":"n8","done":false,"timestamp":"2024-01-01T00:00:08Z","rank":8}}
+. {"do":"insert","in":"server","doc":{"id":"t9","name":"n9","done":false,"timestamp":"2024-01-01T00:00:09Z","rank":9}}
 > {"do":"turn","name":"r","batch":100}
 < {"exchange":1,"place":{"id":"t9","lwt":10},"rows":["t0","t1","t2","t3","t4","t5","t6","t7","t8","t9"],"sent":"pull"}
 < {"end":"quiet","exchanges":1,"line":L,"ok":"turn"}
@@ -711,37 +519,21 @@ const OBSERVED: &str = r#"
 < {"actions":{"insertFirst":3,"removeLastInsertFirst":7},"asked":123,"changes":10,"full":0,"line":L,"ok":"explain"}
 
 == a fork and its master tell what a turn brought them, in the order in which they were observed
-> C(m)
-< made
-> C(f)
-< made
-> {"do":"replicate","name":"r","fork":"f","master":"m","handler":"master_wins"}
-< {"line":L,"ok":"replicate"}
-> {"do":"observe","name":"q","in":"f","query":{"selector":{"n":2}}}
-< {"line":L,"ok":"observe"}
+. C(m) C(f) {"do":"replicate","name":"r","fork":"f","master":"m","handler":"master_wins"}
+. {"do":"observe","name":"q","in":"f","query":{"selector":{"n":2}}}
 < {"emit":"q","rows":[]}
-> {"do":"observe","name":"p","in":"m","query":{"selector":{"n":1}}}
-< {"line":L,"ok":"observe"}
+. {"do":"observe","name":"p","in":"m","query":{"selector":{"n":1}}}
 < {"emit":"p","rows":[]}
-> I(f,a,1)
-< insert 1-f
-> I(m,b,2)
-< insert 1-m
+. I(f,a,1) I(m,b,2)
 > {"do":"turn","name":"r"}
 < {"conflicts":[],"exchange":1,"rows":["a"],"sent":"push"}
 < {"exchange":2,"place":{"id":"a","lwt":2},"rows":["b","a"],"sent":"pull"}
 < {"end":"quiet","exchanges":2,"line":L,"ok":"turn"}
 < {"emit":"q","rows":[{"id":"b","n":2}]}
 < {"emit":"p","rows":[{"id":"a","n":1}]}
-> {"do":"unobserve","name":"q"}
-< {"line":L,"ok":"unobserve"}
-> {"do":"observe","name":"q","in":"f","query":{"selector":{"n":2}}}
-< {"line":L,"ok":"observe"}
+. {"do":"unobserve","name":"q"} {"do":"observe","name":"q","in":"f","query":{"selector":{"n":2}}}
 < {"emit":"q","rows":[{"id":"b","n":2}]}
-> I(f,d,1)
-< insert 1-f
-> I(m,e,2)
-< insert 1-m
+. I(f,d,1) I(m,e,2)
 > {"do":"turn","name":"r"}
 < {"conflicts":[],"exchange":1,"rows":["d"],"sent":"push"}
 < {"exchange":2,"place":{"id":"d","lwt":4},"rows":["e","d"],"sent":"pull"}

@@ -9,10 +9,7 @@ fn writes_store_documents_with_revisions_and_times(rt: HostRuntime) -> Result<()
 
 const CASES: &str = r#"
 == heights go on over a tombstone
-> C(c)
-< made
-> I(c,a,1)
-< insert 1-c
+. C(c) I(c,a,1)
 > {"do":"remove","in":"c","key":"a"}
 < {"line":L,"ok":"remove","rev":"2-c"}
 > I(c,a,1)
@@ -31,10 +28,7 @@ const CASES: &str = r#"
 < {"doc":{"id":"a"},"line":L,"lwt":7,"ok":"get","rev":"7-c"}
 
 == an insert over a tombstone keeps none of its fields
-> {"do":"collection","name":"c","schema":S2}
-< made
-> {"do":"insert","in":"c","doc":{"id":"a","n":1,"t":"x"}}
-< insert 1-c
+. {"do":"collection","name":"c","schema":S2} {"do":"insert","in":"c","doc":{"id":"a","n":1,"t":"x"}}
 > {"do":"remove","in":"c","key":"a"}
 < {"line":L,"ok":"remove","rev":"2-c"}
 > {"do":"insert","in":"c","doc":{"id":"a","n":2}}
@@ -43,24 +37,14 @@ const CASES: &str = r#"
 < {"doc":{"id":"a","n":2},"line":L,"lwt":3,"ok":"get","rev":"3-c"}
 
 == a revision names the collection
-> C(long-name_1)
-< made
-> I(long-name_1,a,1)
-< insert 1-long-name_1
-> C(d)
-< made
-> I(d,a,1)
-< insert 1-d
+. C(long-name_1) I(long-name_1,a,1) C(d) I(d,a,1)
 > {"do":"upsert","in":"d","doc":{"id":"a"}}
 < {"line":L,"ok":"upsert","rev":"2-d"}
 > {"do":"get","in":"long-name_1","key":"a"}
 < {"doc":{"id":"a","n":1},"line":L,"lwt":1,"ok":"get","rev":"1-long-name_1"}
 
 == heights have as many digits as they need
-> C(c)
-< made
-> I(c,a,1)
-< insert 1-c
+. C(c) I(c,a,1)
 > {"do":"patch","in":"c","key":"a","set":{}}
 < {"line":L,"ok":"patch","rev":"2-c"}
 > {"do":"patch","in":"c","key":"a","set":{}}
@@ -83,8 +67,7 @@ const CASES: &str = r#"
 < {"doc":{"id":"a","n":1},"line":L,"lwt":10,"ok":"get","rev":"10-c"}
 
 == an upsert replaces all fields, and a patch sets the named ones
-> {"do":"collection","name":"c","schema":S2}
-< made
+. {"do":"collection","name":"c","schema":S2}
 > {"do":"upsert","in":"c","doc":{"id":"a","n":1,"t":"x"}}
 < {"line":L,"ok":"upsert","rev":"1-c"}
 > {"do":"upsert","in":"c","doc":{"id":"a","n":2}}
@@ -101,10 +84,7 @@ const CASES: &str = r#"
 < {"doc":{"id":"a","n":3,"t":"z"},"line":L,"lwt":4,"ok":"get","rev":"4-c"}
 
 == a write that leaves the fields as they are is a write
-> C(c)
-< made
-> I(c,a,1)
-< insert 1-c
+. C(c) I(c,a,1)
 > {"do":"upsert","in":"c","doc":{"id":"a","n":1}}
 < {"line":L,"ok":"upsert","rev":"2-c"}
 > {"do":"patch","in":"c","key":"a","set":{"n":1}}
@@ -115,28 +95,22 @@ const CASES: &str = r#"
 < {"doc":{"id":"a","n":1},"line":L,"lwt":4,"ok":"get","rev":"4-c"}
 
 == a bulk is one commit at one time
-> C(c)
-< made
+. C(c)
 > {"do":"bulk","in":"c","docs":[{"id":"a"},{"id":"b"},{"id":"d"},{"id":"e"},{"id":"g"}]}
 < {"line":L,"ok":"bulk","revs":["1-c","1-c","1-c","1-c","1-c"]}
 > {"do":"get","in":"c","key":"a"}
 < {"doc":{"id":"a"},"line":L,"lwt":1,"ok":"get","rev":"1-c"}
 > {"do":"get","in":"c","key":"g"}
 < {"doc":{"id":"g"},"line":L,"lwt":1,"ok":"get","rev":"1-c"}
-> I(c,h,1)
-< insert 1-c
+. I(c,h,1)
 > {"do":"get","in":"c","key":"h"}
 < {"doc":{"id":"h","n":1},"line":L,"lwt":2,"ok":"get","rev":"1-c"}
 
 == the revisions of a bulk stand in the order of its documents
-> C(c)
-< made
-> I(c,b,1)
-< insert 1-c
+. C(c) I(c,b,1)
 > {"do":"remove","in":"c","key":"b"}
 < {"line":L,"ok":"remove","rev":"2-c"}
-> I(c,z,1)
-< insert 1-c
+. I(c,z,1)
 > {"do":"remove","in":"c","key":"z"}
 < {"line":L,"ok":"remove","rev":"2-c"}
 > I(c,z,1)
@@ -147,74 +121,43 @@ const CASES: &str = r#"
 < {"line":L,"ok":"bulk","revs":["5-c","3-c","1-c"]}
 
 == an empty bulk writes nothing
-> C(c)
-< made
+. C(c)
 > {"do":"bulk","in":"c","docs":[]}
 < {"line":L,"ok":"bulk","revs":[]}
-> I(c,a,1)
-< insert 1-c
+. I(c,a,1)
 > {"do":"get","in":"c","key":"a"}
 < {"doc":{"id":"a","n":1},"line":L,"lwt":1,"ok":"get","rev":"1-c"}
 
 == a write time is the present moment, or one above the last in its collection
-> C(c)
-< made
-> C(d)
-< made
-> {"do":"tick","at":1000}
-< {"line":L,"ok":"tick"}
-> I(c,a,1)
-< insert 1-c
-> I(c,b,1)
-< insert 1-c
+. C(c) C(d) {"do":"tick","at":1000} I(c,a,1) I(c,b,1)
 > {"do":"get","in":"c","key":"a"}
 < {"doc":{"id":"a","n":1},"line":L,"lwt":1000,"ok":"get","rev":"1-c"}
 > {"do":"get","in":"c","key":"b"}
 < {"doc":{"id":"b","n":1},"line":L,"lwt":1001,"ok":"get","rev":"1-c"}
-> {"do":"tick","at":1002}
-< {"line":L,"ok":"tick"}
+. {"do":"tick","at":1002}
 > {"do":"patch","in":"c","key":"a","set":{}}
 < {"line":L,"ok":"patch","rev":"2-c"}
 > {"do":"get","in":"c","key":"a"}
 < {"doc":{"id":"a","n":1},"line":L,"lwt":1002,"ok":"get","rev":"2-c"}
-> {"do":"tick","at":5}
-< {"line":L,"ok":"tick"}
+. {"do":"tick","at":5}
 > {"do":"upsert","in":"c","doc":{"id":"a"}}
 < {"line":L,"ok":"upsert","rev":"3-c"}
 > {"do":"get","in":"c","key":"a"}
 < {"doc":{"id":"a"},"line":L,"lwt":1003,"ok":"get","rev":"3-c"}
-> I(d,a,1)
-< insert 1-d
+. I(d,a,1)
 > {"do":"get","in":"d","key":"a"}
 < {"doc":{"id":"a","n":1},"line":L,"lwt":5,"ok":"get","rev":"1-d"}
 
 == the last write time counts tombstones
-> C(c)
-< made
-> {"do":"tick","at":50}
-< {"line":L,"ok":"tick"}
-> I(c,a,1)
-< insert 1-c
-> {"do":"tick","at":90}
-< {"line":L,"ok":"tick"}
+. C(c) {"do":"tick","at":50} I(c,a,1) {"do":"tick","at":90}
 > {"do":"remove","in":"c","key":"a"}
 < {"line":L,"ok":"remove","rev":"2-c"}
-> {"do":"tick","at":0}
-< {"line":L,"ok":"tick"}
-> I(c,b,1)
-< insert 1-c
+. {"do":"tick","at":0} I(c,b,1)
 > {"do":"get","in":"c","key":"b"}
 < {"doc":{"id":"b","n":1},"line":L,"lwt":91,"ok":"get","rev":"1-c"}
 
 == the last write time but one is followed by the last
-> C(c)
-< made
-> {"do":"tick","at":9007199254740990}
-< {"line":L,"ok":"tick"}
-> I(c,a,1)
-< insert 1-c
-> {"do":"tick","at":7}
-< {"line":L,"ok":"tick"}
+. C(c) {"do":"tick","at":9007199254740990} I(c,a,1) {"do":"tick","at":7}
 > {"do":"bulk","in":"c","docs":[{"id":"b"},{"id":"d"}]}
 < {"line":L,"ok":"bulk","revs":["1-c","1-c"]}
 > {"do":"get","in":"c","key":"d"}
@@ -223,20 +166,13 @@ const CASES: &str = r#"
 < {"code":22,"line":L,"refused":"clock"}
 
 == the write after the last write time
-> C(c)
-< made
-> {"do":"tick","at":9007199254740991}
-< {"line":L,"ok":"tick"}
-> I(c,a,1)
-< insert 1-c
+. C(c) {"do":"tick","at":9007199254740991} I(c,a,1)
 > I(c,b,1)
 < {"code":22,"line":L,"refused":"clock"}
 
 == a document is printed with its members by bytes and its texts as JSON
-> {"do":"collection","name":"c","schema":{"version":0,"primaryKey":"id","type":"object","properties":{"id":{"type":"string","maxLength":20},"Z":{"type":"string"},"a":{"type":"boolean"},"a_1":{"type":"integer"},"aB":{"type":"string"}}}}
-< made
-> {"do":"insert","in":"c","doc":{"id":"k\"\\\/\b\f\n\r\t\u0000\u001f\u00e9","aB":"","a_1":-1,"a":true,"Z":"<😀>"}}
-< insert 1-c
+. {"do":"collection","name":"c","schema":{"version":0,"primaryKey":"id","type":"object","properties":{"id":{"type":"string","maxLength":20},"Z":{"type":"string"},"a":{"type":"boolean"},"a_1":{"type":"integer"},"aB":{"type":"string"}}}}
+. {"do":"insert","in":"c","doc":{"id":"k\"\\\/\b\f\n\r\t\u0000\u001f\u00e9","aB":"","a_1":-1,"a":true,"Z":"<😀>"}}
 > {"do":"find","in":"c","query":{}}
 < {"line":L,"ok":"find","rows":[{"Z":"<😀>","a":true,"aB":"","a_1":-1,"id":"k\"\\/\b\f\n\r\t\u0000\u001fé"}]}
 "#;

@@ -91,12 +91,6 @@ impl Ran {
         }
         Err(Fail::new(format_args!("status {} for {status}, or other lines", self.status)))
     }
-
-    /// Whether these are the last lines of the output.
-    pub fn ends_with(&self, due: [&str; 2]) -> Result<bool, Fail> {
-        let mut last = self.text()?.lines().rev();
-        Ok(last.next() == Some(due[1]) && last.next() == Some(due[0]))
-    }
 }
 
 /// Plays a script in which nothing fails, on a disk that holds these bytes.
@@ -109,28 +103,11 @@ pub fn run_made(alloc: Global, script: String) -> Result<Ran, AllocError> {
     run_plain(alloc, script.as_str(), &[])
 }
 
-/// The report on a journal of these bytes.
-pub fn report(alloc: Global, held: &[u8]) -> Result<Ran, AllocError> {
-    run(alloc, &Setting::PLAIN, "check journal", &[], held)
-}
-
 /// Plays a script, on a disk that holds these bytes.
 pub fn run(
     alloc: Global,
     setting: &Setting<'_>,
     words: &str,
-    script: &[u8],
-    held: &[u8],
-) -> Result<Ran, AllocError> {
-    let words = split(alloc, words)?;
-    run_words(alloc, setting, &words, script, held)
-}
-
-/// The same for any words.
-pub fn run_words(
-    alloc: Global,
-    setting: &Setting<'_>,
-    words: &Words,
     script: &[u8],
     held: &[u8],
 ) -> Result<Ran, AllocError> {
@@ -143,20 +120,24 @@ pub fn run_words(
 pub fn run_from<S: Source>(
     alloc: Global,
     setting: &Setting<'_>,
-    words: &Words,
+    words: &str,
     source: &mut S,
     held: &[u8],
 ) -> Result<Ran, AllocError> {
-    let fails = setting.disk_fails.to_vec(alloc)?;
+    let words = split(alloc, words)?;
     let mut ran = Ran {
         status: 0,
         output: Vec::new(alloc),
         sent: Vec::new(alloc),
-        disk: MemoryDisk::new(alloc, held.to_vec(alloc)?, fails),
-        copy: MemoryDisk::new(alloc, setting.copy.to_vec(alloc)?, Vec::new(alloc)),
+        disk: disk_of(alloc, held, setting.disk_fails)?,
+        copy: disk_of(alloc, setting.copy, &[])?,
     };
-    play(alloc, setting, words, source, &mut ran)?;
+    play(alloc, setting, &words, source, &mut ran)?;
     Ok(ran)
+}
+
+fn disk_of(alloc: Global, held: &[u8], fails: &[u64]) -> Result<MemoryDisk, AllocError> {
+    Ok(MemoryDisk::new(alloc, held.to_vec(alloc)?, fails.to_vec(alloc)?))
 }
 
 // Plays on the disk of the run, and keeps what was written.
@@ -341,11 +322,11 @@ fn status_of<S: Source>(
     )
 }
 
-/// The words that stand in a text, between spaces.
-pub fn split(alloc: Global, text: &str) -> Result<Words, AllocError> {
+// The words that stand in a text, between spaces. Apostrophes around one are no part of it.
+fn split(alloc: Global, text: &str) -> Result<Words, AllocError> {
     let mut words = Vec::new(alloc);
     for word in text.split_whitespace() {
-        words.push(RxText::new(alloc, word)?)?;
+        words.push(RxText::new(alloc, word.trim_matches('\''))?)?;
     }
     Ok(Words { words })
 }

@@ -2,7 +2,7 @@
 // again by a `find` line, whose rows have to be those that its last emission showed.
 use crate::random::Random;
 use crate::run::run_made;
-use crate::short::add_script_line;
+use crate::short::long_text;
 use std::alloc::{AllocError, Global};
 use std::test::Fail;
 
@@ -32,13 +32,10 @@ fn compare_screens(alloc: Global, output: &str) -> Result<(), Fail> {
     screens.read_all(alloc, output)
 }
 
-fn random_script(alloc: Global) -> Result<String, AllocError> {
-    let mut script = String::new(alloc);
-    add_script_line(
-        alloc,
-        r#"{"do":"collection","name":"c","schema":S2}"#,
-        &mut script,
-    )?;
+const COLLECTION: &str = "{\"do\":\"collection\",\"name\":\"c\",\"schema\":S2}\n";
+
+fn random_script(alloc: Global) -> Result<String, Fail> {
+    let mut script = long_text(alloc, COLLECTION)?;
     add_observes(&mut script)?;
     let mut random = Random::new(7);
     for _ in 0..WRITES {
@@ -58,36 +55,30 @@ fn add_observes(script: &mut String) -> Result<(), AllocError> {
     Ok(())
 }
 
-// A line that puts in, changes, or takes out one of twelve documents. Some are refused.
+// Lines that put in, change, or take out the document K, with the number N. Some are refused.
+const WRITE: [&str; 8] = [
+    r#"{"do":"remove","in":"c","key":"kK"}"#,
+    r#"{"do":"remove","in":"c","key":"kK"}"#,
+    r#"{"do":"upsert","in":"c","doc":{"id":"kK"}}"#,
+    r#"{"do":"patch","in":"c","key":"kK","set":{"n":N}}"#,
+    r#"{"do":"upsert","in":"c","doc":{"id":"kK","n":N,"t":"tN"}}"#,
+    r#"{"do":"bulk","in":"c","docs":[{"id":"kK","n":N},{"id":"zK"}]}"#,
+    r#"{"do":"upsert","in":"c","doc":{"id":"kK","n":N}}"#,
+    r#"{"do":"upsert","in":"c","doc":{"id":"kK","n":N}}"#,
+];
+
+// Adds such a line, of one of twelve documents.
 fn add_write(random: &mut Random, script: &mut String) -> Result<(), AllocError> {
     let key = random.below(12);
     let n = random.below(6);
-    match random.below(8) {
-        0 | 1 => write!(
-            script,
-            "{{\"do\":\"remove\",\"in\":\"c\",\"key\":\"k{key}\"}}\n"
-        ),
-        2 => write!(
-            script,
-            "{{\"do\":\"upsert\",\"in\":\"c\",\"doc\":{{\"id\":\"k{key}\"}}}}\n"
-        ),
-        3 => write!(
-            script,
-            "{{\"do\":\"patch\",\"in\":\"c\",\"key\":\"k{key}\",\"set\":{{\"n\":{n}}}}}\n"
-        ),
-        4 => write!(
-            script,
-            "{{\"do\":\"upsert\",\"in\":\"c\",\"doc\":{{\"id\":\"k{key}\",\"n\":{n},\"t\":\"t{n}\"}}}}\n"
-        ),
-        5 => write!(
-            script,
-            "{{\"do\":\"bulk\",\"in\":\"c\",\"docs\":[{{\"id\":\"k{key}\",\"n\":{n}}},{{\"id\":\"z{key}\"}}]}}\n"
-        ),
-        _ => write!(
-            script,
-            "{{\"do\":\"upsert\",\"in\":\"c\",\"doc\":{{\"id\":\"k{key}\",\"n\":{n}}}}}\n"
-        ),
+    for character in random.one_of(&WRITE).chars() {
+        match character {
+            'K' => write!(script, "{key}")?,
+            'N' => write!(script, "{n}")?,
+            _ => script.push(character)?,
+        }
     }
+    script.push('\n')
 }
 
 fn add_finds(script: &mut String) -> Result<(), AllocError> {

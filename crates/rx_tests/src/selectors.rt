@@ -3,23 +3,13 @@ use crate::case::play_all;
 use std::test::Fail;
 
 #[test]
-fn operators_hold(rt: HostRuntime) -> Result<(), Fail> {
-    play_all(rt.alloc(), HOLDS)
+fn operators_hold_or_are_refused(rt: HostRuntime) -> Result<(), Fail> {
+    play_all(rt.alloc(), CASES)
 }
 
-#[test]
-fn a_selector_is_refused_for_its_first_fault(rt: HostRuntime) -> Result<(), Fail> {
-    play_all(rt.alloc(), REFUSED)
-}
-
-const HOLDS: &str = r#"
+const CASES: &str = r#"
 == a missing field is not equal, and no field is greater than a value of another kind
-> C(c)
-< made
-> {"do":"insert","in":"c","doc":{"id":"a"}}
-< insert 1-c
-> I(c,b,1)
-< insert 1-c
+. C(c) {"do":"insert","in":"c","doc":{"id":"a"}} I(c,b,1)
 > {"do":"find","in":"c","query":{"selector":{"n":{"$ne":1}}}}
 < {"line":L,"ok":"find","rows":[{"id":"a"}]}
 > {"do":"find","in":"c","query":{"selector":{"n":{"$nin":[1]}}}}
@@ -34,8 +24,7 @@ const HOLDS: &str = r#"
 < {"count":0,"line":L,"ok":"count"}
 
 == an empty selector and plain values
-> {"do":"collection","name":"c","schema":{"version":0,"primaryKey":"id","type":"object","properties":{"id":{"type":"string","maxLength":20},"b":{"type":"boolean"},"n":{"type":"integer"},"s":{"type":"string"}}}}
-< made
+. {"do":"collection","name":"c","schema":{"version":0,"primaryKey":"id","type":"object","properties":{"id":{"type":"string","maxLength":20},"b":{"type":"boolean"},"n":{"type":"integer"},"s":{"type":"string"}}}}
 > {"do":"bulk","in":"c","docs":[{"id":"e"},{"b":false,"id":"f"},{"id":"m","n":-7},{"id":"p","n":7},{"id":"q","n":1},{"id":"s","s":"a"},{"b":true,"id":"t"},{"id":"u","s":"é"}]}
 < {"line":L,"ok":"bulk","revs":["1-c","1-c","1-c","1-c","1-c","1-c","1-c","1-c"]}
 > {"do":"find","in":"c","query":{"selector":{}}}
@@ -66,8 +55,7 @@ const HOLDS: &str = r#"
 < {"line":L,"ok":"find","rows":[{"b":false,"id":"f"}]}
 
 == equal and not equal
-> {"do":"collection","name":"c","schema":{"version":0,"primaryKey":"id","type":"object","properties":{"id":{"type":"string","maxLength":20},"b":{"type":"boolean"},"n":{"type":"integer"},"s":{"type":"string"}}}}
-< made
+. {"do":"collection","name":"c","schema":{"version":0,"primaryKey":"id","type":"object","properties":{"id":{"type":"string","maxLength":20},"b":{"type":"boolean"},"n":{"type":"integer"},"s":{"type":"string"}}}}
 > {"do":"bulk","in":"c","docs":[{"id":"e"},{"b":false,"id":"f"},{"id":"m","n":-7},{"id":"p","n":7},{"id":"q","n":1},{"id":"s","s":"a"},{"b":true,"id":"t"},{"id":"u","s":"é"}]}
 < {"line":L,"ok":"bulk","revs":["1-c","1-c","1-c","1-c","1-c","1-c","1-c","1-c"]}
 > {"do":"find","in":"c","query":{"selector":{"n":{"$eq":7}}}}
@@ -86,8 +74,7 @@ const HOLDS: &str = r#"
 < {"line":L,"ok":"find","rows":[{"id":"e"},{"b":false,"id":"f"},{"id":"m","n":-7},{"id":"p","n":7},{"id":"q","n":1},{"b":true,"id":"t"},{"id":"u","s":"é"}]}
 
 == greater and less compare values of one kind
-> {"do":"collection","name":"c","schema":{"version":0,"primaryKey":"id","type":"object","properties":{"id":{"type":"string","maxLength":20},"b":{"type":"boolean"},"n":{"type":"integer"},"s":{"type":"string"}}}}
-< made
+. {"do":"collection","name":"c","schema":{"version":0,"primaryKey":"id","type":"object","properties":{"id":{"type":"string","maxLength":20},"b":{"type":"boolean"},"n":{"type":"integer"},"s":{"type":"string"}}}}
 > {"do":"bulk","in":"c","docs":[{"id":"e"},{"b":false,"id":"f"},{"id":"m","n":-7},{"id":"p","n":7},{"id":"q","n":1},{"id":"s","s":"a"},{"b":true,"id":"t"},{"id":"u","s":"é"}]}
 < {"line":L,"ok":"bulk","revs":["1-c","1-c","1-c","1-c","1-c","1-c","1-c","1-c"]}
 > {"do":"find","in":"c","query":{"selector":{"n":{"$gt":1}}}}
@@ -142,8 +129,7 @@ const HOLDS: &str = r#"
 < {"line":L,"ok":"find","rows":[{"id":"m","n":-7}]}
 
 == one of a list and none of it
-> {"do":"collection","name":"c","schema":{"version":0,"primaryKey":"id","type":"object","properties":{"id":{"type":"string","maxLength":20},"b":{"type":"boolean"},"n":{"type":"integer"},"s":{"type":"string"}}}}
-< made
+. {"do":"collection","name":"c","schema":{"version":0,"primaryKey":"id","type":"object","properties":{"id":{"type":"string","maxLength":20},"b":{"type":"boolean"},"n":{"type":"integer"},"s":{"type":"string"}}}}
 > {"do":"bulk","in":"c","docs":[{"id":"e"},{"b":false,"id":"f"},{"id":"m","n":-7},{"id":"p","n":7},{"id":"q","n":1},{"id":"s","s":"a"},{"b":true,"id":"t"},{"id":"u","s":"é"}]}
 < {"line":L,"ok":"bulk","revs":["1-c","1-c","1-c","1-c","1-c","1-c","1-c","1-c"]}
 > {"do":"find","in":"c","query":{"selector":{"n":{"$in":[]}}}}
@@ -164,8 +150,7 @@ const HOLDS: &str = r#"
 < {"line":L,"ok":"find","rows":[{"id":"p","n":7}]}
 
 == what is there
-> {"do":"collection","name":"c","schema":{"version":0,"primaryKey":"id","type":"object","properties":{"id":{"type":"string","maxLength":20},"b":{"type":"boolean"},"n":{"type":"integer"},"s":{"type":"string"}}}}
-< made
+. {"do":"collection","name":"c","schema":{"version":0,"primaryKey":"id","type":"object","properties":{"id":{"type":"string","maxLength":20},"b":{"type":"boolean"},"n":{"type":"integer"},"s":{"type":"string"}}}}
 > {"do":"bulk","in":"c","docs":[{"id":"e"},{"b":false,"id":"f"},{"id":"m","n":-7},{"id":"p","n":7},{"id":"q","n":1},{"id":"s","s":"a"},{"b":true,"id":"t"},{"id":"u","s":"é"}]}
 < {"line":L,"ok":"bulk","revs":["1-c","1-c","1-c","1-c","1-c","1-c","1-c","1-c"]}
 > {"do":"find","in":"c","query":{"selector":{"n":{"$exists":true}}}}
@@ -178,8 +163,7 @@ const HOLDS: &str = r#"
 < {"line":L,"ok":"find","rows":[]}
 
 == a remainder has the sign of the field
-> {"do":"collection","name":"c","schema":{"version":0,"primaryKey":"id","type":"object","properties":{"id":{"type":"string","maxLength":20},"b":{"type":"boolean"},"n":{"type":"integer"},"s":{"type":"string"}}}}
-< made
+. {"do":"collection","name":"c","schema":{"version":0,"primaryKey":"id","type":"object","properties":{"id":{"type":"string","maxLength":20},"b":{"type":"boolean"},"n":{"type":"integer"},"s":{"type":"string"}}}}
 > {"do":"bulk","in":"c","docs":[{"id":"e"},{"b":false,"id":"f"},{"id":"m","n":-7},{"id":"p","n":7},{"id":"q","n":1},{"id":"s","s":"a"},{"b":true,"id":"t"},{"id":"u","s":"é"}]}
 < {"line":L,"ok":"bulk","revs":["1-c","1-c","1-c","1-c","1-c","1-c","1-c","1-c"]}
 > {"do":"find","in":"c","query":{"selector":{"n":{"$mod":[3,1]}}}}
@@ -210,8 +194,7 @@ const HOLDS: &str = r#"
 < {"line":L,"ok":"find","rows":[]}
 
 == what does not hold
-> {"do":"collection","name":"c","schema":{"version":0,"primaryKey":"id","type":"object","properties":{"id":{"type":"string","maxLength":20},"b":{"type":"boolean"},"n":{"type":"integer"},"s":{"type":"string"}}}}
-< made
+. {"do":"collection","name":"c","schema":{"version":0,"primaryKey":"id","type":"object","properties":{"id":{"type":"string","maxLength":20},"b":{"type":"boolean"},"n":{"type":"integer"},"s":{"type":"string"}}}}
 > {"do":"bulk","in":"c","docs":[{"id":"e"},{"b":false,"id":"f"},{"id":"m","n":-7},{"id":"p","n":7},{"id":"q","n":1},{"id":"s","s":"a"},{"b":true,"id":"t"},{"id":"u","s":"é"}]}
 < {"line":L,"ok":"bulk","revs":["1-c","1-c","1-c","1-c","1-c","1-c","1-c","1-c"]}
 > {"do":"find","in":"c","query":{"selector":{"n":{"$not":{"$eq":7}}}}}
@@ -232,8 +215,7 @@ const HOLDS: &str = r#"
 < {"line":L,"ok":"find","rows":[{"id":"q","n":1}]}
 
 == lists of selectors
-> {"do":"collection","name":"c","schema":{"version":0,"primaryKey":"id","type":"object","properties":{"id":{"type":"string","maxLength":20},"b":{"type":"boolean"},"n":{"type":"integer"},"s":{"type":"string"}}}}
-< made
+. {"do":"collection","name":"c","schema":{"version":0,"primaryKey":"id","type":"object","properties":{"id":{"type":"string","maxLength":20},"b":{"type":"boolean"},"n":{"type":"integer"},"s":{"type":"string"}}}}
 > {"do":"bulk","in":"c","docs":[{"id":"e"},{"b":false,"id":"f"},{"id":"m","n":-7},{"id":"p","n":7},{"id":"q","n":1},{"id":"s","s":"a"},{"b":true,"id":"t"},{"id":"u","s":"é"}]}
 < {"line":L,"ok":"bulk","revs":["1-c","1-c","1-c","1-c","1-c","1-c","1-c","1-c"]}
 > {"do":"find","in":"c","query":{"selector":{"$and":[{"n":{"$gt":0}},{"n":{"$lt":5}}]}}}
@@ -262,12 +244,10 @@ const HOLDS: &str = r#"
 < {"line":L,"ok":"find","rows":[{"id":"q","n":1}]}
 > {"do":"find","in":"c","query":{"selector":{"$and":[{"n":{"$gt":0}}],"$or":[{"n":7}],"$nor":[{"n":1}]}}}
 < {"line":L,"ok":"find","rows":[{"id":"p","n":7}]}
-"#;
 
-const REFUSED: &str = r#"
+// A selector is refused for its first fault.
 == each fault of a selector
-> {"do":"collection","name":"c","schema":{"version":0,"primaryKey":"id","type":"object","properties":{"id":{"type":"string","maxLength":20},"b":{"type":"boolean"},"n":{"type":"integer"},"s":{"type":"string"}}}}
-< made
+. {"do":"collection","name":"c","schema":{"version":0,"primaryKey":"id","type":"object","properties":{"id":{"type":"string","maxLength":20},"b":{"type":"boolean"},"n":{"type":"integer"},"s":{"type":"string"}}}}
 > {"do":"count","in":"c","query":{"selector":[]}}
 < {"cause":"not_object","code":16,"line":L,"refused":"query"}
 > {"do":"count","in":"c","query":{"selector":{"$where":1}}}
@@ -394,8 +374,7 @@ const REFUSED: &str = r#"
 < {"cause":"operator","code":16,"line":L,"name":"$eq","refused":"query"}
 
 == the first fault by rising names, depth first
-> {"do":"collection","name":"c","schema":{"version":0,"primaryKey":"id","type":"object","properties":{"id":{"type":"string","maxLength":20},"b":{"type":"boolean"},"n":{"type":"integer"},"s":{"type":"string"}}}}
-< made
+. {"do":"collection","name":"c","schema":{"version":0,"primaryKey":"id","type":"object","properties":{"id":{"type":"string","maxLength":20},"b":{"type":"boolean"},"n":{"type":"integer"},"s":{"type":"string"}}}}
 > {"do":"count","in":"c","query":{"selector":{"n":null,"$or":[]}}}
 < {"cause":"operand","code":16,"line":L,"name":"$or","refused":"query"}
 > {"do":"count","in":"c","query":{"selector":{"b":{"$gt":null},"a":1}}}
@@ -416,10 +395,8 @@ const REFUSED: &str = r#"
 < {"cause":"operand","code":16,"line":L,"name":"$in","refused":"query"}
 
 == a selector is 32 levels deep at most
-> {"do":"collection","name":"c","schema":{"version":0,"primaryKey":"id","type":"object","properties":{"id":{"type":"string","maxLength":20},"b":{"type":"boolean"},"n":{"type":"integer"},"s":{"type":"string"}}}}
-< made
-> {"do":"insert","in":"c","doc":{"id":"a","n":1}}
-< insert 1-c
+. {"do":"collection","name":"c","schema":{"version":0,"primaryKey":"id","type":"object","properties":{"id":{"type":"string","maxLength":20},"b":{"type":"boolean"},"n":{"type":"integer"},"s":{"type":"string"}}}}
+. {"do":"insert","in":"c","doc":{"id":"a","n":1}}
 > {"do":"count","in":"c","query":{"selector":{"$and":[{"$and":[{"$and":[{"$and":[{"$and":[{"$and":[{"$and":[{"$and":[{"$and":[{"$and":[{"$and":[{"$and":[{"$and":[{"$and":[{"$and":[{"$and":[{"$and":[{"$and":[{"$and":[{"$and":[{"$and":[{"$and":[{"$and":[{"$and":[{"$and":[{"$and":[{"$and":[{"$and":[{"$and":[{"$and":[{"$and":[{}]}]}]}]}]}]}]}]}]}]}]}]}]}]}]}]}]}]}]}]}]}]}]}]}]}]}]}]}]}]}]}}}
 < {"count":1,"line":L,"ok":"count"}
 > {"do":"count","in":"c","query":{"selector":{"$and":[{"$and":[{"$and":[{"$and":[{"$and":[{"$and":[{"$and":[{"$and":[{"$and":[{"$and":[{"$and":[{"$and":[{"$and":[{"$and":[{"$and":[{"$and":[{"$and":[{"$and":[{"$and":[{"$and":[{"$and":[{"$and":[{"$and":[{"$and":[{"$and":[{"$and":[{"$and":[{"$and":[{"$and":[{"$and":[{"$and":[{"n":1}]}]}]}]}]}]}]}]}]}]}]}]}]}]}]}]}]}]}]}]}]}]}]}]}]}]}]}]}]}]}]}}}
@@ -442,8 +419,7 @@ const REFUSED: &str = r#"
 < {"cause":"depth","code":16,"line":L,"refused":"query"}
 
 == what has no level is told before the depth
-> {"do":"collection","name":"c","schema":{"version":0,"primaryKey":"id","type":"object","properties":{"id":{"type":"string","maxLength":20},"b":{"type":"boolean"},"n":{"type":"integer"},"s":{"type":"string"}}}}
-< made
+. {"do":"collection","name":"c","schema":{"version":0,"primaryKey":"id","type":"object","properties":{"id":{"type":"string","maxLength":20},"b":{"type":"boolean"},"n":{"type":"integer"},"s":{"type":"string"}}}}
 > {"do":"count","in":"c","query":{"selector":{"$and":[{"$and":[{"$and":[{"$and":[{"$and":[{"$and":[{"$and":[{"$and":[{"$and":[{"$and":[{"$and":[{"$and":[{"$and":[{"$and":[{"$and":[{"$and":[{"$and":[{"$and":[{"$and":[{"$and":[{"$and":[{"$and":[{"$and":[{"$and":[{"$and":[{"$and":[{"$and":[{"$and":[{"$and":[{"$and":[{"$and":[{"$and":[5]}]}]}]}]}]}]}]}]}]}]}]}]}]}]}]}]}]}]}]}]}]}]}]}]}]}]}]}]}]}]}]}}}
 < {"cause":"not_object","code":16,"line":L,"refused":"query"}
 > {"do":"count","in":"c","query":{"selector":{"$and":[{"$and":[{"$and":[{"$and":[{"$and":[{"$and":[{"$and":[{"$and":[{"$and":[{"$and":[{"$and":[{"$and":[{"$and":[{"$and":[{"$and":[{"$and":[{"$and":[{"$and":[{"$and":[{"$and":[{"$and":[{"$and":[{"$and":[{"$and":[{"$and":[{"$and":[{"$and":[{"$and":[{"$and":[{"$and":[{"$and":[{"$and":[]}]}]}]}]}]}]}]}]}]}]}]}]}]}]}]}]}]}]}]}]}]}]}]}]}]}]}]}]}]}]}]}}}

@@ -1,6 +1,6 @@
 // Runs that end before their input does.
 use crate::endless::Endless;
-use crate::run::{RUN, Ran, Setting, run, run_from, split};
+use crate::run::{RUN, Ran, Setting, run, run_from};
 use std::alloc::{AllocError, Global};
 use std::test::Fail;
 
@@ -59,6 +59,12 @@ fn run_failing(alloc: Global, failing: u64, setting: Setting<'_>) -> Result<Ran,
     run(alloc, &setting, RUN, SCRIPT, &[])
 }
 
+// The replies of lines that were read together are one write, and none is left out.
+#[test]
+fn a_group_is_answered_by_one_write(rt: HostRuntime) -> Result<(), Fail> {
+    run_failing(rt.alloc(), 2, Setting::PLAIN)?.compare(1, REPLIES)
+}
+
 // Whether a part of what is due was written, and not all of it.
 fn is_front(ran: &Ran, due: &str) -> bool {
     ran.output.len() < due.len() && due.as_bytes().starts_with(ran.output.as_slice())
@@ -97,10 +103,6 @@ fn ended(ran: &Ran) -> Result<(bool, bool), Fail> {
 
 #[test]
 fn an_input_ends_at_four_gibibytes(rt: HostRuntime) -> Result<(), Fail> {
-    run_endless(rt.alloc())?.compare(9, "{\"stop\":\"too_long\"}\n")
-}
-
-fn run_endless(alloc: Global) -> Result<Ran, AllocError> {
-    let words = split(alloc, RUN)?;
-    run_from(alloc, &Setting::PLAIN, &words, &mut Endless, &[])
+    let ran = run_from(rt.alloc(), &Setting::PLAIN, RUN, &mut Endless, &[])?;
+    ran.compare(9, "{\"stop\":\"too_long\"}\n")
 }

@@ -1,253 +1,629 @@
-// A disk that fails at each of its calls, and stops within each.
-use crate::run::{RUN, Ran, Setting, run, run_plain};
-use crate::short::{add_due_line, add_script_line};
+// A disk that fails at each of its calls, and stops within each: what it leaves opens again, and has
+// all that a line writes or none of it.
+//
+// A case has lines, and behind each `?` the facts of what comes next where so many of them stand. A
+// second number tells how many calls of the disk the other lines take.
+use crate::case::play;
+use crate::run::{RUN, Ran, Setting, run};
+use crate::short::{add_due_line, add_script_line, add_usual_line, long_text};
 use std::alloc::{AllocError, Global};
 use std::test::Fail;
 
-// A collection, an insert, a bulk, an opening and an insert in the new epoch, and what they are
-// answered.
-const LINES: [(&str, &str); 5] = [
-    ("C(c)", "made"),
-    ("I(c,a,1)", "insert 1-c"),
-    (
-        r#"{"do":"bulk","in":"c","docs":[{"id":"b","n":2},{"id":"d","n":3}]}"#,
-        r#"{"line":L,"ok":"bulk","revs":["1-c","1-c"]}"#,
-    ),
-    (
-        r#"{"do":"restart"}"#,
-        r#"{"epoch":2,"line":L,"ok":"restart"}"#,
-    ),
-    ("I(c,e,4)", "insert 1-c"),
-];
+// More than the calls that a run here makes.
+const CALLS: u64 = 64;
 
-// The lines of a second run, and the replies where the documents are held.
-const LOOKS: &str = r#"{"do":"get","in":"c","key":"a"}
-{"do":"get","in":"c","key":"b"}
-{"do":"get","in":"c","key":"d"}
-{"do":"get","in":"c","key":"e"}
+// What may stand in the bytes that a stop left open.
+const PICKS: [&[u8]; 3] = [&[], &[1; 800], &[255; 800]];
+
+// The calls of an append, counted back from the last: the body is written and synced, and then its
+// gate. The gate may be found open after a stop within the last two.
+const STEPS: [(u64, bool); 4] = [(3, false), (2, false), (1, true), (0, true)];
+
+// What is played on a disk that stops, and how much of the script a read gives.
+#[derive(Clone, Copy)]
+struct Lines<'a> {
+    name: &'a str,
+    facts: &'a str,
+    piece: usize,
+}
+
+// How many lines stand before the last append, how many calls the others take, where it is told, and
+// what comes next: where it doesn't stand, and where it does.
+#[derive(Clone, Copy)]
+struct Next<'a> {
+    before: u64,
+    calls: Option<u64>,
+    closed: &'a str,
+    open: &'a str,
+}
+
+/// What is left of the lines by a run of which nothing fails.
+pub fn whole(alloc: Global, facts: &str) -> Result<Ran, AllocError> {
+    Lines::new("", facts, 1).run(alloc, u64::MAX, 0)
+}
+
+impl<'a> Lines<'a> {
+    fn new(name: &'a str, facts: &'a str, piece: usize) -> Lines<'a> {
+        Lines { name, facts, piece }
+    }
+
+    // The run of so many lines at most whose disk fails at this call. None has the number 0.
+    fn run(&self, alloc: Global, most: u64, call: u64) -> Result<Ran, AllocError> {
+        let setting = Setting {
+            disk_fails: &[call],
+            ..Setting::PLAIN
+        };
+        self.run_in(alloc, most, &setting, &[])
+    }
+
+    fn run_in(
+        &self,
+        alloc: Global,
+        most: u64,
+        setting: &Setting<'_>,
+        held: &[u8],
+    ) -> Result<Ran, AllocError> {
+        let setting = Setting {
+            piece: self.piece,
+            ..*setting
+        };
+        let mut script = String::new(alloc);
+        self.add_script(most, &mut script)?;
+        run(alloc, &setting, RUN, script.as_str().as_bytes(), held)
+    }
+
+    fn add_script(&self, most: u64, script: &mut String) -> Result<(), AllocError> {
+        let mut count = 0u64;
+        for fact in self.facts.lines() {
+            let (mark, line) = fact.split_once(' ').unwrap_or((fact, ""));
+            if mark != "<" && count < most {
+                add_script_line(line, script)?;
+                count = count.saturating_add(1);
+            }
+        }
+        Ok(())
+    }
+
+    // How many lines were answered by a run, whose output then is whole or stops by the disk.
+    fn answered(&self, alloc: Global, ran: &Ran) -> Result<u64, Fail> {
+        let mut due = String::new(alloc);
+        let mut count = 0u64;
+        for fact in self.facts.lines() {
+            let (mark, line) = fact.split_once(' ').unwrap_or((fact, ""));
+            if mark != "<" {
+                if stops_behind(due.as_str(), ran) {
+                    return Ok(count);
+                }
+                count = count.saturating_add(1);
+            }
+            add_reply(mark, line, count, &mut due)?;
+        }
+        if ran.came_to(0, due.as_str()) {
+            return Ok(count);
+        }
+        Err(Fail::new(format_args!("{}: status {} with other lines", self.name, ran.status)))
+    }
+
+    // How many calls of the disk a run of so many lines makes.
+    fn calls(&self, alloc: Global, most: u64) -> Result<u64, Fail> {
+        for call in 1..CALLS {
+            if self.run(alloc, most, call)?.status == 0 {
+                return Ok(call.saturating_sub(1));
+            }
+        }
+        Err(Fail::new(format_args!("{}: more calls of the disk", self.name)))
+    }
+
+    fn compare_calls(&self, alloc: Global, last: u64, next: Next<'_>) -> Result<(), Fail> {
+        let calls = last.saturating_sub(self.calls(alloc, next.before)?);
+        if next.calls.unwrap_or(calls) == calls {
+            return Ok(());
+        }
+        Err(Fail::new(format_args!("{}: {calls} calls of the disk", self.name)))
+    }
+
+    // The last append stands where its gate is found open, and else none of it.
+    fn try_steps(&self, alloc: Global, next: Next<'_>) -> Result<(), Fail> {
+        let last = self.calls(alloc, u64::MAX)?;
+        self.compare_calls(alloc, last, next)?;
+        for (back, gate) in STEPS {
+            let open = if gate { next.open } else { next.closed };
+            let step = Next { open, ..next };
+            self.try_call(alloc, last.saturating_sub(back), step)?;
+        }
+        let stands = Next {
+            closed: next.open,
+            ..next
+        };
+        self.try_whole(alloc, CALLS, stands)
+    }
+
+    // The call fails and the run stops within it or behind it, or the call doesn't fail and the run
+    // stops within it.
+    fn try_call(&self, alloc: Global, call: u64, next: Next<'_>) -> Result<(), Fail> {
+        let failed = self.run(alloc, u64::MAX, call)?;
+        self.try_failed(alloc, &failed, call, next)?;
+        self.try_whole(alloc, call, next)
+    }
+
+    fn try_failed(
+        &self,
+        alloc: Global,
+        failed: &Ran,
+        call: u64,
+        next: Next<'_>,
+    ) -> Result<(), Fail> {
+        let answered = self.answered(alloc, failed)?;
+        if answered != next.before {
+            return Err(Fail::new(format_args!("{}: {answered} lines answered", self.name)));
+        }
+        self.try_picks(alloc, failed, call, next)?;
+        self.try_picks(alloc, failed, call.saturating_add(1), next)
+    }
+
+    fn try_whole(&self, alloc: Global, call: u64, next: Next<'_>) -> Result<(), Fail> {
+        let whole = self.run(alloc, u64::MAX, 0)?;
+        self.try_picks(alloc, &whole, call, next)
+    }
+
+    fn try_picks(&self, alloc: Global, ran: &Ran, call: u64, next: Next<'_>) -> Result<(), Fail> {
+        for pick in PICKS.iter() {
+            let is_open = pick.first() == Some(&1);
+            let due = if is_open { next.open } else { next.closed };
+            self.try_left(alloc, ran.disk.stopped(call, pick)?.as_slice(), due)?;
+        }
+        Ok(())
+    }
+
+    // What comes next over these bytes, behind the number of lines that stand.
+    fn try_left(&self, alloc: Global, left: &[u8], due: &str) -> Result<(), Fail> {
+        play(alloc, self.name, facts_of(due), left)
+    }
+
+    // Each call of the disk fails in turn, until a run needs no more of them.
+    fn try_all(&self, alloc: Global, blocks: &str) -> Result<(), Fail> {
+        let mut before = 0;
+        for call in 1..CALLS {
+            let count = self.try_failing(alloc, blocks, call)?;
+            if count < before {
+                return Err(Fail::new(format_args!("{call}: {count} after {before}")));
+            }
+            before = count;
+        }
+        if blocks.split("\n? ").skip(before as usize).count() != 1 {
+            return Err(Fail::new(format_args!("{before} lines answered at most")));
+        }
+        self.try_failing(alloc, blocks, 0)?;
+        self.try_sinks(alloc, blocks)
+    }
+
+    // How many lines are answered where this call fails.
+    fn try_failing(&self, alloc: Global, blocks: &str, call: u64) -> Result<u64, Fail> {
+        let ran = self.run(alloc, u64::MAX, call)?;
+        let count = self.answered(alloc, &ran)?;
+        self.try_stops(alloc, blocks, &ran, call)?;
+        // What was answered stands.
+        self.try_any(alloc, blocks, &ran, CALLS, count)?;
+        Ok(count)
+    }
+
+    // Up to the call that fails the runs are the same, so each stop of a run in which none does is
+    // tried, and those within the failing call and after it.
+    fn try_stops(&self, alloc: Global, blocks: &str, ran: &Ran, call: u64) -> Result<(), Fail> {
+        let end = if call == 0 {
+            CALLS
+        } else {
+            call.saturating_add(2)
+        };
+        for stop in call..end {
+            self.try_any(alloc, blocks, ran, stop, 0)?;
+        }
+        Ok(())
+    }
+
+    // So many lines stand, or more, and of none a part.
+    fn try_any(
+        &self,
+        alloc: Global,
+        blocks: &str,
+        ran: &Ran,
+        stop: u64,
+        least: u64,
+    ) -> Result<(), Fail> {
+        for pick in PICKS.iter() {
+            let left = ran.disk.stopped(stop, pick)?;
+            if !self.is_any(alloc, blocks, left.as_slice(), least)? {
+                return Err(Fail::new(format_args!("stop within {stop}: fewer than {least} lines")));
+            }
+        }
+        Ok(())
+    }
+
+    fn is_any(
+        &self,
+        alloc: Global,
+        blocks: &str,
+        left: &[u8],
+        least: u64,
+    ) -> Result<bool, AllocError> {
+        for block in blocks.split("\n? ").skip(least as usize) {
+            let next = Lines::new(self.name, facts_of(block), self.piece);
+            if next.is_answered(alloc, left)? {
+                return Ok(true);
+            }
+        }
+        Ok(false)
+    }
+
+    // Whether a run over these bytes is answered as these lines are.
+    fn is_answered(&self, alloc: Global, held: &[u8]) -> Result<bool, AllocError> {
+        let ran = self.run_in(alloc, u64::MAX, &Setting::PLAIN, held)?;
+        self.is_whole(alloc, ran.output.as_slice())
+    }
+
+    fn is_whole(&self, alloc: Global, output: &[u8]) -> Result<bool, AllocError> {
+        let mut due = String::new(alloc);
+        let mut count = 0u64;
+        for fact in self.facts.lines() {
+            let (mark, line) = fact.split_once(' ').unwrap_or((fact, ""));
+            count = count.saturating_add(u64::from(mark != "<"));
+            add_reply(mark, line, count, &mut due)?;
+        }
+        Ok(due.as_str().as_bytes() == output)
+    }
+
+    // The sink fails between two writes: what stands on the disk has the records of the lines answered
+    // and of the one whose reply it didn't take, and of no other.
+    fn try_sinks(&self, alloc: Global, blocks: &str) -> Result<(), Fail> {
+        let mut write = 0u64;
+        for block in blocks.split("\n? ") {
+            if write > 0 {
+                self.try_sink(alloc, write, block)?;
+            }
+            write = write.saturating_add(1);
+        }
+        Ok(())
+    }
+
+    fn try_sink(&self, alloc: Global, write: u64, due: &str) -> Result<(), Fail> {
+        let setting = Setting {
+            write_fails: &[write],
+            ..Setting::PLAIN
+        };
+        let ran = self.run_in(alloc, u64::MAX, &setting, &[])?;
+        if ran.status == 5 {
+            return self.try_left(alloc, ran.disk.bytes(), due);
+        }
+        Err(Fail::new(format_args!("write {write} fails: status {}", ran.status)))
+    }
+}
+
+// The facts behind the number of lines that stand.
+fn facts_of(block: &str) -> &str {
+    let (_, facts) = block.split_once('\n').unwrap_or(("", block));
+    facts
+}
+
+fn stops_behind(due: &str, ran: &Ran) -> bool {
+    let stop = b"{\"stop\":\"disk\"}\n";
+    ran.status == 3 && ran.output.as_slice().strip_prefix(due.as_bytes()) == Some(stop.as_slice())
+}
+
+fn add_reply(mark: &str, line: &str, number: u64, due: &mut String) -> Result<(), AllocError> {
+    match mark {
+        "<" => add_due_line(line, number, due),
+        "." => add_usual_line(line, number, due),
+        _ => Ok(()),
+    }
+}
+
+// Tries the last append of each case.
+fn try_steps(alloc: Global, text: &str, piece: usize) -> Result<(), Fail> {
+    let cases = long_text(alloc, text)?;
+    for case in cases.as_str().split("\n== ").skip(1) {
+        try_case(alloc, case, piece)?;
+    }
+    Ok(())
+}
+
+fn try_case(alloc: Global, case: &str, piece: usize) -> Result<(), Fail> {
+    let (name, facts) = case.split_once('\n').unwrap_or((case, ""));
+    let mut parts = facts.split("\n? ");
+    let lines = Lines::new(name, parts.next().unwrap_or(""), piece);
+    let closed = parts.next().unwrap_or("");
+    let (numbers, _) = closed.split_once('\n').unwrap_or((closed, ""));
+    let (before, calls) = numbers.split_once(' ').unwrap_or((numbers, ""));
+    let next = Next {
+        before: before.parse()?,
+        calls: calls.parse().ok(),
+        closed,
+        open: parts.next().unwrap_or(""),
+    };
+    lines.try_steps(alloc, next)
+}
+
+#[test]
+fn an_append_stands_whole_or_not_at_all(rt: HostRuntime) -> Result<(), Fail> {
+    try_steps(rt.alloc(), APPENDS, 1)
+}
+
+// All their records stand or none, and none is answered before.
+#[test]
+fn lines_read_together_stand_whole_or_not_at_all(rt: HostRuntime) -> Result<(), Fail> {
+    try_steps(rt.alloc(), GROUPS, Setting::PLAIN.piece)
+}
+
+#[test]
+fn each_answered_write_is_held_after_any_stop(rt: HostRuntime) -> Result<(), Fail> {
+    let (lines, blocks) = WRITES.split_once("\n? ").unwrap_or((WRITES, ""));
+    Lines::new("writes", lines, 1).try_all(rt.alloc(), blocks)
+}
+
+// A collection, an insert, a bulk, an opening and an insert in the new epoch.
+const WRITES: &str = r#". C(c)
+. I(c,a,1)
+> {"do":"bulk","in":"c","docs":[{"id":"b","n":2},{"id":"d","n":3}]}
+< {"line":L,"ok":"bulk","revs":["1-c","1-c"]}
+> {"do":"restart"}
+< {"epoch":2,"line":L,"ok":"restart"}
+. I(c,e,4)
+? 0
+> {"do":"get","in":"c","key":"a"}
+< {"code":10,"line":L,"name":"c","refused":"no_collection"}
+> {"do":"get","in":"c","key":"b"}
+< {"code":10,"line":L,"name":"c","refused":"no_collection"}
+> {"do":"get","in":"c","key":"d"}
+< {"code":10,"line":L,"name":"c","refused":"no_collection"}
+> {"do":"get","in":"c","key":"e"}
+< {"code":10,"line":L,"name":"c","refused":"no_collection"}
+? 1
+> {"do":"get","in":"c","key":"a"}
+< {"code":15,"line":L,"refused":"no_document"}
+> {"do":"get","in":"c","key":"b"}
+< {"code":15,"line":L,"refused":"no_document"}
+> {"do":"get","in":"c","key":"d"}
+< {"code":15,"line":L,"refused":"no_document"}
+> {"do":"get","in":"c","key":"e"}
+< {"code":15,"line":L,"refused":"no_document"}
+? 2
+> {"do":"get","in":"c","key":"a"}
+< {"doc":{"id":"a","n":1},"line":L,"lwt":1,"ok":"get","rev":"1-c"}
+> {"do":"get","in":"c","key":"b"}
+< {"code":15,"line":L,"refused":"no_document"}
+> {"do":"get","in":"c","key":"d"}
+< {"code":15,"line":L,"refused":"no_document"}
+> {"do":"get","in":"c","key":"e"}
+< {"code":15,"line":L,"refused":"no_document"}
+? 3
+> {"do":"get","in":"c","key":"a"}
+< {"doc":{"id":"a","n":1},"line":L,"lwt":1,"ok":"get","rev":"1-c"}
+> {"do":"get","in":"c","key":"b"}
+< {"doc":{"id":"b","n":2},"line":L,"lwt":2,"ok":"get","rev":"1-c"}
+> {"do":"get","in":"c","key":"d"}
+< {"doc":{"id":"d","n":3},"line":L,"lwt":2,"ok":"get","rev":"1-c"}
+> {"do":"get","in":"c","key":"e"}
+< {"code":15,"line":L,"refused":"no_document"}
+? 4
+> {"do":"get","in":"c","key":"a"}
+< {"doc":{"id":"a","n":1},"line":L,"lwt":1,"ok":"get","rev":"1-c"}
+> {"do":"get","in":"c","key":"b"}
+< {"doc":{"id":"b","n":2},"line":L,"lwt":2,"ok":"get","rev":"1-c"}
+> {"do":"get","in":"c","key":"d"}
+< {"doc":{"id":"d","n":3},"line":L,"lwt":2,"ok":"get","rev":"1-c"}
+> {"do":"get","in":"c","key":"e"}
+< {"code":15,"line":L,"refused":"no_document"}
+? 5
+> {"do":"get","in":"c","key":"a"}
+< {"doc":{"id":"a","n":1},"line":L,"lwt":1,"ok":"get","rev":"1-c"}
+> {"do":"get","in":"c","key":"b"}
+< {"doc":{"id":"b","n":2},"line":L,"lwt":2,"ok":"get","rev":"1-c"}
+> {"do":"get","in":"c","key":"d"}
+< {"doc":{"id":"d","n":3},"line":L,"lwt":2,"ok":"get","rev":"1-c"}
+> {"do":"get","in":"c","key":"e"}
+< {"doc":{"id":"e","n":4},"line":L,"lwt":3,"ok":"get","rev":"1-c"}
 "#;
 
-const HELD: [&str; 4] = [
-    r#"{"doc":{"id":"a","n":1},"line":1,"lwt":1,"ok":"get","rev":"1-c"}"#,
-    r#"{"doc":{"id":"b","n":2},"line":2,"lwt":2,"ok":"get","rev":"1-c"}"#,
-    r#"{"doc":{"id":"d","n":3},"line":3,"lwt":2,"ok":"get","rev":"1-c"}"#,
-    r#"{"doc":{"id":"e","n":4},"line":4,"lwt":3,"ok":"get","rev":"1-c"}"#,
-];
+const APPENDS: &str = r#"
+== the record of a collection
+. C(m)
+? 0 4
+$ run journal
+$ check journal
+# 1 ,"records":2}
+? 1
+$ run journal
+$ check journal
+# 1 ,"records":3}
 
-// How many documents are held once so many lines were answered.
-const HELD_AFTER: [usize; 6] = [0, 0, 1, 3, 3, 4];
+== the record of a replication
+. C(m)
+. C(f)
+. {"do":"replicate","name":"r","fork":"f","master":"m","handler":"master_wins"}
+? 2 4
+$ run journal
+$ check journal
+# 1 ,"records":4}
+? 3
+$ run journal
+$ check journal
+# 1 ,"records":5}
 
-/// More than the calls that such a run makes.
-pub const CALLS: u64 = 64;
+== the record of documents
+. C(m)
+. C(f)
+. {"do":"replicate","name":"r","fork":"f","master":"m","handler":"master_wins"}
+. I(m,a,1)
+? 3 4
+$ run journal
+$ check journal
+# 1 ,"records":5}
+? 4
+$ run journal
+$ check journal
+# 1 ,"records":6}
 
-/// What may stand in the bytes that a stop left open.
-pub const PICKS: [&[u8]; 3] = [&[], &[1; 800], &[255; 800]];
+== the record of an exchange
+. C(m)
+. C(f)
+. {"do":"replicate","name":"r","fork":"f","master":"m","handler":"master_wins"}
+. I(m,a,1)
+> {"do":"turn","name":"r"}
+< {"exchange":1,"place":{"id":"a","lwt":1},"rows":["a"],"sent":"pull"}
+< {"end":"quiet","exchanges":1,"line":L,"ok":"turn"}
+? 4 4
+$ run journal
+$ check journal
+# 1 ,"records":6}
+? 5
+$ run journal
+$ check journal
+# 1 ,"records":7}
 
-fn play(alloc: Global, lines: &[(&str, &str)], setting: &Setting<'_>) -> Result<Ran, AllocError> {
-    let mut script = String::new(alloc);
-    for (line, _) in lines {
-        add_script_line(alloc, line, &mut script)?;
-    }
-    run(alloc, setting, RUN, script.as_str().as_bytes(), &[])
-}
+== the record of an epoch
+. C(m)
+. C(f)
+. {"do":"replicate","name":"r","fork":"f","master":"m","handler":"master_wins"}
+. I(m,a,1)
+> {"do":"turn","name":"r"}
+< {"exchange":1,"place":{"id":"a","lwt":1},"rows":["a"],"sent":"pull"}
+< {"end":"quiet","exchanges":1,"line":L,"ok":"turn"}
+> {"do":"restart"}
+< {"epoch":2,"line":L,"ok":"restart"}
+? 5
+$ run journal
+$ check journal
+# 1 ,"records":7}
+? 6
+$ run journal
+$ check journal
+# 1 ,"records":8}
 
-/// The run of these lines, each read by itself, whose disk fails at this call.
-pub fn play_failing(alloc: Global, lines: &[(&str, &str)], call: u64) -> Result<Ran, AllocError> {
-    let setting = Setting {
-        disk_fails: &[call],
-        ..Setting::BYTEWISE
-    };
-    play(alloc, lines, &setting)
-}
+== the record of a migration
+. C(m)
+. C(f)
+. {"do":"replicate","name":"r","fork":"f","master":"m","handler":"master_wins"}
+. I(m,a,1)
+> {"do":"turn","name":"r"}
+< {"exchange":1,"place":{"id":"a","lwt":1},"rows":["a"],"sent":"pull"}
+< {"end":"quiet","exchanges":1,"line":L,"ok":"turn"}
+> {"do":"restart"}
+< {"epoch":2,"line":L,"ok":"restart"}
+> {"do":"migrate","in":"m","schema":{"version":1,"primaryKey":"id","type":"object","properties":{"id":{"type":"string","maxLength":20},"n":{"type":"integer"}},"required":["id"]},"steps":[{"scale":"n","by":10}]}
+< {"collections":["m","f"],"line":L,"ok":"migrate"}
+? 6 4
+$ run journal
+$ check journal
+# 1 ,"records":8}
+? 7
+$ run journal
+$ check journal
+# 1 ,"records":9}
 
-/// The same, where all lines are read together.
-pub fn play_together(alloc: Global, lines: &[(&str, &str)], call: u64) -> Result<Ran, AllocError> {
-    let setting = Setting {
-        disk_fails: &[call],
-        ..Setting::PLAIN
-    };
-    play(alloc, lines, &setting)
-}
+// The digest is what sha256sum prints of the state's line.
+== a turn, whose three records are written together
+. C(m)
+. C(f)
+. {"do":"replicate","name":"r","fork":"f","master":"m","handler":"master_wins"}
+. I(f,a,1)
+> {"do":"turn","name":"r"}
+< {"conflicts":[],"exchange":1,"rows":["a"],"sent":"push"}
+< {"exchange":2,"place":{"id":"a","lwt":1},"rows":["a"],"sent":"pull"}
+< {"end":"quiet","exchanges":2,"line":L,"ok":"turn"}
+? 4 4
+> {"do":"turn","name":"r"}
+< {"conflicts":[],"exchange":1,"rows":["a"],"sent":"push"}
+< {"exchange":2,"place":{"id":"a","lwt":1},"rows":["a"],"sent":"pull"}
+< {"end":"quiet","exchanges":2,"line":L,"ok":"turn"}
+> {"do":"digest","in":"m"}
+< {"count":1,"digest":"64e11706edc12e198f0d3edef2c3527856fe519c808369279e5d6ebb255c6cc3","line":L,"ok":"digest"}
+> {"do":"digest","in":"f"}
+< {"count":1,"digest":"64e11706edc12e198f0d3edef2c3527856fe519c808369279e5d6ebb255c6cc3","line":L,"ok":"digest"}
+? 5
+> {"do":"turn","name":"r"}
+< {"exchange":1,"place":{"id":"a","lwt":1},"rows":[],"sent":"pull"}
+< {"end":"quiet","exchanges":1,"line":L,"ok":"turn"}
+> {"do":"digest","in":"m"}
+< {"count":1,"digest":"64e11706edc12e198f0d3edef2c3527856fe519c808369279e5d6ebb255c6cc3","line":L,"ok":"digest"}
+> {"do":"digest","in":"f"}
+< {"count":1,"digest":"64e11706edc12e198f0d3edef2c3527856fe519c808369279e5d6ebb255c6cc3","line":L,"ok":"digest"}
 
-/// How many of the replies stand in an output, which then is whole or stops by the disk.
-pub fn replies(alloc: Global, lines: &[(&str, &str)], ran: &Ran) -> Result<usize, Fail> {
-    let mut due = String::new(alloc);
-    for (count, (_, reply)) in lines.iter().enumerate() {
-        if ran.status == 3 && stops_behind(due.as_str(), ran.text()?) {
-            return Ok(count);
-        }
-        add_due_line(alloc, reply, (count as u64).saturating_add(1), &mut due)?;
-    }
-    if ran.came_to(0, due.as_str()) {
-        return Ok(lines.len());
-    }
-    Err(Fail::new(format_args!("status {} with other lines", ran.status)))
-}
+// The digest is what sha256sum prints of the lines of the states.
+== a delivery of three commits, of which the fork takes two as events
+. C(m)
+. C(f)
+. {"do":"replicate","name":"r","fork":"f","master":"m","handler":"master_wins"}
+. {"do":"stream","name":"r"}
+. I(m,a,1)
+. I(m,b,2)
+. I(m,d,3)
+> {"do":"deliver","name":"r","link":["ok","twice","later"]}
+< {"event":1,"rows":["a"],"took":"taken"}
+< {"event":2,"rows":["b"],"took":"taken"}
+< {"event":2,"rows":["b"],"took":"old"}
+< {"event":3,"rows":["d"],"took":"later"}
+< {"level":false,"line":L,"ok":"deliver","resync":false}
+? 7 4
+> {"do":"deliver","name":"r"}
+< {"code":31,"line":L,"refused":"no_stream"}
+> {"do":"turn","name":"r"}
+< {"exchange":1,"place":{"id":"d","lwt":3},"rows":["a","b","d"],"sent":"pull"}
+< {"end":"quiet","exchanges":1,"line":L,"ok":"turn"}
+> {"do":"digest","in":"m"}
+< {"count":3,"digest":"392c2a1e60b38c17a34b39ad0340505df6a6a5059b1ec5202d0a1aebef49f961","line":L,"ok":"digest"}
+> {"do":"digest","in":"f"}
+< {"count":3,"digest":"392c2a1e60b38c17a34b39ad0340505df6a6a5059b1ec5202d0a1aebef49f961","line":L,"ok":"digest"}
+? 8
+> {"do":"deliver","name":"r"}
+< {"code":31,"line":L,"refused":"no_stream"}
+> {"do":"turn","name":"r"}
+< {"exchange":1,"place":{"id":"d","lwt":3},"rows":["d"],"sent":"pull"}
+< {"end":"quiet","exchanges":1,"line":L,"ok":"turn"}
+> {"do":"digest","in":"m"}
+< {"count":3,"digest":"392c2a1e60b38c17a34b39ad0340505df6a6a5059b1ec5202d0a1aebef49f961","line":L,"ok":"digest"}
+> {"do":"digest","in":"f"}
+< {"count":3,"digest":"392c2a1e60b38c17a34b39ad0340505df6a6a5059b1ec5202d0a1aebef49f961","line":L,"ok":"digest"}
+"#;
 
-fn stops_behind(due: &str, output: &str) -> bool {
-    output.strip_prefix(due) == Some("{\"stop\":\"disk\"}\n")
-}
+const GROUPS: &str = r#"
+== three lines
+. C(m)
+. I(m,a,1)
+. I(m,b,2)
+? 0 4
+$ run journal
+$ check journal
+# 1 ,"records":2}
+? 3
+$ run journal
+$ check journal
+# 1 ,"records":5}
 
-// What is answered where a document isn't held, and where the collection isn't.
-const NO_DOCUMENT: &str = r#"{"code":15,"line":L,"refused":"no_document"}"#;
-
-const NO_COLLECTION: &str = r#"{"code":10,"line":L,"name":"c","refused":"no_collection"}"#;
-
-// The output of a second run that finds so many documents, from the first on, and no others.
-fn finds(alloc: Global, count: usize, missing: &str) -> Result<String, AllocError> {
-    let mut due = String::new(alloc);
-    let mut number = 0u64;
-    for (place, reply) in HELD.iter().enumerate() {
-        number = number.saturating_add(1);
-        let line = if place < count { *reply } else { missing };
-        add_due_line(alloc, line, number, &mut due)?;
-    }
-    Ok(due)
-}
-
-// How many documents a second run over these bytes finds, from the first on. There are no others.
-fn held(alloc: Global, journal: &[u8]) -> Result<usize, Fail> {
-    let looked = run_plain(alloc, LOOKS, journal)?;
-    found(alloc, looked.text()?)
-}
-
-// How many documents this output tells of.
-fn found(alloc: Global, output: &str) -> Result<usize, Fail> {
-    if is_found(alloc, output, 0, NO_COLLECTION)? {
-        return Ok(0);
-    }
-    for count in 0..=HELD.len() {
-        if is_found(alloc, output, count, NO_DOCUMENT)? {
-            return Ok(count);
-        }
-    }
-    Err(Fail::new(format_args!("other lines: {output}")))
-}
-
-fn is_found(alloc: Global, output: &str, count: usize, missing: &str) -> Result<bool, AllocError> {
-    let due = finds(alloc, count, missing)?;
-    Ok(due.as_str() == output)
-}
-
-// Each call of the disk fails in turn, until a run needs no more of them.
-#[test]
-fn a_failing_disk_ends_the_run(rt: HostRuntime) -> Result<(), Fail> {
-    let mut before = 0;
-    for failing in 1..CALLS {
-        let count = answered(rt.alloc(), failing)?;
-        if count < before {
-            return Err(Fail::new(format_args!("{failing}: {count} after {before}")));
-        }
-        before = count;
-    }
-    if before == LINES.len() {
-        return Ok(());
-    }
-    Err(Fail::new(format_args!("{before} lines answered at most")))
-}
-
-// How many lines are answered where this call fails.
-fn answered(alloc: Global, failing: u64) -> Result<usize, Fail> {
-    let ran = play_failing(alloc, &LINES, failing)?;
-    replies(alloc, &LINES, &ran)
-}
-
-// Up to the call that fails the runs are the same, so each stop of a run in which none does is
-// tried, and those within the failing call and after it. What is left opens again, and has all the
-// rows of a line or none.
-#[test]
-fn what_a_stop_within_any_call_leaves_opens_again(rt: HostRuntime) -> Result<(), Fail> {
-    // With 0 no call fails.
-    for failing in 0..CALLS {
-        let end = if failing == 0 { CALLS } else { failing + 2 };
-        try_stops(rt.alloc(), failing, end)?;
-    }
-    Ok(())
-}
-
-// Stops from the call that fails on.
-fn try_stops(alloc: Global, failing: u64, end: u64) -> Result<(), Fail> {
-    let ran = play_failing(alloc, &LINES, failing)?;
-    for stop in failing..end {
-        try_stop(alloc, &ran, failing, stop)?;
-    }
-    Ok(())
-}
-
-fn try_stop(alloc: Global, ran: &Ran, failing: u64, stop: u64) -> Result<(), Fail> {
-    for pick in PICKS.iter() {
-        let count = held_after(alloc, ran, stop, pick)?;
-        if !HELD_AFTER.contains(&count) {
-            return Err(Fail::new(format_args!(
-                "call {failing} fails, stop within {stop}: {count}"
-            )));
-        }
-    }
-    Ok(())
-}
-
-// How many documents are held in what a stop left.
-fn held_after(alloc: Global, ran: &Ran, stop: u64, pick: &[u8]) -> Result<usize, Fail> {
-    held(alloc, ran.disk.stopped(stop, pick)?.as_slice())
-}
-
-#[test]
-fn each_answered_write_is_held_after_the_stop(rt: HostRuntime) -> Result<(), Fail> {
-    for failing in 0..CALLS {
-        try_answered(rt.alloc(), failing)?;
-    }
-    Ok(())
-}
-
-fn try_answered(alloc: Global, failing: u64) -> Result<(), Fail> {
-    let ran = play_failing(alloc, &LINES, failing)?;
-    compare_answered(alloc, &ran, failing)
-}
-
-fn compare_answered(alloc: Global, ran: &Ran, failing: u64) -> Result<(), Fail> {
-    let answered = replies(alloc, &LINES, ran)?;
-    let due = HELD_AFTER.get(answered).copied().unwrap_or(0);
-    compare_picks(alloc, ran, failing, due)
-}
-
-fn compare_picks(alloc: Global, ran: &Ran, failing: u64, due: usize) -> Result<(), Fail> {
-    for pick in PICKS.iter() {
-        let count = held_after(alloc, ran, CALLS, pick)?;
-        if count < due {
-            return Err(Fail::new(format_args!("call {failing} fails: {count} for {due}")));
-        }
-    }
-    Ok(())
-}
-
-// The sink fails between two writes: what stands on the disk has the records of the lines answered
-// and of the one whose reply it didn't take, and of no other.
-#[test]
-fn a_run_goes_on_after_a_sink_that_failed(rt: HostRuntime) -> Result<(), Fail> {
-    for (line, due) in (1..6u64).zip(HELD_AFTER.iter().skip(1)) {
-        try_sink(rt.alloc(), line, *due)?;
-    }
-    Ok(())
-}
-
-fn try_sink(alloc: Global, line: u64, due: usize) -> Result<(), Fail> {
-    let ran = play_refused(alloc, line)?;
-    compare_held(alloc, &ran, due)
-}
-
-// The run whose sink fails at the reply to this line.
-fn play_refused(alloc: Global, line: u64) -> Result<Ran, AllocError> {
-    let setting = Setting {
-        write_fails: &[line],
-        ..Setting::BYTEWISE
-    };
-    play(alloc, &LINES, &setting)
-}
-
-fn compare_held(alloc: Global, ran: &Ran, due: usize) -> Result<(), Fail> {
-    let count = held(alloc, ran.disk.bytes())?;
-    if ran.status == 5 && count == due {
-        return Ok(());
-    }
-    Err(Fail::new(format_args!("status {}, {count} held, due {due}", ran.status)))
-}
+== a migration, behind which nothing is to be pushed or pulled
+. C(m)
+. C(f)
+. {"do":"replicate","name":"r","fork":"f","master":"m","handler":"master_wins"}
+. I(m,a,1)
+> {"do":"turn","name":"r"}
+< {"exchange":1,"place":{"id":"a","lwt":1},"rows":["a"],"sent":"pull"}
+< {"end":"quiet","exchanges":1,"line":L,"ok":"turn"}
+> {"do":"restart"}
+< {"epoch":2,"line":L,"ok":"restart"}
+> {"do":"migrate","in":"m","schema":{"version":1,"primaryKey":"id","type":"object","properties":{"id":{"type":"string","maxLength":20},"n":{"type":"integer"}},"required":["id"]},"steps":[{"scale":"n","by":10}]}
+< {"collections":["m","f"],"line":L,"ok":"migrate"}
+? 6 4
+> {"do":"get","in":"m","key":"a"}
+< {"doc":{"id":"a","n":1},"line":L,"lwt":1,"ok":"get","rev":"1-m"}
+> {"do":"get","in":"f","key":"a"}
+< {"doc":{"id":"a","n":1},"line":L,"lwt":1,"ok":"get","rev":"1-f"}
+> {"do":"turn","name":"r"}
+< {"exchange":1,"place":{"id":"a","lwt":1},"rows":[],"sent":"pull"}
+< {"end":"quiet","exchanges":1,"line":L,"ok":"turn"}
+? 7
+> {"do":"get","in":"m","key":"a"}
+< {"doc":{"id":"a","n":10},"line":L,"lwt":1,"ok":"get","rev":"1-m"}
+> {"do":"get","in":"f","key":"a"}
+< {"doc":{"id":"a","n":10},"line":L,"lwt":1,"ok":"get","rev":"1-f"}
+> {"do":"turn","name":"r"}
+< {"exchange":1,"place":{"id":"a","lwt":1},"rows":[],"sent":"pull"}
+< {"end":"quiet","exchanges":1,"line":L,"ok":"turn"}
+"#;

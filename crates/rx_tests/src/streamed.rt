@@ -1,266 +1,20 @@
 // What a fork hears of its master's commits without asking: a stream, and what becomes of each
 // event that is delivered.
-//
-// In these cases words stand for texts as in those of migrations.
-use crate::case::{PIECE, play};
-use crate::migrated::play_long;
-use crate::short::end_bulk;
-use std::alloc::{AllocError, Global};
+use crate::case::play_all;
 use std::test::Fail;
 
 #[test]
 fn events_are_taken_where_they_follow_what_the_fork_has(rt: HostRuntime) -> Result<(), Fail> {
-    play_long(rt.alloc(), TAKEN)
+    play_all(rt.alloc(), CASES)
 }
 
-#[test]
-fn what_waits_is_heard_of_and_ends(rt: HostRuntime) -> Result<(), Fail> {
-    play_long(rt.alloc(), OBSERVED)
-}
-
-#[test]
-fn restarts_and_migrations_close_streams(rt: HostRuntime) -> Result<(), Fail> {
-    play_long(rt.alloc(), CLOSED)
-}
-
-#[test]
-fn streams_are_refused_by_members_and_by_what_is_stored(rt: HostRuntime) -> Result<(), Fail> {
-    play_long(rt.alloc(), REFUSED)
-}
-
-// A master c with its fork, whose stream is open.
-const STREAM: &str = r#"> C(c)
-< made
-> C(f)
-< made
-> {"do":"replicate","name":"r","fork":"f","master":"c","handler":"master_wins"}
-< {"line":L,"ok":"replicate"}
-> {"do":"stream","name":"r"}
-< {"line":L,"ok":"stream"}
-"#;
-
-const DELIVER: &str = "> {\"do\":\"deliver\",\"name\":\"r\"}\n";
-
-const TURN: &str = "> {\"do\":\"turn\",\"name\":\"r\"}\n";
-
-// How a delivery ends: whether both sides have the same, and whether a turn is due.
-const BEHIND: &str = "< {\"level\":false,\"line\":L,\"ok\":\"deliver\",\"resync\":false}\n";
-
-const DUE: &str = "< {\"level\":false,\"line\":L,\"ok\":\"deliver\",\"resync\":true}\n";
-
-const LEVEL: &str = "< {\"level\":true,\"line\":L,\"ok\":\"deliver\",\"resync\":false}\n";
-
-const LEVEL_AND_DUE: &str = "< {\"level\":true,\"line\":L,\"ok\":\"deliver\",\"resync\":true}\n";
-
-const QUIET: &str = "< {\"end\":\"quiet\",\"exchanges\":1,\"line\":L,\"ok\":\"turn\"}\n";
-
-fn play_streamed(alloc: Global, name: &str, facts: &str) -> Result<(), Fail> {
-    let mut all = String::from_str(alloc, STREAM)?;
-    all.push_str(facts)?;
-    play(alloc, PIECE, name, all.as_str())
-}
-
-#[test]
-fn a_commit_of_many_documents_is_cut_into_events_of_a_hundred(rt: HostRuntime) -> Result<(), Fail> {
-    let mut facts = String::new(rt.alloc());
-    add_bulk(rt.alloc(), "k", &mut facts)?;
-    add_parts(&mut facts)?;
-    play_streamed(rt.alloc(), "250 documents", facts.as_str())
-}
-
-// The bulk of 250 documents.
-fn add_bulk(alloc: Global, letter: &str, facts: &mut String) -> Result<(), AllocError> {
-    facts.push_str("> {\"do\":\"bulk\",\"in\":\"c\",\"docs\":[")?;
-    for n in 0..250u64 {
-        facts.push_str(if n == 0 { "" } else { "," })?;
-        facts.push_str("{\"id\":")?;
-        add_key(letter, n, facts)?;
-        facts.push('}')?;
-    }
-    end_bulk(alloc, 250, facts)
-}
-
-// A key of a letter and three digits, as a text of JSON.
-fn add_key(letter: &str, n: u64, facts: &mut String) -> Result<(), AllocError> {
-    write!(facts, "\"{letter}{}{}{}\"", n / 100, n / 10 % 10, n % 10)
-}
-
-fn add_keys(letter: &str, first: u64, end: u64, facts: &mut String) -> Result<(), AllocError> {
-    facts.push_str("\"rows\":[")?;
-    for n in first..end {
-        facts.push_str(if n == first { "" } else { "," })?;
-        add_key(letter, n, facts)?;
-    }
-    facts.push(']')
-}
-
-// What is due of an event of these keys.
-fn add_event(
-    number: u64,
-    keys: (&str, u64, u64),
-    took: &str,
-    facts: &mut String,
-) -> Result<(), AllocError> {
-    let (letter, first, end) = keys;
-    write!(facts, "< {{\"event\":{number},")?;
-    add_keys(letter, first, end, facts)?;
-    write!(facts, ",\"took\":\"{took}\"}}\n")
-}
-
-// Its first hundred are taken, the next ones later, and the last ones by a turn.
-fn add_parts(facts: &mut String) -> Result<(), AllocError> {
-    facts.push_str("> {\"do\":\"deliver\",\"name\":\"r\",\"link\":[\"ok\",\"later\",\"lose\"]}\n")?;
-    add_event(1, ("k", 0, 100), "taken", facts)?;
-    add_event(2, ("k", 100, 200), "later", facts)?;
-    add_event(3, ("k", 200, 250), "lost", facts)?;
-    facts.push_str(BEHIND)?;
-    facts.push_str(DELIVER)?;
-    add_event(1, ("k", 100, 200), "taken", facts)?;
-    facts.push_str(BEHIND)?;
-    add_last_parts(facts)
-}
-
-fn add_last_parts(facts: &mut String) -> Result<(), AllocError> {
-    facts.push_str(TURN)?;
-    add_pull("k249\",\"lwt\":1", ("k", 200, 250), facts)?;
-    facts.push_str(DELIVER)?;
-    facts.push_str(LEVEL)?;
-    facts.push_str(
-        r#"> {"do":"get","in":"f","key":"k199"}
-< {"doc":{"id":"k199"},"line":L,"lwt":2,"ok":"get","rev":"1-f"}
-> {"do":"get","in":"f","key":"k200"}
-< {"doc":{"id":"k200"},"line":L,"lwt":3,"ok":"get","rev":"1-f"}
-"#,
-    )
-}
-
-// The pull of a quiet turn up to this place, and the turn's end.
-fn add_pull(place: &str, keys: (&str, u64, u64), facts: &mut String) -> Result<(), AllocError> {
-    let (letter, first, end) = keys;
-    write!(facts, "< {{\"exchange\":1,\"place\":{{\"id\":\"{place}}},")?;
-    add_keys(letter, first, end, facts)?;
-    facts.push_str(",\"sent\":\"pull\"}\n")?;
-    facts.push_str(QUIET)
-}
-
-#[test]
-fn the_65th_event_gives_up_those_that_wait(rt: HostRuntime) -> Result<(), Fail> {
-    let mut facts = String::new(rt.alloc());
-    add_given_up(&mut facts)?;
-    add_kept(&mut facts)?;
-    add_marks(&mut facts)?;
-    add_last_part(rt.alloc(), &mut facts)?;
-    play_streamed(rt.alloc(), "what is given up", facts.as_str())
-}
-
-// So many inserts, each an event of its own.
-fn add_inserts(letter: &str, count: u64, facts: &mut String) -> Result<(), AllocError> {
-    for n in 0..count {
-        write!(
-            facts,
-            "> I(c,{letter}0{}{},{n})\n< insert 1-c\n",
-            n / 10,
-            n % 10
-        )?;
-    }
-    Ok(())
-}
-
-// Behind the 65th event the 66th waits alone, and doesn't follow what the fork has.
-fn add_given_up(facts: &mut String) -> Result<(), AllocError> {
-    add_inserts("k", 66, facts)?;
-    facts.push_str(DELIVER)?;
-    add_event(1, ("k", 65, 66), "gap", facts)?;
-    facts.push_str(DUE)?;
-    facts.push_str(DELIVER)?;
-    facts.push_str(BEHIND)?;
-    facts.push_str(TURN)?;
-    add_pull("k065\",\"lwt\":66", ("k", 0, 66), facts)
-}
-
-// 64 wait, and are taken.
-fn add_kept(facts: &mut String) -> Result<(), AllocError> {
-    add_inserts("l", 64, facts)?;
-    facts.push_str(DELIVER)?;
-    for n in 0..64u64 {
-        add_event(
-            n.saturating_add(1),
-            ("l", n, n.saturating_add(1)),
-            "taken",
-            facts,
-        )?;
-    }
-    facts.push_str(LEVEL)
-}
-
-// A turn is due once where none waits, also where it was made meanwhile, and not by another stream.
-fn add_marks(facts: &mut String) -> Result<(), AllocError> {
-    add_inserts("m", 65, facts)?;
-    for end in [DELIVER, DUE, DELIVER, BEHIND] {
-        facts.push_str(end)?;
-    }
-    add_inserts("n", 65, facts)?;
-    facts.push_str("> {\"do\":\"turn\",\"name\":\"r\",\"budget\":2}\n")?;
-    add_two_pulls(facts)?;
-    for end in [DELIVER, LEVEL_AND_DUE, DELIVER, LEVEL] {
-        facts.push_str(end)?;
-    }
-    add_inserts("o", 65, facts)?;
-    facts.push_str(
-        r#"> {"do":"unstream","name":"r"}
-< {"line":L,"ok":"unstream"}
-> {"do":"stream","name":"r"}
-< {"line":L,"ok":"stream"}
-"#,
-    )?;
-    facts.push_str(DELIVER)?;
-    facts.push_str(BEHIND)
-}
-
-// Of the 130 documents that the fork hasn't heard of.
-fn add_two_pulls(facts: &mut String) -> Result<(), AllocError> {
-    facts.push_str("< {\"exchange\":1,\"place\":{\"id\":\"n034\",\"lwt\":230},\"rows\":[")?;
-    add_two_lists(facts)?;
-    facts.push_str("],\"sent\":\"pull\"}\n")?;
-    facts.push_str("< {\"exchange\":2,\"place\":{\"id\":\"n064\",\"lwt\":260},")?;
-    add_keys("n", 35, 65, facts)?;
-    facts.push_str(",\"sent\":\"pull\"}\n")?;
-    facts.push_str("< {\"end\":\"quiet\",\"exchanges\":2,\"line\":L,\"ok\":\"turn\"}\n")
-}
-
-fn add_two_lists(facts: &mut String) -> Result<(), AllocError> {
-    for n in 0..65u64 {
-        add_key("m", n, facts)?;
-        facts.push(',')?;
-    }
-    for n in 0..35u64 {
-        facts.push_str(if n == 0 { "" } else { "," })?;
-        add_key("n", n, facts)?;
-    }
-    Ok(())
-}
-
-// 63 wait, and of a commit's three events the first is the 64th and the third waits alone.
-fn add_last_part(alloc: Global, facts: &mut String) -> Result<(), AllocError> {
-    add_inserts("p", 63, facts)?;
-    add_bulk(alloc, "q", facts)?;
-    facts.push_str(DELIVER)?;
-    add_event(1, ("q", 200, 250), "gap", facts)?;
-    facts.push_str(DUE)
-}
-
-const TAKEN: &str = r#"
+const CASES: &str = r#"// Events are taken where they follow what the fork has.
 == an event that is lost leaves a gap, which a turn closes
 FORKED
 > {"do":"turn","name":"r"}
 < {"exchange":1,"rows":[],"sent":"pull"}
 < {"end":"quiet","exchanges":1,"line":L,"ok":"turn"}
-> {"do":"stream","name":"r"}
-< {"line":L,"ok":"stream"}
-> I(m,a,1)
-< insert 1-m
-> I(m,b,2)
-< insert 1-m
+. {"do":"stream","name":"r"} I(m,a,1) I(m,b,2)
 > {"do":"deliver","name":"r","link":["lose"]}
 < {"event":1,"rows":["a"],"took":"lost"}
 < {"event":2,"rows":["b"],"took":"gap"}
@@ -268,16 +22,11 @@ FORKED
 > {"do":"turn","name":"r"}
 < {"exchange":1,"place":{"id":"b","lwt":2},"rows":["a","b"],"sent":"pull"}
 < {"end":"quiet","exchanges":1,"line":L,"ok":"turn"}
-> I(m,d,3)
-< insert 1-m
+. I(m,d,3)
 > {"do":"deliver","name":"r"}
 < {"event":1,"rows":["d"],"took":"taken"}
 < {"level":true,"line":L,"ok":"deliver","resync":false}
-= 'RXJOURN1' 01 00000009 05 0000000000000001
-= 01 000000a4 01 00000001 'm' 0000009a
-= '{"indexes":[],"primaryKey":"id","properties":{"id":{"maxLength":20,"type":"string"},"n":{"type":"integer"}},"required":["id"],"type":"object","version":0}'
-= 01 000000a4 01 00000001 'f' 0000009a
-= '{"indexes":[],"primaryKey":"id","properties":{"id":{"maxLength":20,"type":"string"},"n":{"type":"integer"}},"required":["id"],"type":"object","version":0}'
+= BOTH
 = 01 00000021 03 00000001 'r' 00000001 'f' 00 00000001 'm' 0000000b 'master_wins' 00
 = 01 0000003e 02 00000001 'm' 0000000000000001 00000001
 = 0000000000000001 00000001 'a' 00 00000002 00000002 'id' 02 00000001 'a' 00000001 'n' 01 0000000000000001
@@ -302,12 +51,7 @@ FORKED
 > {"do":"turn","name":"r"}
 < {"exchange":1,"rows":[],"sent":"pull"}
 < {"end":"quiet","exchanges":1,"line":L,"ok":"turn"}
-> {"do":"stream","name":"r"}
-< {"line":L,"ok":"stream"}
-> I(m,a,1)
-< insert 1-m
-> I(m,b,2)
-< insert 1-m
+. {"do":"stream","name":"r"} I(m,a,1) I(m,b,2)
 > {"do":"deliver","name":"r","link":["twice"]}
 < {"event":1,"rows":["a"],"took":"taken"}
 < {"event":1,"rows":["a"],"took":"old"}
@@ -316,16 +60,11 @@ FORKED
 > {"do":"turn","name":"r"}
 < {"exchange":1,"place":{"id":"b","lwt":2},"rows":[],"sent":"pull"}
 < {"end":"quiet","exchanges":1,"line":L,"ok":"turn"}
-> I(m,d,3)
-< insert 1-m
+. I(m,d,3)
 > {"do":"deliver","name":"r"}
 < {"event":1,"rows":["d"],"took":"taken"}
 < {"level":true,"line":L,"ok":"deliver","resync":false}
-= 'RXJOURN1' 01 00000009 05 0000000000000001
-= 01 000000a4 01 00000001 'm' 0000009a
-= '{"indexes":[],"primaryKey":"id","properties":{"id":{"maxLength":20,"type":"string"},"n":{"type":"integer"}},"required":["id"],"type":"object","version":0}'
-= 01 000000a4 01 00000001 'f' 0000009a
-= '{"indexes":[],"primaryKey":"id","properties":{"id":{"maxLength":20,"type":"string"},"n":{"type":"integer"}},"required":["id"],"type":"object","version":0}'
+= BOTH
 = 01 00000021 03 00000001 'r' 00000001 'f' 00 00000001 'm' 0000000b 'master_wins' 00
 = 01 0000003e 02 00000001 'm' 0000000000000001 00000001
 = 0000000000000001 00000001 'a' 00 00000002 00000002 'id' 02 00000001 'a' 00000001 'n' 01 0000000000000001
@@ -349,14 +88,7 @@ FORKED
 
 == an event that is put off stands behind all that waits
 FORKED
-> {"do":"stream","name":"r"}
-< {"line":L,"ok":"stream"}
-> I(m,a,1)
-< insert 1-m
-> I(m,b,2)
-< insert 1-m
-> I(m,d,3)
-< insert 1-m
+. {"do":"stream","name":"r"} I(m,a,1) I(m,b,2) I(m,d,3)
 > {"do":"deliver","name":"r","link":["later","later","later"]}
 < {"event":1,"rows":["a"],"took":"later"}
 < {"event":2,"rows":["b"],"took":"later"}
@@ -370,16 +102,14 @@ FORKED
 > {"do":"deliver","name":"r"}
 < {"event":1,"rows":["b"],"took":"taken"}
 < {"level":false,"line":L,"ok":"deliver","resync":false}
-> I(m,e,4)
-< insert 1-m
+. I(m,e,4)
 > {"do":"deliver","name":"r","link":["later","ok"]}
 < {"event":1,"rows":["e"],"took":"later"}
 < {"level":false,"line":L,"ok":"deliver","resync":false}
 > {"do":"turn","name":"r"}
 < {"exchange":1,"place":{"id":"e","lwt":4},"rows":["d","e"],"sent":"pull"}
 < {"end":"quiet","exchanges":1,"line":L,"ok":"turn"}
-> I(m,g,5)
-< insert 1-m
+. I(m,g,5)
 > {"do":"deliver","name":"r"}
 < {"event":1,"rows":["e"],"took":"old"}
 < {"event":2,"rows":["g"],"took":"taken"}
@@ -387,35 +117,28 @@ FORKED
 
 == happenings that no event meets, and none at all
 FORKED
-> {"do":"stream","name":"r"}
-< {"line":L,"ok":"stream"}
+. {"do":"stream","name":"r"}
 > {"do":"deliver","name":"r"}
 < {"level":true,"line":L,"ok":"deliver","resync":false}
 > {"do":"deliver","name":"r","link":["lose","later"]}
 < {"level":true,"line":L,"ok":"deliver","resync":false}
-> I(m,a,1)
-< insert 1-m
+. I(m,a,1)
 > {"do":"deliver","name":"r","link":["ok","lose","lose"]}
 < {"event":1,"rows":["a"],"took":"taken"}
 < {"level":true,"line":L,"ok":"deliver","resync":false}
 > {"do":"deliver","name":"r","link":["lose"]}
 < {"level":true,"line":L,"ok":"deliver","resync":false}
-> I(m,b,2)
-< insert 1-m
+. I(m,b,2)
 > {"do":"deliver","name":"r","link":[]}
 < {"event":1,"rows":["b"],"took":"taken"}
 < {"level":true,"line":L,"ok":"deliver","resync":false}
 
 == a stream begins behind what the master has
 FORKED
-> I(m,a,1)
-< insert 1-m
-> {"do":"stream","name":"r"}
-< {"line":L,"ok":"stream"}
+. I(m,a,1) {"do":"stream","name":"r"}
 > {"do":"deliver","name":"r"}
 < {"level":false,"line":L,"ok":"deliver","resync":false}
-> I(m,b,2)
-< insert 1-m
+. I(m,b,2)
 > {"do":"deliver","name":"r"}
 < {"event":1,"rows":["b"],"took":"gap"}
 < {"level":false,"line":L,"ok":"deliver","resync":true}
@@ -424,16 +147,14 @@ FORKED
 < {"end":"quiet","exchanges":1,"line":L,"ok":"turn"}
 > {"do":"deliver","name":"r"}
 < {"level":true,"line":L,"ok":"deliver","resync":false}
-> I(m,d,3)
-< insert 1-m
+. I(m,d,3)
 > {"do":"deliver","name":"r"}
 < {"event":1,"rows":["d"],"took":"taken"}
 < {"level":true,"line":L,"ok":"deliver","resync":false}
 
 == each line that writes to the master makes an event, and one that is refused makes none
 FORKED
-> {"do":"stream","name":"r"}
-< {"line":L,"ok":"stream"}
+. {"do":"stream","name":"r"}
 > {"do":"bulk","in":"m","docs":[{"id":"b","n":2},{"id":"d"},{"id":"a","n":1}]}
 < {"line":L,"ok":"bulk","revs":["1-m","1-m","1-m"]}
 > {"do":"bulk","in":"m","docs":[]}
@@ -450,12 +171,7 @@ FORKED
 < {"code":14,"line":L,"refused":"conflict","rev":"2-m"}
 > {"do":"remove","in":"m","key":"b"}
 < {"line":L,"ok":"remove","rev":"3-m"}
-> I(f,x,1)
-< insert 1-f
-> {"do":"unstream","name":"r"}
-< {"line":L,"ok":"unstream"}
-> {"do":"stream","name":"r"}
-< {"line":L,"ok":"stream"}
+. I(f,x,1) {"do":"unstream","name":"r"} {"do":"stream","name":"r"}
 > {"do":"upsert","in":"m","doc":{"id":"d","n":3}}
 < {"line":L,"ok":"upsert","rev":"3-m"}
 > {"do":"turn","name":"r"}
@@ -464,8 +180,7 @@ FORKED
 < {"end":"quiet","exchanges":2,"line":L,"ok":"turn"}
 > {"do":"remove","in":"m","key":"a"}
 < {"line":L,"ok":"remove","rev":"3-m"}
-> {"do":"tick","at":40}
-< {"line":L,"ok":"tick"}
+. {"do":"tick","at":40}
 > {"do":"bulk","in":"m","docs":[{"id":"b"},{"id":"a","n":7}]}
 < {"line":L,"ok":"bulk","revs":["4-m","4-m"]}
 > {"do":"deliver","name":"r"}
@@ -481,10 +196,7 @@ FORKED
 
 == what comes of an event is written as by a pull, and as it stands no row is written
 FORKED
-> {"do":"stream","name":"r"}
-< {"line":L,"ok":"stream"}
-> I(f,a,1)
-< insert 1-f
+. {"do":"stream","name":"r"} I(f,a,1)
 > {"do":"turn","name":"r","budget":1}
 < {"conflicts":[],"exchange":1,"rows":["a"],"sent":"push"}
 < {"end":"more","exchanges":1,"line":L,"ok":"turn"}
@@ -497,8 +209,7 @@ FORKED
 < {"doc":{"id":"a","n":1},"line":L,"lwt":1,"ok":"get","rev":"1-f"}
 > {"do":"remove","in":"m","key":"a"}
 < {"line":L,"ok":"remove","rev":"2-m"}
-> {"do":"tick","at":9}
-< {"line":L,"ok":"tick"}
+. {"do":"tick","at":9}
 > {"do":"deliver","name":"r"}
 < {"event":1,"rows":["a"],"took":"taken"}
 < {"level":true,"line":L,"ok":"deliver","resync":false}
@@ -524,26 +235,17 @@ FORKED
 
 == the words of an event in their order: it is old, the fork has what is to be pushed, there is a gap
 FORKED
-> {"do":"stream","name":"r"}
-< {"line":L,"ok":"stream"}
-> I(f,x,1)
-< insert 1-f
-> I(m,a,1)
-< insert 1-m
+. {"do":"stream","name":"r"} I(f,x,1) I(m,a,1)
 > {"do":"deliver","name":"r","link":["twice"]}
 < {"event":1,"rows":["a"],"took":"pending"}
 < {"event":1,"rows":["a"],"took":"pending"}
 < {"level":false,"line":L,"ok":"deliver","resync":true}
-> I(m,b,2)
-< insert 1-m
+. I(m,b,2)
 > {"do":"turn","name":"r"}
 < {"conflicts":[],"exchange":1,"rows":["x"],"sent":"push"}
 < {"exchange":2,"place":{"id":"x","lwt":3},"rows":["a","b","x"],"sent":"pull"}
 < {"end":"quiet","exchanges":2,"line":L,"ok":"turn"}
-> I(f,y,1)
-< insert 1-f
-> I(m,d,3)
-< insert 1-m
+. I(f,y,1) I(m,d,3)
 > {"do":"deliver","name":"r"}
 < {"event":1,"rows":["b"],"took":"old"}
 < {"event":2,"rows":["x"],"took":"old"}
@@ -559,32 +261,24 @@ FORKED
 < {"level":true,"line":L,"ok":"deliver","resync":false}
 > {"do":"deliver","name":"r"}
 < {"level":true,"line":L,"ok":"deliver","resync":false}
-> I(m,e,4)
-< insert 1-m
-> I(m,g,5)
-< insert 1-m
+. I(m,e,4) I(m,g,5)
 > {"do":"deliver","name":"r","link":["lose","twice"]}
 < {"event":1,"rows":["e"],"took":"lost"}
 < {"event":2,"rows":["g"],"took":"gap"}
 < {"event":2,"rows":["g"],"took":"gap"}
 < {"level":false,"line":L,"ok":"deliver","resync":true}
-> I(f,z,1)
-< insert 1-f
-> I(m,h,6)
-< insert 1-m
+. I(f,z,1) I(m,h,6)
 > {"do":"deliver","name":"r"}
 < {"event":1,"rows":["h"],"took":"pending"}
 < {"level":false,"line":L,"ok":"deliver","resync":true}
 
 == a document that is to be pushed stays as it is, also where the event has its key
 FORKED
-> I(m,a,1)
-< insert 1-m
+. I(m,a,1)
 > {"do":"turn","name":"r"}
 < {"exchange":1,"place":{"id":"a","lwt":1},"rows":["a"],"sent":"pull"}
 < {"end":"quiet","exchanges":1,"line":L,"ok":"turn"}
-> {"do":"stream","name":"r"}
-< {"line":L,"ok":"stream"}
+. {"do":"stream","name":"r"}
 > {"do":"patch","in":"f","key":"a","set":{"n":2}}
 < {"line":L,"ok":"patch","rev":"2-f"}
 > {"do":"patch","in":"m","key":"a","set":{"n":3}}
@@ -611,16 +305,8 @@ FORKED
 
 == no write time is left: a row isn't written, and an event without one is taken
 FORKED
-> I(f,a,1)
-< insert 1-f
-> {"do":"tick","at":9007199254740991}
-< {"line":L,"ok":"tick"}
-> I(f,z,1)
-< insert 1-f
-> {"do":"tick","at":0}
-< {"line":L,"ok":"tick"}
-> {"do":"stream","name":"r"}
-< {"line":L,"ok":"stream"}
+. I(f,a,1) {"do":"tick","at":9007199254740991} I(f,z,1) {"do":"tick","at":0}
+. {"do":"stream","name":"r"}
 > {"do":"turn","name":"r","batch":1,"budget":2}
 < {"conflicts":[],"exchange":1,"rows":["a"],"sent":"push"}
 < {"conflicts":[],"exchange":2,"rows":["z"],"sent":"push"}
@@ -629,16 +315,14 @@ FORKED
 < {"event":1,"rows":["a"],"took":"taken"}
 < {"event":2,"rows":["z"],"took":"taken"}
 < {"level":true,"line":L,"ok":"deliver","resync":false}
-> I(m,b,2)
-< insert 1-m
+. I(m,b,2)
 > {"do":"deliver","name":"r","link":["twice"]}
 < {"event":1,"rows":["b"],"took":"clock"}
 < {"event":1,"rows":["b"],"took":"clock"}
 < {"level":false,"line":L,"ok":"deliver","resync":false}
 > {"do":"deliver","name":"r"}
 < {"level":false,"line":L,"ok":"deliver","resync":false}
-> I(m,d,3)
-< insert 1-m
+. I(m,d,3)
 > {"do":"deliver","name":"r"}
 < {"event":1,"rows":["d"],"took":"gap"}
 < {"level":false,"line":L,"ok":"deliver","resync":true}
@@ -647,10 +331,7 @@ FORKED
 
 == pushes that are handled, lost, repeated and late make events
 FORKED
-> {"do":"stream","name":"r"}
-< {"line":L,"ok":"stream"}
-> I(f,a,1)
-< insert 1-f
+. {"do":"stream","name":"r"} I(f,a,1)
 > {"do":"turn","name":"r","link":["lose_request"]}
 < {"exchange":1,"lost":"lose_request","rows":["a"],"sent":"push"}
 < {"end":"lost","exchanges":1,"line":L,"ok":"turn"}
@@ -698,24 +379,9 @@ FORKED
 
 == a fork of a fork has what comes to it, and what goes up comes down to all
 FORKED
-> C(g)
-< made
-> C(h)
-< made
-> {"do":"replicate","name":"s","fork":"g","master":"f","handler":"master_wins"}
-< {"line":L,"ok":"replicate"}
-> {"do":"replicate","name":"t","fork":"h","master":"m","handler":"master_wins"}
-< {"line":L,"ok":"replicate"}
-> {"do":"stream","name":"s"}
-< {"line":L,"ok":"stream"}
-> {"do":"stream","name":"r"}
-< {"line":L,"ok":"stream"}
-> {"do":"stream","name":"t"}
-< {"line":L,"ok":"stream"}
-> I(m,a,1)
-< insert 1-m
-> I(m,b,2)
-< insert 1-m
+. C(g) C(h) {"do":"replicate","name":"s","fork":"g","master":"f","handler":"master_wins"}
+. {"do":"replicate","name":"t","fork":"h","master":"m","handler":"master_wins"}
+. {"do":"stream","name":"s"} {"do":"stream","name":"r"} {"do":"stream","name":"t"} I(m,a,1) I(m,b,2)
 > {"do":"deliver","name":"s"}
 < {"level":true,"line":L,"ok":"deliver","resync":false}
 > {"do":"deliver","name":"r","link":["ok","later"]}
@@ -731,8 +397,7 @@ FORKED
 > {"do":"deliver","name":"s"}
 < {"event":1,"rows":["b"],"took":"taken"}
 < {"level":true,"line":L,"ok":"deliver","resync":false}
-> I(g,d,3)
-< insert 1-g
+. I(g,d,3)
 > {"do":"turn","name":"s","budget":1}
 < {"conflicts":[],"exchange":1,"rows":["d"],"sent":"push"}
 < {"end":"more","exchanges":1,"line":L,"ok":"turn"}
@@ -769,22 +434,16 @@ FORKED
 < {"level":true,"line":L,"ok":"deliver","resync":false}
 > {"do":"find","in":"g","query":{}}
 < {"line":L,"ok":"find","rows":[{"id":"a","n":1},{"id":"d","n":3}]}
-"#;
 
-const OBSERVED: &str = r#"
+// What waits is heard of and ends.
 == what is observed of the fork is emitted once, behind the reply
 FORKED
-> {"do":"observe","name":"q","in":"f","query":{"sort":[{"n":"asc"}],"limit":2}}
-< {"line":L,"ok":"observe"}
+. {"do":"observe","name":"q","in":"f","query":{"sort":[{"n":"asc"}],"limit":2}}
 < {"emit":"q","rows":[]}
-> {"do":"stream","name":"r"}
-< {"line":L,"ok":"stream"}
+. {"do":"stream","name":"r"}
 > {"do":"bulk","in":"m","docs":[{"id":"b","n":2},{"id":"a","n":1}]}
 < {"line":L,"ok":"bulk","revs":["1-m","1-m"]}
-> I(m,d,0)
-< insert 1-m
-> I(m,e,9)
-< insert 1-m
+. I(m,d,0) I(m,e,9)
 > {"do":"deliver","name":"r","link":["ok","ok","later"]}
 < {"event":1,"rows":["a","b"],"took":"taken"}
 < {"event":2,"rows":["d"],"took":"taken"}
@@ -806,16 +465,10 @@ FORKED
 == the record of an event passes the limit, and what was taken before it stands
 $ run journal --max-journal 776
 FORKED
-> {"do":"stream","name":"r"}
-< {"line":L,"ok":"stream"}
-> I(m,a,1)
-< insert 1-m
-> I(m,b,2)
-< insert 1-m
+. {"do":"stream","name":"r"} I(m,a,1) I(m,b,2)
 > {"do":"deliver","name":"r"}
 > {"do":"get","in":"f","key":"a"}
 < {"limit":776,"stop":"full","would":777}
-! 8
 $ run journal
 > {"do":"get","in":"f","key":"a"}
 < {"doc":{"id":"a","n":1},"line":L,"lwt":1,"ok":"get","rev":"1-f"}
@@ -824,53 +477,39 @@ $ run journal
 > {"do":"turn","name":"r"}
 < {"exchange":1,"place":{"id":"b","lwt":2},"rows":["b"],"sent":"pull"}
 < {"end":"quiet","exchanges":1,"line":L,"ok":"turn"}
-"#;
 
-const CLOSED: &str = r#"
+// Restarts and migrations close streams.
 == a restart closes all streams
 FORKED
-> C(g)
-< made
-> {"do":"replicate","name":"s","fork":"g","master":"f","handler":"master_wins"}
-< {"line":L,"ok":"replicate"}
-> {"do":"stream","name":"r"}
-< {"line":L,"ok":"stream"}
-> {"do":"stream","name":"s"}
-< {"line":L,"ok":"stream"}
-> I(m,a,1)
-< insert 1-m
+. C(g) {"do":"replicate","name":"s","fork":"g","master":"f","handler":"master_wins"}
+. {"do":"stream","name":"r"} {"do":"stream","name":"s"} I(m,a,1)
 > {"do":"restart"}
 < {"epoch":2,"line":L,"ok":"restart"}
 > {"do":"deliver","name":"r"}
 < {"code":31,"line":L,"refused":"no_stream"}
 > {"do":"unstream","name":"s"}
 < {"code":31,"line":L,"refused":"no_stream"}
-> {"do":"stream","name":"r"}
-< {"line":L,"ok":"stream"}
+. {"do":"stream","name":"r"}
 > {"do":"deliver","name":"r"}
 < {"level":false,"line":L,"ok":"deliver","resync":false}
-> I(m,b,2)
-< insert 1-m
+. I(m,b,2)
 > {"do":"deliver","name":"r"}
 < {"event":1,"rows":["b"],"took":"gap"}
 < {"level":false,"line":L,"ok":"deliver","resync":true}
-> {"do":"stream","name":"s"}
-< {"line":L,"ok":"stream"}
+. {"do":"stream","name":"s"}
 > {"do":"turn","name":"r"}
 < {"exchange":1,"place":{"id":"b","lwt":2},"rows":["a","b"],"sent":"pull"}
 < {"end":"quiet","exchanges":1,"line":L,"ok":"turn"}
 > {"do":"deliver","name":"s"}
 < {"event":1,"rows":["a","b"],"took":"taken"}
 < {"level":true,"line":L,"ok":"deliver","resync":false}
-> I(m,d,3)
-< insert 1-m
+. I(m,d,3)
 $ run journal
 > {"do":"deliver","name":"r"}
 < {"code":31,"line":L,"refused":"no_stream"}
 > {"do":"unstream","name":"r"}
 < {"code":31,"line":L,"refused":"no_stream"}
-> {"do":"stream","name":"r"}
-< {"line":L,"ok":"stream"}
+. {"do":"stream","name":"r"}
 > {"do":"deliver","name":"r"}
 < {"level":false,"line":L,"ok":"deliver","resync":false}
 > {"do":"turn","name":"r"}
@@ -881,26 +520,9 @@ $ run journal
 
 == a migration closes the streams of its group, and no others
 FORKED
-> C(g)
-< made
-> {"do":"replicate","name":"s","fork":"g","master":"f","handler":"master_wins"}
-< {"line":L,"ok":"replicate"}
-> C(p)
-< made
-> C(q)
-< made
-> {"do":"replicate","name":"t","fork":"q","master":"p","handler":"master_wins"}
-< {"line":L,"ok":"replicate"}
-> {"do":"stream","name":"t"}
-< {"line":L,"ok":"stream"}
-> {"do":"stream","name":"r"}
-< {"line":L,"ok":"stream"}
-> {"do":"stream","name":"s"}
-< {"line":L,"ok":"stream"}
-> I(m,a,5)
-< insert 1-m
-> I(p,a,5)
-< insert 1-p
+. C(g) {"do":"replicate","name":"s","fork":"g","master":"f","handler":"master_wins"} C(p) C(q)
+. {"do":"replicate","name":"t","fork":"q","master":"p","handler":"master_wins"}
+. {"do":"stream","name":"t"} {"do":"stream","name":"r"} {"do":"stream","name":"s"} I(m,a,5) I(p,a,5)
 > {"do":"migrate","in":"g","schema":NEXT,"steps":[{"scale":"n","by":10}]}
 < {"collections":["m","f","g"],"line":L,"ok":"migrate"}
 > {"do":"deliver","name":"r"}
@@ -914,20 +536,14 @@ FORKED
 < {"level":true,"line":L,"ok":"deliver","resync":false}
 > {"do":"get","in":"q","key":"a"}
 < {"doc":{"id":"a","n":5},"line":L,"lwt":1,"ok":"get","rev":"1-q"}
-> {"do":"stream","name":"r"}
-< {"line":L,"ok":"stream"}
-> I(m,b,6)
-< insert 1-m
+. {"do":"stream","name":"r"} I(m,b,6)
 > {"do":"deliver","name":"r"}
 < {"event":1,"rows":["b"],"took":"gap"}
 < {"level":false,"line":L,"ok":"deliver","resync":true}
 > {"do":"turn","name":"r"}
 < {"exchange":1,"place":{"id":"b","lwt":2},"rows":["a","b"],"sent":"pull"}
 < {"end":"quiet","exchanges":1,"line":L,"ok":"turn"}
-> {"do":"stream","name":"s"}
-< {"line":L,"ok":"stream"}
-> I(m,d,7)
-< insert 1-m
+. {"do":"stream","name":"s"} I(m,d,7)
 > {"do":"deliver","name":"r"}
 < {"event":1,"rows":["d"],"took":"taken"}
 < {"level":true,"line":L,"ok":"deliver","resync":false}
@@ -939,10 +555,7 @@ FORKED
 
 == a migration that is refused leaves them open
 FORKED
-> {"do":"stream","name":"r"}
-< {"line":L,"ok":"stream"}
-> I(m,a,5)
-< insert 1-m
+. {"do":"stream","name":"r"} I(m,a,5)
 > {"do":"migrate","in":"m","schema":AFTER,"steps":[]}
 < {"cause":"version","code":28,"line":L,"name":"m","refused":"migration"}
 > {"do":"migrate","in":"m","schema":SMALL,"steps":[]}
@@ -953,17 +566,14 @@ FORKED
 
 == what is pending no more behind a migration, and an event of behind it
 FORKED
-> I(m,a,1)
-< insert 1-m
+. I(m,a,1)
 > {"do":"turn","name":"r"}
 < {"exchange":1,"place":{"id":"a","lwt":1},"rows":["a"],"sent":"pull"}
 < {"end":"quiet","exchanges":1,"line":L,"ok":"turn"}
-> {"do":"stream","name":"r"}
-< {"line":L,"ok":"stream"}
+. {"do":"stream","name":"r"}
 > {"do":"patch","in":"f","key":"a","set":{"n":2}}
 < {"line":L,"ok":"patch","rev":"2-f"}
-> {"do":"insert","in":"m","doc":{"id":"b"}}
-< insert 1-m
+. {"do":"insert","in":"m","doc":{"id":"b"}}
 > {"do":"deliver","name":"r"}
 < {"event":1,"rows":["b"],"took":"pending"}
 < {"level":false,"line":L,"ok":"deliver","resync":true}
@@ -972,39 +582,28 @@ FORKED
 > {"do":"turn","name":"r"}
 < {"exchange":1,"place":{"id":"b","lwt":2},"rows":["b"],"sent":"pull"}
 < {"end":"quiet","exchanges":1,"line":L,"ok":"turn"}
-> {"do":"stream","name":"r"}
-< {"line":L,"ok":"stream"}
-> {"do":"insert","in":"m","doc":{"id":"d"}}
-< insert 1-m
+. {"do":"stream","name":"r"} {"do":"insert","in":"m","doc":{"id":"d"}}
 > {"do":"deliver","name":"r"}
 < {"event":1,"rows":["d"],"took":"taken"}
 < {"level":true,"line":L,"ok":"deliver","resync":false}
 
 == what waits, and its mark, go with the stream
 FORKED
-> {"do":"stream","name":"r"}
-< {"line":L,"ok":"stream"}
-> I(m,a,1)
-< insert 1-m
-> {"do":"unstream","name":"r"}
-< {"line":L,"ok":"unstream"}
+. {"do":"stream","name":"r"} I(m,a,1) {"do":"unstream","name":"r"}
 > {"do":"unstream","name":"r"}
 < {"code":31,"line":L,"refused":"no_stream"}
-> {"do":"stream","name":"r"}
-< {"line":L,"ok":"stream"}
+. {"do":"stream","name":"r"}
 > {"do":"deliver","name":"r"}
 < {"level":false,"line":L,"ok":"deliver","resync":false}
 > {"do":"turn","name":"r"}
 < {"exchange":1,"place":{"id":"a","lwt":1},"rows":["a"],"sent":"pull"}
 < {"end":"quiet","exchanges":1,"line":L,"ok":"turn"}
-> I(m,b,2)
-< insert 1-m
+. I(m,b,2)
 > {"do":"deliver","name":"r"}
 < {"event":1,"rows":["b"],"took":"taken"}
 < {"level":true,"line":L,"ok":"deliver","resync":false}
-"#;
 
-const REFUSED: &str = r#"
+// Streams are refused by members and by what is stored.
 == a member that isn't there, and another one
 > {"do":"stream"}
 < {"code":5,"line":L,"name":"name","refused":"missing"}
@@ -1079,10 +678,7 @@ const REFUSED: &str = r#"
 
 == a replication that isn't there, a master elsewhere, a stream that is open, and one that isn't
 FORKED
-> C(p)
-< made
-> {"do":"replicate","name":"s","fork":"p","port":4001,"handler":"master_wins"}
-< {"line":L,"ok":"replicate"}
+. C(p) {"do":"replicate","name":"s","fork":"p","port":4001,"handler":"master_wins"}
 > {"do":"stream","name":"z"}
 < {"code":18,"line":L,"refused":"no_replication"}
 > {"do":"deliver","name":"z"}
@@ -1103,12 +699,10 @@ FORKED
 < {"code":31,"line":L,"refused":"no_stream"}
 > {"do":"unstream","name":"r"}
 < {"code":31,"line":L,"refused":"no_stream"}
-> {"do":"stream","name":"r"}
-< {"line":L,"ok":"stream"}
+. {"do":"stream","name":"r"}
 > {"do":"stream","name":"r"}
 < {"code":9,"line":L,"refused":"exists"}
-> I(m,a,1)
-< insert 1-m
+. I(m,a,1)
 > {"do":"deliver","name":"r","link":["lost"]}
 < {"code":7,"line":L,"name":"link","refused":"wrong_type"}
 > {"do":"stream","name":"r"}
@@ -1116,8 +710,7 @@ FORKED
 > {"do":"deliver","name":"r"}
 < {"event":1,"rows":["a"],"took":"taken"}
 < {"level":true,"line":L,"ok":"deliver","resync":false}
-> {"do":"unstream","name":"r"}
-< {"line":L,"ok":"unstream"}
+. {"do":"unstream","name":"r"}
 > {"do":"unstream","name":"r"}
 < {"code":31,"line":L,"refused":"no_stream"}
 > {"do":"deliver","name":"r"}
@@ -1129,4 +722,80 @@ FORKED
 < {"code":7,"line":L,"name":"link","refused":"wrong_type"}
 > {"do":"turn","name":"r","link":["later"]}
 < {"code":7,"line":L,"name":"link","refused":"wrong_type"}
+
+// What waits is cut and given up by number.
+== a commit of 250 documents is cut into events of a hundred
+. C(c) C(f) {"do":"replicate","name":"r","fork":"f","master":"c","handler":"master_wins"}
+. {"do":"stream","name":"r"}
+> {"do":"bulk","in":"c","docs":[‹0..250|,|{"id":"k№"}›]}
+< {"line":L,"ok":"bulk","revs":[‹0..250|,|"1-c"›]}
+> {"do":"deliver","name":"r","link":["ok","later","lose"]}
+< {"event":1,"rows":[‹0..100|,|"k№"›],"took":"taken"}
+< {"event":2,"rows":[‹100..200|,|"k№"›],"took":"later"}
+< {"event":3,"rows":[‹200..250|,|"k№"›],"took":"lost"}
+< {"level":false,"line":L,"ok":"deliver","resync":false}
+> {"do":"deliver","name":"r"}
+< {"event":1,"rows":[‹100..200|,|"k№"›],"took":"taken"}
+< {"level":false,"line":L,"ok":"deliver","resync":false}
+> {"do":"turn","name":"r"}
+< {"exchange":1,"place":{"id":"k249","lwt":1},"rows":[‹200..250|,|"k№"›],"sent":"pull"}
+< {"end":"quiet","exchanges":1,"line":L,"ok":"turn"}
+> {"do":"deliver","name":"r"}
+< {"level":true,"line":L,"ok":"deliver","resync":false}
+> {"do":"get","in":"f","key":"k199"}
+< {"doc":{"id":"k199"},"line":L,"lwt":2,"ok":"get","rev":"1-f"}
+> {"do":"get","in":"f","key":"k200"}
+< {"doc":{"id":"k200"},"line":L,"lwt":3,"ok":"get","rev":"1-f"}
+
+== the 65th event gives up those that wait
+. C(c) C(f) {"do":"replicate","name":"r","fork":"f","master":"c","handler":"master_wins"}
+. {"do":"stream","name":"r"}
+// The 66th waits alone, and does not follow what the fork has.
+‹0..66|
+|. I(c,k№,#)›
+> {"do":"deliver","name":"r"}
+< {"event":1,"rows":["k065"],"took":"gap"}
+< {"level":false,"line":L,"ok":"deliver","resync":true}
+> {"do":"deliver","name":"r"}
+< {"level":false,"line":L,"ok":"deliver","resync":false}
+> {"do":"turn","name":"r"}
+< {"exchange":1,"place":{"id":"k065","lwt":66},"rows":[‹0..66|,|"k№"›],"sent":"pull"}
+< {"end":"quiet","exchanges":1,"line":L,"ok":"turn"}
+// 64 wait, and are taken.
+‹0..64|
+|. I(c,l№,#)›
+> {"do":"deliver","name":"r"}
+‹0..64|
+|< {"event":⁺,"rows":["l№"],"took":"taken"}›
+< {"level":true,"line":L,"ok":"deliver","resync":false}
+// A turn is due once where none waits, also where it was made meanwhile, and not by another stream.
+‹0..65|
+|. I(c,m№,#)›
+> {"do":"deliver","name":"r"}
+< {"level":false,"line":L,"ok":"deliver","resync":true}
+> {"do":"deliver","name":"r"}
+< {"level":false,"line":L,"ok":"deliver","resync":false}
+‹0..65|
+|. I(c,n№,#)›
+> {"do":"turn","name":"r","budget":2}
+< {"exchange":1,"place":{"id":"n034","lwt":230},"rows":[‹0..65|,|"m№"›,‹0..35|,|"n№"›],"sent":"pull"}
+< {"exchange":2,"place":{"id":"n064","lwt":260},"rows":[‹35..65|,|"n№"›],"sent":"pull"}
+< {"end":"quiet","exchanges":2,"line":L,"ok":"turn"}
+> {"do":"deliver","name":"r"}
+< {"level":true,"line":L,"ok":"deliver","resync":true}
+> {"do":"deliver","name":"r"}
+< {"level":true,"line":L,"ok":"deliver","resync":false}
+‹0..65|
+|. I(c,o№,#)›
+. {"do":"unstream","name":"r"} {"do":"stream","name":"r"}
+> {"do":"deliver","name":"r"}
+< {"level":false,"line":L,"ok":"deliver","resync":false}
+// 63 wait, and of a commit's three events the first is the 64th and the third waits alone.
+‹0..63|
+|. I(c,p№,#)›
+> {"do":"bulk","in":"c","docs":[‹0..250|,|{"id":"q№"}›]}
+< {"line":L,"ok":"bulk","revs":[‹0..250|,|"1-c"›]}
+> {"do":"deliver","name":"r"}
+< {"event":1,"rows":[‹200..250|,|"q№"›],"took":"gap"}
+< {"level":false,"line":L,"ok":"deliver","resync":true}
 "#;

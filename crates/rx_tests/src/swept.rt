@@ -1,38 +1,16 @@
 // Sweeps over trees of forks: in which order the turns come, how they end, and what they leave.
-//
-// In these cases words stand for texts as in those of migrations.
-use crate::migrated::play_long;
+use crate::case::play_all;
 use std::test::Fail;
 
 #[test]
-fn a_sweep_goes_up_and_down(rt: HostRuntime) -> Result<(), Fail> {
-    play_long(rt.alloc(), ORDERS)
+fn a_sweep_goes_up_and_down_or_is_refused(rt: HostRuntime) -> Result<(), Fail> {
+    play_all(rt.alloc(), CASES)
 }
 
-#[test]
-fn a_sweep_ends_with_the_first_turn_that_is_not_quiet(rt: HostRuntime) -> Result<(), Fail> {
-    play_long(rt.alloc(), ENDS)
-}
-
-#[test]
-fn sweeps_are_refused_by_members_and_by_what_is_stored(rt: HostRuntime) -> Result<(), Fail> {
-    play_long(rt.alloc(), REFUSED)
-}
-
-const ORDERS: &str = r#"
+const CASES: &str = r#"// Up and down.
 == a document of the last fork comes up, and nothing is left for the way down
-> C(m)
-< made
-> C(f)
-< made
-> C(g)
-< made
-> {"do":"replicate","name":"r","fork":"f","master":"m","handler":"master_wins"}
-< {"line":L,"ok":"replicate"}
-> {"do":"replicate","name":"s","fork":"g","master":"f","handler":"master_wins"}
-< {"line":L,"ok":"replicate"}
-> I(g,a,1)
-< insert 1-g
+. C(m) C(f) C(g) {"do":"replicate","name":"r","fork":"f","master":"m","handler":"master_wins"}
+. {"do":"replicate","name":"s","fork":"g","master":"f","handler":"master_wins"} I(g,a,1)
 > {"do":"sweep","name":"m"}
 < {"conflicts":[],"exchange":1,"rows":["a"],"sent":"push"}
 < {"exchange":2,"place":{"id":"a","lwt":1},"rows":["a"],"sent":"pull"}
@@ -45,11 +23,7 @@ const ORDERS: &str = r#"
 < {"exchange":1,"place":{"id":"a","lwt":1},"rows":[],"sent":"pull"}
 < {"end":"quiet","exchanges":1,"pass":"down","replication":"s"}
 < {"end":"quiet","line":L,"ok":"sweep","turns":4}
-= 'RXJOURN1' 01 00000009 05 0000000000000001
-= 01 000000a4 01 00000001 'm' 0000009a
-= '{"indexes":[],"primaryKey":"id","properties":{"id":{"maxLength":20,"type":"string"},"n":{"type":"integer"}},"required":["id"],"type":"object","version":0}'
-= 01 000000a4 01 00000001 'f' 0000009a
-= '{"indexes":[],"primaryKey":"id","properties":{"id":{"maxLength":20,"type":"string"},"n":{"type":"integer"}},"required":["id"],"type":"object","version":0}'
+= BOTH
 = 01 000000a4 01 00000001 'g' 0000009a
 = '{"indexes":[],"primaryKey":"id","properties":{"id":{"maxLength":20,"type":"string"},"n":{"type":"integer"}},"required":["id"],"type":"object","version":0}'
 = 01 00000021 03 00000001 'r' 00000001 'f' 00 00000001 'm' 0000000b 'master_wins' 00
@@ -75,34 +49,16 @@ const ORDERS: &str = r#"
 = 00
 
 == a collection without forks has no turn
-> C(m)
-< made
+. C(m)
 > {"do":"sweep","name":"m"}
 < {"end":"quiet","line":L,"ok":"sweep","turns":0}
 
 == forks come as their collections were made, and not as their replications were
-> C(m)
-< made
-> C(f1)
-< made
-> C(g1)
-< made
-> C(f2)
-< made
-> C(g2)
-< made
-> {"do":"replicate","name":"a","fork":"f2","master":"m","handler":"join"}
-< {"line":L,"ok":"replicate"}
-> {"do":"replicate","name":"b","fork":"g2","master":"f2","handler":"join"}
-< {"line":L,"ok":"replicate"}
-> {"do":"replicate","name":"c","fork":"f1","master":"m","handler":"join"}
-< {"line":L,"ok":"replicate"}
-> {"do":"replicate","name":"d","fork":"g1","master":"f1","handler":"join"}
-< {"line":L,"ok":"replicate"}
-> I(g1,x,1)
-< insert 1-g1
-> I(g2,x,2)
-< insert 1-g2
+. C(m) C(f1) C(g1) C(f2) C(g2)
+. {"do":"replicate","name":"a","fork":"f2","master":"m","handler":"join"}
+. {"do":"replicate","name":"b","fork":"g2","master":"f2","handler":"join"}
+. {"do":"replicate","name":"c","fork":"f1","master":"m","handler":"join"}
+. {"do":"replicate","name":"d","fork":"g1","master":"f1","handler":"join"} I(g1,x,1) I(g2,x,2)
 > {"do":"sweep","name":"m"}
 < {"conflicts":[],"exchange":1,"rows":["x"],"sent":"push"}
 < {"exchange":2,"place":{"id":"x","lwt":1},"rows":["x"],"sent":"pull"}
@@ -133,12 +89,7 @@ const ORDERS: &str = r#"
 
 == the tree of an inner collection is what is below it
 FORKED
-> C(g)
-< made
-> {"do":"replicate","name":"s","fork":"g","master":"f","handler":"master_wins"}
-< {"line":L,"ok":"replicate"}
-> I(f,a,1)
-< insert 1-f
+. C(g) {"do":"replicate","name":"s","fork":"g","master":"f","handler":"master_wins"} I(f,a,1)
 > {"do":"sweep","name":"f"}
 < {"exchange":1,"place":{"id":"a","lwt":1},"rows":["a"],"sent":"pull"}
 < {"end":"quiet","exchanges":1,"pass":"up","replication":"s"}
@@ -151,16 +102,8 @@ FORKED
 < {"code":15,"line":L,"refused":"no_document"}
 
 == a root whose own master is elsewhere dials nobody
-> C(f)
-< made
-> C(g)
-< made
-> {"do":"replicate","name":"r","fork":"f","port":4001,"handler":"master_wins"}
-< {"line":L,"ok":"replicate"}
-> {"do":"replicate","name":"s","fork":"g","master":"f","handler":"master_wins"}
-< {"line":L,"ok":"replicate"}
-> I(g,a,1)
-< insert 1-g
+. C(f) C(g) {"do":"replicate","name":"r","fork":"f","port":4001,"handler":"master_wins"}
+. {"do":"replicate","name":"s","fork":"g","master":"f","handler":"master_wins"} I(g,a,1)
 > {"do":"sweep","name":"f"}
 < {"conflicts":[],"exchange":1,"rows":["a"],"sent":"push"}
 < {"exchange":2,"place":{"id":"a","lwt":1},"rows":["a"],"sent":"pull"}
@@ -171,20 +114,12 @@ FORKED
 
 == emissions come once, behind the reply, in the order of observing
 FORKED
-> C(g)
-< made
-> {"do":"replicate","name":"s","fork":"g","master":"f","handler":"master_wins"}
-< {"line":L,"ok":"replicate"}
-> I(g,a,1)
-< insert 1-g
-> {"do":"observe","name":"p","in":"m","query":{}}
-< {"line":L,"ok":"observe"}
+. C(g) {"do":"replicate","name":"s","fork":"g","master":"f","handler":"master_wins"} I(g,a,1)
+. {"do":"observe","name":"p","in":"m","query":{}}
 < {"emit":"p","rows":[]}
-> {"do":"observe","name":"q","in":"g","query":{}}
-< {"line":L,"ok":"observe"}
+. {"do":"observe","name":"q","in":"g","query":{}}
 < {"emit":"q","rows":[{"id":"a","n":1}]}
-> {"do":"observe","name":"o","in":"f","query":{}}
-< {"line":L,"ok":"observe"}
+. {"do":"observe","name":"o","in":"f","query":{}}
 < {"emit":"o","rows":[]}
 > {"do":"sweep","name":"m"}
 < {"conflicts":[],"exchange":1,"rows":["a"],"sent":"push"}
@@ -200,20 +135,11 @@ FORKED
 < {"end":"quiet","line":L,"ok":"sweep","turns":4}
 < {"emit":"p","rows":[{"id":"a","n":1}]}
 < {"emit":"o","rows":[{"id":"a","n":1}]}
-"#;
 
-const ENDS: &str = r#"
+// A sweep ends with the first turn that is not quiet.
 == a budget that is too small, and what is left for the next sweep
-> C(m)
-< made
-> C(f)
-< made
-> {"do":"replicate","name":"r","fork":"f","master":"m","handler":"fork_wins"}
-< {"line":L,"ok":"replicate"}
-> I(m,a,1)
-< insert 1-m
-> I(f,a,2)
-< insert 1-f
+. C(m) C(f) {"do":"replicate","name":"r","fork":"f","master":"m","handler":"fork_wins"}
+. I(m,a,1) I(f,a,2)
 > {"do":"sweep","name":"m","batch":1,"budget":3}
 < {"conflicts":["a"],"exchange":1,"rows":["a"],"sent":"push"}
 < {"conflicts":[],"exchange":2,"rows":["a"],"sent":"push"}
@@ -228,16 +154,8 @@ const ENDS: &str = r#"
 < {"end":"quiet","line":L,"ok":"sweep","turns":2}
 
 == three exchanges a key and one are enough
-> C(m)
-< made
-> C(f)
-< made
-> {"do":"replicate","name":"r","fork":"f","master":"m","handler":"fork_wins"}
-< {"line":L,"ok":"replicate"}
-> I(m,a,1)
-< insert 1-m
-> I(f,a,2)
-< insert 1-f
+. C(m) C(f) {"do":"replicate","name":"r","fork":"f","master":"m","handler":"fork_wins"}
+. I(m,a,1) I(f,a,2)
 > {"do":"sweep","name":"m","batch":1,"budget":4}
 < {"conflicts":["a"],"exchange":1,"rows":["a"],"sent":"push"}
 < {"conflicts":[],"exchange":2,"rows":["a"],"sent":"push"}
@@ -250,20 +168,12 @@ const ENDS: &str = r#"
 
 == a master without a later write time
 FORKED
-> {"do":"tick","at":9007199254740991}
-< {"line":L,"ok":"tick"}
-> I(m,a,1)
-< insert 1-m
-> {"do":"tick","at":0}
-< {"line":L,"ok":"tick"}
-> I(f,b,2)
-< insert 1-f
+. {"do":"tick","at":9007199254740991} I(m,a,1) {"do":"tick","at":0} I(f,b,2)
 > {"do":"sweep","name":"m"}
 < {"end":"clock","exchanges":0,"pass":"up","replication":"r"}
 < {"end":"clock","line":L,"ok":"sweep","turns":1}
-"#;
 
-const REFUSED: &str = r#"
+// Sweeps are refused by members and by what is stored.
 == the members of a sweep
 > {"do":"sweep"}
 < {"code":5,"line":L,"name":"name","refused":"missing"}

@@ -3,7 +3,7 @@
 use crate::audit::follow;
 use crate::random::Random;
 use crate::run::run_plain;
-use crate::short::S2;
+use crate::short::long_text;
 use std::alloc::{AllocError, Global};
 use std::test::Fail;
 
@@ -97,11 +97,10 @@ fn check_writes(alloc: Global, handler: &str, script: &str, output: &str) -> Res
     Ok(())
 }
 
-// Lines at random, after those that make a fork m's,
-// with turns and digests in between and at the end.
-fn random_script(alloc: Global, random: &mut Random, handler: &str) -> Result<String, AllocError> {
-    let begin = BEGIN.replace(alloc, "SCHEMA", S2)?;
-    let mut script = begin.as_str().replace(alloc, "HANDLER", handler)?;
+// Lines at random, after those that make a fork m's, with turns and digests in between and at the end.
+fn random_script(alloc: Global, random: &mut Random, handler: &str) -> Result<String, Fail> {
+    let begin = BEGIN.replace(alloc, "HANDLER", handler)?;
+    let mut script = long_text(alloc, begin.as_str())?;
     add_lines(random, &mut script)?;
     Ok(script)
 }
@@ -114,8 +113,8 @@ fn add_lines(random: &mut Random, script: &mut String) -> Result<(), AllocError>
     script.push_str(SIDES)
 }
 
-const BEGIN: &str = r#"{"do":"collection","name":"m","schema":SCHEMA}
-{"do":"collection","name":"f","schema":SCHEMA}
+const BEGIN: &str = r#"{"do":"collection","name":"m","schema":S2}
+{"do":"collection","name":"f","schema":S2}
 {"do":"replicate","name":"r","fork":"f","master":"m","handler":HANDLER}
 "#;
 

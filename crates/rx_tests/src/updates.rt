@@ -9,10 +9,7 @@ fn an_update_changes_a_document_or_is_refused(rt: HostRuntime) -> Result<(), Fai
 
 const CASES: &str = r#"
 == each operator makes of a field what it says
-> {"do":"collection","name":"c","schema":S2}
-< made
-> {"do":"insert","in":"c","doc":{"id":"a","n":1,"t":"m"}}
-< insert 1-c
+. {"do":"collection","name":"c","schema":S2} {"do":"insert","in":"c","doc":{"id":"a","n":1,"t":"m"}}
 > {"do":"update","in":"c","key":"a","update":{"$inc":{"n":5},"$max":{"t":"z"}}}
 < {"line":L,"ok":"update","rev":"2-c"}
 > {"do":"get","in":"c","key":"a"}
@@ -33,10 +30,7 @@ const CASES: &str = r#"
 < {"doc":{"id":"a","n":-7,"t":"x"},"line":L,"lwt":6,"ok":"get","rev":"6-c"}
 
 == an update of nothing is a write
-> C(c)
-< made
-> I(c,a,1)
-< insert 1-c
+. C(c) I(c,a,1)
 > {"do":"update","in":"c","key":"a","update":{}}
 < {"line":L,"ok":"update","rev":"2-c"}
 > {"do":"update","in":"c","key":"a","update":{"$inc":{}}}
@@ -45,10 +39,7 @@ const CASES: &str = r#"
 < {"doc":{"id":"a","n":1},"line":L,"lwt":3,"ok":"get","rev":"3-c"}
 
 == what is no update, or can't be made of the document, by its first cause and name
-> C(c)
-< made
-> I(c,a,1)
-< insert 1-c
+. C(c) I(c,a,1)
 > {"do":"update","in":"c","key":"a","update":{"$foo":{},"$bar":{},"$inc":5}}
 < {"cause":"operator","code":32,"line":L,"name":"$bar","refused":"update"}
 > {"do":"update","in":"c","key":"a","update":{"$inc":{"b":"x"},"$set":{"a":null}}}
@@ -77,10 +68,7 @@ const CASES: &str = r#"
 < {"doc":{"id":"a","n":0},"line":L,"lwt":3,"ok":"get","rev":"3-c"}
 
 == a text isn't added to, whatever else is past its range
-> {"do":"collection","name":"c","schema":S2}
-< made
-> {"do":"insert","in":"c","doc":{"id":"a","n":1,"t":"x"}}
-< insert 1-c
+. {"do":"collection","name":"c","schema":S2} {"do":"insert","in":"c","doc":{"id":"a","n":1,"t":"x"}}
 > {"do":"update","in":"c","key":"a","update":{"$inc":{"n":9007199254740991,"t":1}}}
 < {"cause":"kind","code":32,"line":L,"name":"t","refused":"update"}
 > {"do":"get","in":"c","key":"a"}
@@ -89,12 +77,10 @@ const CASES: &str = r#"
 == what is stored is tested before, the schema behind
 > {"do":"update","in":"c","key":"a","update":{"$foo":{}}}
 < {"code":10,"line":L,"name":"c","refused":"no_collection"}
-> C(c)
-< made
+. C(c)
 > {"do":"update","in":"c","key":"a","update":{"$foo":{}}}
 < {"code":15,"line":L,"refused":"no_document"}
-> I(c,a,1)
-< insert 1-c
+. I(c,a,1)
 > {"do":"update","in":"c","key":"a","update":{"$foo":{}},"rev":"2-c"}
 < {"code":14,"line":L,"refused":"conflict","rev":"1-c"}
 > {"do":"update","in":"c","key":"a","update":{"$set":{"n":"x"}},"rev":"1-c"}
@@ -105,10 +91,7 @@ const CASES: &str = r#"
 < {"line":L,"ok":"remove","rev":"2-c"}
 > {"do":"update","in":"c","key":"a","update":{}}
 < {"code":15,"line":L,"refused":"no_document"}
-> {"do":"tick","at":9007199254740991}
-< {"line":L,"ok":"tick"}
-> I(c,b,1)
-< insert 1-c
+. {"do":"tick","at":9007199254740991} I(c,b,1)
 > {"do":"update","in":"c","key":"b","update":{"$inc":{"n":1}}}
 < {"code":22,"line":L,"refused":"clock"}
 
@@ -127,13 +110,9 @@ const CASES: &str = r#"
 < {"code":8,"line":L,"name":"in","refused":"name"}
 
 == an observed query hears it
-> C(c)
-< made
-> {"do":"observe","name":"q","in":"c","query":{"selector":{"n":{"$gte":2}}}}
-< {"line":L,"ok":"observe"}
+. C(c) {"do":"observe","name":"q","in":"c","query":{"selector":{"n":{"$gte":2}}}}
 < {"emit":"q","rows":[]}
-> I(c,a,1)
-< insert 1-c
+. I(c,a,1)
 > {"do":"update","in":"c","key":"a","update":{"$inc":{"n":1}}}
 < {"line":L,"ok":"update","rev":"2-c"}
 < {"emit":"q","rows":[{"id":"a","n":2}]}

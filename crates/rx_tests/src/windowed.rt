@@ -1,5 +1,5 @@
 // Journals that are read window by window, beside the plain reading of the whole file.
-use crate::run::{Ran, run_made, run_plain};
+use crate::case::play_all;
 use rx_disk::MemoryDisk;
 use rx_frame::{CLOSED_GATE, Frames, HEADER, OPEN_GATE};
 use rx_journal::{Journal, OpenFault, Windows};
@@ -11,7 +11,7 @@ use std::test::Fail;
 const EXACT: usize = 65_523;
 
 // Adds a body of so many bytes.
-fn add_body(bytes: &mut Vec<u8>, len: usize) -> Result<(), Fail> {
+fn add_body(bytes: &mut Vec<u8>, len: usize) -> Result<(), AllocError> {
     for i in 0..len {
         bytes.push((i % 251) as u8)?;
     }
@@ -19,14 +19,14 @@ fn add_body(bytes: &mut Vec<u8>, len: usize) -> Result<(), Fail> {
 }
 
 // Adds a record whose body has so many bytes.
-fn add_record(file: &mut Vec<u8>, len: usize) -> Result<(), Fail> {
+fn add_record(file: &mut Vec<u8>, len: usize) -> Result<(), AllocError> {
     file.push(OPEN_GATE)?;
     file.extend_from_slice(&u32::try_from(len).unwrap_or(0).to_be_bytes())?;
     add_body(file, len)
 }
 
 // A file of bodies with so many bytes each.
-fn file_of(alloc: Global, lens: &[usize]) -> Result<Vec<u8>, Fail> {
+fn file_of(alloc: Global, lens: &[usize]) -> Result<Vec<u8>, AllocError> {
     let mut file = HEADER.to_vec(alloc)?;
     for len in lens {
         add_record(&mut file, *len)?;
@@ -35,23 +35,27 @@ fn file_of(alloc: Global, lens: &[usize]) -> Result<Vec<u8>, Fail> {
     Ok(file)
 }
 
-fn disk_of(alloc: Global, file: &[u8]) -> Result<MemoryDisk, Fail> {
-    Ok(MemoryDisk::new(alloc, file.to_vec(alloc)?, Vec::new(alloc)))
+// What such a file lends: the bodies, each behind its length.
+fn due_of(alloc: Global, lens: &[usize]) -> Result<Vec<u8>, AllocError> {
+    let mut all = Vec::new(alloc);
+    for len in lens {
+        all.extend_from_slice(&(*len as u64).to_be_bytes())?;
+        add_body(&mut all, *len)?;
+    }
+    Ok(all)
 }
 
-// Adds a body that was lent, behind its length.
+// Adds a body that was lent.
 fn add_lent(all: &mut Vec<u8>, body: &[u8]) -> Result<(), AllocError> {
     all.extend_from_slice(&(body.len() as u64).to_be_bytes())?;
     all.extend_from_slice(body)
 }
 
 // Adds the bodies that windows lend, and tells whether the file is a journal.
-fn add_by_windows(alloc: Global, file: &[u8], all: &mut Vec<u8>) -> Result<bool, Fail> {
-    let mut disk = disk_of(alloc, file)?;
-    match Windows::look(alloc, &mut disk) {
-        Ok(mut windows) => add_all(&mut windows, &mut disk, all),
-        Err(OpenFault::NotJournal) => Ok(false),
-        Err(fault) => Err(fault.into()),
+fn add_by_windows(alloc: Global, disk: &mut MemoryDisk, all: &mut Vec<u8>) -> Result<bool, Fail> {
+    match Windows::look(alloc, disk) {
+        Ok(mut windows) => add_all(&mut windows, disk, all),
+        Err(fault) => is_none(fault),
     }
 }
 
@@ -60,20 +64,25 @@ fn add_all(windows: &mut Windows, disk: &mut MemoryDisk, all: &mut Vec<u8>) -> R
         match windows.next(disk) {
             Ok(Some(body)) => add_lent(all, body)?,
             Ok(None) => return Ok(true),
-            Err(OpenFault::NotJournal) => return Ok(false),
-            Err(fault) => return Err(fault.into()),
+            Err(fault) => return is_none(fault),
         }
     }
     Err(Fail::new("more bodies than were written"))
 }
 
+// What is no journal isn't one, and all else is a fault.
+fn is_none(fault: OpenFault) -> Result<bool, Fail> {
+    match fault {
+        OpenFault::NotJournal => Ok(false),
+        fault => Err(fault.into()),
+    }
+}
+
 // The same by a reading of the whole file.
-fn add_by_image(alloc: Global, file: &[u8], all: &mut Vec<u8>) -> Result<bool, Fail> {
-    let mut disk = disk_of(alloc, file)?;
-    match Journal::look(alloc, &mut disk) {
+fn add_by_image(alloc: Global, disk: &mut MemoryDisk, all: &mut Vec<u8>) -> Result<bool, Fail> {
+    match Journal::look(alloc, disk) {
         Ok(image) => add_records(image.records(), all),
-        Err(OpenFault::NotJournal) => Ok(false),
-        Err(fault) => Err(fault.into()),
+        Err(fault) => is_none(fault),
     }
 }
 
@@ -87,32 +96,32 @@ fn add_records(mut frames: Frames<'_>, all: &mut Vec<u8>) -> Result<bool, Fail> 
     Err(Fail::new("more bodies than were written"))
 }
 
-// Whether windows lend these bodies, each behind its length; none where the file is no journal.
-fn lent_by_windows(alloc: Global, file: &[u8], due: Option<&[u8]>) -> Result<bool, Fail> {
+// Windows lend these bodies; none where the file is no journal.
+fn try_windows(alloc: Global, file: &[u8], due: Option<&[u8]>) -> Result<(), Fail> {
+    let mut disk = MemoryDisk::new(alloc, file.to_vec(alloc)?, Vec::new(alloc));
     let mut all = Vec::new(alloc);
-    let is_journal = add_by_windows(alloc, file, &mut all)?;
-    Ok(due == is_journal.then_some(all.as_slice()))
+    let is_journal = add_by_windows(alloc, &mut disk, &mut all)?;
+    compare(file, is_journal.then_some(all.as_slice()), due)
 }
 
-fn lent_by_image(alloc: Global, file: &[u8], due: Option<&[u8]>) -> Result<bool, Fail> {
+fn try_image(alloc: Global, file: &[u8], due: Option<&[u8]>) -> Result<(), Fail> {
+    let mut disk = MemoryDisk::new(alloc, file.to_vec(alloc)?, Vec::new(alloc));
     let mut all = Vec::new(alloc);
-    let is_journal = add_by_image(alloc, file, &mut all)?;
-    Ok(due == is_journal.then_some(all.as_slice()))
+    let is_journal = add_by_image(alloc, &mut disk, &mut all)?;
+    compare(file, is_journal.then_some(all.as_slice()), due)
 }
 
-// Whether both lend these.
-fn lent(alloc: Global, file: &[u8], due: Option<&[u8]>) -> Result<bool, Fail> {
-    Ok(lent_by_windows(alloc, file, due)? && lent_by_image(alloc, file, due)?)
-}
-
-// What a file of these bodies lends.
-fn due_of(alloc: Global, lens: &[usize]) -> Result<Vec<u8>, Fail> {
-    let mut all = Vec::new(alloc);
-    for len in lens {
-        all.extend_from_slice(&(*len as u64).to_be_bytes())?;
-        add_body(&mut all, *len)?;
+fn compare(file: &[u8], found: Option<&[u8]>, due: Option<&[u8]>) -> Result<(), Fail> {
+    if found == due {
+        return Ok(());
     }
-    Ok(all)
+    Err(Fail::new(format_args!("a file of {} bytes lends others", file.len())))
+}
+
+// Both lend these.
+fn try_file(alloc: Global, file: &[u8], due: Option<&[u8]>) -> Result<(), Fail> {
+    try_windows(alloc, file, due)?;
+    try_image(alloc, file, due)
 }
 
 // Of how many bytes the bodies of a file are.
@@ -140,56 +149,34 @@ fn bodies_end_at_any_place_of_a_window(rt: HostRuntime) -> Result<(), Fail> {
 fn try_bodies(alloc: Global, lens: &[usize]) -> Result<(), Fail> {
     let file = file_of(alloc, lens)?;
     let due = due_of(alloc, lens)?;
-    if lent(alloc, &file, Some(due.as_slice()))? {
-        return Ok(());
-    }
-    Err(Fail::new(format_args!("bodies of {lens:?} bytes")))
+    try_file(alloc, file.as_slice(), Some(due.as_slice()))
 }
 
 #[test]
 fn a_file_that_is_cut_is_no_journal(rt: HostRuntime) -> Result<(), Fail> {
     for first in [3, EXACT - 10, EXACT, 100_000] {
-        try_cuts(rt.alloc(), first)?;
+        let file = file_of(rt.alloc(), &[first, 20])?;
+        try_cuts(rt.alloc(), file.as_slice())?;
     }
     Ok(())
 }
 
 // The last record takes 25 bytes, and the closed gate one.
-fn try_cuts(alloc: Global, first: usize) -> Result<(), Fail> {
-    let file = file_of(alloc, &[first, 20])?;
+fn try_cuts(alloc: Global, file: &[u8]) -> Result<(), Fail> {
     for cut in 1..=26 {
         let left = file.get(..file.len().saturating_sub(cut)).unwrap_or(&[]);
-        if !lent(alloc, left, None)? {
-            return Err(Fail::new(format_args!("{first} bytes, cut by {cut}")));
-        }
+        try_file(alloc, left, None)?;
     }
     Ok(())
 }
 
-#[test]
-fn a_length_that_lies_is_refused(rt: HostRuntime) -> Result<(), Fail> {
-    for size in [[255; 4], [255, 255, 255, 237], [0, 1, 0, 0], [0, 0, 0, 6]] {
-        try_length(rt.alloc(), &size)?;
-    }
-    Ok(())
-}
-
-fn try_length(alloc: Global, size: &[u8]) -> Result<(), Fail> {
-    let mut file = file_of(alloc, &[4])?;
-    let _ = file.pop();
-    add_lying(&mut file, size)?;
-    if lent(alloc, &file, None)? {
-        return Ok(());
-    }
-    Err(Fail::new(format_args!("{size:?}")))
-}
-
-// Adds a record of this length that has five bytes.
-fn add_lying(file: &mut Vec<u8>, size: &[u8]) -> Result<(), AllocError> {
-    file.push(OPEN_GATE)?;
-    file.extend_from_slice(size)?;
-    file.extend_from_slice(&[7; 5])
-}
+// Records of five bytes behind another length.
+const LYING: [&[u8]; 4] = [
+    b"RXJOURN1\x01\0\0\0\x04\0\x01\x02\x03\x01\xff\xff\xff\xff\x07\x07\x07\x07\x07",
+    b"RXJOURN1\x01\0\0\0\x04\0\x01\x02\x03\x01\xff\xff\xff\xed\x07\x07\x07\x07\x07",
+    b"RXJOURN1\x01\0\0\0\x04\0\x01\x02\x03\x01\0\x01\0\0\x07\x07\x07\x07\x07",
+    b"RXJOURN1\x01\0\0\0\x04\0\x01\x02\x03\x01\0\0\0\x06\x07\x07\x07\x07\x07",
+];
 
 const SHORT: [&[u8]; 7] = [
     b"",
@@ -202,26 +189,17 @@ const SHORT: [&[u8]; 7] = [
 ];
 
 #[test]
-fn short_files_and_bytes_behind_the_gate(rt: HostRuntime) -> Result<(), Fail> {
-    let alloc = rt.alloc();
+fn short_files_and_lengths_that_lie(rt: HostRuntime) -> Result<(), Fail> {
+    for file in LYING.iter() {
+        try_file(rt.alloc(), file, None)?;
+    }
     for file in SHORT.iter() {
-        try_short(alloc, file)?;
+        try_file(rt.alloc(), file, Some(&[]))?;
     }
-    if lent_by_windows(alloc, b"RXJOURN2\0 ", Some(&[]))?
-        && lent_by_windows(alloc, b"RXJOURN3\0 ", None)?
-        && lent_by_windows(alloc, b"RXJOURN1\x01 ", None)?
-    {
-        return Ok(());
-    }
-    Err(Fail::new("bytes behind the gate"))
-}
-
-// A short file lends no body.
-fn try_short(alloc: Global, file: &[u8]) -> Result<(), Fail> {
-    if lent(alloc, file, Some(&[]))? {
-        return Ok(());
-    }
-    Err(Fail::new(format_args!("{file:?}")))
+    // Bytes behind the gate.
+    try_windows(rt.alloc(), b"RXJOURN2\0 ", Some(&[]))?;
+    try_windows(rt.alloc(), b"RXJOURN3\0 ", None)?;
+    try_windows(rt.alloc(), b"RXJOURN1\x01 ", None)
 }
 
 #[test]
@@ -251,54 +229,22 @@ fn none_comes_twice(windows: &mut Windows, disk: &mut MemoryDisk) -> Result<bool
 
 #[test]
 fn a_long_text_is_there_in_the_next_run(rt: HostRuntime) -> Result<(), Fail> {
-    let alloc = rt.alloc();
-    let text = "x".repeat(alloc, 100_000)?;
-    try_text(alloc, text.as_str())
+    play_all(rt.alloc(), CASES)
 }
 
-fn try_text(alloc: Global, text: &str) -> Result<(), Fail> {
-    let first = insert_text(alloc, text)?;
-    compare_next(alloc, text, &first)
-}
+const CASES: &str = r#"
+== a long text is there in the next run
+. {"do":"collection","name":"c","schema":{"version":0,"primaryKey":"id","type":"object","properties":{"id":{"type":"string","maxLength":20},"t":{"type":"string","maxLength":100000}},"required":["id"]}}
+. {"do":"insert","in":"c","doc":{"id":"a","t":"‹0..1000||xxxxxxxxxxxxxxxxxxxxxxxxxxxxxxxxxxxxxxxxxxxxxxxxxxxxxxxxxxxxxxxxxxxxxxxxxxxxxxxxxxxxxxxxxxxxxxxxxxxx›"}}
+= 'RXJOURN1' 01 00000009 05 0000000000000001 01 000000b6 01 00000001 'c' 000000ac '{"indexes":[],"primaryKey":"id","properties":{"id":{"maxLength":20,"type":"string"},"t":{"maxLength":100000,"type":"string"}},"required":["id"],"type":"object","version":0}'
+= 01 000186da 02 00000001 'c' 0000000000000001 00000001 0000000000000001 00000001 'a' 00 00000002 00000002 'id' 02 00000001 'a' 00000001 't' 02 000186a0 '‹0..1000||xxxxxxxxxxxxxxxxxxxxxxxxxxxxxxxxxxxxxxxxxxxxxxxxxxxxxxxxxxxxxxxxxxxxxxxxxxxxxxxxxxxxxxxxxxxxxxxxxxxx›' 00
+$ run journal
+> {"do":"get","in":"c","key":"a"}
+< {"doc":{"id":"a","t":"‹0..1000||xxxxxxxxxxxxxxxxxxxxxxxxxxxxxxxxxxxxxxxxxxxxxxxxxxxxxxxxxxxxxxxxxxxxxxxxxxxxxxxxxxxxxxxxxxxxxxxxxxxx›"},"line":L,"lwt":1,"ok":"get","rev":"1-c"}
 
-fn compare_next(alloc: Global, text: &str, first: &Ran) -> Result<(), Fail> {
-    if first.status != 0 {
-        return Err(Fail::new("the text is not inserted"));
-    }
-    find_text(alloc, text, first.disk.bytes())?;
-    refuse_cut(alloc, first.disk.bytes())
-}
-
-fn insert_text(alloc: Global, text: &str) -> Result<Ran, AllocError> {
-    let script = format!(in alloc;
-        "{MAKE}\n{{\"do\":\"insert\",\"in\":\"c\",\"doc\":{{\"id\":\"a\",\"t\":\"{text}\"}}}}\n"
-    )?;
-    run_made(alloc, script)
-}
-
-fn find_text(alloc: Global, text: &str, journal: &[u8]) -> Result<(), Fail> {
-    let due = format!(in alloc;
-        "{{\"doc\":{{\"id\":\"a\",\"t\":\"{text}\"}},\"line\":1,\"lwt\":1,\"ok\":\"get\",\"rev\":\"1-c\"}}\n"
-    )?;
-    if run_plain(alloc, GET, journal)?.came_to(0, due.as_str()) {
-        return Ok(());
-    }
-    Err(Fail::new("the text is not there"))
-}
-
-// A journal without its last byte is no journal, and is left alone.
-fn refuse_cut(alloc: Global, journal: &[u8]) -> Result<(), Fail> {
-    let cut = journal
-        .get(..journal.len().saturating_sub(1))
-        .unwrap_or(&[]);
-    let refused = run_plain(alloc, GET, cut)?;
-    if refused.status == 7 && refused.disk.bytes() == cut {
-        return Ok(());
-    }
-    Err(Fail::new(format_args!("status {} of a cut journal", refused.status)))
-}
-
-const MAKE: &str =
-    r#"{"do":"collection","name":"c","schema":{"version":0,"primaryKey":"id","type":"object","properties":{"id":{"type":"string","maxLength":20},"t":{"type":"string","maxLength":100000}},"required":["id"]}}"#;
-
-const GET: &str = "{\"do\":\"get\",\"in\":\"c\",\"key\":\"a\"}\n";
+== the same journal without its last byte is none
+^ 'RXJOURN1' 01 00000009 05 0000000000000001 01 000000b6 01 00000001 'c' 000000ac '{"indexes":[],"primaryKey":"id","properties":{"id":{"maxLength":20,"type":"string"},"t":{"maxLength":100000,"type":"string"}},"required":["id"],"type":"object","version":0}'
+^ 01 000186da 02 00000001 'c' 0000000000000001 00000001 0000000000000001 00000001 'a' 00 00000002 00000002 'id' 02 00000001 'a' 00000001 't' 02 000186a0 '‹0..1000||xxxxxxxxxxxxxxxxxxxxxxxxxxxxxxxxxxxxxxxxxxxxxxxxxxxxxxxxxxxxxxxxxxxxxxxxxxxxxxxxxxxxxxxxxxxxxxxxxxxx›'
+> {"do":"get","in":"c","key":"a"}
+< {"stop":"not_journal"}
+"#;

@@ -1,191 +1,71 @@
-// The words of a command.
+// The words of a command. `''` is a word without a byte.
 use crate::case::play_all;
-use crate::run::{Ran, Setting, run_words, split};
-use rx_value::RxText;
-use rx_words::Words;
-use std::alloc::{AllocError, Global};
 use std::test::Fail;
 
 #[test]
 fn a_command_is_exactly_its_words(rt: HostRuntime) -> Result<(), Fail> {
-    play_all(rt.alloc(), COMMANDS)
+    play_all(rt.alloc(), CASES)
 }
 
-// A word without a byte, which no text of words has.
-#[test]
-fn a_path_is_not_empty(rt: HostRuntime) -> Result<(), Fail> {
-    let ran = run_without_path(rt.alloc())?;
-    compare(&ran)
-}
-
-fn compare(ran: &Ran) -> Result<(), Fail> {
-    if ran.came_to(2, "{\"stop\":\"usage\"}\n") && ran.disk.bytes().is_empty() {
-        return Ok(());
-    }
-    Err(Fail::new(format_args!("status {}", ran.status)))
-}
-
-fn run_without_path(alloc: Global) -> Result<Ran, AllocError> {
-    let words = words_without_path(alloc)?;
-    let setting = Setting {
-        piece: 1,
-        ..Setting::PLAIN
-    };
-    run_words(alloc, &setting, &words, b"{}", &[])
-}
-
-fn words_without_path(alloc: Global) -> Result<Words, AllocError> {
-    let empty = RxText::new(alloc, "")?;
-    let mut words = split(alloc, "run")?;
-    words.words.push(empty)?;
-    Ok(words)
-}
-
-const COMMANDS: &str = r#"
-== words that are no command
+const CASES: &str = r#"
+== no word at all
 $
 < {"stop":"usage"}
-! 2
-$ run
+
+== words that are no command
+$ §1
 < {"stop":"usage"}
-! 2
-$ journal
-< {"stop":"usage"}
-! 2
-$ Run journal
-< {"stop":"usage"}
-! 2
-$ run -j
-< {"stop":"usage"}
-! 2
-$ run -
-< {"stop":"usage"}
-! 2
-$ run j k
-< {"stop":"usage"}
-! 2
-$ fly j
-< {"stop":"usage"}
-! 2
-$ check
-< {"stop":"usage"}
-! 2
-$ check j k
-< {"stop":"usage"}
-! 2
-$ check j --max-journal 23
-< {"stop":"usage"}
-! 2
-$ serve j c 80
-< {"stop":"usage"}
-! 2
-$ serve j c 80 1 2
-< {"stop":"usage"}
-! 2
-$ serve j C 80 1
-< {"stop":"usage"}
-! 2
-$ serve j c 0 1
-< {"stop":"usage"}
-! 2
-$ serve j c 65536 1
-< {"stop":"usage"}
-! 2
-$ serve j c 80 0
-< {"stop":"usage"}
-! 2
-$ serve j c 80 1000001
-< {"stop":"usage"}
-! 2
-$ trial j 1
-< {"stop":"usage"}
-! 2
-$ trial j 1 0 0
-< {"stop":"usage"}
-! 2
-$ trial j 18446744073709551616 0
-< {"stop":"usage"}
-! 2
-$ trial j 1 1000001
-< {"stop":"usage"}
-! 2
-$ trial j -1 0
-< {"stop":"usage"}
-! 2
-$ compact j
-< {"stop":"usage"}
-! 2
-$ compact j k l
-< {"stop":"usage"}
-! 2
-$ --help
-< {"stop":"usage"}
-! 2
+| run
+| run ''
+| journal
+| Run journal
+| run -j
+| run -
+| run j k
+| fly j
+| check
+| check j k
+| check j --max-journal 23
+| serve j c 80
+| serve j c 80 1 2
+| serve j C 80 1
+| serve j c 0 1
+| serve j c 65536 1
+| serve j c 80 0
+| serve j c 80 1000001
+| trial j 1
+| trial j 1 0 0
+| trial j 18446744073709551616 0
+| trial j 1 1000001
+| trial j -1 0
+| compact j
+| compact j k l
+| --help
 
 == words that give no limit
-$ run j --max-journal
+$ §1
 < {"stop":"usage"}
-! 2
-$ run j --max-journal 8
-< {"stop":"usage"}
-! 2
-$ run j --max-journal 4294967296
-< {"stop":"usage"}
-! 2
-$ run j --max-journal 99999999999999999999999
-< {"stop":"usage"}
-! 2
-$ run j --max-journal -9
-< {"stop":"usage"}
-! 2
-$ run j --max-journal +9
-< {"stop":"usage"}
-! 2
-$ run j --max-journal 9x
-< {"stop":"usage"}
-! 2
-$ run j --max-journal 9.0
-< {"stop":"usage"}
-! 2
-$ run j --max-journal=
-< {"stop":"usage"}
-! 2
-$ run j --max-journal=8
-< {"stop":"usage"}
-! 2
-$ run j --max-journal =23
-< {"stop":"usage"}
-! 2
-$ run j --max-journal 23 --max-journal 23
-< {"stop":"usage"}
-! 2
-$ run j --max-journal=23 --max-journal 23
-< {"stop":"usage"}
-! 2
-$ --max-journal 23 run j
-< {"stop":"usage"}
-! 2
-$ --max-journal=23 run j
-< {"stop":"usage"}
-! 2
-$ run --max-journal 23
-< {"stop":"usage"}
-! 2
-$ run --max-journal j
-< {"stop":"usage"}
-! 2
-$ run j --max-journal 23 k
-< {"stop":"usage"}
-! 2
-$ run j --max-journa 23
-< {"stop":"usage"}
-! 2
-$ run j --max-journals=23
-< {"stop":"usage"}
-! 2
-$ run j -max-journal 23
-< {"stop":"usage"}
-! 2
+| run j --max-journal
+| run j --max-journal 8
+| run j --max-journal 4294967296
+| run j --max-journal 99999999999999999999999
+| run j --max-journal -9
+| run j --max-journal +9
+| run j --max-journal 9x
+| run j --max-journal 9.0
+| run j --max-journal=
+| run j --max-journal=8
+| run j --max-journal =23
+| run j --max-journal 23 --max-journal 23
+| run j --max-journal=23 --max-journal 23
+| --max-journal 23 run j
+| --max-journal=23 run j
+| run --max-journal 23
+| run --max-journal j
+| run j --max-journal 23 k
+| run j --max-journa 23
+| run j --max-journals=23
+| run j -max-journal 23
 
 == a limit stands behind the command, before or behind the path
 $ run j --max-journal 23

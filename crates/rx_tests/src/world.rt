@@ -9,20 +9,15 @@ fn a_line_is_refused_by_what_is_stored(rt: HostRuntime) -> Result<(), Fail> {
 
 const CASES: &str = r#"
 == a second insert is a conflict
-> C(c)
-< made
-> {"do":"observe","name":"q","in":"c","query":{"selector":{"n":1}}}
-< {"line":L,"ok":"observe"}
+. C(c) {"do":"observe","name":"q","in":"c","query":{"selector":{"n":1}}}
 < {"emit":"q","rows":[]}
-> I(c,a,1)
-< {"line":L,"ok":"insert","rev":"1-c"}
+. I(c,a,1)
 < {"emit":"q","rows":[{"id":"a","n":1}]}
 > I(c,a,1)
 < {"code":14,"line":L,"refused":"conflict","rev":"1-c"}
 
 == no line but collection takes a name that is not held
-> C(c)
-< made
+. C(c)
 > I(d,a,1)
 < {"code":10,"line":L,"name":"d","refused":"no_collection"}
 > {"do":"bulk","in":"d","docs":[]}
@@ -43,10 +38,7 @@ const CASES: &str = r#"
 < {"code":10,"line":L,"name":"d","refused":"no_collection"}
 
 == a collection that is not held is told before all else
-> C(c)
-< made
-> {"do":"observe","name":"q","in":"c","query":{}}
-< {"line":L,"ok":"observe"}
+. C(c) {"do":"observe","name":"q","in":"c","query":{}}
 < {"emit":"q","rows":[]}
 > {"do":"insert","in":"d","doc":{"n":null}}
 < {"code":10,"line":L,"name":"d","refused":"no_collection"}
@@ -60,12 +52,7 @@ const CASES: &str = r#"
 < {"code":10,"line":L,"name":"d","refused":"no_collection"}
 
 == the name of an observed query is taken, and told before a fault of the query
-> C(c)
-< made
-> C(d)
-< made
-> {"do":"observe","name":"q","in":"c","query":{}}
-< {"line":L,"ok":"observe"}
+. C(c) C(d) {"do":"observe","name":"q","in":"c","query":{}}
 < {"emit":"q","rows":[]}
 > {"do":"observe","name":"q","in":"c","query":{}}
 < {"code":9,"line":L,"refused":"exists"}
@@ -75,13 +62,11 @@ const CASES: &str = r#"
 < {"code":9,"line":L,"refused":"exists"}
 > {"do":"observe","name":"c","in":"c","query":5}
 < {"cause":"not_object","code":16,"line":L,"refused":"query"}
-> {"do":"observe","name":"c","in":"c","query":{"limit":1}}
-< {"line":L,"ok":"observe"}
+. {"do":"observe","name":"c","in":"c","query":{"limit":1}}
 < {"emit":"c","rows":[]}
 
 == a collection is made once, and the held schema answers that it is not new
-> C(c)
-< made
+. C(c)
 > C(c)
 < {"line":L,"new":false,"ok":"collection"}
 > {"do":"collection","name":"c","schema":{"type":"object","title":"the same","required":["id","id"],"properties":{"n":{"type":"integer","description":"number"},"id":{"maxLength":20,"type":"string"}},"primaryKey":"id","indexes":[],"version":0}}
@@ -92,14 +77,10 @@ const CASES: &str = r#"
 < {"code":12,"line":L,"refused":"schema_differs"}
 > {"do":"collection","name":"c","schema":5}
 < {"cause":"not_object","code":11,"line":L,"refused":"schema"}
-> {"do":"collection","name":"d","schema":S2}
-< made
+. {"do":"collection","name":"d","schema":S2}
 
 == an insert tells what cannot be a value, the key, the fields, the conflict
-> C(c)
-< made
-> I(c,a,1)
-< insert 1-c
+. C(c) I(c,a,1)
 > {"do":"insert","in":"c","doc":{"n":null}}
 < {"cause":"kind","code":13,"line":L,"name":"n","refused":"invalid"}
 > {"do":"insert","in":"c","doc":{"id":5,"n":9007199254740992}}
@@ -118,12 +99,10 @@ const CASES: &str = r#"
 < {"cause":"kind","code":13,"line":L,"name":"n","refused":"invalid"}
 > {"do":"insert","in":"c","doc":{"id":"a"}}
 < {"code":14,"line":L,"refused":"conflict","rev":"1-c"}
-> {"do":"insert","in":"c","doc":{"id":"b"}}
-< insert 1-c
+. {"do":"insert","in":"c","doc":{"id":"b"}}
 
 == an upsert tells what cannot be a value, the key, the fields
-> C(c)
-< made
+. C(c)
 > {"do":"upsert","in":"c","doc":{"n":1.5}}
 < {"cause":"kind","code":13,"line":L,"name":"n","refused":"invalid"}
 > {"do":"upsert","in":"c","doc":{"x":1}}
@@ -136,10 +115,7 @@ const CASES: &str = r#"
 < {"line":L,"ok":"upsert","rev":"1-c"}
 
 == a patch tells the document, the revision, what cannot be a value, the key, the fields
-> C(c)
-< made
-> I(c,a,1)
-< insert 1-c
+. C(c) I(c,a,1)
 > {"do":"patch","in":"c","key":"b","set":{"n":null},"rev":"7-c"}
 < {"code":15,"line":L,"refused":"no_document"}
 > {"do":"patch","in":"c","key":"a","set":{"n":null},"rev":"2-c"}
@@ -160,10 +136,7 @@ const CASES: &str = r#"
 < {"line":L,"ok":"patch","rev":"2-c"}
 
 == a revision is compared as a text, and only where it is given
-> C(c)
-< made
-> I(c,a,1)
-< insert 1-c
+. C(c) I(c,a,1)
 > {"do":"patch","in":"c","key":"a","set":{"n":2},"rev":"01-c"}
 < {"code":14,"line":L,"refused":"conflict","rev":"1-c"}
 > {"do":"patch","in":"c","key":"a","set":{"n":2},"rev":"1-d"}
@@ -178,10 +151,7 @@ const CASES: &str = r#"
 < {"line":L,"ok":"remove","rev":"3-c"}
 
 == a document that was removed or never was is no document
-> C(c)
-< made
-> I(c,a,1)
-< insert 1-c
+. C(c) I(c,a,1)
 > {"do":"remove","in":"c","key":"a"}
 < {"line":L,"ok":"remove","rev":"2-c"}
 > {"do":"get","in":"c","key":"a"}
@@ -200,10 +170,7 @@ const CASES: &str = r#"
 < {"code":15,"line":L,"refused":"no_document"}
 
 == a bulk tells the first faulty row, and of it the first fault
-> C(c)
-< made
-> I(c,a,1)
-< insert 1-c
+. C(c) I(c,a,1)
 > {"do":"bulk","in":"c","docs":[{"id":"x"},{"n":null},{"z":1}]}
 < {"cause":"kind","code":13,"line":L,"name":"n","refused":"invalid","row":1}
 > {"do":"bulk","in":"c","docs":[{"id":"x"},{"id":"y"},{"z":1}]}
@@ -226,14 +193,7 @@ const CASES: &str = r#"
 < {"count":1,"line":L,"ok":"count"}
 
 == a write after the last write time is refused, and only where nothing else is
-> C(c)
-< made
-> C(d)
-< made
-> {"do":"tick","at":9007199254740991}
-< {"line":L,"ok":"tick"}
-> I(c,a,1)
-< insert 1-c
+. C(c) C(d) {"do":"tick","at":9007199254740991} I(c,a,1)
 > I(c,b,1)
 < {"code":22,"line":L,"refused":"clock"}
 > I(c,a,1)
@@ -258,22 +218,15 @@ const CASES: &str = r#"
 < {"code":14,"line":L,"refused":"conflict","rev":"1-c","row":1}
 > {"do":"bulk","in":"c","docs":[]}
 < {"code":22,"line":L,"refused":"clock"}
-> {"do":"tick","at":0}
-< {"line":L,"ok":"tick"}
+. {"do":"tick","at":0}
 > I(c,b,1)
 < {"code":22,"line":L,"refused":"clock"}
-> I(d,b,1)
-< insert 1-d
+. I(d,b,1)
 > {"do":"get","in":"c","key":"a"}
 < {"doc":{"id":"a","n":1},"line":L,"lwt":9007199254740991,"ok":"get","rev":"1-c"}
 
 == a refused line changes nothing and emits nothing
-> C(c)
-< made
-> I(c,a,1)
-< insert 1-c
-> {"do":"observe","name":"q","in":"c","query":{}}
-< {"line":L,"ok":"observe"}
+. C(c) I(c,a,1) {"do":"observe","name":"q","in":"c","query":{}}
 < {"emit":"q","rows":[{"id":"a","n":1}]}
 > {"do":"bulk","in":"c","docs":[{"id":"b"},{"id":"d"},{"id":"b"}]}
 < {"code":25,"line":L,"refused":"twice","row":2}
@@ -283,19 +236,13 @@ const CASES: &str = r#"
 < {"doc":{"id":"a","n":1},"line":L,"lwt":1,"ok":"get","rev":"1-c"}
 > {"do":"get","in":"c","key":"b"}
 < {"code":15,"line":L,"refused":"no_document"}
-> I(c,b,2)
-< insert 1-c
+. I(c,b,2)
 < {"emit":"q","rows":[{"id":"a","n":1},{"id":"b","n":2}]}
 > {"do":"get","in":"c","key":"b"}
 < {"doc":{"id":"b","n":2},"line":L,"lwt":2,"ok":"get","rev":"1-c"}
 
 == a number is whole and in range
-> C(c)
-< made
-> I(c,a,9007199254740991)
-< insert 1-c
-> I(c,b,-9007199254740991)
-< insert 1-c
+. C(c) I(c,a,9007199254740991) I(c,b,-9007199254740991)
 > I(c,d,9007199254740992)
 < {"cause":"range","code":13,"line":L,"name":"n","refused":"invalid"}
 > I(c,d,-9007199254740992)
@@ -320,8 +267,7 @@ const CASES: &str = r#"
 < {"line":L,"ok":"find","rows":[{"id":"b","n":-9007199254740991},{"id":"a","n":9007199254740991}]}
 
 == what cannot be a value is told by the first name in bytes
-> C(c)
-< made
+. C(c)
 > {"do":"insert","in":"c","doc":{"n":9007199254740992,"id":null}}
 < {"cause":"kind","code":13,"line":L,"name":"id","refused":"invalid"}
 > {"do":"insert","in":"c","doc":{"z":null,"b":[],"a":9007199254740992}}
@@ -332,16 +278,13 @@ const CASES: &str = r#"
 < {"cause":"kind","code":13,"line":L,"name":"","refused":"invalid"}
 
 == a key has at most as many characters as its length, of whatever bytes
-> {"do":"collection","name":"c","schema":{"version":0,"primaryKey":"id","type":"object","properties":{"id":{"type":"string","maxLength":2},"n":{"type":"integer"}},"required":["id"]}}
-< made
-> {"do":"insert","in":"c","doc":{"id":"😀😀"}}
-< insert 1-c
+. {"do":"collection","name":"c","schema":{"version":0,"primaryKey":"id","type":"object","properties":{"id":{"type":"string","maxLength":2},"n":{"type":"integer"}},"required":["id"]}}
+. {"do":"insert","in":"c","doc":{"id":"😀😀"}}
 > {"do":"insert","in":"c","doc":{"id":"😀😀😀"}}
 < {"cause":"length","code":13,"line":L,"name":"id","refused":"invalid"}
 > {"do":"insert","in":"c","doc":{"id":"\ud83d\ude00😀"}}
 < {"code":14,"line":L,"refused":"conflict","rev":"1-c"}
-> {"do":"insert","in":"c","doc":{"id":"ab"}}
-< insert 1-c
+. {"do":"insert","in":"c","doc":{"id":"ab"}}
 > {"do":"insert","in":"c","doc":{"id":"abc"}}
 < {"cause":"length","code":13,"line":L,"name":"id","refused":"invalid"}
 > {"do":"insert","in":"c","doc":{"id":""}}
