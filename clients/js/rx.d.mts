@@ -96,7 +96,7 @@ export class Refused extends Error {
 export class Stopped extends Error {
   readonly name: 'Stopped';
   /**
-   * The program's word (usage, disk, read, memory, not_journal, full, too_long),
+   * The program's word (usage, disk, read, memory, not_journal, full, too_long, epoch),
    * or the client's (in_use, closed, ended, killed, start, trap, output).
    */
   readonly stop: string;

@@ -40,7 +40,7 @@ restart_line s = Ok (record {
   answer = restart (s.world.epoch + 1);
 })
 
--- what a line does and is answered; turns and a delivery are none of these
+-- what a line does and is answered; turns, a sweep and a delivery are none of these
 abbrev pub asked_outcome : Kinds → Asked → Session → Result Outcome Fault
 asked_outcome kinds (Collection name schema) s = collection_line name schema s
 asked_outcome kinds (Insert coll doc) s = insert_line coll doc s

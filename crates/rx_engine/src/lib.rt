@@ -1,5 +1,5 @@
-//! A line of a script is its meaning, and its records are on the disk before its reply exists. What
-//! a journal is, and what holds of it at each moment, is rx_store's.
+//! A line of a script is its meaning. Its records are on the disk before its reply exists, or wait
+//! with it for a commit. What a journal is, and what holds of it at each moment, is rx_store's.
 #![tactic(auto)]
 
 mod answering;

@@ -76,7 +76,8 @@ pub fn serve_connections<L: Listen, D: Disk, C: Clock, K: Sink>(
     ensures name { IfOk result (λ m. name_of m ≡ name_of first) }
     ensures limit { IfOk result (λ m. limit_of m ≡ limit_of first) }
     ensures door { IsErrOf result ServeFault.Door → Rises (L.faults door.old) (L.faults door.new) }
-    // Once it stands open the door is given up only where so many of its calls failed.
+    // Once a line was written, a record kept or the clock asked, the door is given up only where so
+    // many of its calls failed.
     ensures given_up { IsErrOf result ServeFault.Door
         → ((out.new ≡ out.old) × (disk.new ≡ disk.old) × (clock.new ≡ clock.old))
         ⊎ HasGivenUp (L.faults door.old) (L.faults door.new) }

@@ -21,6 +21,7 @@
 //! | `explain` | `name` |
 //! | `replicate` | `name`, `fork`, `master` or `port`, `handler`, and maybe `field` |
 //! | `turn` | `name`, and maybe `batch`, `budget` and `link` |
+//! | `sweep` | `name`, and maybe `batch` and `budget` |
 //! | `stream` | `name` |
 //! | `deliver` | `name`, and maybe `link` |
 //! | `unstream` | `name` |

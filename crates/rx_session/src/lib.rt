@@ -1,6 +1,6 @@
-//! What there is between two lines of a script: collections with their observed queries, open
-//! streams, and the present moment. A line that writes several records plays them one after
-//! another, and then settles.
+//! What there is between two lines of a script: a world whose collections have their observed
+//! queries, the hooks, the open streams, and the present moment. A line that writes several records
+//! plays them one after another, and then settles.
 #![tactic(auto)]
 
 mod applying;

@@ -1,7 +1,8 @@
 //! What the forks and masters of one journal do with each other: what a fork asks, what its master
 //! answers, how the fork takes it, turns of such exchanges over a link that loses, repeats and
-//! delays, deliveries of a stream's events, and sweeps over a tree. A world is only read here. What
-//! is to be written is given as records.
+//! delays, deliveries of a stream's events, and sweeps over a tree; and how a fork takes what is
+//! heard of a master elsewhere. A world is only read here. What is to be written is given as
+//! records.
 #![tactic(auto)]
 
 mod asking;

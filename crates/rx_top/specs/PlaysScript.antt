@@ -26,7 +26,7 @@ use Rattle.rx_top.specs.Turns.{HoldsOfTurn}
 
 -- A run ended with a status, from one state of its source, its sink, its disk and its dial to a
 -- later one. Its journal may have so many bytes, and its conflicts are resolved by handlers of
--- these host; and this was heard of masters elsewhere, exchange after exchange. The wires of the
+-- this host; and this was heard of masters elsewhere, exchange after exchange. The wires of the
 -- dial tell what went over them, or don't.
 pub record PlaysScript
     {S K D N W : Type 0}

@@ -68,7 +68,7 @@ pub record HasTried
 
 -- A trial of the script of a seed, with so many lines of its own, ended with a status, from one
 -- state of its sink, its disk and its dial to a later one. Its journal may have so many bytes, and
--- its conflicts are resolved by handlers of these host; and this was heard of masters elsewhere,
+-- its conflicts are resolved by handlers of this host; and this was heard of masters elsewhere,
 -- exchange after exchange, where the journal has a replication with such a master under the
 -- script's name.
 pub record TriesScript

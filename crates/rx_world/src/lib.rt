@@ -1,5 +1,5 @@
 //! Collections and replications by name: what the records of a journal do to them, where they are
-//! legal, and the record of a commit.
+//! legal, and the records of a commit and of a migration.
 #![tactic(auto)]
 
 mod chain;
