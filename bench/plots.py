@@ -4,8 +4,8 @@
     bench/plots.py take FILE [PROGRAM]   runs the benchmarks that they need, in memory-backed storage: some ten minutes
     bench/plots.py draw FILE FOLDER      draws the pictures into FOLDER, and prints the table
 
-FILE has a line of JSON for each figure; where one was taken twice, the later counts. docs/plots has both the figures
-and the pictures that stand in the repository.
+FILE has a line of JSON for each figure; where one was taken twice, the later counts. The memory of long runs is from
+`SOAK_FIGURES=FILE tests/run soak`. docs/plots has both the figures and the pictures that stand in the repository.
 """
 import json
 import math
@@ -90,7 +90,8 @@ def read(path):
     with open(path, encoding="utf-8") as file:
         for line in file:
             it = json.loads(line)
-            found[it["bench"], it["load"], it.get("batch"), it.get("documents"), it.get("queries")] = it
+            of = (it.get(name) for name in ("batch", "documents", "queries", "seconds"))
+            found[it["bench"], it["load"], *of] = it
     return list(found.values())
 
 
@@ -184,7 +185,7 @@ def curves(title, lines, across, up, across_name, up_name):
     for (kind, name, points), end in zip(lines, ends):
         path = " ".join(f"{x(a):.1f},{y(b):.1f}" for a, b in points)
         parts.append(f'<polyline points="{path}" class="{kind}"/>')
-        parts += [dot(x(a), y(b), f"of-{kind}") for a, b in points]
+        parts += [dot(x(a), y(b), f"of-{kind}") for a, b in points if len(points) < 30]
         parts.append(text(right + 12, end + 4, name, f"of-{kind}"))
     parts += [text((left + right) / 2, bottom + 38, across_name, "note mid"), text(16, 46, up_name, "note")]
     return picture(title, bottom + 54, parts)
@@ -220,6 +221,17 @@ def by_queries(figures):
                   "observed queries, each of 20 rows in order", "writes a second")
 
 
+def by_seconds(figures):
+    """The memory of runs over one large journal, each killed in its turn."""
+    points = sorted((it["seconds"], it["mebibytes"]) for it in figures if it["bench"] == "soak")
+    minutes = [(60 * it, f"{it}") for it in range(11)]
+    most = 1_000 * math.ceil(max([it for _, it in points], default=1) / 1_000)
+    x = lambda seconds: 70 + seconds / 660 * (WIDTH - 260)
+    y = lambda mebibytes: BOTTOM - mebibytes / most * (BOTTOM - TOP)
+    return curves("Memory over ten minutes of mixed lines, killed again and again", [("rx", "rx", points)],
+                  (x, minutes), (y, [most * it // 4 for it in range(5)]), "minutes", "MiB")
+
+
 # ---- the table
 
 def span(values):
@@ -248,7 +260,8 @@ def table(figures):
 def draw(path, folder):
     figures = read(path)
     os.makedirs(folder, exist_ok=True)
-    for name, drawn in (("loads", by_load), ("documents", by_documents), ("queries", by_queries)):
+    pictures = (("loads", by_load), ("documents", by_documents), ("queries", by_queries), ("memory", by_seconds))
+    for name, drawn in pictures:
         with open(os.path.join(folder, f"{name}.svg"), "w", encoding="utf-8") as file:
             file.write(drawn(figures))
     print("\n".join(table(figures)))
