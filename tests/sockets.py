@@ -4,10 +4,13 @@
 All sockets are on 127.0.0.1. A peer that says nothing is waited for as long as the program waits, a
 minute.
 """
+import itertools
 import json
 import os
 import random
+import resource
 import socket
+import string
 import time
 from concurrent.futures import ThreadPoolExecutor
 
@@ -18,6 +21,8 @@ from shared import (HANG_SECONDS, HASH, LONGEST, SCHEMA, SECONDS, SEED, Server, 
 
 # A byte comes so often, and a message has a minute; what the test waits besides is the machine's.
 TRICKLE_SECONDS, WITHIN = 3, (55, 90)
+# What a server of long lines may have, in bytes.
+LITTLE = 1_536_000_000
 
 
 @case("connections one after another")
@@ -91,6 +96,46 @@ def a_line_too_long(folder):
         insist(ask(wire, pull(1)) == {"docs": [], "epoch": 1, "n": 1}, "the next connection")
     insist(server.end() == (0, [told(1, "request", 0), told(2, "peer", 1)]), "the end")
     return f"`too_long`, with a peak of {peak >> 20} MiB, and the next connection is served"
+
+
+@case("long lines that are no request", seconds=1_800)
+def long_lines(folder):
+    """As trees of values they would take many times what the server may have."""
+    rows, rest = push(1, []).split("]")
+    tried = [("[", "0,", "0]", "not_object"),
+             (pull(1)[:-1] + ',"x":[', "0,", "0]}", "unexpected"),
+             (rows, "0,", "0]" + rest, "wrong_type"),
+             (rows, "[[]],", "0]" + rest, "wrong_type"),
+             ('{"ask":', '{"a":', "0", "not_json"),
+             (pull(1)[:-1] + ",", None, '"x":0}', "unexpected"),
+             (rows + '{"new":{', None, '"_deleted":false}}]' + rest, "invalid")]
+    server = Server(folder, len(tried) + 1, prepare=little_memory)
+    for before, piece, after, fault in tried:
+        most = LONGEST - len(before) - len(after)
+        line = before + (piece * (most // len(piece)) if piece else members(most)) + after
+        with server.dial() as wire:
+            wire.sendall(text([line]))
+            reply = said(wire)
+        insist(reply == text([compact({"fault": fault})]), f"{before[:40]}..: {reply[:80]}")
+    peak = peak_of(server.child)
+    with server.dial() as wire:
+        insist(ask(wire, pull(1)) == {"docs": [], "epoch": 1, "n": 1}, "the next connection")
+    status, ends = server.end()
+    insist(status == 0 and ends[-1] == told(len(tried) + 1, "peer", 1), f"{status} {ends[-1:]}")
+    insist({end["end"] for end in ends[:-1]} == {"request"}, "an end that isn't `request`")
+    return f"{len(tried)} of 256 MiB: the fault's name, with a peak of {peak >> 20} MiB, and the next is served"
+
+
+def little_memory():
+    resource.setrlimit(resource.RLIMIT_AS, (LITTLE, LITTLE))
+
+
+def members(most):
+    """So many bytes of members, each with a name of its own and a comma behind it."""
+    pairs = ["".join(it) for it in itertools.product(string.ascii_lowercase, repeat=2)]
+    piece = "".join(f'"....{pair}":0,' for pair in pairs)
+    fronts = itertools.islice(itertools.product(pairs, repeat=2), most // len(piece))
+    return "".join(piece.replace("....", "".join(front)) for front in fronts)
 
 
 @case("peers that go away")

@@ -1,4 +1,9 @@
 pub mod Lines
+pub mod Turns
+pub mod Keeping
+pub mod Members
+pub mod Unknown
+pub mod Enough
 pub mod Tokens
 pub mod Keys
 pub mod Lawful

@@ -8,3 +8,4 @@ pub mod Writing
 pub mod Printing
 pub mod Reading
 pub mod Spelling
+pub mod Kept

@@ -4,8 +4,11 @@
 
 mod fault;
 mod form;
+mod kept;
+mod known;
 mod line;
 mod message;
+mod number;
 mod printing;
 mod reading;
 mod spelling;

@@ -3,6 +3,7 @@ ghost use Rattle.std.specs.Prelude.{◌≡◌, ◌≤◌, Ok, IfOk, length, nat_
 ghost use Rattle.std.specs.List.{common_prefix_len};
 ghost use Rattle.rx_value.specs.Due.{Due};
 ghost use Rattle.rx_schema.specs.declared.shape.Shape.{Shape};
+ghost use Rattle.rx_wire.specs.Kept.{kept_request, kept_reply};
 ghost use Rattle.rx_wire.specs.Lawful.{IsSaid, IsRequest, IsReply};
 ghost use Rattle.rx_wire.specs.Limits.{longest_line};
 ghost use Rattle.rx_wire.specs.OneLine.{is_one_line};
@@ -25,10 +26,7 @@ impl Request {
         ensures exact { Due Memory result (request_of schema.now line.now) }
         ensures lawful { IfOk result (λ request. IsRequest schema.now request) }
     {
-        let json = read_object(alloc, line)?;
-        let request = read_request(alloc, schema, &json)?;
-        let text = request_bytes(alloc, &request, schema)?;
-        Ok(if_spelt(text.as_slice(), line, request)?)
+        request_at(alloc, line, schema)
     }
 
     /// The one line that asks for it, without its line feed.
@@ -51,10 +49,7 @@ impl Reply {
         ensures exact { Due Memory result (reply_of schema.now line.now) }
         ensures lawful { IfOk result (λ reply. IsReply schema.now reply) }
     {
-        let json = read_object(alloc, line)?;
-        let reply = read_reply(alloc, schema, &json)?;
-        let text = reply_bytes(alloc, &reply)?;
-        Ok(if_spelt(text.as_slice(), line, reply)?)
+        reply_at(alloc, line, schema)
     }
 
     /// The one line that gives it, without its line feed. A schema by which its states are valid
@@ -68,6 +63,26 @@ impl Reply {
         let bytes = reply_bytes(alloc, self)?;
         Ok(text_of(alloc, bytes)?)
     }
+}
+
+// The request by what is kept of a line.
+fn request_at(alloc: Global, line: &[u8], schema: &Schema) -> Result<Request, WireFault>
+    ensures { Due Memory result (kept_request schema.now line.now) }
+{
+    let json = read_object(alloc, schema, line)?;
+    let request = read_request(alloc, schema, &json)?;
+    let text = request_bytes(alloc, &request, schema)?;
+    Ok(if_spelt(text.as_slice(), line, request)?)
+}
+
+// The reply by what is kept of a line.
+fn reply_at(alloc: Global, line: &[u8], schema: &Schema) -> Result<Reply, WireFault>
+    ensures { Due Memory result (kept_reply schema.now line.now) }
+{
+    let json = read_object(alloc, schema, line)?;
+    let reply = read_reply(alloc, schema, &json)?;
+    let text = reply_bytes(alloc, &reply)?;
+    Ok(if_spelt(text.as_slice(), line, reply)?)
 }
 
 // What was read, if the line is its text.

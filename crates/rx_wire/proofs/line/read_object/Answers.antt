@@ -1,19 +1,26 @@
-use Rattle.std.proofs.Common.{true≢false, ◌∙◌, sym, arith, inr}
+use Rattle.std.proofs.Common.{sym, ap, ◌∙◌, arith, inr}
+use Rattle.serde_json.specs.Read.{read}
 use Rattle.serde_json.specs.View.{view}
-use Rattle.rx_wire.proofs.Lines.{object_there, object_missing, not_json}
+use Rattle.rx_wire.proofs.Enough.{object_told, missing_told, no_json_told}
 use Rattle.rx_wire.proofs.line.read_object.Goals as goal
+
+pub returns-in_default : goal.returns-in_default
+returns-in_default c =
+    inr (no_json_told c.args.schema.now c.args.line.now (omega arith)
+    (λ utf8. absurd (c.in_default.ensures.cases.0 utf8)))
 
 pub returns-then-is_object : goal.returns-then-is_object
 returns-then-is_object c =
-    object_there c.args.line.now (view c.in-Ok.json) (omega arith) c.in-Ok.ensures.ok.0
-    c.in-Ok.ensures.ok.1 (sym c.is_object.ensures ∙ c.if-is_object.true)
+    let text = c.in-Ok.ensures.cases in
+    let kept = c.in-Ok-read_kept.ensures.ok in
+    object_told c.args.schema.now c.args.line.now kept.0 (view c.in-Ok-read_kept.json)
+    (omega arith) text.1
+    (ap read (sym text.0) ∙ kept.1) kept.2 (sym c.is_object.ensures ∙ c.if-is_object.true)
 
 pub returns-else-is_object : goal.returns-else-is_object
 returns-else-is_object c =
-    inr (object_missing c.args.line.now (view c.in-Ok.json) (omega arith) c.in-Ok.ensures.ok.0
-    c.in-Ok.ensures.ok.1 (sym c.is_object.ensures ∙ c.if-is_object.false))
-
-pub returns-else-is_memory : goal.returns-else-is_memory
-returns-else-is_memory c =
-    inr (not_json c.args.line.now (omega arith)
-    (c.in-Err.ensures.err (λ m. true≢false (sym (c.if-is_memory.ensures.1 m)))))
+    let text = c.in-Ok.ensures.cases in
+    let kept = c.in-Ok-read_kept.ensures.ok in
+    inr (missing_told c.args.schema.now c.args.line.now kept.0 (view c.in-Ok-read_kept.json)
+    (omega arith) text.1
+    (ap read (sym text.0) ∙ kept.1) kept.2 (sym c.is_object.ensures ∙ c.if-is_object.false))
