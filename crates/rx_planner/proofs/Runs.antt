@@ -1,14 +1,14 @@
 -- A walk along an index gives the query's result.
-use Rattle.std.proofs.Common.{◌≡◌, inl, inr, ℕ, ◌+◌, ◌<◌, ◌≤◌, IfSome, get_or, slice_get, true, false, cond, ◌||◌, List, [], ◌∷◌, ◌++◌, map, filter, take, drop, length, Option, Some, None, option_map, Less, Equal, refl, sym, ap, ◌∙◌, subst, arith}
+use Rattle.std.proofs.Common.{◌≡◌, inl, inr, ℕ, zero, suc, ◌+◌, ◌<◌, ◌≤◌, IfSome, get_or, slice_get, true, false, cond, ◌||◌, List, [], ◌∷◌, ◌++◌, map, filter, take, drop, length, Option, Some, None, option_map, Less, Equal, refl, sym, ap, ◌∙◌, subst, arith}
 use Rattle.std.proofs.lemmas.Bool.{false≢true}
 use Rattle.std.proofs.lemmas.Cmp.{nat_list_eq_equiv}
-use Rattle.std.proofs.lemmas.List.{append-nil, drop-take, take_all, length-map}
+use Rattle.std.proofs.lemmas.List.{append-nil, drop-take, take_all, drop_all, length-map}
 use Rattle.std.proofs.lemmas.Option.{slice_get_read}
 use Rattle.std.proofs.lemmas.List.Kept.{IsStrictlySortedBy-filter}
 use Rattle.std.proofs.lemmas.List.Sorted.{IsPermutation-sym, IsPermutation-append_left, length_permutation}
 use Rattle.std.proofs.lemmas.Slice.Eq.{bytes_eq-Decides}
 use Rattle.std.specs.Cmp.{Equal-is}
-use Rattle.std.specs.List.{AllByRecursion, IsDistinct, filter_map}
+use Rattle.std.specs.List.{AllByRecursion, IsDistinct, filter_map, cons_option}
 use Rattle.std.specs.List.Sorted.{IsStrictlySortedBy, IsPermutation}
 use Rattle.std.specs.Map.{keys_of, values_of}
 use Rattle.std.specs.Ordering.{is_eq, eq_by_cmp}
@@ -374,6 +374,27 @@ module _ (q : QuerySpec) (documents : Documents) (fields : Names) (keys : List P
       ∙ wanted (most_rows q) (length rows) ids all full long)
       ∙ window q all
 
+-- ---- few rows
+
+length_cut : {X : Type 0} (n : ℕ) (xs : List X) → length (take n xs) ≤ n
+length_cut zero xs = omega arith
+length_cut (suc n) [] = omega arith
+length_cut (suc n) (x ∷ xs) = let rest = length_cut n xs in omega (arith, rest)
+
+length_given : {X Y : Type 0} (h : X → Option Y) (xs : List X)
+    → length (filter_map h xs) ≤ length xs
+length_given h [] = omega arith
+length_given h (x ∷ xs) =
+    let rest = length_given h xs in
+    elim (h x) as (λ o. length (cons_option o (filter_map h xs)) ≤ suc (length xs))
+    [ None ↦ omega (arith, rest) | Some y ↦ omega (arith, rest) ]
+
+-- all of no more than are skipped
+at_most_full : (limit : Option ℕ) (skip n : ℕ) → n ≤ skip
+    → IsFull (option_map (λ limit. skip + limit) limit) n []
+at_most_full None skip n few = refl
+at_most_full (Some limit) skip n few = inr (omega (arith, few), refl)
+
 -- ---- by a plan
 
 module _ (q : QuerySpec) (documents : Documents) (indexes : List Indexed) (plan : Plan)
@@ -455,3 +476,24 @@ module _ (q : QuerySpec) (documents : Documents) (indexes : List Indexed) (plan 
           run_sorted q documents i.fields i.keys plan.low plan.high collection up held_there
           encloses rows first last ids all_parts
           (subst (λ m. IsFull m (length rows) ids) wanted_so full)
+
+      -- no more than are skipped leave nothing
+      pub short_result : length rows ≤ q.skip → result_of q (values_of documents) ≡ []
+      short_result few =
+          let first = sorted (stored_before q) rows in
+          let all = sorted (stored_before q) (first ++ due_among q documents ids) in
+          let same : length first ≡ length rows =
+          length_permutation rows first (sorted-permutes (stored_before q) rows) in
+          let cut = length_cut (length first) all in
+          sym (sorted_result first (take (length first) all) refl refl)
+          ∙ drop_all q.skip (take (length first) all) (omega (arith, same, cut, few))
+
+  -- nor do no more keys
+  pub few_result : (met_ids : List (List ℕ)) → met_ids ≡ ids_between plan.low plan.high i.keys
+      → length met_ids ≤ q.skip → result_of q (values_of documents) ≡ []
+  few_result met_ids walked few =
+      let due = due_among q documents met_ids in
+      let some = length_given (λ id. if_due q (named documents id)) met_ids in
+      short_result due [] met_ids (append-nil due) walked (most_rows q) refl
+      (at_most_full q.limit q.skip (length due) (omega (arith, some, few)))
+      (omega (arith, some, few))

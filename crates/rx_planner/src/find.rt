@@ -1,4 +1,4 @@
-ghost use Rattle.std.specs.Prelude.{◌≡◌, ◌+◌, ◌*◌, ◌≤◌, ◌||◌, length, map, drop, nat_le};
+ghost use Rattle.std.specs.Prelude.{◌≡◌, ◌+◌, ◌*◌, ◌≤◌, ◌&&◌, ◌||◌, length, map, drop, nat_le};
 ghost use Rattle.std.specs.Prelude.{slice_get, IfOk, IfSome, IsSome};
 ghost use Rattle.std.specs.List.{AllByRecursion};
 ghost use Rattle.std.specs.Map.{values_of};
@@ -17,6 +17,9 @@ use rx_document::{Lookup, Stored};
 use rx_index::Index;
 use rx_query::Query;
 use std::alloc::{AllocError, Global};
+
+// So many rows are sorted sooner than an index is found that has them in order.
+const FEW: usize = 32;
 
 /// The rows of a query, and how many documents were looked at to find them.
 #[derive(Drop)]
@@ -88,16 +91,20 @@ impl Plan {
         let Some(way) = best_way(alloc, query, indexes)? else {
             return Ok(unwalked());
         };
+        // No walk looks at less then, and one along so many keys may be given up.
+        if span as u128 <= most && span < way.keys {
+            return Ok(unwalked());
+        }
         let index = &indexes[way.index];
         walk_along(alloc, query, index, docs, way.names.as_slice(), most, span)
     }
 
-    // Whether no walk looks at less than the plan's run.
+    // Whether no walk is cheaper than the plan's run.
     fn is_better(&self, query: &Query, span: usize, most: u128) -> bool
-        ensures { result ≡ (self.now.ordered || nat_le span most
+        ensures { result ≡ (self.now.ordered || nat_le span FEW && nat_le span most
             || is_fixed (asked query.now) (asked query.now).primary) }
     {
-        self.ordered || span as u128 <= most || is_fixed(query, query.primary())
+        self.ordered || (span <= FEW && span as u128 <= most) || is_fixed(query, query.primary())
     }
 }
 

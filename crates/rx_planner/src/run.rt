@@ -1,6 +1,8 @@
-ghost use Rattle.std.specs.Prelude.{◌≡◌, map, drop, slice_get, IfOk, IfSome};
+ghost use Rattle.std.specs.Prelude.{◌≡◌, ◌<◌, ◌≤◌, true, false, length, map, drop, slice_get, IfOk, IfSome};
+ghost use Rattle.std.specs.List.Sorted.{IsStrictlySortedBy};
 ghost use Rattle.std.specs.Map.{values_of};
-ghost use Rattle.rx_index.specs.Index.{HoldsWhere, is_between};
+ghost use Rattle.rx_index.specs.Index.{HoldsWhere, is_between, ids_between};
+ghost use Rattle.rx_index.specs.Position.{position_cmp};
 ghost use Rattle.rx_query.specs.QuerySpec.{asked};
 ghost use Rattle.rx_query.specs.Result.{IsCollection, result_of};
 ghost use Rattle.rx_planner.specs.Plan.{IsPlan};
@@ -36,14 +38,34 @@ impl Plan {
         if let Some(id) = operand(query, query.primary(), Compare::Eq) {
             return run_at(alloc, query, docs, id);
         }
-        let mut ids = indexes[self.index].range(&self.low, &self.high);
+        let index = &indexes[self.index];
+        if self.is_skipped(query, index) {
+            return Ok(Vec::new(alloc));
+        }
+        let mut ids = index.range(&self.low, &self.high);
         let mut rows = first_due(alloc, query, docs, &mut ids, most_rows(query))?;
+        if are_skipped(query, rows.len()) {
+            return Ok(Vec::new(alloc));
+        }
         if !self.ordered {
             put_in_order(query, &mut rows);
             improve(alloc, query, docs, ids, &mut rows)?;
         }
         skip_rows(&mut rows, query.skip() as usize);
         Ok(rows)
+    }
+
+    // Whether all documents between its bounds are left out.
+    fn is_skipped(&self, query: &Query, index: &Index) -> bool
+        ensures few { result ≡ true
+            → length (ids_between self.now.low self.now.high index.now.keys)
+            ≤ (asked query.now).skip }
+        ensures rising { result ≡ true → IsStrictlySortedBy position_cmp index.now.keys }
+    {
+        if query.skip() == 0 {
+            return false;
+        }
+        are_skipped(query, index.range(&self.low, &self.high).len())
     }
 }
 
@@ -55,6 +77,14 @@ pub(crate) fn most_rows(query: &Query) -> Option<u128>
         Some(limit) => Some(query.skip() as u128 + limit as u128),
         None => None,
     }
+}
+
+// Whether so many rows are left out, so that they needn't be put in order.
+fn are_skipped(query: &Query, len: usize) -> bool
+    ensures skipped { result ≡ true → len ≤ (asked query.now).skip }
+    ensures others { result ≡ false → (asked query.now).skip < len }
+{
+    len as u64 <= query.skip()
 }
 
 pub(crate) fn skip_rows<T: Drop>(rows: &mut Vec<T>, skip: usize)

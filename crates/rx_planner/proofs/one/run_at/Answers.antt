@@ -1,4 +1,4 @@
-use Rattle.std.proofs.Common.{◌≡◌, Bor, [], ◌∷◌, ◌++◌, map, None, Some, option_map, sym, ap, ◌∙◌}
+use Rattle.std.proofs.Common.{Bor, [], ◌∷◌, ◌++◌, map, None, Some, option_map, sym, ap, ◌∙◌}
 use Rattle.rx_document.specs.declared.stored.Stored.{Stored}
 use Rattle.rx_query.specs.QuerySpec.{asked}
 use Rattle.rx_planner.proofs.Single.{one_shown, one_hidden}

@@ -1,4 +1,4 @@
-use Rattle.std.proofs.Common.{◌+◌, Bor, ℕ, List, [], ◌∷◌, ◌++◌, Option, Some, map, take, get_or, sym, ap, ◌∙◌}
+use Rattle.std.proofs.Common.{Bor, ℕ, List, [], ◌∷◌, ◌++◌, Option, Some, map, take, get_or, sym, ap, ◌∙◌}
 use Rattle.std.proofs.lemmas.List.{take_more, map-append}
 use Rattle.rx_value.specs.Named.{named}
 use Rattle.rx_value.specs.declared.value.Value.{Value}
