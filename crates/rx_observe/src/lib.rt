@@ -1,6 +1,7 @@
 //! Observed queries over a collection, whose rows are kept true by small changes.
 #![tactic(auto)]
 
+mod deciding;
 mod emission;
 mod front;
 mod full;

@@ -7,7 +7,6 @@ ghost use Rattle.rx_table.specs.declared.action.Action.TheVariants.{RunFullQuery
 ghost use Rattle.rx_query.specs.After.{after, AreThere};
 ghost use Rattle.rx_query.specs.QuerySpec.{asked};
 ghost use Rattle.rx_query.specs.Result.{fresh_rows};
-ghost use Rattle.rx_query.specs.States.{bits_of, OnlyMatchingInside};
 ghost use Rattle.rx_states.specs.Matches.{TellMatches};
 ghost use Rattle.rx_observe.specs.Front.{IsFront};
 ghost use Rattle.rx_observe.specs.Indexes.{AreIndexesOf};
@@ -16,6 +15,7 @@ ghost use Rattle.rx_observe.specs.Rows.{unseen, emitted};
 ghost use Rattle.rx_observe.specs.Observing.{cooled};
 ghost use Rattle.rx_observe.specs.Watched.{cold, bits_at, action_at, asked_at, applied, IsReady, StaysFresh};
 
+use crate::deciding::{Told, decide};
 use crate::front::Front;
 use crate::full::rows_of;
 use crate::rows::are_same_rows;
@@ -26,7 +26,7 @@ use rx_diagram::{Decided, Diagram};
 use rx_document::Change;
 use rx_index::Index;
 use rx_query::{Query, Results};
-use rx_states::{Facts, Matches};
+use rx_states::Matches;
 use rx_table::{Action, Counts};
 use std::alloc::{AllocError, Global};
 use std::marker::Model;
@@ -124,15 +124,16 @@ impl Observed {
         ensures err { OnErr result (self.new ≡ self.old) }
     {
         let matches = Matches::of(&self.query, change);
-        self.hear(diagram, change, matches)
+        self.hear(diagram, change, matches, &mut None)
     }
 
-    /// The same where it is known already what the selector says.
+    /// The same where it is known already what the selector says, and what was told last.
     pub(crate) fn hear(
         &mut self,
         diagram: &Diagram,
         change: &Change,
         matches: Matches,
+        last: &mut Option<Told>,
     ) -> Result<Applied, AllocError>
         requires matches { TellMatches self.old.query change.now matches }
         requires cold { self.old.rows ≡ None → change.now.before ≡ Unknown }
@@ -144,7 +145,7 @@ impl Observed {
             (StaysFresh self.old.query change.now self.old.rows self.new.rows) }
         ensures err { OnErr result (self.new ≡ self.old) }
     {
-        let decided = self.decide(diagram, change, matches);
+        let decided = self.decide(diagram, change, matches, last);
         self.follow(decided.action, decided.asked.count_ones(), change)
     }
 
@@ -171,7 +172,13 @@ impl Observed {
         Ok(Applied::Patched)
     }
 
-    fn decide(&self, diagram: &Diagram, change: &Change, matches: Matches) -> Decided
+    fn decide(
+        &self,
+        diagram: &Diagram,
+        change: &Change,
+        matches: Matches,
+        last: &mut Option<Told>,
+    ) -> Decided
         requires matches { TellMatches self.now.query change.now matches }
         requires cold { self.now.rows ≡ None → change.now.before ≡ Unknown }
         requires ready { IfSome self.now.rows (IsReady self.now.query change.now) }
@@ -179,10 +186,10 @@ impl Observed {
         ensures asked { result.asked ≡ asked_of (bits_at self.now.query change.now self.now.rows) }
     {
         match &self.rows {
-            Some(rows) => decide(diagram, &self.query, change, rows, matches),
+            Some(rows) => decide(diagram, &self.query, change, rows, matches, last),
             None => {
                 let none = Results::new(self.alloc);
-                decide(diagram, &self.query, change, &none, matches)
+                decide(diagram, &self.query, change, &none, matches, last)
             }
         }
     }
@@ -248,22 +255,6 @@ fn was_emitted(rows: &Results, last: &Option<SharedRows>) -> bool
         Some(last) => are_same_rows(rows, last.as_results()),
         None => false,
     }
-}
-
-fn decide(
-    diagram: &Diagram,
-    query: &Query,
-    change: &Change,
-    rows: &Results,
-    matches: Matches,
-) -> Decided
-    requires inside { OnlyMatchingInside (asked query.now) change.now rows.now }
-    requires matches { TellMatches (asked query.now) change.now matches }
-    ensures action { result.action ≡ table_of (bits_of (asked query.now) change.now rows.now) }
-    ensures asked { result.asked ≡ asked_of (bits_of (asked query.now) change.now rows.now) }
-{
-    let mut facts = Facts::by_matches(query, change, rows, matches);
-    diagram.decide(&mut facts)
 }
 
 fn is_full(action: Action) -> bool

@@ -1,2 +1,4 @@
-pub mod Matches
+pub mod Beside
 pub mod Facts
+pub mod Forms
+pub mod Matches

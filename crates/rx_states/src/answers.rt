@@ -1,9 +1,9 @@
-ghost use Rattle.std.specs.Prelude.{◌≡◌, ◌-◌, length, slice_get, nat_le, not};
+ghost use Rattle.std.specs.Prelude.{◌≡◌, ◌-◌, ◌==◌, ◌&&◌, length, slice_get, is_some, nat_lt, nat_le, not};
 ghost use Rattle.std.specs.List.{list_any};
 ghost use Rattle.std.specs.Option.{option_copied};
 ghost use Rattle.rx_query.specs.QuerySpec.{asked};
 ghost use Rattle.rx_query.specs.Lists.{some_passes, first_passes, last_passes};
-ghost use Rattle.rx_query.specs.States.{live_before, is_changed, before_first, after_last, ties, is_match, state_of};
+ghost use Rattle.rx_query.specs.States.{live_before, is_unknown, is_changed, before_first, after_last, ties, is_match, state_of};
 
 use rx_document::{Before, Change};
 use rx_query::{Query, Results, Row};
@@ -16,14 +16,14 @@ pub(crate) fn answer(query: &Query, change: &Change, results: &Results, which: S
     let before = live_before(change);
     let after = change.after.as_ref();
     match which {
-        StateName::IsInsert => before.is_none() && after.is_some(),
-        StateName::IsUpdate => before.is_some() && after.is_some(),
-        StateName::IsDelete => before.is_some() && after.is_none(),
-        StateName::HasLimit => query.limit().is_some(),
-        StateName::IsFindOne => query.limit() == Some(1),
-        StateName::HasSkip => query.skip() > 0,
-        StateName::WasResultsEmpty => results.len() == 0,
-        StateName::PreviousUnknown => matches!(change.before, Before::Unknown),
+        StateName::IsInsert => is_insert(change),
+        StateName::IsUpdate => is_update(change),
+        StateName::IsDelete => is_delete(change),
+        StateName::HasLimit => has_limit(query),
+        StateName::IsFindOne => is_find_one(query),
+        StateName::HasSkip => has_skip(query),
+        StateName::WasResultsEmpty => is_empty(results),
+        StateName::PreviousUnknown => is_unknown(change),
         StateName::WasLimitReached => is_limit_reached(query, results),
         StateName::SortParamsChanged => is_moved(query, before, after),
         StateName::WasInResult => was_in_result(change, results),
@@ -47,7 +47,57 @@ pub(crate) fn live_before(change: &Change) -> Option<&Fields>
     }
 }
 
-fn first(results: &Results) -> Option<&Row>
+pub(crate) fn is_insert(change: &Change) -> bool
+    ensures { result ≡ (not (is_some (live_before change.now.before))
+        && is_some change.now.after) }
+{
+    live_before(change).is_none() && change.after.is_some()
+}
+
+pub(crate) fn is_update(change: &Change) -> bool
+    ensures { result ≡ (is_some (live_before change.now.before) && is_some change.now.after) }
+{
+    live_before(change).is_some() && change.after.is_some()
+}
+
+pub(crate) fn is_delete(change: &Change) -> bool
+    ensures { result ≡ (is_some (live_before change.now.before)
+        && not (is_some change.now.after)) }
+{
+    live_before(change).is_some() && change.after.is_none()
+}
+
+pub(crate) fn has_limit(query: &Query) -> bool
+    ensures { result ≡ is_some (asked query.now).limit }
+{
+    query.limit().is_some()
+}
+
+pub(crate) fn is_find_one(query: &Query) -> bool
+    ensures { result ≡ some_passes (λ limit. limit == 1) (asked query.now).limit }
+{
+    query.limit() == Some(1)
+}
+
+pub(crate) fn has_skip(query: &Query) -> bool
+    ensures { result ≡ nat_lt 0 (asked query.now).skip }
+{
+    query.skip() > 0
+}
+
+pub(crate) fn is_empty(results: &Results) -> bool
+    ensures { result ≡ (length results.now == 0) }
+{
+    results.len() == 0
+}
+
+pub(crate) fn is_unknown(change: &Change) -> bool
+    ensures { result ≡ is_unknown change.now.before }
+{
+    matches!(change.before, Before::Unknown)
+}
+
+pub(crate) fn first(results: &Results) -> Option<&Row>
     ensures { option_copied result ≡ slice_get results.now 0 }
 {
     if results.len() > 0 {
@@ -57,7 +107,7 @@ fn first(results: &Results) -> Option<&Row>
     }
 }
 
-fn last(results: &Results) -> Option<&Row>
+pub(crate) fn last(results: &Results) -> Option<&Row>
     ensures { option_copied result ≡ slice_get results.now (length results.now - 1) }
 {
     if results.len() > 0 {
@@ -67,7 +117,7 @@ fn last(results: &Results) -> Option<&Row>
     }
 }
 
-fn is_limit_reached(query: &Query, results: &Results) -> bool
+pub(crate) fn is_limit_reached(query: &Query, results: &Results) -> bool
     ensures { result ≡ some_passes (λ limit. nat_le limit (length results.now))
         (asked query.now).limit }
 {
@@ -137,7 +187,7 @@ fn is_after_last(query: &Query, change: &Change, results: &Results, fields: Opti
 }
 
 // Whether a field of the sort tells them apart.
-fn differs(query: &Query, a: &Fields, b: &Fields) -> bool
+pub(crate) fn differs(query: &Query, a: &Fields, b: &Fields) -> bool
     ensures { result ≡ not (ties (asked query.now) a.now b.now) }
 {
     for i in 0..query.sorts() {

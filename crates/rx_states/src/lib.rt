@@ -2,8 +2,11 @@
 #![tactic(auto)]
 
 mod answers;
+mod beside;
 mod facts;
+mod forms;
 mod matches;
 
+pub use beside::Beside;
 pub use facts::Facts;
 pub use matches::Matches;

@@ -1,0 +1,86 @@
+ghost use Rattle.std.specs.Prelude.{◌≡◌, None, true, false};
+ghost use Rattle.rx_query.specs.QuerySpec.{asked};
+ghost use Rattle.rx_query.specs.Lists.{some_passes};
+ghost use Rattle.rx_query.specs.States.{bits_of, OnlyMatchingInside, live_before, is_match};
+
+use crate::answers::{
+    first, has_limit, has_skip, is_delete, is_empty, is_find_one, is_insert, is_limit_reached,
+    is_unknown, is_update, last, live_before,
+};
+use crate::forms::{form_of, form_of_row, is_before, is_moved};
+use rx_document::Change;
+use rx_query::{Query, Results};
+use rx_table::{Ask, StateName};
+
+/// How many questions there are.
+const QUESTIONS: usize = 19;
+
+/// Answers about a change of a document that the query asked for neither before nor now, so that no
+/// row is its. All are worked out at once, and what the sort begins with is looked up once.
+#[derive(Drop)]
+pub struct Beside {
+    answers: [bool; QUESTIONS],
+}
+
+impl Beside {
+    ghost use Rattle.rx_states.specs.Beside.{bits_in};
+
+    pub fn new(query: &Query, change: &Change, results: &Results) -> Beside
+        requires inside { OnlyMatchingInside (asked query.now) change.now results.now }
+        requires was { some_passes (is_match (asked query.now)) (live_before change.now.before)
+            ≡ false }
+        requires now { some_passes (is_match (asked query.now)) change.now.after ≡ false }
+        ensures { bits_in result ≡ bits_of (asked query.now) change.now results.now }
+    {
+        let mut near = 0;
+        let before = form_of(query, live_before(change), &mut near);
+        let after = form_of(query, change.after.as_ref(), &mut near);
+        let first = form_of_row(query, first(results), &mut near);
+        let last = form_of_row(query, last(results), &mut near);
+        Beside {
+            answers: [
+                is_insert(change),
+                is_update(change),
+                is_delete(change),
+                has_limit(query),
+                is_find_one(query),
+                has_skip(query),
+                is_empty(results),
+                is_unknown(change),
+                is_limit_reached(query, results),
+                is_moved(query, before, after),
+                false,
+                false,
+                false,
+                is_before(query, before, first),
+                is_before(query, last, before),
+                is_before(query, after, first),
+                is_before(query, last, after),
+                false,
+                false,
+            ],
+        }
+    }
+
+    pub fn is_same(&self, other: &Beside) -> bool
+        ensures { result ≡ true → bits_in self.now ≡ bits_in other.now }
+    {
+        self.answers == other.answers
+    }
+}
+
+impl Ask for Beside {
+    ghost use Rattle.rx_query.proofs.Numbers.{number_of_in_range};
+    ghost use Rattle.rx_states.specs.Beside.{answer_in, bits_in};
+
+    ghost bits = { bits_in };
+
+    ghost log = { λ _. None };
+
+    #[tactic(auto, using(rx_query::proofs::Numbers::state_held))]
+    fn state(&mut self, which: StateName) -> bool {
+        self.answers[which as usize]
+    }
+
+    ghost in_range = { λ b. number_of_in_range (answer_in b) };
+}
