@@ -20,8 +20,8 @@ pub(crate) struct Told {
     ghost asked: { decided.asked ≡ asked_of (bits_in answers) },
 }
 
-// What the table says of a change. Most queries have nothing to do with it, and many of those answer
-// alike, so that what was told last needn't be asked for again.
+// What the table says of a change. Most queries have nothing to do with it, and many of those
+// answer alike, so that what was told last needn't be asked for again.
 pub(crate) fn decide(
     diagram: &Diagram,
     query: &Query,

@@ -101,10 +101,13 @@ impl Plan {
 
     // Whether no walk is cheaper than the plan's run.
     fn is_better(&self, query: &Query, span: usize, most: u128) -> bool
-        ensures { result ≡ (self.now.ordered || nat_le span FEW && nat_le span most
+        ensures { result ≡ (self.now.ordered
+            || nat_le span most && (nat_le span FEW || nat_le span (asked query.now).skip)
             || is_fixed (asked query.now) (asked query.now).primary) }
     {
-        self.ordered || (span <= FEW && span as u128 <= most) || is_fixed(query, query.primary())
+        self.ordered
+            || (span as u128 <= most && (span <= FEW || span as u64 <= query.skip()))
+            || is_fixed(query, query.primary())
     }
 }
 

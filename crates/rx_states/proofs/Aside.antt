@@ -1,5 +1,5 @@
 -- The answers about a change of a document that isn't among the rows.
-use Rattle.std.proofs.Common.{◌≡◌, ℕ, ◌-◌, Bool, true, false, not, List, length, Option, option_map, slice_get, get_or, refl, sym, ap, ◌∙◌}
+use Rattle.std.proofs.Common.{◌≡◌, ◌-◌, Bool, true, false, not, List, length, Option, option_map, slice_get, get_or, refl, sym, ap, ◌∙◌}
 use Rattle.std.specs.List.{list_any}
 use Rattle.rx_value.specs.Fields.{Pairs}
 use Rattle.rx_document.specs.declared.change.Change.{Change}

@@ -18,7 +18,7 @@ use Rattle.rx_value.specs.declared.value.Value.{Value}
 use Rattle.rx_document.specs.declared.change.Change.{Change}
 use Rattle.rx_query.proofs.Rows.{other_key}
 use Rattle.rx_query.specs.Lists.{some_passes, first_passes}
-use Rattle.rx_query.specs.Order.{field_cmp, sort_cmp, sorts_cmp, query_cmp}
+use Rattle.rx_query.specs.Order.{field_cmp, sort_cmp, sorts_cmp}
 use Rattle.rx_query.specs.QuerySpec.{QuerySpec, Sorts}
 use Rattle.rx_query.specs.States.{is_changed, precedes, ties}
 use Rattle.rx_query.specs.declared.results.Row.{Row}

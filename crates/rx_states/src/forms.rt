@@ -73,7 +73,11 @@ fn value_at<'a>(fields: &'a Fields, name: &str, i: usize) -> Option<&'a Value>
     }
 }
 
-pub(crate) fn form_of<'a>(query: &Query, fields: Option<&'a Fields>, near: &mut usize) -> Option<Form<'a>>
+pub(crate) fn form_of<'a>(
+    query: &Query,
+    fields: Option<&'a Fields>,
+    near: &mut usize,
+) -> Option<Form<'a>>
     ensures fields { fields_in result ≡ option_copied fields.entry }
     ensures leading { ForSome result (IsForm (asked query.now).sorts) }
 {
@@ -83,7 +87,11 @@ pub(crate) fn form_of<'a>(query: &Query, fields: Option<&'a Fields>, near: &mut 
     }
 }
 
-pub(crate) fn form_of_row<'a>(query: &Query, row: Option<&'a Row>, near: &mut usize) -> Option<Form<'a>>
+pub(crate) fn form_of_row<'a>(
+    query: &Query,
+    row: Option<&'a Row>,
+    near: &mut usize,
+) -> Option<Form<'a>>
     ensures fields { fields_in result
         ≡ option_map (λ r. r.fields) (option_copied row.entry) }
     ensures leading { ForSome result (IsForm (asked query.now).sorts) }

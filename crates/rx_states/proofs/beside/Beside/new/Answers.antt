@@ -33,12 +33,16 @@ module _ (c : goal.After-is_before-4) where
 
   first : fields_in c.form_of_row-first.result
       ≡ option_map (λ (r : Row). r.fields) (slice_get c.args.results.now 0)
-  first = c.form_of_row-first.ensures.fields ∙ ap (option_map (λ (r : Row). r.fields)) c.first.ensures
+  first =
+      c.form_of_row-first.ensures.fields
+      ∙ ap (option_map (λ (r : Row). r.fields)) c.first.ensures
 
   last : fields_in c.form_of_row-last.result
       ≡ option_map (λ (r : Row). r.fields)
       (slice_get c.args.results.now (length c.args.results.now - 1))
-  last = c.form_of_row-last.ensures.fields ∙ ap (option_map (λ (r : Row). r.fields)) c.last.ensures
+  last =
+      c.form_of_row-last.ensures.fields
+      ∙ ap (option_map (λ (r : Row). r.fields)) c.last.ensures
 
   each : (s : StateName) → get_or answers (index_of s) false
       ≡ state_of (asked c.args.query.now) c.args.change.now c.args.results.now s
