@@ -78,6 +78,8 @@ mod writing;
 
 pub use at::At;
 pub use master_view::MasterView;
+pub use pair_view::PairView;
+pub use pair_views::PairViews;
 pub use part_view::PartView;
 pub use part_views::PartViews;
 pub use place_view::PlaceView;
@@ -87,3 +89,4 @@ pub use row_view::RowView;
 pub use row_views::RowViews;
 pub use state_view::StateView;
 pub use state_views::StateViews;
+pub use value_view::ValueView;

@@ -1,8 +1,8 @@
 use crate::value_view::ValueView;
 
-// A field, lent.
+/// A field, lent.
 #[derive(Clone, Copy, Debug)]
-pub(crate) struct PairView<'a> {
+pub struct PairView<'a> {
     pub name: &'a str,
     pub value: ValueView<'a>,
 }

@@ -6,12 +6,12 @@ use crate::pair_view::PairView;
 use crate::pairs::read_pair;
 use crate::reading::read_count;
 
-// The fields that are still to come, by rising name.
+/// The fields that are still to come, by rising name.
 #[derive(Clone, Copy, Debug)]
-pub(crate) struct PairViews<'a> {
-    pub left: u32,
-    pub last: Option<&'a str>,
-    pub bytes: &'a [u8],
+pub struct PairViews<'a> {
+    pub(crate) left: u32,
+    pub(crate) last: Option<&'a str>,
+    pub(crate) bytes: &'a [u8],
     ghost read: { IsTrue (is_read (pairs_of left (option_map (λ t. t.now) last) bytes.now)) },
 }
 
@@ -33,7 +33,8 @@ impl<'a> PairViews<'a> {
         }
     }
 
-    pub(crate) fn next(&mut self) -> Option<PairView<'a>>
+    /// The next field; none after the last.
+    pub fn next(&mut self) -> Option<PairView<'a>>
         ensures some { IfSome result
             (λ pair. pairs_left self.old ≡ pair_in pair ∷ pairs_left self.new) }
         ensures none { IfNone result (pairs_left self.old ≡ []) }

@@ -82,15 +82,6 @@ impl<'a> RecordView<'a> {
         }
     }
 
-    /// Whether it only writes one document. Whoever asks may go either way: it tells what costs
-    /// less.
-    pub fn has_one_row(&self) -> bool {
-        match self {
-            RecordView::Rows { rows, .. } => rows.left == 1,
-            _ => false,
-        }
-    }
-
     /// The record in memory of its own.
     pub fn own(&self, alloc: Global) -> Result<Record, AllocError>
         ensures { IfOk result (λ owned. content owned ≡ content_in self.now) }

@@ -3,6 +3,7 @@ ghost use Rattle.rx_record.specs.Reading.{is_whole};
 ghost use Rattle.rx_record.specs.Fields.{fields_of};
 
 use crate::owning::own_fields;
+use crate::pair_views::PairViews;
 use rx_value::{RxText, State};
 use std::alloc::{AllocError, Global};
 
@@ -18,7 +19,14 @@ pub struct StateView<'a> {
 
 impl<'a> StateView<'a> {
     ghost use Rattle.std.specs.Prelude.{◌≡◌, IfOk};
-    ghost use Rattle.rx_record.specs.Views.{state_in};
+    ghost use Rattle.rx_record.specs.Views.{pairs_left, state_in};
+
+    /// The fields, lent.
+    pub fn pairs(&self) -> PairViews<'a>
+        ensures { pairs_left result ≡ (state_in self.now).fields }
+    {
+        PairViews::new(self.fields)
+    }
 
     /// The state in memory of its own.
     pub fn own(&self, alloc: Global) -> Result<State, AllocError>

@@ -13,9 +13,9 @@ pub(crate) const NUMBER: u8 = 1;
 
 pub(crate) const TEXT: u8 = 2;
 
-// A field's value, its text lent.
+/// A field's value, its text lent.
 #[derive(Clone, Copy, Debug)]
-pub(crate) enum ValueView<'a> {
+pub enum ValueView<'a> {
     Flag(bool),
     Int(i64),
     Text(&'a str),

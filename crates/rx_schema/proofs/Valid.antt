@@ -1,7 +1,8 @@
 -- What holds of valid fields.
 use Rattle.std.proofs.Common.{◌≡◌, ℕ, zero, suc, ◌<◌, Bool, true, false, cond, not, ◌&&◌, ◌||◌, List, [], ◌∷◌, length, Option, Some, None, is_none, option_map, refl, sym, ap, ◌∙◌, true≢false, arith, nat_eq, nat_lt}
 use Rattle.std.proofs.lemmas.Slice.Eq.{bytes_eq-Decides}
-use Rattle.std.specs.List.{AllByRecursion}
+use Rattle.std.specs.List.{AllByRecursion, list_all}
+use Rattle.std.specs.Option.{option_or}
 use Rattle.std.specs.Prelude.{⊤, Result, Ok, Err, IfOk}
 use Rattle.std.specs.Str.{bytes_eq, chars}
 use Rattle.rx_value.specs.Fields.{Pair, Pairs}
@@ -12,6 +13,7 @@ use Rattle.rx_value.specs.State.{mark}
 use Rattle.rx_value.specs.declared.value.Value.{Value}
 use Rattle.rx_value.specs.declared.value.Value.TheVariants as value
 use Rattle.rx_schema.specs.Lawful.{IsSchema}
+use Rattle.rx_schema.specs.Lent.{takes}
 use Rattle.rx_schema.specs.Validity.{Fault, of_length, is_long_enough, unless_fits, fault_of, first_missing, first_unknown, first_bad, first_fault, outcome, missing, unknown, HasKey}
 use Rattle.rx_schema.specs.declared.rule.Rule.{Rule}
 use Rattle.rx_schema.specs.declared.rule.Rule.TheVariants.{Text}
@@ -19,6 +21,56 @@ use Rattle.rx_schema.specs.declared.shape.Shape.{Shape}
 use Rattle.rx_schema.specs.declared.validity.Invalid.{Invalid}
 use Rattle.rx_schema.proofs.Properties.{Rules}
 use Rattle.rx_value.proofs.Outcomes.{none_or, none_mapped}
+
+-- ---- no field that is unknown
+
+-- one field that isn't bad, and then the others
+known_step : (s : Shape) (p : Pair) (ps : Pairs) (is_key : Bool) (rule : Option Rule)
+    → option_or (fault_of rule is_key p.0 p.1) (first_bad s ps) ≡ None
+    → (first_bad s ps ≡ None → first_unknown s.properties ps ≡ None)
+    → cond (is_none rule) (Some p.0) (first_unknown s.properties ps) ≡ None
+known_step s p ps is_key None h rest = cc
+known_step s p ps is_key (Some r) h rest = rest (none_or _ _ h).1
+
+-- where no field is bad none is unknown
+pub known : (s : Shape) (ps : Pairs) → first_bad s ps ≡ None → first_unknown s.properties ps ≡ None
+known s [] h = refl
+known s (p ∷ ps) h =
+    known_step s p ps (bytes_eq p.0 s.primary) (named s.properties p.0) h (known s ps)
+
+-- ---- valid in parts
+
+-- either is none where both are
+none_of_both : {A : Type 0} (a b : Option A) → is_none (option_or a b) ≡ (is_none a && is_none b)
+none_of_both None b = refl
+none_of_both (Some x) b = refl
+
+-- no field is bad exactly where each is taken
+none_bad : (s : Shape) (ps : Pairs)
+    → is_none (first_bad s ps) ≡ list_all (λ p. takes s p.0 p.1) ps
+none_bad s [] = refl
+none_bad s (p ∷ ps) =
+    none_of_both (fault_of (named s.properties p.0) (bytes_eq p.0 s.primary) p.0 p.1)
+    (first_bad s ps)
+    ∙ ap (λ b. takes s p.0 p.1 && b) (none_bad s ps)
+
+-- what is unknown is bad too
+parts_step : (lacking strange : Option (List ℕ)) (bad : Option Fault)
+    → (bad ≡ None → strange ≡ None)
+    → is_none (option_or (option_map missing lacking) (option_or (option_map unknown strange) bad))
+    ≡ (is_none lacking && is_none bad)
+parts_step (Some name) strange bad known_so = refl
+parts_step None None bad known_so = refl
+parts_step None (Some name) None known_so = let never = known_so refl in cc
+parts_step None (Some name) (Some fault) known_so = refl
+
+-- fields are valid exactly where each required name is among theirs and each field is taken
+pub in_parts : (s : Shape) (ps : Pairs) → is_none (first_fault s ps)
+    ≡ (is_none (first_missing s.required ps) && list_all (λ p. takes s p.0 p.1) ps)
+in_parts s ps =
+    parts_step (first_missing s.required ps) (first_unknown s.properties ps) (first_bad s ps)
+    (known s ps)
+    ∙ ap (λ b. is_none (first_missing s.required ps) && b) (none_bad s ps)
 
 -- ---- no mark
 

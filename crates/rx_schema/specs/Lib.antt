@@ -4,3 +4,4 @@ pub mod Reading
 pub mod Writing
 pub mod Lawful
 pub mod Validity
+pub mod Lent

@@ -2,6 +2,7 @@
 #![tactic(auto)]
 
 mod fault;
+mod lent_value;
 mod names;
 mod property;
 mod reading;
@@ -12,6 +13,7 @@ mod validity;
 mod writing;
 
 pub use fault::SchemaFault;
+pub use lent_value::LentValue;
 pub use names::MOST_INDEX_FIELDS;
 pub use property::{MOST_CODE_POINTS, USUAL_CODE_POINTS};
 pub use reading::{MOST_INDEXES, MOST_PROPERTIES, MOST_VERSION};

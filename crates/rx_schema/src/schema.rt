@@ -6,14 +6,16 @@ ghost use Rattle.rx_value.specs.Due.{Due};
 ghost use Rattle.rx_value.specs.Named.{named};
 ghost use Rattle.rx_value.specs.State.{mark};
 ghost use Rattle.rx_schema.specs.Reading.{schema_of};
+ghost use Rattle.rx_schema.specs.Lent.{value_lent, takes};
 ghost use Rattle.rx_schema.specs.Validity.{outcome, first_fault, HasKey};
 ghost use Rattle.rx_schema.specs.Writing.{canonical_text, hash_text, kinds_of};
 ghost use Rattle.rx_schema.specs.declared.fault.SchemaFault.TheVariants.{Memory};
 
 use crate::fault::SchemaFault;
+use crate::lent_value::LentValue;
 use crate::reading::read_shape;
 use crate::shape::Shape;
-use crate::validity::{Invalid, first_fault};
+use crate::validity::{Invalid, first_fault, takes};
 use crate::writing::{canonical_text, hash_text, kinds_of};
 use rx_value::{Fields, Kinds, RxText};
 use serde_json::Value as Json;
@@ -71,6 +73,21 @@ impl Schema {
         ensures key { IfOk result (λ _. HasKey fields.now self.now.primary) }
     {
         first_fault(&self.shape, fields)
+    }
+
+    /// Whether a field of that name may have the value. Fields are valid where each is taken and
+    /// each required name is among theirs.
+    pub fn takes(&self, name: &str, value: LentValue<'_>) -> bool
+        ensures { result ≡ takes self.now name.now (value_lent value.entry) }
+    {
+        takes(&self.shape, name, value)
+    }
+
+    /// The names of the required fields, rising.
+    pub fn required(&self) -> &[RxText]
+        ensures { result.now ≡ self.now.required }
+    {
+        self.shape.required.as_slice()
     }
 
     /// The kind of each property, by rising name.

@@ -1,4 +1,5 @@
 pub mod Entries
+pub mod LentFields
 pub mod Looked
 pub mod Remaking
 pub mod States

@@ -1,5 +1,6 @@
 ghost use Rattle.std.specs.Prelude.{◌≡◌, ◌+◌, ◌==◌, IfOk};
 ghost use Rattle.std.specs.List.{list_all};
+ghost use Rattle.rx_collection.specs.Commit.{next_height};
 ghost use Rattle.rx_value.specs.Named.{by_bytes, named};
 ghost use Rattle.rx_record.specs.Content.{collection};
 ghost use Rattle.rx_record.specs.Shown.{content, content_in};
@@ -15,6 +16,7 @@ use crate::replicating::{may_begin, takes_exchange};
 use crate::replicating_views::takes_exchange_view;
 use crate::replications::find as find_replication;
 use crate::schema_text::schema_in;
+use crate::valid_views::is_valid_view;
 use rx_collection::{Collection, Holder, MOST_LWT};
 use rx_record::{Record, RecordView, RowOut, RowView, RowViews};
 use rx_schema::Schema;
@@ -74,8 +76,8 @@ pub(crate) fn is_legal<H: Holder>(
     }
 }
 
-/// The same of a record that is only lent. A schema, one state at a time, a master's name, a
-/// checkpoint or a migration is owned.
+/// The same of a record that is only lent. A schema, a master's name, a checkpoint or a migration
+/// is owned.
 pub(crate) fn is_legal_view<H: Holder>(
     parts: &Parts<H>,
     alloc: Global,
@@ -89,7 +91,7 @@ pub(crate) fn is_legal_view<H: Holder>(
     match view {
         RecordView::Collection { name, schema } => is_new(parts, alloc, name, schema),
         RecordView::Rows { name, lwt, rows } => match find(&parts.holders, name) {
-            Some(holder) => takes_views(alloc, holder.collection(), *lwt, rows),
+            Some(holder) => Ok(takes_views(holder.collection(), *lwt, rows)),
             None => Ok(false),
         },
         RecordView::Replication {
@@ -157,55 +159,36 @@ pub(crate) fn takes(collection: &Collection, lwt: u64, rows: &[RowOut]) -> bool
     !rows.is_empty() && collection.last_lwt() < lwt && lwt <= MOST_LWT && are_due(collection, rows)
 }
 
-pub(crate) fn takes_views(
-    alloc: Global,
-    collection: &Collection,
-    lwt: u64,
-    rows: &RowViews<'_>,
-) -> Result<bool, AllocError>
-    ensures { IfOk result (λ b. b ≡ takes lwt (rows_left rows.now) collection.now) }
+pub(crate) fn takes_views(collection: &Collection, lwt: u64, rows: &RowViews<'_>) -> bool
+    ensures { result ≡ takes lwt (rows_left rows.now) collection.now }
 {
     let mut rows = *rows;
     let Some(first) = rows.next() else {
-        return Ok(false);
+        return false;
     };
     if lwt <= collection.last_lwt() || MOST_LWT < lwt {
-        return Ok(false);
+        return false;
     }
-    if !is_next_view(alloc, collection, &first)? {
-        return Ok(false);
-    }
-    are_due_views(alloc, collection, &rows)
+    is_next_view(collection, &first) && are_due_views(collection, &rows)
 }
 
-fn are_due_views(
-    alloc: Global,
-    collection: &Collection,
-    rows: &RowViews<'_>,
-) -> Result<bool, AllocError>
-    ensures { IfOk result (λ b. b ≡ list_all (is_next_row collection.now) (rows_left rows.now)) }
+fn are_due_views(collection: &Collection, rows: &RowViews<'_>) -> bool
+    ensures { result ≡ list_all (is_next_row collection.now) (rows_left rows.now) }
 {
     let mut rows = *rows;
     while let Some(row) = rows.next() {
-        if !is_next_view(alloc, collection, &row)? {
-            return Ok(false);
+        if !is_next_view(collection, &row) {
+            return false;
         }
     }
-    Ok(true)
+    true
 }
 
-fn is_next_view(
-    alloc: Global,
-    collection: &Collection,
-    row: &RowView<'_>,
-) -> Result<bool, AllocError>
-    ensures { IfOk result (λ b. b ≡ is_next_row collection.now (row_in row.now)) }
+fn is_next_view(collection: &Collection, row: &RowView<'_>) -> bool
+    ensures { result ≡ is_next_row collection.now (row_in row.now) }
 {
-    let row = RowOut {
-        height: row.height,
-        state: row.state.own(alloc)?,
-    };
-    Ok(is_next_row(collection, &row))
+    is_valid_view(collection.schema(), &row.state)
+        && is_next_height(collection, row.state.key, row.height)
 }
 
 fn are_due(collection: &Collection, rows: &[RowOut]) -> bool
@@ -220,9 +203,15 @@ fn is_next_row(collection: &Collection, row: &RowOut) -> bool
     if !is_valid(collection.schema(), &row.state) {
         return false;
     }
-    match collection.get(row.state.key.as_str()) {
-        Some(held) => row.height == held.rev.height + 1,
-        None => row.height == 1,
+    is_next_height(collection, row.state.key.as_str(), row.height)
+}
+
+fn is_next_height(collection: &Collection, key: &str, height: u64) -> bool
+    ensures { result ≡ (height == next_height (named collection.now.documents key.now)) }
+{
+    match collection.get(key) {
+        Some(held) => height == held.rev.height + 1,
+        None => height == 1,
     }
 }
 

@@ -21,6 +21,7 @@ mod rows;
 mod same;
 mod schema_text;
 mod soundness;
+mod valid_views;
 mod world;
 
 pub use copying::{MOST_COPIED_EPOCH, copy};

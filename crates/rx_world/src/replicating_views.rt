@@ -1,23 +1,22 @@
-// What a replication takes, of a record that is only lent. One state at a time, or a checkpoint, is
-// owned.
+// What a replication takes, of a record that is only lent. A checkpoint is owned.
 ghost use Rattle.std.specs.Prelude.{◌≡◌, IfOk, option_map};
 ghost use Rattle.std.specs.List.{list_all};
 ghost use Rattle.rx_record.specs.Places.{place_in};
-ghost use Rattle.rx_record.specs.Views.{rows_left, states_left};
+ghost use Rattle.rx_record.specs.Views.{rows_left, state_in, states_left};
 ghost use Rattle.rx_value.specs.Named.{by_name};
 ghost use Rattle.rx_world.specs.Holders.{AreWhole};
 ghost use Rattle.rx_world.specs.Replicating.{stays_or_rises};
 ghost use Rattle.rx_world.specs.Step.{fork_takes, has_key, is_held_with, takes_exchange, takes_rows};
 
-use crate::legality::{is_valid, takes_views};
+use crate::legality::takes_views;
 use crate::names::find;
 use crate::replicating::stays_or_rises;
 use crate::replication::Replication;
+use crate::valid_views::is_valid_view;
 use indexmap::IndexMap;
 use rx_collection::{Collection, Holder};
 use rx_document::Place;
-use rx_record::{PlaceView, RowViews, StateViews};
-use rx_value::State;
+use rx_record::{PlaceView, RowViews, StateView, StateViews};
 use std::alloc::{AllocError, Global};
 
 // Whether a replication takes an exchange.
@@ -42,7 +41,7 @@ pub(crate) fn takes_exchange_view<H: Holder>(
         return Ok(false);
     }
     match find(holders, replication.fork.as_str()) {
-        Some(fork) => fork_takes_views(fork.collection(), alloc, lwt, rows, known),
+        Some(fork) => Ok(fork_takes_views(fork.collection(), lwt, rows, known)),
         None => Ok(false),
     }
 }
@@ -71,62 +70,44 @@ fn own_place(alloc: Global, place: &Option<PlaceView<'_>>) -> Result<Option<Plac
 // Whether a fork takes the rows, and then holds the keys of the known states.
 fn fork_takes_views(
     fork: &Collection,
-    alloc: Global,
     lwt: u64,
     rows: &RowViews<'_>,
     known: &StateViews<'_>,
-) -> Result<bool, AllocError>
-    ensures { IfOk result (λ b. b
-        ≡ fork_takes lwt (rows_left rows.now) (states_left known.now) fork.now) }
+) -> bool
+    ensures { result ≡ fork_takes lwt (rows_left rows.now) (states_left known.now) fork.now }
 {
-    if !takes_row_views(fork, alloc, lwt, rows)? {
-        return Ok(false);
-    }
-    are_held_views(fork, alloc, rows, known)
+    takes_row_views(fork, lwt, rows) && are_held_views(fork, rows, known)
 }
 
-fn takes_row_views(
-    fork: &Collection,
-    alloc: Global,
-    lwt: u64,
-    rows: &RowViews<'_>,
-) -> Result<bool, AllocError>
-    ensures { IfOk result (λ b. b ≡ takes_rows lwt (rows_left rows.now) fork.now) }
+fn takes_row_views(fork: &Collection, lwt: u64, rows: &RowViews<'_>) -> bool
+    ensures { result ≡ takes_rows lwt (rows_left rows.now) fork.now }
 {
     let mut rest = *rows;
     match rest.next() {
-        Some(_) => takes_views(alloc, fork, lwt, rows),
-        None => Ok(lwt == 0),
+        Some(_) => takes_views(fork, lwt, rows),
+        None => lwt == 0,
     }
 }
 
-fn are_held_views(
-    fork: &Collection,
-    alloc: Global,
-    rows: &RowViews<'_>,
-    known: &StateViews<'_>,
-) -> Result<bool, AllocError>
-    ensures { IfOk result (λ b. b
-        ≡ list_all (is_held_with fork.now (rows_left rows.now)) (states_left known.now)) }
+fn are_held_views(fork: &Collection, rows: &RowViews<'_>, known: &StateViews<'_>) -> bool
+    ensures { result
+        ≡ list_all (is_held_with fork.now (rows_left rows.now)) (states_left known.now) }
 {
     let mut known = *known;
     while let Some(state) = known.next() {
-        let state = state.own(alloc)?;
         if !is_held_view(fork, rows, &state) {
-            return Ok(false);
+            return false;
         }
     }
-    Ok(true)
+    true
 }
 
 // Whether the state is valid, and its key is held by the fork with the rows.
-fn is_held_view(fork: &Collection, rows: &RowViews<'_>, state: &State) -> bool
-    ensures { result ≡ is_held_with fork.now (rows_left rows.now) state.now }
+fn is_held_view(fork: &Collection, rows: &RowViews<'_>, state: &StateView<'_>) -> bool
+    ensures { result ≡ is_held_with fork.now (rows_left rows.now) (state_in state.now) }
 {
-    if !is_valid(fork.schema(), state) {
-        return false;
-    }
-    fork.get(state.key.as_str()).is_some() || has_key_view(state.key.as_str(), rows)
+    is_valid_view(fork.schema(), state)
+        && (fork.get(state.key).is_some() || has_key_view(state.key, rows))
 }
 
 fn has_key_view(key: &str, rows: &RowViews<'_>) -> bool

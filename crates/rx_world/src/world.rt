@@ -144,8 +144,8 @@ impl<H: Holder + Drop> World<H> {
         is_legal(&self.parts, alloc, entry)
     }
 
-    /// Whether the record of a view may come next, from its lent parts. A schema, or one state at a
-    /// time, is owned for the test.
+    /// Whether the record of a view may come next, from its lent parts. Of these no state is owned
+    /// for the test.
     pub fn legal_view(&self, alloc: Global, view: &RecordView<'_>) -> Result<bool, AllocError>
         ensures { IfOk result
             (λ b. b ≡ legal (content_in view.now) (world_in H.held self.now)) }
@@ -189,21 +189,14 @@ impl<H: Holder + Drop> World<H> {
         chain::is_in_group(&self.parts.replications, name, other)
     }
 
-    /// The record of a view, where it may come next. One of several rows is tested first, from its
-    /// lent parts, so that none is copied whole that is refused.
+    /// The record of a view, where it may come next. It is tested first, from its lent parts, so
+    /// that none is owned that is refused.
     pub fn accept(&self, alloc: Global, view: &RecordView<'_>) -> Result<Option<Record>, AllocError>
         ensures some { IfOk result (λ taken. IfSome taken
             (λ entry. content entry ≡ content_in view.now)) }
         ensures legal { IfOk result (λ taken. is_some taken
             ≡ legal (content_in view.now) (world_in H.held self.now)) }
     {
-        if view.has_one_row() {
-            let entry = view.own(alloc)?;
-            if self.legal(alloc, &entry)? {
-                return Ok(Some(entry));
-            }
-            return Ok(None);
-        }
         if !self.legal_view(alloc, view)? {
             return Ok(None);
         }
