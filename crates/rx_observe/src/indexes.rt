@@ -29,9 +29,9 @@ fn index_by_key(alloc: Global, collection: &Collection) -> Result<Index, AllocEr
     ensures lawful { OnOk result (IsLawful collection.now) }
 {
     let mut index = Index::new(alloc, &[])?;
-    for document in collection.all() {
-        let slot = collection.slot_for(document.state.key.as_str());
-        index.put(None, document, slot)?;
+    let mut documents = collection.all();
+    while let Some(document) = documents.next() {
+        index.put(None, document, documents.slot())?;
     }
     Ok(index)
 }
@@ -42,9 +42,9 @@ fn index_by(alloc: Global, collection: &Collection, fields: &[RxText]) -> Result
     ensures lawful { OnOk result (IsLawful collection.now) }
 {
     let mut filling = Filling::new(alloc, fields, collection.len())?;
-    for document in collection.all() {
-        let slot = collection.slot_for(document.state.key.as_str());
-        filling.take(document, slot)?;
+    let mut documents = collection.all();
+    while let Some(document) = documents.next() {
+        filling.take(document, documents.slot())?;
     }
     let index = filling.done()?;
     Ok(index)

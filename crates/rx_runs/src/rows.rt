@@ -13,6 +13,8 @@ use std::marker::Model;
 pub struct Rows<'a, V> {
     names: Pairs<'a, u32>,
     rows: &'a Slots<V>,
+    // That of the value that came last.
+    slot: u32,
 }
 
 impl<'a, V> Model for Rows<'a, V> {
@@ -32,7 +34,16 @@ impl<'a, V> Rows<'a, V> {
         requires { AllUnder (length rows.now) names }
         ensures { result ≡ shown rows.entry.now names.entry }
     {
-        Rows { names, rows }
+        Rows {
+            names,
+            rows,
+            slot: 0,
+        }
+    }
+
+    /// The slot of the value that came last, as a hint.
+    pub fn slot(&self) -> u32 {
+        self.slot
     }
 }
 
@@ -45,6 +56,7 @@ impl<'a, V> Iterator for Rows<'a, V> {
 
     fn next(&mut self) -> Option<(&'a Name, &'a V)> {
         let (name, slot) = self.names.next()?;
+        self.slot = *slot;
         Some((name, self.rows.at(*slot as usize)))
     }
 }

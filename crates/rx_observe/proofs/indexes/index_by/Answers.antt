@@ -16,8 +16,6 @@ loop-document-preserved c =
           takes held inv.lawful d left i
           (subst (λ ds. IsTaking held.documents ds i) c.in-Some.ensures.steps inv.taking)
           c.take.new.self c.in_ok-take.ensures.ok;
-      can_next = search rules;
-      finite = search rules;
     }
 
 -- and the index of what was taken up holds all
@@ -26,7 +24,7 @@ returns-clause-index c =
     let held = c.args.collection.now in
     let i = c.loop-document.filling in
     let inv = c.loop-document.invariant in
-    let none : c.loop-document.document-iterator ≡ [] = search rules in
+    let none : c.loop-document.documents ≡ [] = search rules in
     record {
       fields_are = c.in_ok-index.ensures.fields ∙ inv.fields;
       held =

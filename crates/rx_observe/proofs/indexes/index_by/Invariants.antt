@@ -1,4 +1,4 @@
-use Rattle.std.proofs.Common.{◌≡◌}
+use Rattle.std.proofs.Common.{◌≡◌, length}
 use Rattle.rx_collection.specs.Lawful.{IsLawful}
 use Rattle.rx_observe.proofs.Making.{IsTaking}
 use Rattle.rx_observe.proofs.indexes.index_by.Given as goal
@@ -8,7 +8,8 @@ abbrev pub invariant-loop-document : goal.invariant-loop-document
 invariant-loop-document l = record {
   lawful : IsLawful l.collection;
   fields : l.filling.fields ≡ l.fields;
-  taking : IsTaking l.collection.documents l.document-iterator l.filling;
-  can_next : (goal.iterator-loop-document).can_next l.document-iterator;
-  finite : (goal.iterator-loop-document).is_finite l.document-iterator;
+  taking : IsTaking l.collection.documents l.documents l.filling;
 }
+
+abbrev pub decreases-loop-document : goal.decreases-loop-document
+decreases-loop-document l = length l.documents
