@@ -15,11 +15,12 @@ import threading
 import time
 
 import shared
-from shared import Talk, Wrong, case, collection, compact, insist, main, run, same
+from shared import Talk, case, collection, compact, insist, main, same
 
 COLLECTIONS, DOCUMENTS, BULK = 64, 100_000, 1_000
 SECONDS, BETWEEN = 600, 10
 BLOCK = 64
+LARGE = ("--max-journal", "4294967295")
 GONE = -1
 
 
@@ -87,7 +88,7 @@ class Round:
     """One run, to which lines are sent until it is killed."""
 
     def __init__(self, journal, model):
-        self.model, self.talk, self.wrong = model, Talk(journal), None
+        self.model, self.talk, self.wrong = model, Talk(journal, *LARGE), None
         # Lines that weren't answered yet: what is due, and what each writes.
         self.open, self.answered, self.memory = collections.deque(), 0, []
 
@@ -135,7 +136,7 @@ def memory_of(child):
 
 def fill(journal):
     """Makes all collections with all documents."""
-    talk = subprocess.Popen([shared.RX, "run", journal], stdin=subprocess.PIPE, stdout=subprocess.DEVNULL)
+    talk = subprocess.Popen([shared.RX, "run", journal, *LARGE], stdin=subprocess.PIPE, stdout=subprocess.DEVNULL)
     for of in range(COLLECTIONS):
         lines = [collection(name_of(of))]
         for first in range(0, DOCUMENTS, BULK):
@@ -170,13 +171,12 @@ def settle(talk, model, rest):
     return len(rest)
 
 
-def all_stands(journal, model):
+def all_stands(talk, model):
     """Compares each document with the model."""
     for of in range(COLLECTIONS):
-        status, replies = run(journal, [compact({"do": "find", "in": name_of(of), "query": {}})])
-        same(status, 0, f"the status of the run that finds all of {name_of(of)}")
+        reply = talk.ask(compact({"do": "find", "in": name_of(of), "query": {}}))
         due = [document(place, number) for place, number in enumerate(model.held[of]) if number != GONE]
-        insist(replies[0]["rows"] == due, f"{name_of(of)} isn't what was written to it")
+        insist(reply and reply["rows"] == due, f"{name_of(of)} isn't what was written to it")
 
 
 def kept(figures):
@@ -199,15 +199,15 @@ def soaked(folder):
         standing += settle(round_.talk, model, rest)
         rest = round_.play(lambda it: memory.append((time.monotonic() - begun, it)))
         kills, answered = kills + 1, answered + round_.answered
-    looked = Talk(journal)
+    looked = Talk(journal, *LARGE)
     standing += settle(looked, model, rest)
+    all_stands(looked, model)
     insist(looked.end() in (0, 1), "the run that looks ended early")
-    all_stands(journal, model)
     kept(memory)
     least, most = min(it for _, it in memory), max(it for _, it in memory)
     insist(most <= 1.1 * least, f"memory went from {least:,.0f} to {most:,.0f} MiB")
     insist(answered >= 1_000_000, f"only {answered:,} lines were answered")
-    return (f"{kills} kills, {answered:,} lines answered, {standing:,} that weren't stood: nothing lost of "
+    return (f"{kills} kills, {answered:,} lines answered, {standing:,} more stand: nothing lost of "
             f"{COLLECTIONS * DOCUMENTS:,} documents; {least:,.0f} to {most:,.0f} MiB")
 
 
