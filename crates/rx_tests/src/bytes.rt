@@ -9,7 +9,7 @@ fn scripts_are_read_by_their_bytes(rt: HostRuntime) -> Result<(), Fail> {
 
 const CASES: &str = r#"
 == a script is played alike in pieces of any size
-: §1
+: ¤1
 . C(c) {"do":"observe","name":"q","in":"c","query":{"selector":{"n":1}}}
 < {"emit":"q","rows":[]}
 . I(c,a,1)
@@ -49,7 +49,7 @@ const CASES: &str = r#"
 // Bytes that are no UTF-8, a byte order mark, a 0, and spaces that make no line blank; lines that
 // end by a return too, and a last line without an end.
 == blank lines count and the last line needs no end
-: §1
+: ¤1
 - 0a 20090d0a 22ff220a efbbbf '{}' 0a 0b0a 0c0a 09 '{"do":"tick","at":1}' 0d0a 000a c2a00a
 - '{"do":"tick","at":2}' 2009
 < {"code":2,"line":3,"refused":"not_json"}

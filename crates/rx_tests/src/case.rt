@@ -21,7 +21,7 @@
 //     = 52584a4f55524e31 00                      bytes that the journal holds afterwards
 //     % 52584a4f55524e32 00                      bytes that the copy holds afterwards
 //     /                                          the copy is the journal from here on
-//     | ["n"] | 5                                the case with these for §1 and §2; each such line once
+//     | ["n"] | 5                                the case with these for ¤1 and ¤2; each such line once
 //     // what follows is refused                 a comment
 //
 // Without a `$` the words are `run journal`. Bytes are in hex, and texts between apostrophes. The
@@ -69,7 +69,7 @@ fn play_row(alloc: Global, facts: &str, row: &str) -> Result<(), Fail> {
     play(alloc, row, facts.as_str(), &[])
 }
 
-const COLUMNS: [&str; 4] = ["§1", "§2", "§3", "§4"];
+const COLUMNS: [&str; 4] = ["¤1", "¤2", "¤3", "¤4"];
 
 fn facts_of(alloc: Global, facts: &str, row: &str) -> Result<String, AllocError> {
     let mut text = String::from_str(alloc, facts)?;

@@ -153,7 +153,7 @@ $ run journal
 // What is no copy is left alone.
 
 == what is no copy
-^ §2
+^ ¤2
 < {"stop":"not_journal"}
 | the end of the copy is wanting | COPY 01 0000003e 07 00000001 'c' 00000001 0000000000000005 0000000000000002 00000001 'a' 00 00000002 00000002 'id' 02 00000001 'a' 00000001 'n' 01 0000000000000001 00
 | a late end, behind a record of a run | COPY 01 00000009 05 0000000000000001 01 00000009 09 0000000000000001 00

@@ -240,7 +240,7 @@ const COLLECTION: &str =
 // Each field is missing somewhere, the text is empty once, and one document is taken out.
 const CASES: &str = r#"
 == counts by hand are the same by each index
-. {"do":"collection","name":"c","schema":{"version":0,"primaryKey":"id","type":"object","properties":{"id":{"type":"string","maxLength":20},"b":{"type":"boolean"},"n":{"type":"integer","minimum":-1000,"maximum":1000,"multipleOf":1},"s":{"type":"string","maxLength":5}},"indexes":§1}}
+. {"do":"collection","name":"c","schema":{"version":0,"primaryKey":"id","type":"object","properties":{"id":{"type":"string","maxLength":20},"b":{"type":"boolean"},"n":{"type":"integer","minimum":-1000,"maximum":1000,"multipleOf":1},"s":{"type":"string","maxLength":5}},"indexes":¤1}}
 > {"do":"bulk","in":"c","docs":[{"b":true,"id":"a","n":1,"s":"x"},{"b":true,"id":"b","n":1},{"b":false,"id":"d","n":2,"s":""},{"b":true,"id":"e","s":"x"},{"id":"f","n":1,"s":"y"},{"b":false,"id":"g","n":2,"s":"x"},{"b":true,"id":"h","n":-3,"s":"y"}]}
 < {"line":L,"ok":"bulk","revs":["1-c","1-c","1-c","1-c","1-c","1-c","1-c"]}
 > {"do":"remove","in":"c","key":"g"}

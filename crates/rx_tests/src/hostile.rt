@@ -52,9 +52,9 @@ const FIRST: &str = r#"// Before anything was replicated, a pull is answered.
 . C(f) {"do":"replicate","name":"r","fork":"f","port":4001,"handler":"master_wins"}
 > {"do":"turn","name":"r"}
 +
-§1
+¤1
 & {"ask":"pull","batch":100,"epoch":1,"n":1,"schema":"d3965597d0b8e1c41da9b2dc759684814b6376a695e3324ffc338dfea45c31a5"}
-< {"exchange":1,"lost":"§2","sent":"pull"}
+< {"exchange":1,"lost":"¤2","sent":"pull"}
 < {"end":"lost","exchanges":1,"line":L,"ok":"turn"}
 > {"do":"turn","name":"r"}
 +
@@ -93,9 +93,9 @@ const PULLED: &str = r#"
 < {"end":"quiet","exchanges":1,"line":L,"ok":"turn"}
 > {"do":"turn","name":"r","batch":2}
 +
-§1
+¤1
 & {"ask":"pull","batch":2,"epoch":1,"n":2,"place":{"id":"b","lwt":5},"schema":"d3965597d0b8e1c41da9b2dc759684814b6376a695e3324ffc338dfea45c31a5"}
-< {"exchange":1,"lost":"§2","sent":"pull"}
+< {"exchange":1,"lost":"¤2","sent":"pull"}
 < {"end":"lost","exchanges":1,"line":L,"ok":"turn"}
 > {"do":"changes","in":"c"}
 < {"docs":[{"_deleted":false,"id":"b","n":1}],"line":L,"ok":"changes","place":{"id":"b","lwt":1}}
@@ -178,9 +178,9 @@ const PUSHED: &str = r#"
 . I(c,a,2) I(c,b,3)
 > {"do":"turn","name":"r"}
 +
-§1
+¤1
 & {"ask":"push","epoch":1,"n":1,"rows":[{"new":{"_deleted":false,"id":"a","n":2}},{"new":{"_deleted":false,"id":"b","n":3}}],"schema":"d3965597d0b8e1c41da9b2dc759684814b6376a695e3324ffc338dfea45c31a5"}
-< {"exchange":1,"lost":"§2","rows":["a","b"],"sent":"push"}
+< {"exchange":1,"lost":"¤2","rows":["a","b"],"sent":"push"}
 < {"end":"lost","exchanges":1,"line":L,"ok":"turn"}
 > {"do":"changes","in":"c"}
 < {"docs":[{"_deleted":false,"id":"a","n":2},{"_deleted":false,"id":"b","n":3}],"line":L,"ok":"changes","place":{"id":"b","lwt":2}}

@@ -216,7 +216,7 @@ $ run journal
 < {"stop":"not_journal"}
 
 == what is no journal
-^ §2
+^ ¤2
 < {"stop":"not_journal"}
 | a header of which a byte is wrong | 'rXJOURN1' 01 00000009 05 0000000000000001 00
 | an open gate with one byte behind it | 'RXJOURN1' 01 00

@@ -14,12 +14,12 @@ fn records_on_the_disk_are_taken_or_left_alone(rt: HostRuntime) -> Result<(), Fa
 const CASES: &str = r#"
 == steps that are taken
 ^ BASE 01 0000003e 02 00000001 'c' 0000000000000001 00000001 0000000000000001 00000001 'a' 00 00000002 00000002 'id' 02 00000001 'a' 00000001 'n' 01 0000000000000001
-^ 01 §2 06 00000001 'c' 0000009a '{"indexes":[],"primaryKey":"id","properties":{"id":{"maxLength":20,"type":"string"},"n":{"type":"integer"}},"required":["id"],"type":"object","version":1}' §3 00
+^ 01 ¤2 06 00000001 'c' 0000009a '{"indexes":[],"primaryKey":"id","properties":{"id":{"maxLength":20,"type":"string"},"n":{"type":"integer"}},"required":["id"],"type":"object","version":1}' ¤3 00
 $ check journal
 # 1 {"end":
 $ run journal
 > {"do":"get","in":"c","key":"a"}
-< {"doc":{"id":"a","n":§4},"line":L,"lwt":1,"ok":"get","rev":"1-c"}
+< {"doc":{"id":"a","n":¤4},"line":L,"lwt":1,"ok":"get","rev":"1-c"}
 | no steps | 000000a8 | 00000000 | 1
 | a step of each kind | 000000d0 | 00000004 00 00000001 'z' 00000001 'y' 01 00000001 'n' 01 0000000000000005 02 00000001 'z' 03 00000001 'n' 0002 | 2
 | 64 steps | 00000228 | 00000040 ‹0..64||02000000017a› | 1
@@ -32,7 +32,7 @@ $ run journal
 
 == steps that are none
 ^ BASE 01 0000003e 02 00000001 'c' 0000000000000001 00000001 0000000000000001 00000001 'a' 00 00000002 00000002 'id' 02 00000001 'a' 00000001 'n' 01 0000000000000001
-^ 01 §2 06 00000001 'c' 0000009a '{"indexes":[],"primaryKey":"id","properties":{"id":{"maxLength":20,"type":"string"},"n":{"type":"integer"}},"required":["id"],"type":"object","version":1}' §3 00
+^ 01 ¤2 06 00000001 'c' 0000009a '{"indexes":[],"primaryKey":"id","properties":{"id":{"maxLength":20,"type":"string"},"n":{"type":"integer"}},"required":["id"],"type":"object","version":1}' ¤3 00
 $ check journal
 < {"stop":"not_journal"}
 $ run journal
@@ -81,18 +81,18 @@ $ run journal
 
 == schemas that are taken
 ^ BASE 01 0000003e 02 00000001 'c' 0000000000000001 00000001 0000000000000001 00000001 'a' 00 00000002 00000002 'id' 02 00000001 'a' 00000001 'n' 01 0000000000000001
-^ 01 §2 06 §3 00000000 00
+^ 01 ¤2 06 ¤3 00000000 00
 $ check journal
 # 1 {"end":
 $ run journal
 > {"do":"get","in":"c","key":"a"}
-< {"doc":{"id":"a","n":§4},"line":L,"lwt":1,"ok":"get","rev":"1-c"}
+< {"doc":{"id":"a","n":¤4},"line":L,"lwt":1,"ok":"get","rev":"1-c"}
 | the next version | 000000a8 | 00000001 'c' 0000009a '{"indexes":[],"primaryKey":"id","properties":{"id":{"maxLength":20,"type":"string"},"n":{"type":"integer"}},"required":["id"],"type":"object","version":1}' | 1
 | the number is bounded | 000000b4 | 00000001 'c' 000000a6 '{"indexes":[],"primaryKey":"id","properties":{"id":{"maxLength":20,"type":"string"},"n":{"maximum":1,"type":"integer"}},"required":["id"],"type":"object","version":1}' | 1
 
 == schemas that are none
 ^ BASE 01 0000003e 02 00000001 'c' 0000000000000001 00000001 0000000000000001 00000001 'a' 00 00000002 00000002 'id' 02 00000001 'a' 00000001 'n' 01 0000000000000001
-^ 01 §2 06 §3 00000000 00
+^ 01 ¤2 06 ¤3 00000000 00
 $ check journal
 < {"stop":"not_journal"}
 $ run journal

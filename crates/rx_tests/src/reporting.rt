@@ -51,7 +51,7 @@ $ check journal
 = 'RXJOURN2' 01 00000009 09 0000000000000003 00
 
 == what is no journal
-^ §2
+^ ¤2
 $ check journal
 < {"stop":"not_journal"}
 | a file that is cut within a length | 'RXJOURN1' 01 00

@@ -13,7 +13,7 @@ $
 < {"stop":"usage"}
 
 == words that are no command
-$ §1
+$ ¤1
 < {"stop":"usage"}
 | run
 | run ''
@@ -43,7 +43,7 @@ $ §1
 | --help
 
 == words that give no limit
-$ §1
+$ ¤1
 < {"stop":"usage"}
 | run j --max-journal
 | run j --max-journal 8
