@@ -22,6 +22,10 @@ dial_talks dial = talks_of dial.wires
 abbrev pub dial_broken : MemoryDial → ℕ
 dial_broken dial = dial.wires.broken
 
+-- the ports that were dialled, in turn
+abbrev pub dial_asked : MemoryDial → List ℕ
+dial_asked dial = dial.asked.items
+
 -- its numbered calls
 abbrev pub dial_calls : MemoryDial → Calls
 dial_calls dial = dial.wires.calls

@@ -22,6 +22,14 @@ door_talks door = talks_of door.wires
 abbrev pub door_broken : MemoryDoor → ℕ
 door_broken door = door.wires.broken
 
+-- the ports at which it was opened, in turn
+abbrev pub door_opened : MemoryDoor → List ℕ
+door_opened door = door.opened.items
+
+-- how many wires it gave
+abbrev pub door_accepted : MemoryDoor → ℕ
+door_accepted door = door.accepted
+
 -- its numbered calls
 abbrev pub door_calls : MemoryDoor → Calls
 door_calls door = door.wires.calls

@@ -2,7 +2,7 @@
 use Rattle.std.specs.Prelude.{◌≡◌, ◌⊎◌, List, [], map}
 use Rattle.std.specs.Prelude.{true}
 use Rattle.rx_outside.specs.Failed.{one_more}
-use Rattle.rx_outside.specs.Calls.{is_listed}
+use Rattle.rx_outside.specs.Calls.{WantsMemory, is_listed}
 use Rattle.rx_outside.specs.Talk.{Talk}
 use Rattle.rx_outside.specs.MemoryWire.{wire_talk}
 use Rattle.rx_outside.specs.declared.calls.Calls.{Calls}
@@ -18,3 +18,7 @@ abbrev pub FailsOrEnds : Calls → Calls → List MemoryWire → Type 0
 FailsOrEnds old new waiting =
     (new ≡ record old { made = one_more old.made; failed = one_more old.failed })
     × ((is_listed new ≡ true) ⊎ (waiting ≡ []))
+
+-- Or it wanted memory.
+abbrev pub FailsOrStarves : Calls → Calls → List MemoryWire → Type 0
+FailsOrStarves old new waiting = FailsOrEnds old new waiting ⊎ WantsMemory old new

@@ -1,4 +1,4 @@
-ghost use Rattle.std.specs.Prelude.{◌≡◌, ◌≤◌, ◌++◌, ℕ, List, [], ◌∷◌, IfOk, OnOk, OnErr};
+ghost use Rattle.std.specs.Prelude.{◌≡◌, ◌⊎◌, ◌≤◌, ◌++◌, ℕ, List, [], ◌∷◌, IfOk, OnOk, OnErr};
 ghost use Rattle.rx_outside.specs.Failed.{Rises};
 ghost use Rattle.rx_outside.specs.Talk.{Talk, talk, broken_after};
 
@@ -20,11 +20,18 @@ pub trait Dial {
     /// What went over each wire handed back, where such wires tell it.
     ghost talks: { Self → List Talk };
 
+    /// The ports that were dialled, in turn, where such wires tell it.
+    ghost asked: { Self → List ℕ };
+
     /// Gives a wire to the door on this port. Nothing went over it yet.
     fn dial(&mut self, port: u16) -> Result<Self::W, Failed>
         ensures fresh { IfOk result (λ wire. Self.W.faults wire ≡ 0) }
         ensures none_given { Self.W.tells → IfOk result (λ wire. Self.W.given wire ≡ []) }
         ensures none_sent { Self.W.tells → IfOk result (λ wire. Self.W.sent wire ≡ []) }
+        ensures asks { Self.W.tells → OnOk result (asked self.new ≡ asked self.old ++ port ∷ []) }
+        // A form in memory may want memory to note the port.
+        ensures asks_once { OnErr result
+            ((asked self.new ≡ asked self.old ++ port ∷ []) ⊎ (asked self.new ≡ asked self.old)) }
         ensures same_broken { broken self.new ≡ broken self.old }
         ensures same_talks { talks self.new ≡ talks self.old }
         ensures count { faults self.old ≤ faults self.new }
@@ -39,5 +46,6 @@ pub trait Dial {
             ∷ []) }
         ensures keeps_broken { OnErr result (broken self.new ≡ broken self.old) }
         ensures keeps_talks { OnErr result (talks self.new ≡ talks self.old) }
+        ensures keeps_asked { asked self.new ≡ asked self.old }
         ensures same_count { faults self.new ≡ faults self.old };
 }

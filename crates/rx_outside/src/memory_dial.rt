@@ -1,4 +1,4 @@
-ghost use Rattle.std.specs.Prelude.{◌≡◌, ◌≤◌, ◌++◌, ◌∷◌, [], true, IfOk, OnOk, OnErr, MatchResult};
+ghost use Rattle.std.specs.Prelude.{◌≡◌, ◌⊎◌, ◌≤◌, ◌++◌, ◌∷◌, [], true, IfOk, OnOk, OnErr, MatchResult};
 ghost use Rattle.rx_outside.specs.Calls.{Answers};
 ghost use Rattle.rx_outside.specs.Failed.{Rises};
 ghost use Rattle.rx_outside.specs.Talk.{broken_after};
@@ -10,14 +10,15 @@ use crate::memory_wire::MemoryWire;
 use crate::wires::Wires;
 use std::alloc::{AllocError, Global};
 
-/// For tests: a dial in memory. It gives wires in turn, whatever the port.
+/// For tests: a dial in memory. It gives wires in turn, whatever the port, and notes the ports.
 #[derive(Debug, Drop)]
 pub struct MemoryDial {
     wires: Wires,
+    asked: Vec<u16>,
 }
 
 impl MemoryDial {
-    ghost use Rattle.rx_outside.specs.MemoryDial.{dial_waiting, dial_closed, dial_broken, dial_calls};
+    ghost use Rattle.rx_outside.specs.MemoryDial.{dial_waiting, dial_closed, dial_broken, dial_asked, dial_calls};
 
     /// Gives these wires. The calls whose numbers, counted from 1, stand in `fails` fail, and so do
     /// those after the last wire.
@@ -26,11 +27,13 @@ impl MemoryDial {
         ensures waiting { dial_waiting result ≡ wires.items }
         ensures closed { dial_closed result ≡ [] }
         ensures broken { dial_broken result ≡ 0 }
+        ensures asked { dial_asked result ≡ [] }
         ensures calls { dial_calls result
             ≡ record { fails = fails; made = 0; failed = 0; starved = 0 } }
     {
         MemoryDial {
             wires: Wires::new(alloc, wires, fails),
+            asked: Vec::new(alloc),
         }
     }
 
@@ -41,17 +44,24 @@ impl MemoryDial {
         self.wires.closed.as_slice()
     }
 
-    /// How many calls failed for want of memory. A dial takes none to give a wire.
-    pub fn starved(&self) -> u64
-        ensures { result ≡ 0 }
+    /// The ports that were dialled, in order.
+    pub fn asked_ports(&self) -> &[u16]
+        ensures { result.now ≡ dial_asked self.now }
     {
-        0
+        self.asked.as_slice()
+    }
+
+    /// How many calls failed for want of memory, which a dial takes to note a port.
+    pub fn starved(&self) -> u64
+        ensures { result ≡ (dial_calls self.now).starved }
+    {
+        self.wires.calls.starved
     }
 }
 
 impl Dial for MemoryDial {
-    ghost use Rattle.rx_outside.specs.MemoryDial.{dial_waiting, dial_closed, dial_talks, dial_broken, dial_calls, dial_faults};
-    ghost use Rattle.rx_outside.specs.Wires.{FailsOrEnds};
+    ghost use Rattle.rx_outside.specs.MemoryDial.{dial_waiting, dial_closed, dial_talks, dial_broken, dial_asked, dial_calls, dial_faults};
+    ghost use Rattle.rx_outside.specs.Wires.{FailsOrStarves};
 
     type W = MemoryWire;
 
@@ -61,23 +71,35 @@ impl Dial for MemoryDial {
 
     ghost talks = { dial_talks };
 
-    fn dial(&mut self, _port: u16) -> Result<MemoryWire, Failed>
+    ghost asked = { dial_asked };
+
+    fn dial(&mut self, port: u16) -> Result<MemoryWire, Failed>
         ensures fresh { IfOk result (λ wire. wire_faults wire ≡ 0) }
         ensures none_given { Unit → IfOk result (λ wire. wire_given wire ≡ []) }
         ensures none_sent { Unit → IfOk result (λ wire. wire_sent wire ≡ []) }
+        ensures asks { Unit →
+            OnOk result (dial_asked self.new ≡ dial_asked self.old ++ port ∷ []) }
+        ensures asks_once { OnErr result ((dial_asked self.new ≡ dial_asked self.old ++ port ∷ [])
+            ⊎ (dial_asked self.new ≡ dial_asked self.old)) }
         ensures same_broken { dial_broken self.new ≡ dial_broken self.old }
         ensures same_talks { dial_talks self.new ≡ dial_talks self.old }
         ensures count { dial_faults self.old ≤ dial_faults self.new }
         ensures failed { OnErr result (Rises (dial_faults self.old) (dial_faults self.new)) }
 
-        // Which wire it is, and that a call fails where it is to fail or no wire is left alone.
+        // Which wire it is, and that a call fails where it is to fail, no wire is left or memory is
+        // wanting alone.
         ensures next { IfOk result (λ wire. dial_waiting self.old ≡ wire ∷ dial_waiting self.new) }
         ensures keeps { OnErr result (dial_waiting self.new ≡ dial_waiting self.old) }
         ensures counts { MatchResult result
             (λ _. Answers (dial_calls self.old) (dial_calls self.new))
-            (λ _. FailsOrEnds (dial_calls self.old) (dial_calls self.new) (dial_waiting self.old)) }
+            (λ _. FailsOrStarves (dial_calls self.old) (dial_calls self.new)
+            (dial_waiting self.old)) }
         ensures same_closed { dial_closed self.new ≡ dial_closed self.old }
     {
+        if self.asked.push(port).is_err() {
+            self.wires.starve();
+            return Err(Failed);
+        }
         self.wires.next()
     }
 
@@ -88,6 +110,7 @@ impl Dial for MemoryDial {
             OnOk result (dial_talks self.new ≡ dial_talks self.old ++ wire_talk wire ∷ []) }
         ensures keeps_broken { OnErr result (dial_broken self.new ≡ dial_broken self.old) }
         ensures keeps_talks { OnErr result (dial_talks self.new ≡ dial_talks self.old) }
+        ensures keeps_asked { dial_asked self.new ≡ dial_asked self.old }
         ensures same_count { dial_faults self.new ≡ dial_faults self.old }
 
         // The wire is the last of those handed back.

@@ -49,6 +49,8 @@ impl<R: Net + rt::Clock + Copy + Drop> Dial for TcpDial<R> {
 
     ghost talks = { λ _. [] };
 
+    ghost asked = { λ _. [] };
+
     fn dial(&mut self, port: u16) -> Result<TcpWire<R::Stream, R>, Failed> {
         match connect(self.rt, port) {
             Ok(wire) => Ok(wire),

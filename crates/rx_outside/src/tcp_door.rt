@@ -62,6 +62,10 @@ impl<R: Net + rt::Clock + Copy + Drop> Listen for TcpDoor<R> {
 
     ghost talks = { λ _. [] };
 
+    ghost opened = { λ _. [] };
+
+    ghost accepted = { λ _. 0 };
+
     ghost is_open = { λ door. IsSome door.listener };
 
     fn open(&mut self, port: u16) -> Result<(), Failed> {

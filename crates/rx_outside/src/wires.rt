@@ -1,5 +1,5 @@
 ghost use Rattle.std.specs.Prelude.{◌≡◌, ◌≤◌, ◌++◌, [], ◌∷◌, true, IfOk, OnOk, OnErr, MatchResult};
-ghost use Rattle.rx_outside.specs.Calls.{Answers};
+ghost use Rattle.rx_outside.specs.Calls.{Answers, WantsMemory};
 ghost use Rattle.rx_outside.specs.Failed.{Rises};
 ghost use Rattle.rx_outside.specs.Talk.{broken_after};
 ghost use Rattle.rx_outside.specs.MemoryWire.{Unused, is_unused, wire_faults};
@@ -60,6 +60,19 @@ impl Wires {
             return Err(Failed);
         }
         Ok(self.waiting.remove(0))
+    }
+
+    /// A numbered call that fails, since what takes these wires wants memory.
+    pub fn starve(&mut self)
+        ensures wants { WantsMemory self.old.calls self.new.calls }
+        ensures rises { Rises self.old.calls.failed self.new.calls.failed }
+        ensures count { self.old.calls.failed ≤ self.new.calls.failed }
+        ensures same_waiting { self.new.waiting ≡ self.old.waiting }
+        ensures same_closed { self.new.closed ≡ self.old.closed }
+        ensures same_broken { self.new.broken ≡ self.old.broken }
+    {
+        let _ = self.calls.begin();
+        self.calls.starve();
     }
 
     /// Takes a wire back.

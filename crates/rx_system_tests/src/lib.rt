@@ -8,3 +8,5 @@ mod appended;
 mod groups;
 #[cfg(test)]
 mod outside;
+#[cfg(test)]
+mod standard;

@@ -44,6 +44,7 @@ fn hands_a_wire_back(rt: HostRuntime) -> Result<(), Fail> {
         assert_eq!(rt; (closed.failed(), closed.starved()), (1, 0));
     }
     assert_eq!(rt; (door.closed_wires().len(), door.starved()), (1, 0));
+    assert!(rt; door.opened_ports() == [7000].as_slice() && door.accepted() == 1);
     Ok(())
 }
 
