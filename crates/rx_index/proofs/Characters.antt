@@ -8,7 +8,7 @@ use Rattle.std.specs.List.{list_all}
 use Rattle.std.specs.Str.{IsUtf8}
 
 abbrev is_low : ℕ → Bool
-is_low b = nat_lt b 250
+is_low b = nat_lt b 245
 
 one : (c : ℕ) → c < 1114112 → list_all is_low (encode c) ≡ true
 unfolding encode
@@ -33,11 +33,11 @@ each (c ∷ cs) h =
 are_low : (s : List ℕ) → IsUtf8 s → list_all is_low s ≡ true
 are_low s u = subst (λ bs. list_all is_low bs ≡ true) u.1.1 (each u.0 u.1.0)
 
-pub low_at : (s : List ℕ) → IsUtf8 s → (i d : ℕ) → i < length s → get_or s i d < 250
+pub low_at : (s : List ℕ) → IsUtf8 s → (i d : ℕ) → i < length s → get_or s i d < 245
 low_at s u = at s (are_low s u)
   where
-    at : (s : List ℕ) → list_all is_low s ≡ true → (i d : ℕ) → i < length s → get_or s i d < 250
+    at : (s : List ℕ) → list_all is_low s ≡ true → (i d : ℕ) → i < length s → get_or s i d < 245
     at [] h i d k = absurd (omega arith)
-    at (x ∷ xs) h zero d k = ltb-true x 250 (and_parts (is_low x) (list_all is_low xs) h).0
+    at (x ∷ xs) h zero d k = ltb-true x 245 (and_parts (is_low x) (list_all is_low xs) h).0
     at (x ∷ xs) h (suc i) d k =
         at xs (and_parts (is_low x) (list_all is_low xs) h).1 i d (omega arith)

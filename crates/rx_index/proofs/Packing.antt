@@ -1,20 +1,42 @@
 -- The bytes of positions stand as the positions do, and tell them.
-use Rattle.std.proofs.Common.{◌≡◌, ℕ, ◌+◌, ◌-◌, ◌<◌, ◌≤◌, ◌==◌, Bool, true, false, ◌&&◌, List, [], ◌∷◌, ◌++◌, zero, suc, map, length, take, get_or, Option, Some, None, Less, Greater, refl, sym, ap, subst, ◌∙◌, arith, append_assoc, append-nil, length-append}
-use Rattle.std.proofs.lemmas.Bool.{and_parts}
-use Rattle.std.proofs.lemmas.Bool.Decides.{Decides-eqb}
+use Rattle.std.proofs.Common.{◌≡◌, ℕ, ℤ, pos, negsuc, ◌^◌, ◌+◌, ◌-◌, ◌<◌, ◌≤◌, ◌==◌, Bool, true, false, ◌&&◌, List, [], ◌∷◌, ◌++◌, zero, suc, map, length, take, get_or, Option, Some, None, Less, Greater, refl, sym, ap, subst, ◌∙◌, arith, append_assoc, append-nil, length-append}
+use Rattle.std.proofs.lemmas.Bool.{and_parts, ltb-true}
+use Rattle.std.proofs.lemmas.Bool.Decides.{Decides-eqb, nat_tests}
 use Rattle.std.proofs.lemmas.List.{map-append, take_more}
 use Rattle.std.proofs.lemmas.Nat.{from_be_bytes-to_be_bytes_8}
-use Rattle.std.specs.Int.{w64, to_be_bytes, from_be_bytes}
 use Rattle.std.specs.List.{list_all}
-use Rattle.std.specs.Ordering.{ordering_then, nat_cmp}
+use Rattle.std.specs.Cmp.{nat_cmp_is}
+use Rattle.std.specs.Ordering.{ordering_then}
 use Rattle.rx_value.specs.Order.{text_cmp, order_of}
 use Rattle.rx_value.specs.declared.value.Value.{Value}
 use Rattle.rx_value.specs.declared.value.Value.TheVariants.{Flag, Int, Text}
-use Rattle.rx_index.specs.Packed.{raised, raised_text, lowered, value_bytes, values_bytes, packed, is_lawful, AreLawful, text_first, behind_text, values_in, unpacked}
+use Rattle.rx_index.specs.Packed.{number_kind, digits, has_64_bits, number_first, behind_number, raised_text, value_bytes, values_bytes, packed, is_lawful, AreLawful, text_first, behind_text, values_in, unpacked}
 use Rattle.rx_index.specs.Position.{Position, position_with, values_cmp, position_cmp}
-use Rattle.rx_index.proofs.Digits.{low_bytes, raised_alike, raised_below, raised_fits, lowered-raised, texts_alike}
+use Rattle.rx_index.proofs.Digits.{above_flags, below_texts, numbers_alike, texts_alike}
 
 -- ---- their order
+
+-- a first byte decides
+first_byte : (a b : ℕ) (r q : List ℕ) → a < b
+    → (text_cmp (a ∷ r) (b ∷ q) ≡ Less) × (text_cmp (b ∷ q) (a ∷ r) ≡ Greater)
+first_byte a b r q h = (
+  sym (ap (λ o. ordering_then o (text_cmp r q)) (nat_cmp_is a b Less h)),
+  sym (ap (λ o. ordering_then o (text_cmp q r)) (nat_cmp_is b a Greater h)),
+)
+
+-- so a number stands above lower kinds and below higher ones
+above_low : (kind : ℕ) (z : ℤ) (r q : List ℕ) → kind < 4
+    → (text_cmp (kind ∷ r) (value_bytes (Some (Int z)) ++ q) ≡ Less)
+    × (text_cmp (value_bytes (Some (Int z)) ++ q) (kind ∷ r) ≡ Greater)
+above_low kind z r q h =
+    first_byte kind (number_kind z) r (digits z ++ q) (omega (arith, above_flags z))
+
+below_high : (kind : ℕ) (z : ℤ) (r q : List ℕ) → 8 < kind
+    → (text_cmp (kind ∷ r) (value_bytes (Some (Int z)) ++ q) ≡ Greater)
+    × (text_cmp (value_bytes (Some (Int z)) ++ q) (kind ∷ r) ≡ Less)
+below_high kind z r q h =
+    let first = first_byte (number_kind z) kind (digits z ++ q) r (omega (arith, below_texts z)) in
+    (first.1, first.0)
 
 -- a value decides before what follows it
 first_value : (x y : Option Value) (r q : List ℕ) → is_lawful x ≡ true → is_lawful y ≡ true
@@ -23,40 +45,41 @@ first_value : (x y : Option Value) (r q : List ℕ) → is_lawful x ≡ true →
 first_value None None r q h k = refl
 first_value None (Some (Flag true)) r q h k = refl
 first_value None (Some (Flag false)) r q h k = refl
-first_value None (Some (Int b)) r q h k = refl
+first_value None (Some (Int b)) r q h k = (above_low 1 b r q (omega arith)).0
 first_value None (Some (Text b)) r q h k = refl
 first_value (Some (Flag true)) None r q h k = refl
 first_value (Some (Flag false)) None r q h k = refl
-first_value (Some (Int a)) None r q h k = refl
+first_value (Some (Int a)) None r q h k = (above_low 1 a q r (omega arith)).1
 first_value (Some (Text a)) None r q h k = refl
 first_value (Some (Flag true)) (Some (Flag true)) r q h k = refl
 first_value (Some (Flag true)) (Some (Flag false)) r q h k = refl
 first_value (Some (Flag false)) (Some (Flag true)) r q h k = refl
 first_value (Some (Flag false)) (Some (Flag false)) r q h k = refl
-first_value (Some (Flag true)) (Some (Int b)) r q h k = refl
-first_value (Some (Flag false)) (Some (Int b)) r q h k = refl
+first_value (Some (Flag true)) (Some (Int b)) r q h k = (above_low 3 b r q (omega arith)).0
+first_value (Some (Flag false)) (Some (Int b)) r q h k = (above_low 2 b r q (omega arith)).0
 first_value (Some (Flag true)) (Some (Text b)) r q h k = refl
 first_value (Some (Flag false)) (Some (Text b)) r q h k = refl
-first_value (Some (Int a)) (Some (Flag true)) r q h k = refl
-first_value (Some (Int a)) (Some (Flag false)) r q h k = refl
+first_value (Some (Int a)) (Some (Flag true)) r q h k = (above_low 3 a q r (omega arith)).1
+first_value (Some (Int a)) (Some (Flag false)) r q h k = (above_low 2 a q r (omega arith)).1
 first_value (Some (Text a)) (Some (Flag true)) r q h k = refl
 first_value (Some (Text a)) (Some (Flag false)) r q h k = refl
-first_value (Some (Int a)) (Some (Text b)) r q h k = refl
-first_value (Some (Text a)) (Some (Int b)) r q h k = refl
-first_value (Some (Int a)) (Some (Int b)) r q h k =
-    low_bytes 8 (raised a) (raised b) r q
-    ∙ ap (λ o. ordering_then o (text_cmp r q))
-    ((λ i. nat_cmp (raised_fits a h i) (raised_fits b k i)) ∙ raised_alike a b h k)
+first_value (Some (Int a)) (Some (Text b)) r q h k =
+    (below_high 9 a (raised_text b ++ 0 ∷ [] ++ q) r (omega arith)).1
+first_value (Some (Text a)) (Some (Int b)) r q h k =
+    (below_high 9 b (raised_text a ++ 0 ∷ [] ++ r) q (omega arith)).0
+first_value (Some (Int a)) (Some (Int b)) r q h k = numbers_alike a b r q h k
 first_value (Some (Text a)) (Some (Text b)) r q h k = texts_alike a b r q
 
 -- where one position has no more values
 ends : (x : Option Value) (r : List ℕ) → (text_cmp (value_bytes x ++ r) [] ≡ Greater)
-    × (text_cmp [] (value_bytes x ++ r) ≡ Less) × (text_cmp (value_bytes x ++ r) (6 ∷ []) ≡ Less)
-    × (text_cmp (6 ∷ []) (value_bytes x ++ r) ≡ Greater)
+    × (text_cmp [] (value_bytes x ++ r) ≡ Less) × (text_cmp (value_bytes x ++ r) (10 ∷ []) ≡ Less)
+    × (text_cmp (10 ∷ []) (value_bytes x ++ r) ≡ Greater)
 ends None r = (refl, refl, refl, refl)
 ends (Some (Flag true)) r = (refl, refl, refl, refl)
 ends (Some (Flag false)) r = (refl, refl, refl, refl)
-ends (Some (Int z)) r = (refl, refl, refl, refl)
+ends (Some (Int z)) r =
+    let below = below_high 10 z [] r (omega arith) in
+    (refl, refl, below.1, below.0)
 ends (Some (Text s)) r = (refl, refl, refl, refl)
 
 values_alike : (xs : List (Option Value)) (a : Bool) (ys : List (Option Value)) (b : Bool)
@@ -83,10 +106,10 @@ packed_alike p q h k = values_alike p.values p.after q.values q.after h k
 
 -- ---- the values back
 
-not_end : (n : ℕ) → (n + 6 == 0) ≡ false
+not_end : (n : ℕ) → (n + 11 == 0) ≡ false
 not_end n =
-    (elim (n + 6 == 0) as (λ b. (n + 6 == 0) ≡ b → b ≡ false) [
-      | true ↦ (λ h. absurd (omega (arith, (Decides-eqb (n + 6) 0).0 h)))
+    (elim (n + 11 == 0) as (λ b. (n + 11 == 0) ≡ b → b ≡ false) [
+      | true ↦ (λ h. absurd (omega (arith, (Decides-eqb (n + 11) 0).0 h)))
       | false ↦ (λ h. refl)
     ]) refl
 
@@ -95,8 +118,25 @@ text_back : (s r : List ℕ) → (text_first (raised_text s ++ 0 ∷ [] ++ r) �
 text_back [] r = (refl, refl)
 text_back (x ∷ s) r =
     let rest = text_back s r in
-    let byte : x + 6 - 6 ≡ x = omega arith in
+    let byte : x + 11 - 11 ≡ x = omega arith in
     (rw (not_end x) (λ i. byte i ∷ rest.0 i), rw (not_end x) rest.1)
+
+-- its kind tells that a number follows
+number_in : (n : ℕ) (z : ℤ) (bs : List ℕ)
+    → values_in (suc n) (number_kind z ∷ bs)
+    ≡ Some (Int (number_first (number_kind z) bs)) ∷ values_in n (behind_number (number_kind z) bs)
+number_in n (negsuc m) bs = refl
+number_in n (pos m) bs = grind (arith, nat_tests)
+
+-- and which one
+number_back : (z : ℤ) (r : List ℕ) → has_64_bits z ≡ true
+    → (number_first (number_kind z) (digits z ++ r) ≡ z)
+    × (behind_number (number_kind z) (digits z ++ r) ≡ r)
+number_back (pos n) r h = grind (arith, nat_tests, from_be_bytes-to_be_bytes_8 n)
+number_back (negsuc n) r h =
+    let read = from_be_bytes-to_be_bytes_8 (2 ^ 63 - (n + 1)) (omega arith) in
+    let back : 2 ^ 63 - (2 ^ 63 - (n + 1) + 1) ≡ n = omega (arith, ltb-true n (2 ^ 63) h) in
+    (ap negsuc (ap (λ (k : ℕ). 2 ^ 63 - (k + 1)) read ∙ back), refl)
 
 values_back : (n : ℕ) (xs : List (Option Value)) → AreLawful xs → length xs ≤ n
     → values_in n (values_bytes xs false) ≡ xs
@@ -110,11 +150,10 @@ values_back (suc n) (Some (Flag false) ∷ xs) h k =
     ap (λ r. Some (Flag false) ∷ r) (values_back n xs h (omega arith))
 values_back (suc n) (Some (Int z) ∷ xs) h k =
     let parts = and_parts (is_lawful (Some (Int z))) (list_all is_lawful xs) h in
-    let rest = values_back n xs parts.1 (omega arith) in
-    let number : lowered (from_be_bytes w64 (to_be_bytes w64 (raised z))) ≡ z =
-    ap lowered (from_be_bytes-to_be_bytes_8 (raised z) (raised_below z parts.0))
-    ∙ lowered-raised z parts.0 in
-    λ i. Some (Int (number i)) ∷ rest i
+    let read = number_back z (values_bytes xs false) parts.0 in
+    number_in n z (digits z ++ values_bytes xs false)
+    ∙ (λ i. Some (Int (read.0 i)) ∷ values_in n (read.1 i))
+    ∙ ap (λ r. Some (Int z) ∷ r) (values_back n xs parts.1 (omega arith))
 values_back (suc n) (Some (Text s) ∷ xs) h k =
     let parts = and_parts (is_lawful (Some (Text s))) (list_all is_lawful xs) h in
     let read = text_back s (values_bytes xs false) in

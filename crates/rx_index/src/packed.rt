@@ -1,4 +1,4 @@
-ghost use Rattle.std.specs.Prelude.{◌≡◌, [], ◌-◌, ◌++◌, ◌↔◌, true, map, IfOk, OnOk, IsTrue, option_map};
+ghost use Rattle.std.specs.Prelude.{◌≡◌, [], ◌-◌, ◌∷◌, ◌++◌, ◌↔◌, pos, true, map, IfOk, OnOk, IsTrue, option_map};
 ghost use Rattle.rx_index.specs.Packed.{raised_text, value_bytes, values_bytes, is_lawful, AreLawful, IsKey, unpacked};
 ghost use Rattle.rx_index.specs.Position.{id_of};
 ghost use Rattle.rx_value.specs.declared.value.Value.TheVariants.{Flag, Int, Text};
@@ -14,19 +14,28 @@ const FALSE: u8 = 2;
 
 const TRUE: u8 = 3;
 
-const NUMBER: u8 = 4;
+const NEGATIVE: u8 = 4;
 
-const TEXT: u8 = 5;
+// Numbers from 0, by how many bytes follow.
+const ONE_BYTE: u8 = 5;
+
+const TWO_BYTES: u8 = 6;
+
+const FOUR_BYTES: u8 = 7;
+
+const EIGHT_BYTES: u8 = 8;
+
+const TEXT: u8 = 9;
 
 // The byte behind the values of a position that is after their keys, above each kind.
-const AFTER: u8 = 6;
+const AFTER: u8 = 10;
 
 // The byte behind those of a text.
 const END: u8 = 0;
 
-// By how much the bytes of a text are raised, so that they stand above those of kinds. UTF-8 has no
-// byte near 255.
-const RAISE: u8 = 6;
+// By how much the bytes of a text are raised, so that they stand above all of these. UTF-8 has none
+// above 244.
+const RAISE: u8 = 11;
 
 // So much room for the bytes of a key is seldom too little.
 pub(crate) const ROOM: usize = 48;
@@ -42,8 +51,33 @@ fn put_number(bytes: &mut Vec<u8>, n: i64) -> Result<(), AllocError>
     ensures bytes { OnOk result (bytes.new.items ≡ bytes.old.items ++ value_bytes (Some (Int n))) }
     ensures lawful { OnOk result (is_lawful (Some (Int n)) ≡ true) }
 {
-    bytes.push(NUMBER)?;
-    bytes.extend_from_slice(&n.abs_diff(i64::MIN).to_be_bytes())?;
+    // It is counted from the least one, so that lower numbers have lower bytes.
+    if n < 0 {
+        return put_digits(bytes, NEGATIVE, &n.abs_diff(i64::MIN).to_be_bytes());
+    }
+    put_whole(bytes, n as u64)
+}
+
+// A number from 0, in as few bytes as hold it.
+fn put_whole(bytes: &mut Vec<u8>, n: u64) -> Result<(), AllocError>
+    ensures { OnOk result (bytes.new.items ≡ bytes.old.items ++ value_bytes (Some (Int (pos n)))) }
+{
+    if n < 1 << 8 {
+        put_digits(bytes, ONE_BYTE, &(n as u8).to_be_bytes())
+    } else if n < 1 << 16 {
+        put_digits(bytes, TWO_BYTES, &(n as u16).to_be_bytes())
+    } else if n < 1 << 32 {
+        put_digits(bytes, FOUR_BYTES, &(n as u32).to_be_bytes())
+    } else {
+        put_digits(bytes, EIGHT_BYTES, &n.to_be_bytes())
+    }
+}
+
+fn put_digits(bytes: &mut Vec<u8>, kind: u8, digits: &[u8]) -> Result<(), AllocError>
+    ensures { OnOk result (bytes.new.items ≡ bytes.old.items ++ kind ∷ digits.now) }
+{
+    bytes.push(kind)?;
+    bytes.extend_from_slice(digits)?;
     Ok(())
 }
 
@@ -142,7 +176,7 @@ pub(crate) fn is_raised(raised: &[u8], text: &[u8]) -> bool
 
 // The text of raised bytes.
 pub(crate) fn lowered(alloc: Global, raised: &[u8]) -> Result<Vec<u8>, AllocError>
-    ensures { IfOk result (λ bytes. bytes.items ≡ map (λ b. b - 6) raised.now) }
+    ensures { IfOk result (λ bytes. bytes.items ≡ map (λ b. b - RAISE) raised.now) }
 {
     let mut bytes = Vec::with_capacity(alloc, raised.len())?;
     for byte in raised {

@@ -1,4 +1,4 @@
-use Rattle.std.proofs.Common.{◌≡◌, ◌<◌, ◌≤◌, ◌+◌, ◌-◌, length, get_or, arith}
+use Rattle.std.proofs.Common.{arith}
 use Rattle.rx_index.proofs.Ids.{key_long, walk_stops, walk_cuts}
 use Rattle.rx_index.proofs.packed.id_bytes.Goals as goal
 

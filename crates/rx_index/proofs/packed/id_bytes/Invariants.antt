@@ -5,7 +5,7 @@ use Rattle.rx_index.proofs.packed.id_bytes.Given as goal
 abbrev pub invariant-walk : goal.invariant-walk
 invariant-walk l = record {
   within : l.start + 1 ≤ length l.key;
-  high : (i : ℕ) → l.start ≤ i → i + 1 < length l.key → 6 ≤ get_or l.key i 0;
+  high : (i : ℕ) → l.start ≤ i → i + 1 < length l.key → 11 ≤ get_or l.key i 0;
 }
 
 abbrev pub decreases-walk : goal.decreases-walk

@@ -7,10 +7,10 @@ use Rattle.rx_index.proofs.Ids.{parted, lowered_text}
 use Rattle.rx_index.proofs.range.Entry.id.Goals as goal
 
 -- what is read from a key is the primary key in it
-read : (name bs raised bytes : List ℕ) → bytes ≡ map (λ b. b - 6) raised
+read : (name bs raised bytes : List ℕ) → bytes ≡ map (λ b. b - 11) raised
     → raised ≡ raised_text (id_of (unpacked bs)) → bs ≡ name → bytes ≡ id_of (unpacked name)
 read name bs raised bytes low is same =
-    low ∙ ap (map (λ b. b - 6)) (is ∙ ap (λ n. raised_text (id_of (unpacked n))) same)
+    low ∙ ap (map (λ b. b - 11)) (is ∙ ap (λ n. raised_text (id_of (unpacked n))) same)
     ∙ lowered_text (id_of (unpacked name))
 
 is_text : (name bytes : List ℕ) → IsKey name → bytes ≡ id_of (unpacked name) → IsUtf8 bytes
