@@ -7,7 +7,7 @@ ghost use Rattle.serde_json.specs.Read.{of_json, of_items, of_members, converted
 ghost use Rattle.serde_json.specs.View.{view, items_view, members_view};
 ghost use Rattle.rx_wire.specs.Kept.{message_depth, room, kept, kept_items, kept_members, lesser, with_name};
 
-use crate::known::{below, is_known};
+use crate::known::{below, is_form_name, is_known};
 use crate::number::number_of;
 use crate::states::MOST_STATES;
 use json::{Invalid, Reader, Scratch, Token};
@@ -184,8 +184,9 @@ fn read_members<'a>(
     let mut found = Map::new(alloc);
     let mut other = None;
     'members: while let Some(name) = reader.next_key()? {
-        let known = is_known(schema, levels, name);
-        let member = read(alloc, schema, reader, depth, below(levels, name))?;
+        let of_form = is_form_name(levels, name);
+        let known = is_known(schema, levels, name, of_form);
+        let member = read(alloc, schema, reader, depth, below(levels, of_form))?;
         keep_member(alloc, &mut found, name, member, known)?;
         other = first_other(known, name, other);
     }

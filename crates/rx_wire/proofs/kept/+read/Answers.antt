@@ -1,4 +1,4 @@
-use Rattle.std.proofs.Common.{◌≡◌, ◌-◌, ◌<◌, ◌++◌, [], ◌∷◌, length, Some, None, option_map, refl, sym, ap, ap₂, ◌∙◌, arith, rules}
+use Rattle.std.proofs.Common.{◌≡◌, ◌-◌, ◌<◌, ◌++◌, [], ◌∷◌, length, Some, None, option_map, refl, sym, ap, ap₂, ◌∙◌, arith, rules, ◌||◌, cond}
 use Rattle.json.proofs.Grammar.{value_is, value-begin_array, value-begin_object, read_key-shorter}
 use Rattle.json.specs.Json.{parse_map, after_end_array, read_key, items, members, value}
 use Rattle.json.specs.Reads.{token_of}
@@ -8,7 +8,7 @@ use Rattle.serde_json.specs.Data.{Data, null, boolean, number, string, array, ob
 use Rattle.serde_json.specs.Read.{of_json, converted}
 use Rattle.serde_json.specs.View.{view, number_view, items_of, members_view}
 use Rattle.serde_json.specs.declared.value.Value.{String, Number, Bool, Null, the_lemmas}
-use Rattle.rx_wire.specs.Kept.{kept, kept_items, below}
+use Rattle.rx_wire.specs.Kept.{is_field, is_known, kept, kept_items, below}
 use Rattle.rx_wire.proofs.Keeping.{firsts, item_kept}
 use Rattle.rx_wire.proofs.Members.{rising_put, one_kept, one_other, all_kept}
 use Rattle.rx_wire.proofs.Turns.{converted-array, converted-object, item_read, item_refused, items_over, member_read, member_refused, key_refused, members_over, after, after_all, one_more}
@@ -266,8 +266,13 @@ read_members-members-preserved t c =
     let v = c.in_ok-member.member in
     let r = c.read.new.reader in
     let d : Data = done.ok.0 in
+    let form = c.is_form_name-of_form.ensures in
+    let known : c.is_known-known.result ≡ is_known schema levels k =
+    c.is_known-known.ensures ∙ ap (λ b. b || is_field schema levels k) form in
+    let left : c.below.result ≡ below levels k =
+    c.below.ensures ∙ ap (λ b. cond b (levels - 1) 0) form in
     let is : view v ≡ kept schema (below levels k) d =
-    done.ok.2 ∙ ap (λ m. kept schema m d) c.below.ensures in
+    done.ok.2 ∙ ap (λ m. kept schema m d) left in
     let less = read_key-shorter l.reader (Some k) s named in
     let lesser = done.shorter in (
       n - 1,
@@ -276,10 +281,10 @@ read_members-members-preserved t c =
       l.invariant.3
           ∙ member_read p old n k l.reader s r d (omega (arith, l.invariant.2)) named done.ok.1,
       one_kept schema levels k d old (members_view l.found.entries) (view v) c.is_known-known.result
-          (members_view c.keep_member.new.found.entries) c.is_known-known.ensures l.invariant.4
+          (members_view c.keep_member.new.found.entries) known l.invariant.4
           l.invariant.6 is (grind arith),
       one_other schema levels k d old (option_map (λ k. k.now) l.other) c.is_known-known.result
-          (option_map (λ k. k.now) c.first_other-other.result) c.is_known-known.ensures
+          (option_map (λ k. k.now) c.first_other-other.result) known
           l.invariant.5 l.invariant.6 c.first_other-other.ensures,
       rising_put k d old l.invariant.6,
       omega (arith, l.invariant.7),
