@@ -1,9 +1,6 @@
-ghost use Rattle.std.specs.Prelude.{◌≡◌, ◌++◌, ◌∷◌, [], OnOk, OnErr, option_map};
-ghost use Rattle.rx_value.specs.Due.{Due};
+ghost use Rattle.std.specs.Prelude.{◌≡◌, ◌++◌, ◌∷◌, [], IfSome, IsTrue, OnOk, OnErr, option_map};
 ghost use Rattle.rx_value.specs.Named.{by_name, named};
-ghost use Rattle.rx_handler.specs.Handlers.{room_for};
-ghost use Rattle.rx_handler.specs.Shown.{kinds_of};
-ghost use Rattle.rx_handler.specs.declared.fault.HandlerFault.TheVariants.{Memory};
+ghost use Rattle.rx_handler.specs.Handlers.{are_called, room_for};
 
 use crate::fault::HandlerFault;
 use crate::handler::Handler;
@@ -15,9 +12,14 @@ use std::alloc::{AllocError, Global};
 pub struct Handlers {
     alloc: Global,
     held: IndexMap<String, Handler>,
+    ghost called: { IsTrue (are_called (λ h. h.name) held.entries) },
 }
 
 impl Handlers {
+    ghost use Rattle.rx_value.specs.Due.{Due};
+    ghost use Rattle.rx_handler.specs.Shown.{kinds_of};
+    ghost use Rattle.rx_handler.specs.declared.fault.HandlerFault.TheVariants.{Memory};
+
     pub fn new(alloc: Global) -> Handlers
         ensures { kinds_of result ≡ [] }
     {
@@ -44,8 +46,9 @@ impl Handlers {
 
     /// The handler of that name.
     pub fn find(&self, name: &str) -> Option<&Handler>
-        ensures { option_map (λ h. h.now.kind) result
+        ensures kind { option_map (λ h. h.now.kind) result
             ≡ named (kinds_of self.now) name.now }
+        ensures name { IfSome result (λ h. h.now.name ≡ name.now) }
     {
         self.held.get(name)
     }
@@ -56,7 +59,9 @@ fn put(
     held: &mut IndexMap<String, Handler>,
     handler: Handler,
 ) -> Result<(), AllocError>
-    requires { named (by_name (λ h. h.kind) held.old.entries) handler.name ≡ None }
+    requires none { named (by_name (λ h. h.kind) held.old.entries) handler.name ≡ None }
+    requires called { IsTrue (are_called (λ h. h.name) held.old.entries) }
+    ensures called { IsTrue (are_called (λ h. h.name) held.new.entries) }
     ensures ok { OnOk result (by_name (λ h. h.kind) held.new.entries
         ≡ by_name (λ h. h.kind) held.old.entries ++ (handler.name, handler.kind) ∷ []) }
     ensures err { OnErr result (held.new.entries ≡ held.old.entries) }

@@ -12,8 +12,8 @@ returns-then-contains_key-clause-exact g c =
     (c.as_str.ensures ∙ c.name.ensures) c.if-contains_key.ensures)
     ∙ ap (λ n. Err (Twice n)) (sym c.into_name.ensures))
 
-pub put-requires : goal.put-requires
-put-requires g c =
+pub put-requires-clause-none : goal.put-requires-clause-none
+put-requires-clause-none g c =
     let es = c.args.self.now.held.entries in
     nothing (named (by_name (λ h. h.kind) es) c.args.handler.name)
     (there (λ h. h.kind) es c.as_str.result.now c.args.handler.name _
