@@ -1,6 +1,5 @@
 -- Holders that are made anew for a group, and what its replications know, one after another.
 use Rattle.std.proofs.Common.{◌≡◌, ℕ, zero, suc, ◌||◌, not, Bool, true, false, true≢false, cond, List, [], ◌∷◌, ◌++◌, map, length, ◌<◌, set, take, drop, Some, String, Global, string_bytes, refl, sym, ap, ◌∙◌, subst, append-nil, arith}
-use Rattle.std.proofs.lemmas.Bool.{and_parts}
 use Rattle.std.specs.List.{IsDistinct, slice_get}
 use Rattle.std.specs.Map.{keys_of, values_of}
 use Rattle.std.specs.Option.{ForSome}

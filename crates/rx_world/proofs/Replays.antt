@@ -1,5 +1,5 @@
 -- Replaying more bodies.
-use Rattle.std.proofs.Common.{◌≡◌, ℕ, List, [], ◌∷◌, ◌++◌, true, cond, Option, Some, None, Ok, refl, ap, ◌∙◌}
+use Rattle.std.proofs.Common.{◌≡◌, ℕ, List, [], ◌∷◌, ◌++◌, true, cond, Option, Some, None, refl, ap}
 use Rattle.rx_record.specs.Content.{Content, record_of}
 use Rattle.rx_world.specs.Replay.{after_body, replay_from, replay}
 use Rattle.rx_world.specs.Step.{step, step_where_legal, legal}

@@ -34,7 +34,7 @@ use Rattle.rx_world.specs.Replicating.{new_replication, with_exchange}
 use Rattle.rx_world.specs.Schema.{schema_in}
 use Rattle.rx_world.specs.Sound.{IsSoundWith, IsSoundIn, IsSoundWorld}
 use Rattle.rx_world.specs.Step.{is_valid_state, is_next_row, takes, legal, step, collections_after, stored_of, stored_rows, written_to}
-use Rattle.rx_world.specs.Touch.{no_collection, new_where, fork_rows}
+use Rattle.rx_world.specs.Touch.{IsNoExchange, no_collection, new_where, fork_rows}
 use Rattle.rx_world.specs.World.{World, Collections, Replications, empty}
 use Rattle.rx_world.specs.declared.replication.Replication.{Replication}
 use Rattle.rx_world.proofs.Links.{held_other}
@@ -235,14 +235,6 @@ new_sound cs (Port port) c s known up down =
     (subst (λ ks. IsSoundSide c.documents ks None) (sym known) (none_known c.documents))
 
 -- ---- records that are no exchange
-
--- it is none
-abbrev pub IsNoExchange : Content → Type 0
-IsNoExchange (collection name schema) = Unit {0}
-IsNoExchange (rows name lwt written) = Unit {0}
-IsNoExchange (replication name fork master handler field) = Unit {0}
-IsNoExchange (exchange name lwt written known up down) = ⊥
-IsNoExchange other = Unit {0}
 
 pub sound_empty : IsSoundWorld empty
 sound_empty = tt

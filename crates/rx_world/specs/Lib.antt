@@ -6,6 +6,7 @@ pub mod ValidState
 pub mod Migrating
 pub mod Touch
 pub mod Step
+pub mod Among
 pub mod Replay
 pub mod Copy
 pub mod Commit

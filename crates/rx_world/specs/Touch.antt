@@ -58,3 +58,8 @@ IsMigration other = ⊥
 abbrev pub IsNoMigration : Content → Type 0
 IsNoMigration (migration name text steps) = ⊥
 IsNoMigration other = Unit {0}
+
+-- it is none of an exchange, the kind that tells a replication what is known
+abbrev pub IsNoExchange : Content → Type 0
+IsNoExchange (exchange name lwt written known up down) = ⊥
+IsNoExchange other = Unit {0}

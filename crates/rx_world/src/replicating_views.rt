@@ -1,10 +1,11 @@
 // What a replication takes, of a record that is only lent. A checkpoint is owned.
-ghost use Rattle.std.specs.Prelude.{◌≡◌, IfOk, option_map};
+ghost use Rattle.std.specs.Prelude.{◌≡◌, IfOk, IfSome, is_some, option_map};
 ghost use Rattle.std.specs.List.{list_all};
 ghost use Rattle.rx_record.specs.Places.{place_in};
 ghost use Rattle.rx_record.specs.Views.{rows_left, state_in, states_left};
 ghost use Rattle.rx_value.specs.Named.{by_name};
 ghost use Rattle.rx_world.specs.Holders.{AreWhole};
+ghost use Rattle.rx_world.specs.Among.{AreAmong};
 ghost use Rattle.rx_world.specs.Replicating.{stays_or_rises};
 ghost use Rattle.rx_world.specs.Step.{fork_takes, has_key, is_held_with, takes_exchange, takes_rows};
 
@@ -94,30 +95,57 @@ fn are_held_views(fork: &Collection, rows: &RowViews<'_>, known: &StateViews<'_>
         ≡ list_all (is_held_with fork.now (rows_left rows.now)) (states_left known.now) }
 {
     let mut known = *known;
+    let mut rest = *rows;
     while let Some(state) = known.next() {
-        if !is_held_view(fork, rows, &state) {
+        if !is_held_view(fork, rows, &mut rest, &state) {
             return false;
         }
     }
     true
 }
 
-// Whether the state is valid, and its key is held by the fork with the rows.
-fn is_held_view(fork: &Collection, rows: &RowViews<'_>, state: &StateView<'_>) -> bool
-    ensures { result ≡ is_held_with fork.now (rows_left rows.now) (state_in state.now) }
+// Whether the state is valid, and its key is held by the fork with the rows, of which these are
+// left.
+fn is_held_view<'a>(
+    fork: &Collection,
+    rows: &RowViews<'a>,
+    rest: &mut RowViews<'a>,
+    state: &StateView<'_>,
+) -> bool
+    requires { AreAmong (rows_left rest.old) (rows_left rows.now) }
+    ensures held { result ≡ is_held_with fork.now (rows_left rows.now) (state_in state.now) }
+    ensures among { AreAmong (rows_left rest.new) (rows_left rows.now) }
 {
     is_valid_view(fork.schema(), state)
-        && (fork.get(state.key).is_some() || has_key_view(state.key, rows))
+        && (fork.get(state.key).is_some() || is_written(state.key, rows, rest))
 }
 
-fn has_key_view(key: &str, rows: &RowViews<'_>) -> bool
-    ensures { result ≡ has_key key.now (rows_left rows.now) }
+// Whether a row has the key. States and rows come by rising key, so it is looked for first in what
+// the last look left, and that goes on behind it: all looks together cost one walk.
+fn is_written<'a>(key: &str, rows: &RowViews<'a>, rest: &mut RowViews<'a>) -> bool
+    requires { AreAmong (rows_left rest.old) (rows_left rows.now) }
+    ensures written { result ≡ has_key key.now (rows_left rows.now) }
+    ensures among { AreAmong (rows_left rest.new) (rows_left rows.now) }
+{
+    match behind(key, rest) {
+        Some(left) => {
+            *rest = left;
+            true
+        }
+        None => behind(key, rows).is_some(),
+    }
+}
+
+// The rows behind the one that has the key, if one has.
+fn behind<'a>(key: &str, rows: &RowViews<'a>) -> Option<RowViews<'a>>
+    ensures held { is_some result ≡ has_key key.now (rows_left rows.now) }
+    ensures among { IfSome result (λ left. AreAmong (rows_left left) (rows_left rows.now)) }
 {
     let mut rows = *rows;
     while let Some(row) = rows.next() {
         if row.state.key == key {
-            return true;
+            return Some(rows);
         }
     }
-    false
+    None
 }

@@ -6,7 +6,9 @@ ghost use Rattle.rx_value.specs.Named.{named};
 ghost use Rattle.rx_record.specs.Shown.{content};
 ghost use Rattle.rx_record.specs.Writable.{IsOrdered};
 ghost use Rattle.rx_world.specs.Commit.{out_of, commit_to};
-ghost use Rattle.rx_world.specs.Step.{IsValidState, legal, stored_of, stored_rows};
+ghost use Rattle.rx_world.specs.Made.{IsMadeWorld};
+ghost use Rattle.rx_world.specs.Sound.{IsSoundWorld};
+ghost use Rattle.rx_world.specs.Step.{IsValidState, legal, step, stored_of, stored_rows};
 ghost use Rattle.rx_world.specs.World.{World};
 ghost use Rattle.rx_world.specs.Touch.{IsNoMigration};
 
@@ -83,6 +85,9 @@ pub fn commit(
     ensures legal { (w : World) → named w.collections collection.now.name ≡ Some collection.now
         → IfOk result (λ entry. legal (content entry) w ≡ true) }
     ensures ordered { IfOk result (λ entry. IsOrdered (content entry)) }
+    ensures sound { (w : World) → IsMadeWorld w
+        → named w.collections collection.now.name ≡ Some collection.now → IsSoundWorld w
+        → IfOk result (λ entry. IsSoundWorld (step (content entry) w)) }
     ensures rows { IfOk result (λ entry. IsNoMigration (content entry)) }
     ensures clock_end { IsErrOf result StepFault.ClockEnd
         → commit_to collection.now.name states.items now collection.now ≡ None }

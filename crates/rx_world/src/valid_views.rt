@@ -1,4 +1,4 @@
-// Whether a state that is only lent is valid: told from its lent parts, without memory.
+// Whether a state is valid, told where it is lent, without memory.
 ghost use Rattle.std.specs.Prelude.{◌≡◌, true, false, is_none, is_some, option_map, IfSome, IfNone};
 ghost use Rattle.std.specs.List.{list_all};
 ghost use Rattle.rx_record.specs.Views.{state_in, value_in};
@@ -29,8 +29,8 @@ fn has_valid_fields(schema: &Schema, state: &StateView<'_>) -> bool
     }
 }
 
-// The required names that one walk along the fields leaves to be looked for; nothing where the
-// schema takes a field not. Names and fields both rise, so where none is missing none is left.
+// The required names that one walk along the fields leaves to be looked for; nothing where a field
+// isn't taken. Names and fields both rise, so where none is missing none is left.
 #[tactic(auto, using(crate::proofs::LentFields::later, crate::proofs::LentFields::first))]
 fn names_left<'a>(schema: &'a Schema, state: &StateView<'_>) -> Option<&'a [RxText]>
     ensures refused { IfNone result

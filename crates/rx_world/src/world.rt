@@ -105,6 +105,7 @@ impl<H: Holder + Drop> World<H> {
         ensures called { IfSome result (λ h. (H.held h.now).name ≡ name.now) }
         ensures lawful { IfSome result (λ h. IsLawful (H.held h.now)) }
         ensures valid { IfSome result (λ h. AreValid (H.held h.now)) }
+        ensures made { IsMadeWorld (world_in H.held self.now) }
     {
         find(&self.parts.holders, name)
     }
@@ -354,6 +355,8 @@ impl<H: Holder + Drop> World<H> {
         ensures legal { IfOk result (λ entry. legal (content entry) (world_in H.held self.now)
             ≡ true) }
         ensures ordered { IfOk result (λ entry. IsOrdered (content entry)) }
+        ensures sound { IsSoundWorld (world_in H.held self.now) → IfOk result
+            (λ entry. IsSoundWorld (step (content entry) (world_in H.held self.now))) }
         ensures rows { IfOk result (λ entry. IsNoMigration (content entry)) }
         ensures clock_end { IsErrOf result StepFault.ClockEnd
             → commit (world_in H.held self.now) name.now states.items now ≡ None }

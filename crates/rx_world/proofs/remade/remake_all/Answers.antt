@@ -1,7 +1,5 @@
 use Rattle.std.proofs.Common.{◌≡◌, ◌∙◌, ◌||◌, not, Bool, List, ◌∷◌, ℕ, String, Global, Ok, true, ap, sym, subst, string_bytes, rules}
 use Rattle.std.proofs.lemmas.Bool.{and_parts}
-use Rattle.std.specs.List.{IsDistinct}
-use Rattle.std.specs.Str.{bytes_eq}
 use Rattle.rx_value.specs.Named.{by_bytes, by_name}
 use Rattle.rx_world.specs.Holders.{AreWhole}
 use Rattle.rx_world.specs.Migrating.{collections_migrate, documents_migrate, is_in_group}
