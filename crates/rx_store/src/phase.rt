@@ -75,7 +75,7 @@ pub(crate) fn play<H: Holder + Drop, D: Disk, F: Fn(Collection) -> Result<H, All
 
     ensures made { IfOk result (λ r.
         IsMadeIn (λ c h. F.post make.now c (Ok h)) H.written r.phase) }
-    ensures epochs { IfOk result (λ r. epoch_of r.phase < 2 ^ 63) }
+    ensures epochs { IfOk result (λ r. epoch_of r.phase < 2 ^ 53) }
     ensures short { IfOk result (λ r. r.bytes < 2 ^ 32) }
     ensures untouched { D.tells → IsUntouched D.Disk disk.old disk.new }
     ensures only_reads { D.tells → OnlyReads D.Disk disk.old disk.new }

@@ -59,7 +59,7 @@ pub(crate) fn replay<H: Holder + Drop, D: Disk, F: Fn(Collection) -> Result<H, A
 
     ensures made { IfOk result (λ r.
         AreMade (λ c h. F.post make.now c (Ok h)) H.written (holders_in r.world)) }
-    ensures epochs { IfOk result (λ r. r.world.epoch < 2 ^ 63) }
+    ensures epochs { IfOk result (λ r. r.world.epoch < 2 ^ 53) }
     ensures short { IfOk result (λ r. r.bytes < 2 ^ 32) }
     ensures untouched { D.tells → IsUntouched D.Disk disk.old disk.new }
     ensures only_reads { D.tells → OnlyReads D.Disk disk.old disk.new }
