@@ -32,9 +32,9 @@ use Rattle.rx_reply.specs.declared.turn.TurnEnd.{TurnEnd}
 use Rattle.rx_script.specs.declared.happening.Happening.{Happening}
 use Rattle.rx_script.specs.declared.happening.Happening.TheVariants as link
 use Rattle.rx_world.specs.Commit.{out_of}
+use Rattle.rx_world.specs.Touch.{IsNoExchange}
 use Rattle.rx_world.specs.World.{World}
 use Rattle.rx_world.specs.declared.replication.Replication.{Replication}
-use Rattle.rx_world.proofs.Sounds.{IsNoExchange}
 use Rattle.rx_sync.specs.Asking.{asked_in, fork_in}
 use Rattle.rx_sync.specs.Asks.{Asks, next_number, with_request}
 use Rattle.rx_sync.specs.Exchange as step

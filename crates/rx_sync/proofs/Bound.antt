@@ -29,7 +29,7 @@ use Rattle.rx_script.specs.declared.happening.Happening.{Happening}
 use Rattle.rx_script.specs.declared.happening.Happening.TheVariants as happening
 use Rattle.rx_world.specs.World.{World}
 use Rattle.rx_sync.specs.Asks.{Asks}
-use Rattle.rx_sync.specs.Bound.{AreOk, EachExchange, EachLowersLeft, EndsInTime, EveryOkTurn, FallsBy, IsOkTurn, LowersLeft, NextTurn, PushesAtMostTwice, TurnsEndInTime, enough, exchanges_of, is_done, pushed_keys, pushes_in, turn_of_line}
+use Rattle.rx_sync.specs.Bound.{AreOk, EachLowersLeft, EndsInTime, EveryOkTurn, FallsBy, IsOkTurn, NextTurn, PushesAtMostTwice, TurnsEndInTime, enough, exchanges_of, is_done, pushed_keys, pushes_in, turn_of_line}
 use Rattle.rx_sync.specs.Exchange.{Terms, Course, world_after, course, row_keys, state_keys, taken_as}
 use Rattle.rx_sync.specs.Laws.{IsReady}
 use Rattle.rx_sync.specs.Taking.{resolve_for}
@@ -332,15 +332,14 @@ module _ (t : Terms) (batch : ℕ) (some : 1 ≤ batch) (by : Resolve) where
 
   pub each_lowers : (budget : ℕ) (link : List Happening) → AreOk link → (w : World) (l : Link)
       (a : Asks) → Stands t.name t.kinds by w l
-      → EachExchange (LowersLeft t) t batch budget link w a
+      → EachLowersLeft t batch budget link w a
   each_lowers zero link ok w l a s = tt
   each_lowers (suc budget) link ok w l a s =
       let c : Course = course t batch (first_of link) w a in
       let steps : (e : Exchanged) → c.came ≡ Some e → CourseSteps t batch by w l c e =
       course_steps t batch some by w l a s (first_of link) (first_ok link ok) in (
         λ e is. falls w l s c e (steps e is),
-        rest_by (EachExchange (LowersLeft t) t batch budget (rest_of link) (world_after c.records w)
-            c.asks) c
+        rest_by (EachLowersLeft t batch budget (rest_of link) (world_after c.records w) c.asks) c
             (λ e is. each_lowers budget (rest_of link) (rest_ok link ok) (world_after c.records w)
             (steps e is).next c.asks (steps e is).stands) c.came refl,
       )

@@ -1,6 +1,5 @@
 -- What a turn to a master that is elsewhere keeps, whatever is heard of it.
-use Rattle.std.proofs.Common.{◌≡◌, ◌⊎◌, ◌∙◌, inl, inr, ℕ, zero, suc, ◌≤◌, List, [], ◌∷◌, Option, Some, None, Result, Ok, Err, refl, sym, ap, subst, arith, lt-ltb, le-leb, append-nil}
-use Rattle.std.specs.Cmp.Derive.{both_true}
+use Rattle.std.proofs.Common.{◌≡◌, ◌⊎◌, ◌∙◌, inl, inr, ℕ, zero, suc, ◌≤◌, List, [], ◌∷◌, Option, Some, None, Result, Ok, Err, refl, sym, ap, subst, arith, append-nil}
 use Rattle.std.specs.List.{AllByRecursion}
 use Rattle.std.specs.Option.{ForSome}
 use Rattle.rx_value.specs.Due.{◌>>=◌}
@@ -8,9 +7,8 @@ use Rattle.rx_value.specs.Named.{named}
 use Rattle.rx_value.specs.declared.state.State.{State}
 use Rattle.rx_value.proofs.Outcomes.{some_same}
 use Rattle.rx_schema.specs.declared.shape.Shape.{Shape}
-use Rattle.rx_document.specs.declared.place.Place.{Place}
 use Rattle.rx_collection.specs.Held.{Held}
-use Rattle.rx_wire.specs.Lawful.{IsBody, IsPlace, IsReply, IsState}
+use Rattle.rx_wire.specs.Lawful.{IsBody, IsReply, IsState}
 use Rattle.rx_wire.specs.Spelling.{reply_of}
 use Rattle.rx_wire.specs.declared.fault.WireFault.{WireFault}
 use Rattle.rx_wire.specs.declared.message.AskKind.{AskKind}
@@ -25,7 +23,6 @@ use Rattle.rx_handler.specs.Handlers.{Kinds}
 use Rattle.rx_fork.specs.Valid.{is_valid}
 use Rattle.rx_fork.specs.declared.ask.Asked.{Asked}
 use Rattle.rx_record.specs.Content.{Content}
-use Rattle.rx_record.specs.Writable.{HasTime}
 use Rattle.rx_reply.specs.declared.turn.Lost.{Lost}
 use Rattle.rx_reply.specs.declared.turn.Lost.TheVariants as lost
 use Rattle.rx_reply.specs.declared.turn.TurnEnd.{TurnEnd}
@@ -47,7 +44,7 @@ use Rattle.rx_sync.specs.declared.fault.TakeFault.{TakeFault}
 use Rattle.rx_sync.specs.declared.fault.TakeFault.TheVariants as refused
 use Rattle.rx_sync.proofs.AnyReply.{taking_changes_nothing_else, taking_loses_none, taking_lowers_none, taking_sound_at_port, taking_stays_sound, taking_stays_valid}
 use Rattle.rx_sync.proofs.Exchanges.{taken_is}
-use Rattle.rx_sync.proofs.Messages.{asked_at, due_of, known_pass}
+use Rattle.rx_sync.proofs.Messages.{asked_at, due_of, known_pass, place_time}
 use Rattle.rx_sync.proofs.Staying.{made_after, soundly_in_turn, stay_after, still_after}
 use Rattle.rx_sync.proofs.Turns.{remembers_more}
 use Rattle.rx_sync.proofs.Worlds.{after-append, for_fork, linked_at, sound_after, soundly-append}
@@ -59,11 +56,6 @@ each_valid : (s : Shape) (states : List State) → AllByRecursion (IsState s) st
 each_valid s states all = λ x member.
     let is = all_at (IsState s) states x all member in
     valid_state s x is.valid is.carried
-
-place_time : (place : Place) → IsPlace place → HasTime place
-place_time place is =
-    both_true (lt-ltb 0 place.lwt (omega (arith, is.low)))
-    (le-leb place.lwt 9007199254740991 is.high)
 
 lawful_by : (s : Shape) (reply : Reply) (body : Body) → IsBody s body
     → IsLawfulReply s (record reply { body = body })

@@ -6,6 +6,7 @@ pub mod Worlds
 pub mod Masters
 pub mod Staying
 pub mod Messages
+pub mod Lawful
 pub mod Written
 pub mod Takings
 pub mod Twice

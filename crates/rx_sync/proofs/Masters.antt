@@ -17,10 +17,10 @@ use Rattle.rx_replication.specs.Write.{write}
 use Rattle.rx_record.specs.Content.{Content, rows}
 use Rattle.rx_world.specs.Commit.{out_of}
 use Rattle.rx_world.specs.Step.{IsValidState, stored_rows, written_to}
+use Rattle.rx_world.specs.Touch.{IsNoExchange}
 use Rattle.rx_world.specs.World.{World}
 use Rattle.rx_world.proofs.Commits.{IsFit, fit_at}
 use Rattle.rx_world.proofs.Looked.{named-change_same, named-change_other}
-use Rattle.rx_world.proofs.Sounds.{IsNoExchange}
 use Rattle.rx_world.proofs.Steps.{lawful_at}
 use Rattle.rx_sync.specs.Exchange.{world_after}
 use Rattle.rx_sync.specs.Handling.{written_by, commits_of}

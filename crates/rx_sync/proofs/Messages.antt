@@ -11,6 +11,7 @@ use Rattle.rx_collection.specs.Held.{Held}
 use Rattle.rx_collection.specs.Lawful.{IsLawful, IsHeldAt}
 use Rattle.rx_collection.specs.Since.{place_of, since}
 use Rattle.rx_collection.proofs.Named.{at_name}
+use Rattle.rx_wire.specs.Lawful.{IsPlace}
 use Rattle.rx_wire.specs.declared.message.AskKind.{AskKind}
 use Rattle.rx_wire.specs.declared.message.AskKind.TheVariants.{Push, Pull}
 use Rattle.rx_wire.specs.declared.message.PushRow.{PushRow}
@@ -135,6 +136,12 @@ handled_answered c new down (Pull place batch) now by_key reach from is =
 
 abbrev pub PlaceHasTime : Option Place → Type 0
 PlaceHasTime p = IfSome p HasTime
+
+-- as a place of a message has
+pub place_time : (place : Place) → IsPlace place → HasTime place
+place_time place is =
+    both_true (lt-ltb 0 place.lwt (omega (arith, is.low)))
+    (le-leb place.lwt 9007199254740991 is.high)
 
 last_has_time : (documents : Documents) (p q : Option Place) (ds : List Stored)
     → ((d : Stored) → Member d ds → is_time d.lwt ≡ true) → PlaceHasTime p

@@ -12,14 +12,14 @@ use Rattle.rx_world.specs.Made.{IsMadeWorld}
 use Rattle.rx_world.specs.Replicating.{new_replication, with_exchange}
 use Rattle.rx_world.specs.Sound.{IsSoundWorld}
 use Rattle.rx_world.specs.Step.{legal, step}
-use Rattle.rx_world.specs.Touch.{IsNoMigration}
+use Rattle.rx_world.specs.Touch.{IsNoExchange, IsNoMigration}
 use Rattle.rx_world.specs.World.{World}
 use Rattle.rx_world.specs.declared.replication.Replication.{Replication}
 use Rattle.rx_world.proofs.Beginning.{begins}
 use Rattle.rx_world.proofs.Links.{StayHeld, held_other, stay_step}
 use Rattle.rx_world.proofs.Looked.{named-put_other, named-change_same, named-change_other}
 use Rattle.rx_world.proofs.Making.{made_step}
-use Rattle.rx_world.proofs.Sounds.{IsNoExchange, sound_step}
+use Rattle.rx_world.proofs.Sounds.{sound_step}
 use Rattle.rx_sync.specs.Asks.{Asks, AsksAreLawful}
 use Rattle.rx_sync.specs.Exchange.{world_after}
 use Rattle.rx_sync.specs.Laws.{ComeSoundly, IsReady, MayComeInTurn, RemembersLawful}

@@ -1,5 +1,5 @@
 -- How many exchanges are enough, where the link does nothing to them.
-use Rattle.std.specs.Prelude.{◌≡◌, ◌⊎◌, ℕ, zero, suc, ◌+◌, ◌*◌, ◌≤◌, Bool, true, false, List, [], ◌∷◌, filter, length, Option, Some, None, if◌then◌else◌}
+use Rattle.std.specs.Prelude.{◌≡◌, ◌⊎◌, ℕ, ◌+◌, ◌*◌, ◌≤◌, Bool, true, false, List, [], ◌∷◌, filter, length, Option, Some, if◌then◌else◌}
 use Rattle.std.specs.List.{AllByRecursion}
 use Rattle.std.specs.Str.{bytes_eq}
 use Rattle.rx_value.specs.Due.{◌>>=◌}
@@ -20,10 +20,10 @@ use Rattle.rx_world.specs.World.{World}
 use Rattle.rx_world.specs.declared.replication.Replication.{Replication}
 use Rattle.rx_sync.specs.Asking.{fork_in}
 use Rattle.rx_sync.specs.Asks.{Asks}
-use Rattle.rx_sync.specs.Exchange.{Terms, Course, world_after, course}
+use Rattle.rx_sync.specs.Exchange.{Terms, Course, world_after}
 use Rattle.rx_sync.specs.Handling.{local_name}
 use Rattle.rx_sync.specs.Laws.{EveryTurn, IsReady}
-use Rattle.rx_sync.specs.Turn.{Turned, end_by, first_of, rest_of, turn}
+use Rattle.rx_sync.specs.Turn.{EachExchange, Turned, turn}
 
 -- ---- a replication of a world as its fork and its master
 
@@ -72,16 +72,6 @@ pushed_keys (Pulled rows place) = []
 pushed_keys (PushLost rows why) = rows
 pushed_keys (PullLost why) = []
 
--- what holds of each exchange of a turn: of the world before it, and of what it comes to
-abbrev pub EachExchange : (World → Course → Type 0) → Terms → ℕ → ℕ → List Happening → World → Asks
-    → Type 0
-EachExchange P t batch zero link w a = Unit {0}
-EachExchange P t batch (suc budget) link w a =
-    let c = course t batch (first_of link) w a in
-    P w c
-    × (end_by batch c.came ≡ None
-    → EachExchange P t batch budget (rest_of link) (world_after c.records w) c.asks)
-
 -- from one world to the next the pushes left fall by so many at least
 abbrev pub FallsBy : World → World → List ℕ → ℕ → Type 0
 FallsBy w next name n =
@@ -95,7 +85,8 @@ LowersLeft t w c =
     → FallsBy w (world_after c.records w) t.name (length (pushed_keys e))
 
 abbrev pub EachLowersLeft : Terms → ℕ → ℕ → List Happening → World → Asks → Type 0
-EachLowersLeft t batch budget link w a = EachExchange (LowersLeft t) t batch budget link w a
+EachLowersLeft t batch budget link w a =
+    EachExchange (λ w a x c. LowersLeft t w c) t batch budget link w a
 
 -- ---- how often a document is pushed
 

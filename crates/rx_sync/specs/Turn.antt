@@ -1,5 +1,5 @@
 -- A turn: exchanges one after another, until one ends it.
-use Rattle.std.specs.Prelude.{ℕ, zero, suc, List, [], ◌∷◌, ◌++◌, length, nat_lt, Option, Some, None, if◌then◌else◌}
+use Rattle.std.specs.Prelude.{◌≡◌, ℕ, zero, suc, List, [], ◌∷◌, ◌++◌, length, nat_lt, Option, Some, None, if◌then◌else◌}
 use Rattle.rx_record.specs.Content.{Content}
 use Rattle.rx_reply.specs.declared.turn.Exchanged.{Exchanged}
 use Rattle.rx_reply.specs.declared.turn.Exchanged.TheVariants.{Pushed, Pulled, PushLost, PullLost}
@@ -12,8 +12,7 @@ use Rattle.rx_sync.specs.Asks.{Asks}
 use Rattle.rx_sync.specs.Exchange.{Terms, Course, course, world_after}
 
 -- What a turn writes, which requests are remembered after it, what its exchanges came to, and how
--- it
--- ended. The exchange in which a commit found no write time isn't among them.
+-- it ended. The exchange in which a commit found no write time isn't among them.
 pub record Turned : Type 0 where
   pub records : List Content
   pub asks : Asks
@@ -68,3 +67,14 @@ turn t batch (suc budget) link w a =
     let c = course t batch (first_of link) w a in
     going_on c (end_by batch c.came)
     (turn t batch budget (rest_of link) (world_after c.records w) c.asks)
+
+-- what holds of each exchange of a turn: of the world before it, of what was asked before, of what
+-- its link does, and of what it comes to
+abbrev pub EachExchange : (World → Asks → Happening → Course → Type 0) → Terms → ℕ → ℕ
+    → List Happening → World → Asks → Type 0
+EachExchange P t batch zero link w a = Unit {0}
+EachExchange P t batch (suc budget) link w a =
+    let c = course t batch (first_of link) w a in
+    P w a (first_of link) c
+    × (end_by batch c.came ≡ None
+    → EachExchange P t batch budget (rest_of link) (world_after c.records w) c.asks)

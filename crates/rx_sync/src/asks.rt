@@ -1,4 +1,4 @@
-ghost use Rattle.std.specs.Prelude.{◌≡◌, ◌≤◌, OnOk, option_map};
+ghost use Rattle.std.specs.Prelude.{◌≡◌, OnErr, OnOk, option_map};
 ghost use Rattle.rx_sync.specs.Asks.{forgotten, no_asks, with_request, earlier, next_number};
 
 use rx_value::LARGEST;
@@ -45,10 +45,11 @@ impl Asks {
 
     /// Remembers a request that was made.
     pub fn push(&mut self, request: Request) -> Result<(), AllocError>
-        ensures { OnOk result (self.new ≡ with_request request self.old) }
+        ensures ok { OnOk result (self.new ≡ with_request request self.old) }
+        ensures err { OnErr result (self.new ≡ self.old) }
     {
-        self.count = self.next_number();
         self.made.insert(0, request)?;
+        self.count = self.next_number();
         self.made.truncate(REMEMBERED);
         Ok(())
     }

@@ -55,37 +55,20 @@ pub fn exchange<H: Holder + Drop>(
     ensures pulled { IfOk result (λ planned. PullLeavesNone (world_in H.held world.now) name.now
         (map content planned.records.items) planned.came) }
 {
-    plan(alloc, world, name, asked, happening, handlers, now)
-}
-
-fn plan<H: Holder + Drop>(
-    alloc: Global,
-    world: &World<H>,
-    name: &str,
-    asked: &Asked,
-    happening: Happening,
-    handlers: &Handlers,
-    now: u64,
-) -> Result<Planned, AllocError>
-    requires ready { IsReady (world_in H.held world.now) name.now (kinds_of handlers.now) }
-    requires asked { IsAskedIn (world_in H.held world.now) name.now asked.now }
-    ensures { IfOk result (λ planned.
-        exchange (record { name = name.now; now = now; kinds = kinds_of handlers.now }) asked.now
-        happening (world_in H.held world.now) ≡ planned_of planned) }
-{
-    match happening {
-        Happening::LoseRequest => Ok(Planned {
+    let planned = match happening {
+        Happening::LoseRequest => Planned {
             records: Vec::new(alloc),
             came: Some(lost_by(alloc, Lost::LoseRequest, &asked.request.ask)?),
-        }),
-        Happening::LoseReply => reply_lost(alloc, world, name, asked, Lost::LoseReply, now),
-        Happening::Stale => reply_lost(alloc, world, name, asked, Lost::Stale, now),
+        },
+        Happening::LoseReply => reply_lost(alloc, world, name, asked, Lost::LoseReply, now)?,
+        Happening::Stale => reply_lost(alloc, world, name, asked, Lost::Stale, now)?,
         Happening::Ok | Happening::Late(_) => {
-            reply_taken(alloc, world, name, asked, handlers, now)
+            reply_taken(alloc, world, name, asked, handlers, now)?
         }
         // A second handling writes nothing.
-        Happening::Twice => reply_taken(alloc, world, name, asked, handlers, now),
-    }
+        Happening::Twice => reply_taken(alloc, world, name, asked, handlers, now)?,
+    };
+    Ok(planned)
 }
 
 // The request is handled, and the reply is lost.

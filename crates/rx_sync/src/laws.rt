@@ -3,7 +3,19 @@ ghost use Rattle.rx_sync.specs.Bound.{EachLowersLeft, EndsInTime, EveryOkTurn, P
 ghost use Rattle.rx_sync.specs.Delivery.{EveryDelivery, IsDeliverySound, LevelIsEqual, MayDeliverAgain, WaitsForPushes};
 ghost use Rattle.rx_sync.specs.RemoteLaws.{EachIsUnharmed, EveryCall, IsCallSound, MayCallAgain};
 ghost use Rattle.rx_sync.specs.Sweep.{QuietSweepIsEqual, SweepEndsInTime};
+ghost use Rattle.rx_sync.specs.MessageLaws.{AnswersItsFork, AnswersLawfully, AsksLawfully};
 ghost use Rattle.rx_sync.specs.Laws.{EveryTurn, IsTurnSound, MayTurnAgain, QuietIsLevel, RefusedByTheClockAlone, TwiceIsOnce};
+
+/// States that what the two ends send each other is lawful, so that each may write it and the other
+/// reads it back, and does nothing.
+pub fn message_laws()
+    // What a fork asks is a lawful request of its schema.
+    ensures asks { AsksLawfully }
+    // What a collection answers to a lawful request of its schema is a lawful reply of that schema.
+    ensures answers { AnswersLawfully }
+    // So what the master of a replication answers its fork is a lawful reply of the fork's schema.
+    ensures answers_fork { AnswersItsFork }
+{}
 
 /// States what holds of every turn of every replication that may make one, whatever its link does,
 /// and does nothing.

@@ -30,7 +30,8 @@ pub use fault::{EventFault, TakeFault};
 pub use giving::{Giving, give, given_as, is_resync};
 pub use handling::{Handled, handle, handle_by};
 pub use laws::{
-    any_reply_laws, bound_laws, delivery_laws, remote_turn_laws, sweep_laws, turn_laws,
+    any_reply_laws, bound_laws, delivery_laws, message_laws, remote_turn_laws, sweep_laws,
+    turn_laws,
 };
 pub use remote::{Heard, fork_schema, hear};
 pub use sweeping::{Step, sweep_steps};

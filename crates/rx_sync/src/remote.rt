@@ -66,30 +66,15 @@ pub fn hear<H: Holder + Drop>(
     ensures next { IfOk result
         (λ planned. ComeSoundly (world_in H.held world.now) (map content planned.records.items)) }
 {
-    plan_heard(alloc, world, name, asked, heard, handlers, now)
-}
-
-fn plan_heard<H: Holder + Drop>(
-    alloc: Global,
-    world: &World<H>,
-    name: &str,
-    asked: &Asked,
-    heard: &Heard,
-    handlers: &Handlers,
-    now: u64,
-) -> Result<Planned, AllocError>
-    requires ready { IsReadyElsewhere (world_in H.held world.now) name.now (kinds_of handlers.now) }
-    requires asked { IsDueIn (world_in H.held world.now) name.now asked.now }
-    ensures { IfOk result (λ planned.
-        heard_exchange (record { name = name.now; now = now; kinds = kinds_of handlers.now })
-        asked.now (heard_of heard.now) (world_in H.held world.now) ≡ planned_of planned) }
-{
-    match heard {
-        Heard::NoDial => lose(alloc, Lost::Dial, asked),
-        Heard::NoWire => lose(alloc, Lost::Wire, asked),
-        Heard::NoLine => lose(alloc, Lost::Reply, asked),
-        Heard::Line(line) => hear_line(alloc, world, name, asked, line.as_slice(), handlers, now),
-    }
+    let planned = match heard {
+        Heard::NoDial => lose(alloc, Lost::Dial, asked)?,
+        Heard::NoWire => lose(alloc, Lost::Wire, asked)?,
+        Heard::NoLine => lose(alloc, Lost::Reply, asked)?,
+        Heard::Line(line) => {
+            hear_line(alloc, world, name, asked, line.as_slice(), handlers, now)?
+        }
+    };
+    Ok(planned)
 }
 
 // A line was heard, which is a reply or isn't.
