@@ -5,14 +5,19 @@ use Rattle.rx_collection.specs.Held.{Held}
 use Rattle.rx_record.specs.Content.{Content, content_bytes}
 use Rattle.rx_replication.specs.Master.{body_of, master_then, reply_with}
 use Rattle.rx_serve.specs.Answered.{AnswersAsk, Commit, Commits, Gives, StopsAsk, answered_at, commit_at, commit_by, commit_if}
+use Rattle.rx_wire.specs.Lawful.{IsReply, IsRequest}
 use Rattle.rx_wire.specs.declared.message.AskKind.{AskKind}
 use Rattle.rx_wire.specs.declared.message.AskKind.TheVariants.{Push, Pull}
 use Rattle.rx_wire.specs.declared.message.Reply.{Reply}
 use Rattle.rx_wire.specs.declared.message.Request.{Request}
 use Rattle.rx_world.specs.Commit.{out_of}
+use Rattle.rx_world.specs.Made.{IsMadeWorld}
 use Rattle.rx_world.specs.Step.{step, written_to}
 use Rattle.rx_world.specs.World.{World}
 use Rattle.rx_world.proofs.Looked.{named-change_same}
+use Rattle.rx_world.proofs.Steps.{lawful_at}
+use Rattle.rx_world.proofs.Valid.{valid_at}
+use Rattle.rx_sync.proofs.Lawful.{replies_lawfully}
 use Rattle.rx_host.specs.Moments.{HasMoment}
 use Rattle.rx_host.specs.Planned.{Writes}
 use Rattle.rx_host.specs.Records.{bodies_of, record_of}
@@ -149,3 +154,17 @@ module _
     collection_then after same =
         ap (collection_at name) same
         ∙ ap (λ (o : Option Held). unwrap_or o no_collection) at_name
+
+-- ---- the reply
+
+-- of a collection of a world that records made is lawful
+pub reply_lawful : (w : World) → IsMadeWorld w → (name : List ℕ) (c : Held)
+    → named w.collections name ≡ Some c → (d : Held) → c ≡ d → (q : Request)
+    → IsRequest d.schema q → (reply : Reply)
+    → reply ≡ reply_with q (body_of c.documents q.ask) → IsReply d.schema reply
+reply_lawful w made name c at d same q lawful reply is =
+    let here : IsReply c.schema (reply_with q (body_of c.documents q.ask)) =
+    replies_lawfully c (lawful_at w name c made.lawful at).lawful
+    (valid_at w name c made.valid at) q
+    (subst (λ (x : Held). IsRequest x.schema q) (sym same) lawful) in
+    subst (λ (x : Held). IsReply x.schema reply) same (subst (IsReply c.schema) (sym is) here)

@@ -1,6 +1,7 @@
 -- How connections that are served one after another halt.
-use Rattle.std.proofs.Common.{◌≡◌, ◌∙◌, refl, sym, ap, subst, ℕ, ◌+◌, ◌≤◌, ◌⊎◌, ⊎_elim, inl, inr, List, [], ◌∷◌, ◌++◌, length, Option, None, Some, true}
+use Rattle.std.proofs.Common.{◌≡◌, ◌∙◌, refl, sym, ap, subst, ℕ, ◌+◌, ◌≤◌, ◌⊎◌, ⊎_elim, inl, inr, List, [], ◌∷◌, ◌++◌, length, Option, None, Some, true, append-nil, arith}
 use Rattle.rx_collection.specs.Held.{Held}
+use Rattle.rx_outside.specs.Failed.{one_more}
 use Rattle.rx_outside.specs.Sink.{WritesFront}
 use Rattle.rx_outside.specs.Talk.{Talk}
 use Rattle.rx_outside.specs.declared.stop.Stop.{Stop}
@@ -9,7 +10,7 @@ use Rattle.rx_serve.specs.Answered.{Commits}
 use Rattle.rx_serve.specs.Ends.{EndsBy, IsStopOf, IsStopped}
 use Rattle.rx_serve.specs.declared.ended.Why.TheVariants as why
 use Rattle.rx_host.specs.Connections.{IsServedOn, ServedConnection, coming_in, collection_after, commits_through, connection_line, connection_of, moments_of, served_on}
-use Rattle.rx_host.specs.Outside.{BreaksOff, HaltsAfter, HaltsAtLine, HaltsBetween, HaltsBy, HaltsWithin, HaveServed, Outside, outside_after}
+use Rattle.rx_host.specs.Outside.{BreaksOff, HaltsAfter, HaltsAtLine, HaltsBetween, HaltsBy, HaltsWithin, HaveServed, Outside, opened_at, outside_after}
 use Rattle.rx_host.specs.declared.connections.ServeFault.{ServeFault}
 use Rattle.rx_host.specs.declared.connections.ServeFault.TheVariants as fault
 use Rattle.rx_host.proofs.Ends.{stopped_too}
@@ -86,6 +87,8 @@ module _
     between : HaltsBetween wires sink mid new G₂ L₂
         → HaltsBetween wires sink (outside_after i xs old) new Given Leaving
     between halts = record {
+      opened = λ told. halts.opened told ∙ first.opened told;
+      accepted = λ told. halts.accepted told ∙ first.accepted told;
       talks = λ told. halts.talks told ∙ first.talks told;
       written = λ told. halts.written told ∙ first.written told;
       moments = gives _ _ first.moments halts.moments;
@@ -100,6 +103,8 @@ module _
       last = halts.last;
       each = λ told.
           subst (λ (h : Held). IsServedOn h halts.last) (first.after told) (halts.each told);
+      opened = λ told. halts.opened told ∙ first.opened told;
+      accepted = λ told. halts.accepted told ∙ ap one_more (first.accepted told);
       talks = λ told. halts.talks told ∙ ap (λ ts. ts ++ halts.last.talk ∷ []) (first.talks told);
       written = λ told.
           subst (λ (n : ℕ). WritesFront (outside_after i xs old).written new.written
@@ -139,6 +144,8 @@ module _
           breaking why halts.talk halts.moments (first.kept told)
           (subst (λ (h : Held). BreaksOff why h halts.talk halts.moments L₂) (first.after told)
           (halts.breaks told));
+      opened = λ told. halts.opened told ∙ first.opened told;
+      accepted = λ told. halts.accepted told ∙ ap one_more (first.accepted told);
       talks = λ told.
           ⊎_elim (λ joins. inl (joins ∙ ap (λ ts. ts ++ halts.talk ∷ []) (first.talks told)))
           (λ wanting. inr (wanting.0, wanting.1 ∙ first.talks told)) (halts.talks told);
@@ -154,9 +161,55 @@ module _
     by_fault fault.Sink halts = at_line halts
     by_fault (fault.Stopped why) halts = within why halts
 
-    -- some were served, and then it halted
-    pub halts_on : (fault : ServeFault) (most : ℕ) → length xs ≤ most
+    -- some were served at an open door, and then it halted
+    pub halts_on : (fault : ServeFault) (port most : ℕ) (before : Outside)
+        → old ≡ opened_at port before → length xs ≤ most
         → HaltsBy fault wires sink j d mid new G₂ L₂
-        → HaltsAfter fault most wires sink i c old new G₃ L₃
-    halts_on fault most few halts =
-        record { conns = xs; few = few; each = first.each; last = by_fault fault halts }
+        → HaltsAfter fault port most wires sink i c before new G₃ L₃
+    halts_on fault port most before is few halts = record {
+      conns = xs;
+      few = few;
+      each = first.each;
+      begun = old;
+      opened = inl is;
+      last = by_fault fault halts;
+    }
+
+-- the door didn't open
+pub unopened : (wires sink : Type 0) (port most : ℕ) (c : Held) (old new : Outside)
+    (Gives : List ℕ → Type 0) (Leaves : Left)
+    → (new.opened ≡ old.opened ++ port ∷ []) ⊎ (new.opened ≡ old.opened)
+    → new.accepted ≡ old.accepted → new.talks ≡ old.talks → new.written ≡ old.written → Gives []
+    → Leaves None [] [] → HaltsAfter fault.Door port most wires sink 1 c old new Gives Leaves
+unopened wires sink port most c old new Gives Leaves (inl noted) accepted talks written gives
+    leaves = record {
+      conns = [];
+      few = omega arith;
+      each = λ told. tt;
+      begun = opened_at port old;
+      opened = inl refl;
+      last = record {
+        opened = λ told. noted;
+        accepted = λ told. accepted;
+        talks = λ told. talks ∙ sym (append-nil old.talks);
+        written = λ told. written ∙ sym (append-nil old.written);
+        moments = gives;
+        kept = λ told. leaves;
+      };
+    }
+unopened wires sink port most c old new Gives Leaves (inr same) accepted talks written gives
+    leaves = record {
+      conns = [];
+      few = omega arith;
+      each = λ told. tt;
+      begun = old;
+      opened = inr (refl, refl, refl);
+      last = record {
+        opened = λ told. same;
+        accepted = λ told. accepted;
+        talks = λ told. talks ∙ sym (append-nil old.talks);
+        written = λ told. written ∙ sym (append-nil old.written);
+        moments = gives;
+        kept = λ told. leaves;
+      };
+    }

@@ -3,6 +3,7 @@ use Rattle.std.proofs.Common.{◌≡◌, ◌∙◌, refl, sym, ap, subst, ℕ, �
 use Rattle.std.proofs.lemmas.Grind.{flat_map-append}
 use Rattle.std.proofs.lemmas.List.{map-append}
 use Rattle.rx_collection.specs.Held.{Held}
+use Rattle.rx_outside.specs.Failed.{many_more, one_more}
 use Rattle.rx_outside.specs.Talk.{Talk}
 use Rattle.rx_serve.specs.Answered.{Commits}
 use Rattle.rx_serve.specs.Ends.{Connection, EndsBy}
@@ -110,15 +111,23 @@ lines_on i (x ∷ xs) ys =
     ∙ sym (append_assoc (connection_line i x.ended) (lines_from (i + 1) xs)
     (lines_from (i + length (x ∷ xs)) ys))
 
+many_on : {A : Type 0} (xs ys : List A) (count : ℕ)
+    → many_more (length ys) (many_more (length xs) count) ≡ many_more (length (xs ++ ys)) count
+many_on [] ys count = refl
+many_on (x ∷ xs) ys count = many_on xs ys (one_more count)
+
 module _ (wires sink : Type 0) where
   -- nothing came yet
   pub have_none : (i : ℕ) (c : Held) (old new : Outside) (Gives : List ℕ → Type 0)
-      (Keeps : Commits → Type 0) → (wires → new.talks ≡ old.talks)
+      (Keeps : Commits → Type 0) → (wires → new.opened ≡ old.opened)
+      → (wires → new.accepted ≡ old.accepted) → (wires → new.talks ≡ old.talks)
       → (sink → new.written ≡ old.written)
       → Gives [] → Keeps [] → HaveServed wires sink i c c [] old new Gives Keeps
-  have_none i c old new Gives Keeps talks written gives keeps = record {
+  have_none i c old new Gives Keeps opened accepted talks written gives keeps = record {
     each = λ told. tt;
     after = λ told. refl;
+    opened = opened;
+    accepted = accepted;
     talks = λ told. talks told ∙ sym (append-nil old.talks);
     written = λ told. written told ∙ sym (append-nil old.written);
     moments = gives;
@@ -130,12 +139,15 @@ module _ (wires sink : Type 0) where
       (Gives : List ℕ → Type 0) (Keeps : Commits → Type 0)
       → (wires → EndsBy s.ended.why s.ended.requests Keeps (connection_of s.talk s.moments c c'))
       → (s.ended.why ≡ why.Wire → s.talk.failed ≡ true)
+      → (wires → new.opened ≡ old.opened) → (wires → new.accepted ≡ one_more old.accepted)
       → (wires → new.talks ≡ old.talks ++ s.talk ∷ [])
       → (sink → new.written ≡ old.written ++ connection_line i s.ended) → Gives s.moments
       → HaveServed wires sink i c c' (s ∷ []) old new Gives Keeps
-  have_one i c c' s old new Gives Keeps ends failed talks written gives = record {
+  have_one i c c' s old new Gives Keeps ends failed opened accepted talks written gives = record {
     each = λ told. (one_served c c' s Keeps (ends told) failed, tt);
     after = λ told. one_after c c' s Keeps (ends told);
+    opened = opened;
+    accepted = accepted;
     talks = talks;
     written = λ told.
         written told ∙ ap (λ bs. old.written ++ bs) (sym (append-nil (connection_line i s.ended)));
@@ -164,6 +176,9 @@ module _ (wires sink : Type 0) where
             (subst (λ (h : Held). AreServedOn h ys) (first.after told) (next.each told));
         after = λ told. next.after told
             ∙ ap (λ (h : Held). collection_after h ys) (first.after told) ∙ sym (after_on c xs ys);
+        opened = λ told. next.opened told ∙ first.opened told;
+        accepted = λ told. next.accepted told
+            ∙ ap (many_more (length ys)) (first.accepted told) ∙ many_on xs ys old.accepted;
         talks = λ told. next.talks told ∙ ap (λ ts. ts ++ talks_of ys) (first.talks told)
             ∙ append_assoc old.talks (talks_of xs) (talks_of ys)
             ∙ ap (λ ts. old.talks ++ ts) (sym (map-append (λ s. s.talk) xs ys));

@@ -3,7 +3,7 @@ use Rattle.std.proofs.Common.{◌≡◌, ◌∙◌, refl, sym, ap, subst, ℕ, �
 use Rattle.std.proofs.lemmas.Bool.Decides.{nat_tests}
 use Rattle.rx_collection.specs.Held.{Held}
 use Rattle.rx_disk.specs.declared.disk.Disk.{Ghosts}
-use Rattle.rx_outside.specs.Failed.{Rises}
+use Rattle.rx_outside.specs.Failed.{Rises, one_more}
 use Rattle.rx_outside.specs.Sink.{WritesFront}
 use Rattle.rx_outside.specs.Talk.{Talk}
 use Rattle.rx_outside.specs.declared.stop.Stop.{Stop}
@@ -73,6 +73,11 @@ module _
     abbrev Left : Option Stop → Commits → Commits → Type 0
     Left = HasStopped d a b m
 
+    -- one wire was given
+    abbrev pub GivesOne : Outside → Outside → Type 0
+    GivesOne old new =
+        wires → (new.opened ≡ old.opened) × (new.accepted ≡ one_more old.accepted)
+
     -- it was served to its end
     abbrev pub Ends : MasterEngine × Ended → Type 0
     Ends p = (moments : List ℕ) × Given moments
@@ -96,25 +101,29 @@ module _
           coming sent t (came told) (went told) (ends.2 told)
 
       -- and told of
-      pub one_ended : (i : ℕ) (old new : Outside) → (wires → new.talks ≡ old.talks ++ t ∷ [])
+      pub one_ended : (i : ℕ) (old new : Outside) → GivesOne old new
+          → (wires → new.talks ≡ old.talks ++ t ∷ [])
           → (sink → new.written ≡ old.written ++ connection_line i p.1)
           → (s : ServedConnection)
           × HaveServed wires sink i c (collection_of p.0) (s ∷ []) old new Given
           (HasKept d a b m p.0)
-      one_ended i old new talks written = (
+      one_ended i old new one_wire talks written = (
         one,
         have_one wires sink i c (collection_of p.0) one old new Given (HasKept d a b m p.0) by_talk
-            failed talks written ends.1,
+            failed (λ told. (one_wire told).0) (λ told. (one_wire told).1) talks written ends.1,
       )
 
       -- and a front of its line was written
-      one_at_line : (i : ℕ) (old new : Outside) → (wires → new.talks ≡ old.talks ++ t ∷ [])
+      one_at_line : (i : ℕ) (old new : Outside) → GivesOne old new
+          → (wires → new.talks ≡ old.talks ++ t ∷ [])
           → (sink → WritesFront old.written new.written (connection_line i p.1))
           → HaltsAtLine wires sink i c old new Given Left
-      one_at_line i old new talks front = record {
+      one_at_line i old new one_wire talks front = record {
         last = one;
         each = λ told.
             one_served c (collection_of p.0) one (HasKept d a b m p.0) (by_talk told) failed;
+        opened = λ told. (one_wire told).0;
+        accepted = λ told. (one_wire told).1;
         talks = talks;
         written = front;
         moments = ends.1;
@@ -123,16 +132,18 @@ module _
       }
 
       -- and memory was wanting
-      pub one_after : (old new : Outside)
+      pub one_after : (old new : Outside) → GivesOne old new
           → (wires
           → (new.talks ≡ old.talks ++ t ∷ []) ⊎ ((Memory ≡ Memory) × (new.talks ≡ old.talks)))
           → (sink → new.written ≡ old.written) → HaltsWithin wires sink Memory c old new Given Left
-      one_after old new talks written = record {
+      one_after old new one_wire talks written = record {
         talk = t;
         moments = ends.0;
         spare = [];
         breaks = λ told. broke_after c (collection_of p.0) one Left (HasKept d a b m p.0)
             (λ commits kept. kept_left d a b m p.0 commits kept) (by_talk told) failed;
+        opened = λ told. (one_wire told).0;
+        accepted = λ told. (one_wire told).1;
         talks = talks;
         written = written;
         given = subst Given (sym (no_more ends.0)) ends.1;
@@ -144,27 +155,28 @@ module _
 
       -- and its line wasn't written whole
       pub line_halts : {T : Type 0} (i : ℕ) (old new : Outside) (f : ServeFault)
-          → (wires → new.talks ≡ old.talks ++ t ∷ [])
+          → GivesOne old new → (wires → new.talks ≡ old.talks ++ t ∷ [])
           → (IsErrOf {T = T} (Err f) fault.Door → ⊥)
           → ((why : Stop) → IsErrOf {T = T} (Err f) (fault.Stopped why)
           → (why ≡ Memory) × (sink → new.written ≡ old.written))
           → (sink → IsErrOf {T = T} (Err f) fault.Sink
           → WritesFront old.written new.written (connection_line i p.1))
           → HaltsBy f wires sink i c old new Given Left
-      line_halts i old new fault.Door talks no_door none front = absurd (no_door refl)
-      line_halts i old new fault.Sink talks no_door none front =
-          one_at_line i old new talks (λ told. front told refl)
-      line_halts i old new (fault.Stopped why) talks no_door none front =
+      line_halts i old new fault.Door one_wire talks no_door none front = absurd (no_door refl)
+      line_halts i old new fault.Sink one_wire talks no_door none front =
+          one_at_line i old new one_wire talks (λ told. front told refl)
+      line_halts i old new (fault.Stopped why) one_wire talks no_door none front =
           let P : Stop → Type 0 = λ s. HaltsWithin wires sink s c old new Given Left in
           let wanting = none why refl in
-          subst P (sym wanting.0) (one_after old new (λ told. inl (talks told)) wanting.1)
+          subst P (sym wanting.0) (one_after old new one_wire (λ told. inl (talks told))
+          wanting.1)
 
     -- a stop came within it; or memory was wanting afterwards too
     pub one_within : (why why' : Stop) → Breaks why → (why' ≡ why) ⊎ (why' ≡ Memory)
-        → (old new : Outside)
+        → (old new : Outside) → GivesOne old new
         → (wires → (new.talks ≡ old.talks ++ t ∷ []) ⊎ ((why' ≡ Memory) × (new.talks ≡ old.talks)))
         → (sink → new.written ≡ old.written) → HaltsWithin wires sink why' c old new Given Left
-    one_within why why' breaks same old new talks written = record {
+    one_within why why' breaks same old new one_wire talks written = record {
       talk = t;
       moments = breaks.0;
       spare = breaks.1;
@@ -172,6 +184,8 @@ module _
           let within = breaks.3 told in
           broke_within why why' c t breaks.0 coming sent Left within.0 within.1 same within.2
           (came told) (went told) within.3;
+      opened = λ told. (one_wire told).0;
+      accepted = λ told. (one_wire told).1;
       talks = talks;
       written = written;
       given = breaks.2;
@@ -180,12 +194,13 @@ module _
     -- the wire wasn't handed back
     pub not_returned : (r : Result (MasterEngine × Ended) Stop) → IfOk r Ends
         → IfOk r (λ p. p.1.why ≡ why.Wire → t.failed ≡ true) → IfErr r Breaks → (old new : Outside)
-        → (wires → new.talks ≡ old.talks) → (sink → new.written ≡ old.written)
+        → GivesOne old new → (wires → new.talks ≡ old.talks) → (sink → new.written ≡ old.written)
         → HaltsWithin wires sink Memory c old new Given Left
-    not_returned (Ok p) ends failed breaks old new talks written =
-        one_after p ends failed old new (λ told. inr (refl, talks told)) written
-    not_returned (Err why) ends failed breaks old new talks written =
-        one_within why Memory breaks (inr refl) old new (λ told. inr (refl, talks told)) written
+    not_returned (Ok p) ends failed breaks old new one_wire talks written =
+        one_after p ends failed old new one_wire (λ told. inr (refl, talks told)) written
+    not_returned (Err why) ends failed breaks old new one_wire talks written =
+        one_within why Memory breaks (inr refl) old new one_wire
+        (λ told. inr (refl, talks told)) written
 
 -- whatever the wire gave, some commits are kept
 pub some_left : {D : Type 0} (d : Ghosts D) (a b : D) (m : MasterEngine)

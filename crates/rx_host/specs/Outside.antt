@@ -1,9 +1,11 @@
 -- What is outside of a master while it serves connections, and how they end there.
 use Rattle.std.specs.Prelude.{◌≡◌, ◌⊎◌, ◌≤◌, ℕ, ◌+◌, List, [], ◌∷◌, ◌++◌, length, min, Option, None, Some}
 use Rattle.rx_collection.specs.Held.{Held}
-use Rattle.rx_outside.specs.Failed.{last_count}
+use Rattle.rx_outside.specs.Failed.{last_count, many_more, one_more}
 use Rattle.rx_outside.specs.Sink.{WritesFront}
 use Rattle.rx_outside.specs.Talk.{Talk}
+use Rattle.rx_outside.specs.declared.listen.Listen.{Ghosts as DoorGhosts}
+use Rattle.rx_outside.specs.declared.sink.Sink.{Ghosts as SinkGhosts}
 use Rattle.rx_outside.specs.declared.stop.Stop.{Stop}
 use Rattle.rx_outside.specs.declared.stop.Stop.TheVariants.{Memory}
 use Rattle.rx_serve.specs.Answered.{Commits}
@@ -13,21 +15,40 @@ use Rattle.rx_host.specs.Connections.{AreServedOn, IsServedOn, ServedConnection,
 use Rattle.rx_host.specs.declared.connections.ServeFault.{ServeFault}
 use Rattle.rx_host.specs.declared.connections.ServeFault.TheVariants as fault
 
--- what is told outside: the talks at the door, and the bytes in the sink
+-- what is told outside: the ports at which the door was opened, how many wires it gave, the talks
+-- at it, and the bytes in the sink
 pub record Outside : Type 0 where
+  pub opened : List ℕ
+  pub accepted : ℕ
   pub talks : List Talk
   pub written : List ℕ
 
--- with the talks of connections, and their lines from a number on
+-- by a door and a sink
+abbrev pub told_by : {L W K : Type 0} → DoorGhosts L W → SinkGhosts K → L → K → Outside
+told_by l k door out = record {
+  opened = l.opened door;
+  accepted = l.accepted door;
+  talks = l.talks door;
+  written = k.written out;
+}
+
+-- with the door opened at a port
+abbrev pub opened_at : ℕ → Outside → Outside
+opened_at port old = record old { opened = old.opened ++ port ∷ [] }
+
+-- with a wire of each connection, their talks, and their lines from a number on
 abbrev pub outside_after : ℕ → List ServedConnection → Outside → Outside
 outside_after i conns old = record {
+  opened = old.opened;
+  accepted = many_more (length conns) old.accepted;
   talks = old.talks ++ talks_of conns;
   written = old.written ++ lines_from i conns;
 }
 
--- Connections were served, from one collection to another, and each is told of: its talk by the
--- door, where wires tell, and its line, by number from i on, by the sink. Of the moments that a
--- clock gave and of the commits that a disk keeps the rest is said.
+-- Connections were served, from one collection to another, and each is told of: its wire and its
+-- talk by the door, where wires tell, and its line, by number from i on, by the sink. The door gave
+-- no other wire, and wasn't opened again. Of the moments that a clock gave and of the commits that
+-- a disk keeps the rest is said.
 pub record HaveServed
     (wires sink : Type 0)
     (i : ℕ)
@@ -38,6 +59,8 @@ pub record HaveServed
     (Keeps : Commits → Type 0) : Type 0 where
   pub each : wires → AreServedOn c conns
   pub after : wires → c' ≡ collection_after c conns
+  pub opened : wires → new.opened ≡ old.opened
+  pub accepted : wires → new.accepted ≡ (outside_after i conns old).accepted
   pub talks : wires → new.talks ≡ (outside_after i conns old).talks
   pub written : sink → new.written ≡ (outside_after i conns old).written
   pub moments : Gives (moments_of conns)
@@ -53,12 +76,14 @@ accept_tries = 64
 abbrev pub HasGivenUp : ℕ → ℕ → Type 0
 HasGivenUp old new = min (old + accept_tries) last_count ≤ new
 
--- between two connections: nothing more came
+-- between two connections: nothing more came, and no wire was given
 pub record HaltsBetween
     (wires sink : Type 0)
     (old new : Outside)
     (Gives : List ℕ → Type 0)
     (Leaves : Option Stop → Commits → Commits → Type 0) : Type 0 where
+  pub opened : wires → new.opened ≡ old.opened
+  pub accepted : wires → new.accepted ≡ old.accepted
   pub talks : wires → new.talks ≡ old.talks
   pub written : sink → new.written ≡ old.written
   pub moments : Gives []
@@ -74,6 +99,8 @@ pub record HaltsAtLine
     (Leaves : Option Stop → Commits → Commits → Type 0) : Type 0 where
   pub last : ServedConnection
   pub each : wires → IsServedOn c last
+  pub opened : wires → new.opened ≡ old.opened
+  pub accepted : wires → new.accepted ≡ one_more old.accepted
   pub talks : wires → new.talks ≡ old.talks ++ last.talk ∷ []
   pub written : sink → WritesFront old.written new.written (connection_line i last.ended)
   pub moments : Gives last.moments
@@ -104,6 +131,8 @@ pub record HaltsWithin
   pub moments : List ℕ
   pub spare : List ℕ
   pub breaks : wires → BreaksOff why c talk moments Leaves
+  pub opened : wires → new.opened ≡ old.opened
+  pub accepted : wires → new.accepted ≡ one_more old.accepted
   pub talks : wires → (new.talks ≡ old.talks ++ talk ∷ [])
       ⊎ ((why ≡ Memory) × (new.talks ≡ old.talks))
   pub written : sink → new.written ≡ old.written
@@ -120,10 +149,15 @@ HaltsBy fault.Sink wires sink i c old new Gives Leaves =
 HaltsBy (fault.Stopped why) wires sink i c old new Gives Leaves =
     HaltsWithin wires sink why c old new Gives Leaves
 
--- it did so after connections that were served
+-- The door was opened at a port, or it halted there, which may not be noted.
+abbrev pub OpensAt : ℕ → ServeFault → List ServedConnection → Outside → Outside → Type 0
+OpensAt port halt conns old begun =
+    (begun ≡ opened_at port old) ⊎ ((halt ≡ fault.Door) × (conns ≡ []) × (begun ≡ old))
+
+-- it did so after connections that were served, at a door at a port
 pub record HaltsAfter
     (fault : ServeFault)
-    (most : ℕ)
+    (port most : ℕ)
     (wires sink : Type 0)
     (i : ℕ)
     (c : Held)
@@ -133,8 +167,11 @@ pub record HaltsAfter
   pub conns : List ServedConnection
   pub few : length conns ≤ most
   pub each : wires → AreServedOn c conns
+  -- as it was before the first of them
+  pub begun : Outside
+  pub opened : OpensAt port fault conns old begun
   pub last : HaltsBy fault wires sink (i + length conns) (collection_after c conns)
-      (outside_after i conns old) new
+      (outside_after i conns begun) new
       (λ moments. Gives (moments_of conns ++ moments))
       (λ stop sure more. Leaves stop (commits_through c conns ++ sure) more)
 

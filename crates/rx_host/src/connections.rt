@@ -3,9 +3,9 @@ ghost use Rattle.std.specs.Prelude.{◌≡◌, ◌⊎◌, ◌≤◌, ◌++◌, �
 ghost use Rattle.rx_host.specs.Connections.{ServedConnection, connection_line};
 ghost use Rattle.rx_host.specs.Engine.{IsAt, collection_of, limit_of, name_of};
 ghost use Rattle.rx_host.specs.Moments.{GivesMoments};
-ghost use Rattle.rx_host.specs.Outside.{HaltsAfter, HaltsBy, HasGivenUp, HaveServed, IsStopBy};
+ghost use Rattle.rx_host.specs.Outside.{HaltsAfter, HaltsBy, HasGivenUp, HaveServed, IsStopBy, opened_at, told_by};
 ghost use Rattle.rx_host.specs.Serving.{HasKept, HasStopped};
-ghost use Rattle.rx_outside.specs.Failed.{Rises};
+ghost use Rattle.rx_outside.specs.Failed.{Rises, one_more};
 ghost use Rattle.rx_outside.specs.Sink.{WritesFront};
 ghost use Rattle.rx_outside.specs.declared.stop.Stop.{Stop as Stopping};
 ghost use Rattle.rx_outside.specs.declared.stop.Stop.TheVariants as Stop;
@@ -49,20 +49,21 @@ pub fn serve_connections<L: Listen, D: Disk, C: Clock, K: Sink>(
 ) -> Result<MasterEngine, ServeFault>
     requires at { D.tells → (bodies : List (List ℕ)) × IsAt D.Disk disk.old first bodies }
 
-    // So many were served and told of, and the disk keeps the records of their commits.
+    // The door was opened once, at the port, and gave so many wires alone. So many connections
+    // were served and told of, and the disk keeps the records of their commits.
     ensures served { IfOk result (λ m. (conns : List ServedConnection)
         × (length conns ≡ connections)
         × HaveServed L.W.tells K.tells 1 (collection_of first) (collection_of m) conns
-        (record { talks = L.talks door.old; written = K.written out.old })
-        (record { talks = L.talks door.new; written = K.written out.new })
+        (opened_at port (told_by L.Listen K.Sink door.old out.old))
+        (told_by L.Listen K.Sink door.new out.new)
         (λ moments. C.tells → GivesMoments (C.given clock.old) (C.given clock.new) moments)
         (HasKept D.Disk disk.old disk.new first m)) }
 
     // Some were, and then it halted.
     ensures halted { IfErr result (λ fault.
-        HaltsAfter fault connections L.W.tells K.tells 1 (collection_of first)
-        (record { talks = L.talks door.old; written = K.written out.old })
-        (record { talks = L.talks door.new; written = K.written out.new })
+        HaltsAfter fault port connections L.W.tells K.tells 1 (collection_of first)
+        (told_by L.Listen K.Sink door.old out.old)
+        (told_by L.Listen K.Sink door.new out.new)
         (λ moments. C.tells → GivesMoments (C.given clock.old) (C.given clock.new) moments)
         (HasStopped D.Disk disk.old disk.new first)) }
 
@@ -116,14 +117,14 @@ fn serve_next<L: Listen, D: Disk, C: Clock, K: Sink>(
     requires at { D.tells → (bodies : List (List ℕ)) × IsAt D.Disk disk.old engine bodies }
     ensures served { IfOk result (λ m. (s : ServedConnection)
         × HaveServed L.W.tells K.tells number (collection_of engine) (collection_of m) (s ∷ [])
-        (record { talks = L.talks door.old; written = K.written out.old })
-        (record { talks = L.talks door.new; written = K.written out.new })
+        (told_by L.Listen K.Sink door.old out.old)
+        (told_by L.Listen K.Sink door.new out.new)
         (λ moments. C.tells → GivesMoments (C.given clock.old) (C.given clock.new) moments)
         (HasKept D.Disk disk.old disk.new engine m)) }
     ensures halted { IfErr result (λ fault.
         HaltsBy fault L.W.tells K.tells number (collection_of engine)
-        (record { talks = L.talks door.old; written = K.written out.old })
-        (record { talks = L.talks door.new; written = K.written out.new })
+        (told_by L.Listen K.Sink door.old out.old)
+        (told_by L.Listen K.Sink door.new out.new)
         (λ moments. C.tells → GivesMoments (C.given clock.old) (C.given clock.new) moments)
         (HasStopped D.Disk disk.old disk.new engine)) }
     ensures kept { IfOk result (λ m. (commits : Commits)
@@ -169,6 +170,10 @@ fn next_wire<L: Listen>(door: &mut L) -> Result<L::W, Failed>
     ensures none_sent { L.W.tells → IfOk result (λ wire. L.W.sent wire ≡ []) }
     ensures stays_open { L.is_open door.new }
     ensures same_broken { L.broken door.new ≡ L.broken door.old }
+    ensures gives { L.W.tells →
+        OnOk result (L.accepted door.new ≡ one_more (L.accepted door.old)) }
+    ensures gives_none { OnErr result (L.accepted door.new ≡ L.accepted door.old) }
+    ensures same_opened { L.opened door.new ≡ L.opened door.old }
     ensures same_talks { L.talks door.new ≡ L.talks door.old }
     ensures count { L.faults door.old ≤ L.faults door.new }
     ensures failed { OnErr result (Rises (L.faults door.old) (L.faults door.new)) }

@@ -38,7 +38,7 @@ impl MasterEngine {
     ghost use Rattle.rx_serve.specs.Answered.{Gives, answered_at, commit_at};
     ghost use Rattle.rx_store.specs.Holds.{IsIllegalFile, IsJournalOfSome, IsLegalFile};
     ghost use Rattle.rx_store.specs.Safe.{HasDiskCause, IsCrashSafe};
-    ghost use Rattle.rx_wire.specs.Lawful.{IsRequest};
+    ghost use Rattle.rx_wire.specs.Lawful.{IsReply, IsRequest};
     ghost use Rattle.rx_world.specs.Made.{IsMadeWorld};
     ghost use Rattle.rx_world.specs.Sound.{IsSoundWorld};
     ghost use Rattle.rx_world.specs.Step.{legal, step};
@@ -105,6 +105,8 @@ impl MasterEngine {
         requires lawful { IsRequest (collection_of self).schema request.now }
         ensures answers { IfOk result (λ p. Gives (answered_at (collection_of self) now request.now)
             (collection_of self) p.1 (collection_of p.0)) }
+        // The fork reads the reply back.
+        ensures lawful { IfOk result (λ p. IfSome p.1 (IsReply (collection_of self).schema)) }
         ensures name { IfOk result (λ p. name_of p.0 ≡ name_of self) }
         ensures limit { IfOk result (λ p. limit_of p.0 ≡ limit_of self) }
 

@@ -6,6 +6,8 @@ abbrev pub invariant-tries : goal.invariant-tries
 invariant-tries g l = record {
   listens : g.L.Listen.is_open l.door;
   broken : g.L.Listen.broken l.door ≡ g.L.Listen.broken l.fn.door;
+  accepted : g.L.Listen.accepted l.door ≡ g.L.Listen.accepted l.fn.door;
+  opened : g.L.Listen.opened l.door ≡ g.L.Listen.opened l.fn.door;
   talks : g.L.Listen.talks l.door ≡ g.L.Listen.talks l.fn.door;
   count : g.L.Listen.faults l.fn.door ≤ g.L.Listen.faults l.door;
   failed : (l.counter ≡ 0) ⊎ Rises (g.L.Listen.faults l.fn.door) (g.L.Listen.faults l.door);

@@ -4,8 +4,9 @@ use Rattle.rx_serve.specs.Answered.{Commits}
 use Rattle.rx_host.specs.Engine.{collection_of}
 use Rattle.rx_host.specs.Laws.{gives_on}
 use Rattle.rx_host.specs.Moments.{GivesMoments}
+use Rattle.rx_host.specs.Outside.{opened_at, told_by}
 use Rattle.rx_host.specs.Serving.{HasKept, HasStopped}
-use Rattle.rx_host.proofs.Halting.{halts_on}
+use Rattle.rx_host.proofs.Halting.{halts_on, unopened}
 use Rattle.rx_host.proofs.InTurn.{have_none, have_on}
 use Rattle.rx_host.proofs.Kept.{kept_left, kept_none, kept_on, stopped_on}
 use Rattle.rx_host.proofs.Tries.{given_up_later}
@@ -14,21 +15,20 @@ use Rattle.rx_host.proofs.connections.serve_connections.Goals as goal
 -- ---- the door didn't open
 
 pub returns-in_default-clause-halted : goal.returns-in_default-clause-halted
-returns-in_default-clause-halted g c = record {
-  conns = [];
-  few = omega arith;
-  each = λ told. tt;
-  last = record {
-    talks = λ told.
-        c.in_default.ensures.same_talks ∙ sym (append-nil (g.L.Listen.talks c.args.door.now));
-    written = λ told. sym (append-nil (g.K.Sink.written c.args.out.now));
-    moments = λ told. inl (sym (append-nil (g.C.Clock.given c.args.clock.now)));
-    kept = λ told.
-        kept_left g.D.Disk c.args.disk.now c.args.disk.now c.args.first c.args.first []
-        (kept_none g.D.Disk (λ disk i tells left. g.met.D.Disk.only_now disk i tells left)
-        c.args.disk.now c.args.first);
-  };
-}
+returns-in_default-clause-halted g c =
+    unopened g.L.W.Wire.tells g.K.Sink.tells c.args.port c.args.connections
+    (collection_of c.args.first)
+    (told_by g.L.Listen g.K.Sink c.args.door.now c.args.out.now)
+    (told_by g.L.Listen g.K.Sink c.open.new.self c.args.out.now)
+    (λ moments. g.C.Clock.tells → GivesMoments (g.C.Clock.given c.args.clock.now)
+    (g.C.Clock.given c.args.clock.now) moments)
+    (HasStopped g.D.Disk c.args.disk.now c.args.disk.now c.args.first)
+    c.in_default.ensures.opens_once c.in_default.ensures.same_accepted
+    c.in_default.ensures.same_talks refl
+    (λ told. inl (sym (append-nil (g.C.Clock.given c.args.clock.now))))
+    (kept_left g.D.Disk c.args.disk.now c.args.disk.now c.args.first c.args.first []
+    (kept_none g.D.Disk (λ disk i tells left. g.met.D.Disk.only_now disk i tells left)
+    c.args.disk.now c.args.first))
 
 pub returns-in_default-clause-left : goal.returns-in_default-clause-left
 returns-in_default-clause-left g c = (
@@ -55,6 +55,7 @@ connections-init g c =
         [],
         refl,
         have_none g.L.W.Wire.tells g.K.Sink.tells 1 (collection_of c.args.first) _ _ _ _
+            c.in-Ok.ensures.opens_at (λ told. c.in-Ok.ensures.same_accepted)
             (λ told. c.in-Ok.ensures.same_talks) (λ told. refl)
             (λ told. inl (sym (append-nil (g.C.Clock.given c.args.clock.now)))) only_now,
       );
@@ -77,18 +78,9 @@ returns-in-Err-clause-halted g c =
     let number : c.connections.i + 1 ≡ 1 + length conns = omega (arith, inv.served.1) in
     halts_on g.L.W.Wire.tells g.K.Sink.tells 1 (c.connections.i + 1) (collection_of c.args.first)
     (collection_of c.connections.engine) conns
-    (record {
-      talks = g.L.Listen.talks c.args.door.now;
-      written = g.K.Sink.written c.args.out.now;
-    })
-    (record {
-      talks = g.L.Listen.talks c.connections.door;
-      written = g.K.Sink.written c.connections.out;
-    })
-    (record {
-      talks = g.L.Listen.talks c.serve_next.new.door;
-      written = g.K.Sink.written c.serve_next.new.out;
-    })
+    (opened_at c.args.port (told_by g.L.Listen g.K.Sink c.args.door.now c.args.out.now))
+    (told_by g.L.Listen g.K.Sink c.connections.door c.connections.out)
+    (told_by g.L.Listen g.K.Sink c.serve_next.new.door c.serve_next.new.out)
     (λ moments. g.C.Clock.tells → GivesMoments first mid moments)
     (λ moments. g.C.Clock.tells → GivesMoments mid last moments)
     (λ moments. g.C.Clock.tells → GivesMoments first last moments)
@@ -99,7 +91,9 @@ returns-in-Err-clause-halted g c =
     (λ stop a sure more kept left.
     stopped_on g.D.Disk c.args.disk.now c.connections.disk c.serve_next.new.disk c.args.first
     c.connections.engine inv.name inv.limit a kept stop sure more left)
-    c.in-Err.fault c.args.connections (omega (arith, inv.served.1, c.connections-test.true))
+    c.in-Err.fault c.args.port c.args.connections
+    (told_by g.L.Listen g.K.Sink c.args.door.now c.args.out.now) refl
+    (omega (arith, inv.served.1, c.connections-test.true))
     c.in-Err.ensures.halted
 
 pub returns-in-Err-clause-left : goal.returns-in-Err-clause-left
@@ -157,18 +151,9 @@ connections-preserved g c =
         have_on g.L.W.Wire.tells g.K.Sink.tells 1 (c.connections.i + 1)
             (collection_of c.args.first) (collection_of c.connections.engine)
             (collection_of c.in-Ok-serve_next.engine) conns (one.0 ∷ [])
-            (record {
-              talks = g.L.Listen.talks c.args.door.now;
-              written = g.K.Sink.written c.args.out.now;
-            })
-            (record {
-              talks = g.L.Listen.talks c.connections.door;
-              written = g.K.Sink.written c.connections.out;
-            })
-            (record {
-              talks = g.L.Listen.talks c.serve_next.new.door;
-              written = g.K.Sink.written c.serve_next.new.out;
-            })
+            (opened_at c.args.port (told_by g.L.Listen g.K.Sink c.args.door.now c.args.out.now))
+            (told_by g.L.Listen g.K.Sink c.connections.door c.connections.out)
+            (told_by g.L.Listen g.K.Sink c.serve_next.new.door c.serve_next.new.out)
             (λ moments. g.C.Clock.tells → GivesMoments first mid moments)
             (λ moments. g.C.Clock.tells → GivesMoments mid last moments)
             (λ moments. g.C.Clock.tells → GivesMoments first last moments)

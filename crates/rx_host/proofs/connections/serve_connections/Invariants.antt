@@ -3,7 +3,7 @@ use Rattle.rx_serve.specs.Answered.{Commits}
 use Rattle.rx_host.specs.Connections.{ServedConnection}
 use Rattle.rx_host.specs.Engine.{collection_of, limit_of, name_of}
 use Rattle.rx_host.specs.Moments.{GivesMoments}
-use Rattle.rx_host.specs.Outside.{HaveServed}
+use Rattle.rx_host.specs.Outside.{HaveServed, opened_at, told_by}
 use Rattle.rx_host.specs.Serving.{HasKept}
 use Rattle.rx_host.proofs.connections.serve_connections.Given as goal
 
@@ -12,8 +12,8 @@ invariant-connections g l = record {
   served : (conns : List ServedConnection) × (length conns ≡ l.i)
       × HaveServed g.L.W.Wire.tells g.K.Sink.tells 1 (collection_of l.fn.first)
       (collection_of l.engine) conns
-      (record { talks = g.L.Listen.talks l.fn.door; written = g.K.Sink.written l.fn.out })
-      (record { talks = g.L.Listen.talks l.door; written = g.K.Sink.written l.out })
+      (opened_at l.fn.port (told_by g.L.Listen g.K.Sink l.fn.door l.fn.out))
+      (told_by g.L.Listen g.K.Sink l.door l.out)
       (λ moments. g.C.Clock.tells
       → GivesMoments (g.C.Clock.given l.fn.clock) (g.C.Clock.given l.clock) moments)
       (HasKept g.D.Disk l.fn.disk l.disk l.fn.first l.engine);

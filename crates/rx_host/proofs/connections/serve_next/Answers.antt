@@ -11,6 +11,8 @@ use Rattle.rx_host.proofs.connections.serve_next.Goals as goal
 
 pub returns-in_default-clause-halted : goal.returns-in_default-clause-halted
 returns-in_default-clause-halted g c = record {
+  opened = λ told. c.in_default.ensures.same_opened;
+  accepted = λ told. c.in_default.ensures.gives_none;
   talks = λ told. c.in_default.ensures.same_talks;
   written = λ told. refl;
   moments = λ told. inl (sym (append-nil (g.C.Clock.given c.args.clock.now)));
@@ -54,6 +56,10 @@ returns-in_default-close-clause-halted g c =
     (IfOk-weaker c.serve-served.result _ _
     (λ p rises broke. risen _ _ c.in-Ok.ensures.fresh (rises broke)) c.serve-served.ensures.failed)
     c.serve-served.ensures.stopped _ _
+    (λ told. (
+      c.in_default-close.ensures.same_opened ∙ c.in-Ok.ensures.same_opened,
+      c.in_default-close.ensures.same_accepted ∙ c.in-Ok.ensures.gives told,
+    ))
     (λ told. c.in_default-close.ensures.keeps_talks ∙ c.in-Ok.ensures.same_talks) (λ told. refl)
 
 pub returns-in_default-close-clause-left : goal.returns-in_default-close-clause-left
@@ -83,6 +89,10 @@ returns-in-Ok-write_line-clause-served g c =
     (c.in-Ok-served.engine, c.in-Ok-served.ended) c.in-Ok-served.ensures.served
     (λ broke. risen _ _ c.in-Ok.ensures.fresh (c.in-Ok-served.ensures.failed broke))
     c.args.number _ _
+    (λ told. (
+      c.in-Ok-close.ensures.same_opened ∙ c.in-Ok.ensures.same_opened,
+      c.in-Ok-close.ensures.same_accepted ∙ c.in-Ok.ensures.gives told,
+    ))
     (λ told. c.in-Ok-close.ensures.joins told ∙ ap (λ ts. ts ++ t ∷ []) c.in-Ok.ensures.same_talks)
     (λ told. c.in-Ok-write_line.ensures.ok told)
 
@@ -106,6 +116,10 @@ returns-in-Err-write_line-clause-halted g c =
     (c.in-Ok-served.engine, c.in-Ok-served.ended) c.in-Ok-served.ensures.served
     (λ broke. risen _ _ c.in-Ok.ensures.fresh (c.in-Ok-served.ensures.failed broke))
     c.args.number _ _ c.in-Err-write_line.fault
+    (λ told. (
+      c.in-Ok-close.ensures.same_opened ∙ c.in-Ok.ensures.same_opened,
+      c.in-Ok-close.ensures.same_accepted ∙ c.in-Ok.ensures.gives told,
+    ))
     (λ told. c.in-Ok-close.ensures.joins told ∙ ap (λ ts. ts ++ t ∷ []) c.in-Ok.ensures.same_talks)
     c.in-Err-write_line.ensures.no_door
     (λ why is. let none = c.in-Err-write_line.ensures.none why is in
@@ -144,6 +158,10 @@ returns-in-Err-clause-halted g c =
     (joined_since (g.L.W.Wire.sent w) (g.L.W.Wire.sent w')) (c.in-Ok.ensures.none_sent told)
     (c.serve-served.ensures.sent told))
     c.in-Err.stop c.in-Err.stop c.in-Err.ensures.stopped (inl refl) _ _
+    (λ told. (
+      c.in-Ok-close.ensures.same_opened ∙ c.in-Ok.ensures.same_opened,
+      c.in-Ok-close.ensures.same_accepted ∙ c.in-Ok.ensures.gives told,
+    ))
     (λ told. inl (c.in-Ok-close.ensures.joins told
     ∙ ap (λ ts. ts ++ t ∷ []) c.in-Ok.ensures.same_talks))
     (λ told. refl)

@@ -12,12 +12,13 @@ use Rattle.rx_store.proofs.Crashes.{answered, idle, ran_out, same_stop}
 use Rattle.rx_store.proofs.Stops.{handed_on}
 use Rattle.rx_store.proofs.Growing.{stays}
 use Rattle.rx_wire.specs.declared.message.Reply.{Reply}
-use Rattle.rx_world.proofs.Sounds.{IsNoExchange, sound_step}
+use Rattle.rx_world.specs.Touch.{IsNoExchange}
+use Rattle.rx_world.proofs.Sounds.{sound_step}
 use Rattle.rx_host.specs.Engine.{IsAt, collection_of, limit_of, name_of, world_at}
 use Rattle.rx_host.specs.Records.{bodies_of}
 use Rattle.rx_host.specs.Worlds.{collection_at}
 use Rattle.rx_host.specs.declared.engine.MasterEngine.{MasterEngine}
-use Rattle.rx_host.proofs.Answers.{alone_due, collection_then, gives_one, none_due, one_due, still_held, writes_at}
+use Rattle.rx_host.proofs.Answers.{alone_due, collection_then, gives_one, none_due, one_due, reply_lawful, still_held, writes_at}
 use Rattle.rx_host.proofs.engine.MasterEngine.answer.Goals as goal
 
 pub write-requires-clause-legal : goal.write-requires-clause-legal
@@ -164,3 +165,17 @@ returns-in-Err-Memory-clause-safe g c told bodies at =
     ran_out g.D.Disk c.args.disk.now c.args.disk.now bodies _ (limit_of m) _ _ refl
     (λ alike. stays g.D.Disk c.args.disk.now m.journal bodies _ (world_at m) at
     (λ left e. g.met.D.Disk.only_now c.args.disk.now left told e))
+
+pub returns-in_ok-engine-in-Some-clause-lawful : goal.returns-in_ok-engine-in-Some-clause-lawful
+returns-in_ok-engine-in-Some-clause-lawful g c =
+    let m = c.args.self in
+    reply_lawful (world_at m) c.collection.ensures.made (name_of m) c.collection.result.now
+    c.collection.ensures.held (collection_of m) c.collection.ensures.shown c.args.request.now
+    c.requires.lawful c.in-Ok.planned.reply c.in-Ok.ensures.reply
+
+pub returns-in-None-clause-lawful : goal.returns-in-None-clause-lawful
+returns-in-None-clause-lawful g c =
+    let m = c.args.self in
+    reply_lawful (world_at m) c.collection.ensures.made (name_of m) c.collection.result.now
+    c.collection.ensures.held (collection_of m) c.collection.ensures.shown c.args.request.now
+    c.requires.lawful c.in-Ok.planned.reply c.in-Ok.ensures.reply
