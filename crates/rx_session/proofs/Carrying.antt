@@ -1,27 +1,28 @@
 -- The queries of old collections are carried to the same collections, one after another.
-use Rattle.std.proofs.Common.{◌≡◌, ℕ, false, List, [], ◌∷◌, ◌++◌, map, Some, refl, sym, ap, ◌∙◌, subst, append_assoc}
-use Rattle.std.specs.List.{AllByRecursion, IsDistinct, flat_map}
+use Rattle.std.proofs.Common.{◌≡◌, ℕ, false, cond, List, [], ◌∷◌, ◌++◌, map, Some, refl, sym, ap, ◌∙◌, subst, append_assoc}
+use Rattle.std.proofs.lemmas.Map.Keys.{IsDistinct-head, IsDistinct-tail}
+use Rattle.std.specs.List.{AllByRecursion, IsDistinct, list_any}
 use Rattle.std.specs.Map.{keys_of}
 use Rattle.std.specs.Str.{bytes_eq}
 use Rattle.rx_value.specs.Named.{named, change_named}
-use Rattle.rx_value.proofs.Lists.{all_at, cons_parts}
+use Rattle.rx_value.proofs.Lists.{all_at, all_both, all_passed, all_weaker, cons_parts}
+use Rattle.rx_value.proofs.Bytes.{bytes_apart_turned, bytes_itself}
 use Rattle.rx_collection.specs.Held.{Held}
 use Rattle.rx_observe.specs.Observing.{Observing, cooled, each, with_queries}
 use Rattle.rx_observe.specs.Rows.{emissions_due}
-use Rattle.rx_stream.specs.declared.stream.Stream.{Stream}
-use Rattle.rx_update.specs.Attached.{Hooking}
 use Rattle.rx_world.specs.Holders.{Holders, IsWhole, holders_in}
 use Rattle.rx_world.specs.Valid.{AreDistinct}
-use Rattle.rx_world.specs.World.{World}
 use Rattle.rx_session.specs.Doing.{session_after, restart}
-use Rattle.rx_session.specs.Emissions.{emission_due, emissions, settled_session, settled_query}
-use Rattle.rx_session.specs.Lives.{bare, with_cooled, each_live}
-use Rattle.rx_session.specs.Placed.{ArePlaced, AreUnwatched, IsQuiet, Lives, queries_of, world_of}
-use Rattle.rx_session.specs.Session.{Session, with_watched}
-use Rattle.rx_session.specs.declared.query_place.QueryPlace.{QueryPlace}
-use Rattle.rx_session.proofs.Moving.{AreUnbroken, bare_are, next_is_bare, next_is_moved, moved_colls, moved_placed, moved_queries, moved_quiet}
-use Rattle.rx_session.proofs.Places.{colls, distinct_in, world_colls}
-use Rattle.rx_session.proofs.Showing.{quiet_due, quiet_queries}
+use Rattle.rx_session.specs.Emissions.{emission_due, emissions, settled_session}
+use Rattle.rx_session.specs.Inside.{IsInOrder, session_in}
+use Rattle.rx_session.specs.Lives.{bare, due_of, with_cooled, each_live}
+use Rattle.rx_session.specs.Placed.{ArePlaced, AreQuietUnless, AreUnwatched, IsQuiet, Lives, queries_of, world_of}
+use Rattle.rx_session.specs.Session.{Observed}
+use Rattle.rx_session.specs.declared.session.Session.TheInside.{Inside}
+use Rattle.rx_session.proofs.Moving.{AreUnbroken, all_cold, bare_are, next_is_bare, next_is_moved, moved_colls, moved_placed, moved_quiet}
+use Rattle.rx_session.proofs.Places.{all_mapped, colls, distinct_in, placed_seen, seen, world_colls}
+use Rattle.rx_session.proofs.Settling.{session_of}
+use Rattle.rx_session.proofs.Showing.{all_settled, due_at, none_of_all, quiet_due}
 
 -- each collection is whole and has its name
 abbrev pub AreWholeLives : Lives → Type 0
@@ -159,77 +160,101 @@ module _ (old new : Holders Observing)
       (sym carried_collections)
       distinct
 
-  -- the queries stay at their places
-  pub carried_placed : (ps : List QueryPlace) → ArePlaced (holders_in old) ps
-      → ArePlaced (holders_in new) ps
-  carried_placed ps placed =
-      subst (λ (ls : Lives). ArePlaced ls ps) (sym lives) (moved_placed (holders_in old) ps placed)
+-- ---- the sessions
 
-  -- and all are quiet
-  pub carried_quiet : AllByRecursion IsQuiet (holders_in old)
-      → AllByRecursion IsQuiet (holders_in new)
-  carried_quiet quiet =
-      subst (AllByRecursion IsQuiet) (sym lives) (moved_quiet (holders_in old) quiet)
+-- where names differ, each names its own thing
+own_named : {X : Type 0} (es : List (List ℕ × X)) → IsDistinct bytes_eq (keys_of es)
+    → AllByRecursion (λ e. named es e.0 ≡ Some e.1) es
+own_named [] distinct = tt
+own_named {X} (e ∷ es) distinct = (
+  ap (λ b. cond b (Some e.1) (named es e.0)) (bytes_itself e.0),
+  all_weaker (λ (d : List ℕ × X). (bytes_eq e.0 d.0 ≡ false) × (named es d.0 ≡ Some d.1))
+      (λ d. named (e ∷ es) d.0 ≡ Some d.1)
+      (λ d h. ap (λ b. cond b (Some e.1) (named es d.0)) (bytes_apart_turned e.0 d.0 h.0)
+      ∙ h.1) es
+      (all_both _ _ es
+      (all_mapped (λ (d : List ℕ × X). d.0) (λ n. bytes_eq e.0 n ≡ false) es
+      (IsDistinct-head bytes_eq e.0 (keys_of es) distinct))
+      (own_named es (IsDistinct-tail bytes_eq e.0 (keys_of es) distinct))),
+)
 
-module _ (old : Holders Observing) (moment : ℕ) (hooks : Hooking) (streams : List Stream)
-    (number : ℕ) (ps : List QueryPlace)
-    (quiet : AllByRecursion IsQuiet (holders_in old)) where
-  -- the session before
-  abbrev before : Session
-  before =
-      record {
-        world = world_of old;
-        moment = moment;
-        hooks = hooks;
-        streams = streams;
-        queries = queries_of (holders_in old) ps;
-      }
+module _ (i : Inside) (so : IsInOrder i) where
+  -- nothing of any collection is to be emitted
+  pub each_quiet : AllByRecursion IsQuiet (holders_in i.world)
+  each_quiet =
+      let w = world_of i.world in
+      let ls = holders_in i.world in
+      let os = (session_in i).queries in
+      all_weaker (λ (e : List ℕ × Observing). named ls e.0 ≡ Some e.1) IsQuiet
+      (λ e at. ap due_of (sym at)
+      ∙ due_at w ls (world_colls i.world) i.places.items os so.placed e.0
+      ∙ none_of_all (emission_due w) _
+      (all_weaker (λ o. list_any (bytes_eq o.coll) [] ≡ false → emission_due w o ≡ [])
+      (λ o. emission_due w o ≡ []) (λ o none. none refl) _
+      (all_passed (λ (o : Observed). list_any (bytes_eq o.coll) [] ≡ false → emission_due w o ≡ [])
+      (λ o. bytes_eq e.0 o.coll) os so.quiet))) ls
+      (own_named ls (distinct_in i.world so.distinct))
 
-  -- the world in another epoch
-  abbrev again : World
-  again = record {
-    collections = (world_of old).collections;
-    replications = old.replications;
-    epoch = number;
-  }
+  -- nor of its queries once they are cold
+  pub carried_due : (number : ℕ) → emissions (session_after (restart number) (session_in i)) ≡ []
+  carried_due number =
+      quiet_due (world_of i.world) (all_cold (session_in i).queries)
+      (moved_quiet (world_of i.world) (session_in i).queries so.quiet)
 
-  -- its collections are those that the queries move to
-  same_again : again.collections ≡ colls (each_live with_cooled (holders_in old))
-  same_again = world_colls old ∙ sym (moved_colls (holders_in old))
+  module _ (new : Holders Observing)
+      (lives : holders_in new ≡ each_live with_cooled (holders_in i.world)) where
+    carried : ArePlaced (holders_in new) i.places.items (all_cold (session_in i).queries)
+    carried =
+        subst (λ (x : Lives). ArePlaced x i.places.items (all_cold (session_in i).queries))
+        (sym lives)
+        (moved_placed (holders_in i.world) i.places.items (session_in i).queries so.placed)
 
-  -- nothing is to be emitted
-  pub carried_emissions : emissions (session_after (restart number) before) ≡ []
-  carried_emissions =
-      ap (flat_map (emission_due again)) (sym (moved_queries (holders_in old) ps))
-      ∙ quiet_due again (each_live with_cooled (holders_in old)) same_again ps
-      (moved_quiet (holders_in old) quiet)
+    queries : queries_of (holders_in new) i.places.items ≡ all_cold (session_in i).queries
+    queries = seen (holders_in new) i.places.items (all_cold (session_in i).queries) carried
 
-  -- the session that goes on is the one before, in that epoch, with its queries made cold
-  pub carried_session : (new : Holders Observing)
-      → holders_in new ≡ each_live with_cooled (holders_in old)
-      → new.replications ≡ old.replications → new.epoch ≡ number
-      → record {
-        world = world_of new;
-        moment = moment;
-        hooks = hooks;
-        streams = [];
-        queries = queries_of (holders_in new) ps;
-      }
-      ≡ settled_session (session_after (restart number) before)
-  carried_session new lives replications epoch =
-      let moved = each_live with_cooled (holders_in old) in
-      let collections = carried_collections old new lives in
-      let queries : queries_of (holders_in new) ps
-      ≡ map (settled_query again)
-      (map (λ o. with_watched (cooled o.watched) o) (queries_of (holders_in old) ps)) =
-      ap (λ (ls : Lives). queries_of ls ps) lives
-      ∙ sym (quiet_queries again moved same_again ps (moved_quiet (holders_in old) quiet))
-      ∙ ap (map (settled_query again)) (moved_queries (holders_in old) ps) in
-      λ i. record {
-        world = record
-            { collections = collections i; replications = replications i; epoch = epoch i };
-        moment = moment;
-        hooks = hooks;
-        streams = [];
-        queries = queries i;
-      }
+    pub carried_placed : ArePlaced (holders_in new) i.places.items
+        (queries_of (holders_in new) i.places.items)
+    carried_placed =
+        placed_seen (holders_in new) i.places.items (all_cold (session_in i).queries) carried
+
+    -- the world has the collections that it had
+    stays : world_of new ≡ record {
+      collections = (world_of i.world).collections;
+      replications = new.replications;
+      epoch = new.epoch;
+    }
+    stays =
+        let collections = carried_collections i.world new lives in
+        λ k. record {
+          collections = collections k;
+          replications = new.replications;
+          epoch = new.epoch;
+        }
+
+    pub carried_quiet : AreQuietUnless [] (world_of new)
+        (queries_of (holders_in new) i.places.items)
+    carried_quiet =
+        subst (λ v. AreQuietUnless [] v (queries_of (holders_in new) i.places.items)) (sym stays)
+        (subst (AreQuietUnless [] (world_of i.world)) (sym queries)
+        (moved_quiet (world_of i.world) (session_in i).queries so.quiet))
+
+    -- the session that goes on is the one before, in that epoch, with its queries made cold
+    pub carried_session : (number : ℕ) → new.replications ≡ i.world.replications
+        → new.epoch ≡ number
+        → session_of new (session_in i).moment (session_in i).hooks [] i.places.items
+        ≡ settled_session (session_after (restart number) (session_in i))
+    carried_session number replications epoch =
+        let collections = carried_collections i.world new lives in
+        let all = queries ∙ sym (all_settled (world_of i.world) (all_cold (session_in i).queries)
+        (moved_quiet (world_of i.world) (session_in i).queries so.quiet)) in
+        λ k. record {
+          world = record {
+            collections = collections k;
+            replications = replications k;
+            epoch = epoch k;
+          };
+          moment = (session_in i).moment;
+          hooks = (session_in i).hooks;
+          streams = [];
+          queries = all k;
+        }

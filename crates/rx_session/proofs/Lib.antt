@@ -1,13 +1,10 @@
 pub mod Places
-pub mod Writing
 pub mod Showing
-pub mod Adding
-pub mod Dropping
+pub mod Writing
 pub mod Moving
 pub mod Settling
 pub mod Editing
 pub mod Carrying
-pub mod Several
 pub mod Played
 pub mod Naming
 pub mod Remade

@@ -1,99 +1,45 @@
 -- A journal is opened again: the queries move to the collections that were read from it, and are
 -- cold.
-use Rattle.std.proofs.Common.{◌≡◌, ℕ, false, cond, List, [], ◌∷◌, ◌++◌, map, Option, Some, None, option_map, option_and_then, refl, sym, ap, ◌∙◌}
-use Rattle.std.proofs.lemmas.Map.Made.{IsSome-lookup_same_keys, keys_of-map_values}
+use Rattle.std.proofs.Common.{◌≡◌, ℕ, false, cond, List, [], ◌∷◌, ◌++◌, map, Option, Some, None, option_map, refl, sym, ap, ◌∙◌}
+use Rattle.std.proofs.lemmas.Map.Made.{lookup-map_values}
 use Rattle.std.specs.List.{AllByRecursion, IsDistinct}
 use Rattle.std.specs.Map.{keys_of}
-use Rattle.std.specs.Option.{IsSome}
 use Rattle.std.specs.Str.{bytes_eq}
 use Rattle.rx_value.specs.Named.{named, change_named}
-use Rattle.rx_value.proofs.Lists.{all_weaker, cons_parts}
+use Rattle.rx_value.proofs.Lists.{cons_parts}
 use Rattle.rx_value.proofs.Bytes.{bytes_itself, bytes_apart_turned}
 use Rattle.rx_collection.specs.Held.{Held}
-use Rattle.rx_query.specs.Result.{fresh_rows}
-use Rattle.rx_observe.specs.Observing.{Observing, Queries, each, cooled, with_queries}
-use Rattle.rx_observe.specs.Rows.{unseen, with_emission, emissions_due}
-use Rattle.rx_observe.specs.Watched.{Watched}
+use Rattle.rx_observe.specs.Observing.{Observing, each, cooled, with_queries}
+use Rattle.rx_world.specs.World.{World}
 use Rattle.rx_session.specs.Lives.{with_cooled, bare, each_live}
-use Rattle.rx_session.specs.Placed.{Lives, watched_at, with_found, queries_of, IsListed, IsQuiet, ArePlaced, AreUnwatched}
+use Rattle.rx_session.specs.Placed.{ArePlaced, AreQuietUnless, AreUnwatched, Lives, queries_at}
 use Rattle.rx_session.specs.Session.{Observed, with_watched}
 use Rattle.rx_session.specs.declared.query_place.QueryPlace.{QueryPlace}
-use Rattle.rx_session.proofs.Places.{colls, named-map}
+use Rattle.rx_session.proofs.Places.{colls, placed_told}
 
 -- ---- queries made cold
 
--- an observed query, made cold
-abbrev pub cooled_query : Observed → Observed
-cooled_query o = with_watched (cooled o.watched) o
+-- all of them
+abbrev pub all_cold : List Observed → List Observed
+all_cold os = map (λ o. with_watched (cooled o.watched) o) os
 
--- the query of a name among queries that were made cold
-looked_cold : (name : List ℕ) (o : Option Observing)
-    → option_and_then (λ l. named l.queries name) (option_map with_cooled o)
-    ≡ option_map cooled (option_and_then (λ l. named l.queries name) o)
-looked_cold name None = refl
-looked_cold name (Some l) = named-map cooled l.queries name
-
--- each place has the query that it had, made cold
-pub watched_at-cooled : (ls : Lives) (p : QueryPlace)
-    → watched_at (each_live with_cooled ls) p ≡ option_map cooled (watched_at ls p)
-watched_at-cooled ls p =
-    ap (option_and_then (λ l. named l.queries p.name)) (named-map with_cooled ls p.coll)
-    ∙ looked_cold p.name (named ls p.coll)
-
--- the query of a place and those after it, made cold
-found_cold : (p : QueryPlace) (o : Option Watched) (os : List Observed)
-    → with_found p (option_map cooled o) (map cooled_query os)
-    ≡ map cooled_query (with_found p o os)
-found_cold p None os = refl
-found_cold p (Some w) os = refl
-
--- and so have all
-pub moved_queries : (old : Lives) (ps : List QueryPlace)
-    → queries_of (each_live with_cooled old) ps
-    ≡ map (λ o. with_watched (cooled o.watched) o) (queries_of old ps)
-moved_queries old [] = refl
-moved_queries old (p ∷ ps) =
-    ap (λ o. with_found p o (queries_of (each_live with_cooled old) ps)) (watched_at-cooled old p)
-    ∙ ap (with_found p (option_map cooled (watched_at old p))) (moved_queries old ps)
-    ∙ found_cold p (watched_at old p) (queries_of old ps)
-
--- what follows for each collection follows for all, each with something done to its queries
-all_each : (f : Observing → Observing) (P Q : List ℕ × Observing → Type 0)
-    → ((l : List ℕ × Observing) → P l → Q (l.0, f l.1)) → (ls : Lives) → AllByRecursion P ls
-    → AllByRecursion Q (each_live f ls)
-all_each f P Q so [] all = tt
-all_each f P Q so (l ∷ ls) all = (so l all.0, all_each f P Q so ls all.1)
-
--- all stay placed
-pub moved_placed : (old : Lives) (ps : List QueryPlace) → ArePlaced old ps
-    → ArePlaced (each_live with_cooled old) ps
-moved_placed old ps placed =
-    let new = each_live with_cooled old in
-    let found : (n : List ℕ) → IsSome (named old n) → IsSome (named new n) =
-    λ n. (IsSome-lookup_same_keys (bytes_eq n) old new
-    (sym (keys_of-map_values with_cooled old))).0 in
-    record {
-      distinct = placed.distinct;
-      held = all_weaker (λ (p : QueryPlace). IsSome (named old p.coll))
-          (λ p. IsSome (named new p.coll))
-          (λ p. found p.coll) ps placed.held;
-      listed = all_each with_cooled (IsListed ps) (IsListed ps)
-          (λ l is. keys_of-map_values cooled l.1.queries ∙ is) old placed.listed;
-    }
+-- they stay at their places
+pub moved_placed : (old : Lives) (ps : List QueryPlace) (os : List Observed) → ArePlaced old ps os
+    → ArePlaced (each_live with_cooled old) ps (all_cold os)
+moved_placed old ps os placed =
+    placed_told old (each_live with_cooled old) ps os placed (λ n v. cooled v)
+    (λ n. ap queries_at (lookup-map_values with_cooled (bytes_eq n) old) ∙ here (named old n))
+  where
+    here : (o : Option Observing)
+        → queries_at (option_map with_cooled o) ≡ each cooled (queries_at o)
+    here None = refl
+    here (Some l) = refl
 
 -- what is to be emitted of a query that is made cold is what was
-pub due_cold : (c : Held) (qs : Queries) → emissions_due c (each cooled qs) ≡ emissions_due c qs
-due_cold c [] = refl
-due_cold c (q ∷ qs) =
-    ap (with_emission q.0 (unseen (Some (fresh_rows q.1.query c.documents)) q.1.emitted))
-    (due_cold c qs)
-
--- so all stay quiet
-pub moved_quiet : (old : Lives) → AllByRecursion IsQuiet old
-    → AllByRecursion IsQuiet (each_live with_cooled old)
-moved_quiet old quiet =
-    all_each with_cooled IsQuiet IsQuiet
-    (λ l is. due_cold l.1.collection l.1.queries ∙ is) old quiet
+pub moved_quiet : (w : World) (os : List Observed) → AreQuietUnless [] w os
+    → AreQuietUnless [] w (all_cold os)
+moved_quiet w [] quiet = tt
+moved_quiet w (o ∷ os) quiet = (quiet.0, moved_quiet w os quiet.1)
 
 -- the collections stay
 pub moved_colls : (old : Lives) → colls (each_live with_cooled old) ≡ colls old

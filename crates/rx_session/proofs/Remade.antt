@@ -1,19 +1,17 @@
 -- Collections after a record: made in one way they are so in another, and what a migration makes
 -- anew has no queries.
-use Rattle.std.proofs.Common.{◌≡◌, ℕ, Bool, true, false, cond, List, [], ◌∷◌, Some, Result, Ok, Err, IfOk, refl, sym, ap, ◌∙◌, subst}
+use Rattle.std.proofs.Common.{◌≡◌, ℕ, Bool, true, false, cond, List, [], ◌∷◌, Some, Result, Ok, Err, IfOk, refl, sym, ap, ◌∙◌}
 use Rattle.std.proofs.lemmas.Slice.Eq.{bytes_eq-Decides}
-use Rattle.std.specs.List.{AllByRecursion}
 use Rattle.std.specs.Str.{bytes_eq}
 use Rattle.rx_value.specs.Named.{named}
 use Rattle.rx_collection.specs.Held.{Held}
-use Rattle.rx_collection.specs.Migrated.{migrated_collection}
 use Rattle.rx_migrate.specs.declared.step.Step.{Step}
 use Rattle.rx_observe.specs.Observing.{Observing, put_all}
 use Rattle.rx_schema.specs.declared.shape.Shape.{Shape}
 use Rattle.rx_world.specs.Holders.{After, AreRemade}
 use Rattle.rx_world.specs.Touch.{Touch, no_collection, new_collection, new_rows, remade}
 use Rattle.rx_session.specs.Applied.{IsAfter, IsMadeFor}
-use Rattle.rx_session.specs.Placed.{Lives}
+use Rattle.rx_session.specs.Placed.{Lives, queries_at}
 
 -- those of a group
 remade_so : (M : Held → Observing → Type 0) → ((c : Held) (l : Observing) → M c l → IsMadeFor c l)
@@ -53,24 +51,19 @@ module _ (in_group : List ℕ → Bool) (schema : Shape) (steps : List Step) whe
   remade_stays [] (f ∷ fs) k out after = absurd after
   remade_stays (e ∷ es) [] k out after = absurd after
 
-  -- what holds of all, and of one without queries at each name of the group, holds of all then
-  pub remade_each : (P : List ℕ → Observing → Type 0)
-      → ((name : List ℕ) (c : Held) (l : Observing) → in_group name ≡ true
-      → IsMadeFor c l → P name l)
-      → (old new : Lives) → AllByRecursion (λ e. P e.0 e.1) old → Remade old new
-      → AllByRecursion (λ e. P e.0 e.1) new
-  remade_each P fresh [] [] all after = tt
-  remade_each P fresh (e ∷ es) (f ∷ fs) all after = (
-    subst (λ n. P n f.1) (sym after.0.called)
-        (elim (in_group e.0) as (λ b. in_group e.0 ≡ b → P e.0 f.1) [
-          | true ↦ (λ is.
-              fresh e.0 (migrated_collection schema steps e.1.collection) f.1 is (after.0.made is))
-          | false ↦ (λ is. subst (P e.0) (sym (after.0.stays is)) all.0)
-        ] refl),
-    remade_each P fresh es fs all.1 after.1,
-  )
-  remade_each P fresh [] (f ∷ fs) all after = absurd after
-  remade_each P fresh (e ∷ es) [] all after = absurd after
+  -- one of it has no queries
+  pub remade_bare : (old new : Lives) (k : List ℕ) → in_group k ≡ true → Remade old new
+      → queries_at (named new k) ≡ []
+  remade_bare [] [] k is after = refl
+  remade_bare (e ∷ es) (f ∷ fs) k is after =
+      elim (bytes_eq k f.0) as (λ b. bytes_eq k f.0 ≡ b
+      → queries_at (cond b (Some f.1) (named fs k)) ≡ []) [
+        | true ↦ (λ here. ap (λ (l : Observing). l.queries) (after.0.made
+            (ap in_group (sym after.0.called ∙ sym ((bytes_eq-Decides k f.0).0 here)) ∙ is)))
+        | false ↦ (λ other. remade_bare es fs k is after.1)
+      ] refl
+  remade_bare [] (f ∷ fs) k is after = absurd after
+  remade_bare (e ∷ es) [] k is after = absurd after
 
 -- after any record
 pub after_so : (M : Held → Observing → Type 0)

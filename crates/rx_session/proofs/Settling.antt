@@ -1,31 +1,34 @@
 -- What a line makes of a session: its collections with their queries, and the places of all.
-use Rattle.std.proofs.Common.{◌≡◌, ℕ, true, false, not, Option, Some, None, List, [], ◌∷◌, ◌++◌, map, filter, Result, Ok, Err, refl, sym, ap, ◌∙◌, subst, IfOk}
-use Rattle.std.specs.List.{AllByRecursion, IsDistinct, flat_map, list_any}
-use Rattle.std.specs.Map.{keys_of}
+use Rattle.std.proofs.Common.{◌≡◌, ℕ, true, false, true≢false, cond, not, Option, Some, None, is_some, option_map, List, [], ◌∷◌, ◌++◌, map, filter, Result, Ok, Err, refl, sym, ap, ◌∙◌, subst, IfOk, append-nil}
+use Rattle.std.proofs.lemmas.Bool.{or_parts}
+use Rattle.std.proofs.lemmas.Option.{same_Some, none-some}
+use Rattle.std.proofs.lemmas.Slice.Eq.{bytes_eq-Decides}
+use Rattle.std.specs.List.{find, flat_map, list_any}
 use Rattle.std.specs.Str.{bytes_eq}
 use Rattle.rx_value.specs.Named.{named}
+use Rattle.rx_value.proofs.Bytes.{bytes_itself, bytes_apart_turned}
+use Rattle.rx_value.proofs.Lists.{all_passed, all_push, all_weaker}
 use Rattle.rx_query.specs.QuerySpec.{QuerySpec}
-use Rattle.rx_observe.specs.Observing.{Observing, each, put_all, watch_after}
+use Rattle.rx_observe.specs.Observing.{Observing, each, new_watch, put_all, watch_after, without}
+use Rattle.rx_observe.specs.Watched.{Watched}
 use Rattle.rx_stream.specs.declared.stream.Stream.{Stream}
 use Rattle.rx_update.specs.Attached.{Hooking}
-use Rattle.rx_update.specs.declared.attached.Attached.{Attached}
 use Rattle.rx_world.specs.Holders.{Holders, holders_in}
 use Rattle.rx_world.specs.Touch.{Touch}
-use Rattle.rx_world.specs.Valid.{AreDistinct}
+use Rattle.rx_world.specs.World.{World}
 use Rattle.rx_world.proofs.Holding.{after_all}
-use Rattle.rx_world.proofs.Looked.{keys-change_named}
-use Rattle.rx_session.specs.Applied.{IsAfter, IsMadeFor, settled_in, due_in, without_observed, watched_in}
-use Rattle.rx_session.specs.Doing.{session_after, new_query, new_stream, has_key, with_attached, set_clock, watch, unwatch, attach, open_stream, close_stream}
-use Rattle.rx_session.specs.Emissions.{emissions, emission_due, settled_session, settled_query, IsSettled}
-use Rattle.rx_session.specs.Lives.{with_query}
-use Rattle.rx_session.specs.Placed.{ArePlaced, AreQuietBut, AreUnwatched, IsUnwatched, IsQuiet, Lives, place_named, queries_of, world_of}
-use Rattle.rx_session.specs.Session.{Session, is_observed}
-use Rattle.rx_session.specs.Streams.{AreStreamed}
+use Rattle.rx_session.specs.Applied.{IsAfter, IsMadeFor, without_observed, watched_in}
+use Rattle.rx_session.specs.Doing.{session_after, new_query, has_key, unwatch}
+use Rattle.rx_session.specs.Emissions.{documents_at, emissions, emission_due, settled_session, settled_query, IsSettled}
+use Rattle.rx_session.specs.Inside.{IsInOrder, session_in}
+use Rattle.rx_session.specs.Lives.{with_query, without_query}
+use Rattle.rx_session.specs.Placed.{ArePlaced, AreQuietUnless, AreUnwatched, IsUnwatched, Lives, place_named, place_of, queries_at, queries_in, queries_of, world_of}
+use Rattle.rx_session.specs.Playing.{due_in_all, settled_each}
+use Rattle.rx_session.specs.Session.{Observed, Session}
 use Rattle.rx_session.specs.declared.query_place.QueryPlace.{QueryPlace}
-use Rattle.rx_session.proofs.Places.{any-queries_of, colls, distinct_in, world_colls}
-use Rattle.rx_session.proofs.Showing.{due_of_one, quiet_due, quiet_queries, settled_all_quiet, settled_colls, settled_placed, settled_queries}
-use Rattle.rx_session.proofs.Adding.{added_colls, added_placed, added_queries, added_quiet, place_in}
-use Rattle.rx_session.proofs.Dropping.{all_in_first, dropped_colls, dropped_placed, dropped_queries, dropped_quiet, none_found, rest_of, undropped_placed, undropped_queries}
+use Rattle.rx_session.specs.declared.session.Session.TheInside.{Inside}
+use Rattle.rx_session.proofs.Places.{any_place, colls, colls-change_named, elsewhere, first_place, named-changed, named-colls, no_name, placed_less, placed_more, placed_seen, seen, without_none, world_colls}
+use Rattle.rx_session.proofs.Showing.{all_settled, colls_each, held_at, placed_each, quiet_due, settled_quiet, taken_is_due}
 
 -- ---- where no query is observed
 
@@ -72,292 +75,267 @@ same_world h g same replications epochs =
     let collections = world_colls h ∙ same ∙ sym (world_colls g) in
     λ i. record { collections = collections i; replications = replications i; epoch = epochs i }
 
-module _ (h : Holders Observing) (ps : List QueryPlace)
-    (quiet : AllByRecursion IsQuiet (holders_in h))
+-- ---- between two lines
+
+module _ (i : Inside) (so : IsInOrder i) where
+  -- nothing of a session is to be emitted
+  pub is_settled : IsSettled (session_in i)
+  is_settled = record {
+    same = ap (λ qs. record (session_in i) { queries = qs })
+        (all_settled (world_of i.world) (session_in i).queries so.quiet);
+    quiet = quiet_due (world_of i.world) (session_in i).queries so.quiet;
+  }
+
+-- ---- once all is emitted
+
+-- these queries are those of collections that were written, and their emissions were taken
+pub record IsTaken (w : World) (ls : Lives) (ps : List QueryPlace) (os : List Observed)
+    (written : List (List ℕ)) (last : Holders Observing) : Type 0 where
+  pub placed : ArePlaced ls ps os
+  pub collections : w.collections ≡ colls ls
+  pub quiet : AreQuietUnless written w os
+  pub emitted : holders_in last ≡ settled_each written ls
+  pub replications : last.replications ≡ w.replications
+  pub epochs : last.epoch ≡ w.epoch
+
+module _ (w : World) (ls : Lives) (ps : List QueryPlace) (os : List Observed)
+    (written : List (List ℕ)) (last : Holders Observing) (so : IsTaken w ls ps os written last)
   where
-    -- where all is quiet, all is settled
-    pub all_settled : map (settled_query (world_of h)) (queries_of (holders_in h) ps)
-        ≡ queries_of (holders_in h) ps
-    all_settled = quiet_queries (world_of h) (holders_in h) (world_colls h) ps quiet
+    -- the world stays
+    pub taken_world : world_of last ≡ w
+    taken_world =
+        let collections =
+        world_colls last ∙ ap colls so.emitted ∙ colls_each w written ls ∙ sym so.collections in
+        λ i. record {
+          collections = collections i;
+          replications = so.replications i;
+          epoch = so.epochs i;
+        }
 
-    -- and nothing is to be emitted
-    pub none_due : flat_map (emission_due (world_of h)) (queries_of (holders_in h) ps) ≡ []
-    none_due = quiet_due (world_of h) (holders_in h) (world_colls h) ps quiet
+    -- all queries are settled
+    settled : ArePlaced (holders_in last) ps (map (settled_query w) os)
+    settled =
+        subst (λ (x : Lives). ArePlaced x ps (map (settled_query w) os)) (sym so.emitted)
+        (placed_each w written ls so.collections ps os so.placed so.quiet)
 
-    -- so the session is settled
-    pub is_settled : (moment : ℕ) (hooks : Hooking) (streams : List Stream)
-        → IsSettled (session_of h moment hooks streams ps)
-    is_settled moment hooks streams = record {
-      same = ap (λ qs. record {
-        world = world_of h;
-        moment = moment;
-        hooks = hooks;
-        streams = streams;
-        queries = qs;
-      }) all_settled;
-      quiet = none_due;
-    }
+    taken_queries : queries_of (holders_in last) ps ≡ map (settled_query w) os
+    taken_queries = seen (holders_in last) ps (map (settled_query w) os) settled
 
-    -- so it is at another moment
-    pub at_session : (moment : ℕ) (hooks : Hooking) (streams : List Stream) (at : ℕ)
-        → session_of h at hooks streams ps
-        ≡ settled_session (session_after (set_clock at) (session_of h moment hooks streams ps))
-    at_session moment hooks streams at =
-        ap (λ qs. record {
-          world = world_of h;
-          moment = at;
+    pub taken_placed : ArePlaced (holders_in last) ps (queries_of (holders_in last) ps)
+    taken_placed = placed_seen (holders_in last) ps (map (settled_query w) os) settled
+
+    pub taken_quiet : AreQuietUnless [] (world_of last) (queries_of (holders_in last) ps)
+    taken_quiet =
+        subst (λ v. AreQuietUnless [] v (queries_of (holders_in last) ps)) (sym taken_world)
+        (subst (AreQuietUnless [] w) (sym taken_queries) (settled_quiet w os))
+
+    pub taken_due : due_in_all written ps ls ≡ flat_map (emission_due w) os
+    taken_due = taken_is_due w written ls so.collections ps os so.placed so.quiet
+
+    pub taken_session : (moment : ℕ) (hooks : Hooking) (streams : List Stream)
+        → session_of last moment hooks streams ps
+        ≡ settled_session (record {
+          world = w;
+          moment = moment;
           hooks = hooks;
           streams = streams;
-          queries = qs;
-        }) (sym all_settled)
-
-    -- so it is with one hook more
-    pub attached_session : (moment : ℕ) (hooks : Hooking) (streams : List Stream) (one : Attached)
-        → session_of h moment (with_attached one hooks) streams ps
-        ≡ settled_session (session_after (attach one) (session_of h moment hooks streams ps))
-    attached_session moment hooks streams one =
-        ap (λ qs. record {
-          world = world_of h;
-          moment = moment;
-          hooks = with_attached one hooks;
-          streams = streams;
-          queries = qs;
+          queries = os;
         })
-        (sym all_settled)
-
--- ---- once a stream is opened or closed
-
-module _ (h : Holders Observing) (ps : List QueryPlace)
-    (quiet : AllByRecursion IsQuiet (holders_in h)) (moment : ℕ) (hooks : Hooking)
-    (streams : List Stream) where
-  pub opened_session : (name master : List ℕ)
-      → session_of h moment hooks (streams ++ new_stream (world_of h) name master ∷ []) ps
-      ≡ settled_session (session_after (open_stream name master)
-      (session_of h moment hooks streams ps))
-  opened_session name master =
-      ap (λ qs. record {
-        world = world_of h;
-        moment = moment;
-        hooks = hooks;
-        streams = streams ++ new_stream (world_of h) name master ∷ [];
-        queries = qs;
-      }) (sym (all_settled h ps quiet))
-
-  pub closed_session : (name : List ℕ)
-      → session_of h moment hooks (filter (λ (st : Stream). not (bytes_eq name st.name)) streams) ps
-      ≡ settled_session (session_after (close_stream name) (session_of h moment hooks streams ps))
-  closed_session name =
-      ap (λ qs. record {
-        world = world_of h;
-        moment = moment;
-        hooks = hooks;
-        streams = filter (λ (st : Stream). not (bytes_eq name st.name)) streams;
-        queries = qs;
-      }) (sym (all_settled h ps quiet))
+    taken_session moment hooks streams =
+        λ i. record {
+          world = taken_world i;
+          moment = moment;
+          hooks = hooks;
+          streams = streams;
+          queries = taken_queries i;
+        }
 
 -- ---- once a query is observed
 
--- no place has a name that no query has
-pub free_place : (name : List ℕ) (h : Holders Observing) (moment : ℕ) (hooks : Hooking)
-    (streams : List Stream) (ps : List QueryPlace)
-    → ArePlaced (holders_in h) ps → is_observed name (session_of h moment hooks streams ps) ≡ false
-    → list_any (λ p. bytes_eq name p.name) ps ≡ false
-free_place name h moment hooks streams ps placed free =
-    sym (any-queries_of name (holders_in h) ps placed) ∙ free
+module _ (i : Inside) (so : IsInOrder i) (name coll : List ℕ) (q : QuerySpec) where
+  abbrev ls : Lives
+  ls = holders_in i.world
 
--- a query was observed in settled collections, and the emissions that are due were written
-pub record IsWatched (name coll : List ℕ) (q : QuerySpec) (old last : Holders Observing)
-    (ps : List QueryPlace)
-    : Type 0 where
-  pub placed : ArePlaced (holders_in old) ps
-  pub distinct : AreDistinct (world_of old)
-  pub quiet : AllByRecursion IsQuiet (holders_in old)
-  pub free : list_any (λ p. bytes_eq name p.name) ps ≡ false
-  pub keyed : has_key q.primary (named (world_of old).collections coll) ≡ true
-  pub emitted : holders_in last ≡ settled_in (Some coll) (watched_in name coll q (holders_in old))
-  pub replications : last.replications ≡ old.replications
-  pub epochs : last.epoch ≡ old.epoch
+  abbrev w : World
+  w = world_of i.world
 
-module _ (name coll : List ℕ) (q : QuerySpec) (old last : Holders Observing) (moment : ℕ)
-    (hooks : Hooking) (streams : List Stream)
-    (ps : List QueryPlace)
-    (so : IsWatched name coll q old last ps) where
-  -- the collections with the query
-  abbrev more : Lives
-  more = watched_in name coll q (holders_in old)
+  abbrev one : Observed
+  one = new_query w name coll q
 
-  -- they are those of the world
-  same_then : (world_of old).collections ≡ colls more
-  same_then = world_colls old ∙ sym (added_colls (holders_in old) coll name q)
+  -- a collection that has a key is there
+  held : has_key q.primary (named w.collections coll) ≡ true
+      → (l : Observing) × (named ls coll ≡ Some l)
+  held keyed =
+      there (named ls coll) (subst (λ o. has_key q.primary o ≡ true)
+      (ap (λ cs. named cs coll) (world_colls i.world) ∙ named-colls ls coll) keyed)
+    where
+      there : (o : Option Observing)
+          → has_key q.primary (option_map (λ (l : Observing). l.collection) o) ≡ true
+          → (l : Observing) × (o ≡ Some l)
+      there None keyed = absurd (true≢false (sym keyed))
+      there (Some l) keyed = (l, refl)
 
-  -- there is a place more
-  added_then : ArePlaced more (ps ++ place_in coll name ∷ [])
-  added_then =
-      added_placed (holders_in old) ps name coll so.placed so.free q (world_of old)
-      (world_colls old)
-      so.keyed (distinct_in old so.distinct)
+  -- its queries have one more, and those of the others stay
+  added : has_key q.primary (named w.collections coll) ≡ true → (n : List ℕ)
+      → queries_at (named (watched_in name coll q ls) n)
+      ≡ queries_at (named ls n) ++ queries_in n (one ∷ [])
+  added keyed n =
+      let shown : Observed → List ℕ × Watched = λ o. (o.name, o.watched) in
+      let l = (held keyed).0 in
+      let at = (held keyed).1 in
+      ap queries_at (named-changed (with_query name q) ls coll n)
+      ∙ elim (bytes_eq coll n) as (λ b. bytes_eq coll n ≡ b
+      → queries_at (cond b (option_map (with_query name q) (named ls n)) (named ls n))
+      ≡ queries_at (named ls n) ++ map shown (cond (bytes_eq n coll) (one ∷ []) [])) [
+        | true ↦ (λ is.
+            subst (λ k. queries_at (option_map (with_query name q) (named ls k))
+            ≡ queries_at (named ls k) ++ map shown (cond (bytes_eq k coll) (one ∷ []) []))
+            ((bytes_eq-Decides coll n).0 is)
+            (ap (λ o. queries_at (option_map (with_query name q) o)) at
+            ∙ ap (λ h. l.queries ++ (name, new_watch q (documents_at h)) ∷ [])
+            (sym (held_at w ls (world_colls i.world) coll l at))
+            ∙ sym (ap (λ o. queries_at o ++ map shown (cond (bytes_eq coll coll) (one ∷ []) [])) at
+            ∙ ap (λ b. l.queries ++ map shown (cond b (one ∷ []) [])) (bytes_itself coll))))
+        | false ↦ (λ is.
+            sym (ap (λ b. queries_at (named ls n) ++ map shown (cond b (one ∷ []) []))
+            (bytes_apart_turned coll n is) ∙ append-nil (queries_at (named ls n))))
+      ] refl
 
-  -- and a query more
-  query_then : queries_of more (ps ++ place_in coll name ∷ [])
-      ≡ queries_of (holders_in old) ps ++ new_query (world_of old) name coll q ∷ []
-  query_then =
-      added_queries (holders_in old) ps name coll so.placed so.free q (world_of old)
-      (world_colls old)
-      so.keyed
+  -- so its emission is the one that is to be taken
+  pub watched : list_any (λ o. bytes_eq name o.name) (session_in i).queries ≡ false
+      → has_key q.primary (named w.collections coll) ≡ true → (last : Holders Observing)
+      → holders_in last ≡ settled_each (coll ∷ []) (watched_in name coll q ls)
+      → last.replications ≡ i.world.replications → last.epoch ≡ i.world.epoch
+      → IsTaken w (watched_in name coll q ls) (i.places.items ++ place_of one ∷ [])
+      ((session_in i).queries ++ one ∷ []) (coll ∷ []) last
+  watched free keyed last emitted replications epochs = record {
+    placed = placed_more ls (watched_in name coll q ls) i.places.items (session_in i).queries
+        so.placed one free (added keyed);
+    collections = world_colls i.world
+        ∙ sym (colls-change_named (with_query name q) (λ l. refl) ls coll);
+    quiet = all_push
+        (λ (o : Observed). list_any (bytes_eq o.coll) (coll ∷ []) ≡ false → emission_due w o ≡ [])
+        (session_in i).queries one
+        (all_weaker
+        (λ (o : Observed). list_any (bytes_eq o.coll) [] ≡ false → emission_due w o ≡ [])
+        (λ o. list_any (bytes_eq o.coll) (coll ∷ []) ≡ false → emission_due w o ≡ [])
+        (λ o none noted. none refl) (session_in i).queries so.quiet)
+        (λ none. absurd (true≢false
+        (sym (bytes_itself coll) ∙ (or_parts (bytes_eq coll coll) false none).0)));
+    emitted = emitted;
+    replications = replications;
+    epochs = epochs;
+  }
 
-  -- all others are quiet
-  quiet_rest : AreQuietBut coll more
-  quiet_rest = added_quiet (holders_in old) coll name q so.quiet
-
-  -- no name of a collection comes twice
-  distinct_more : IsDistinct bytes_eq (keys_of more)
-  distinct_more =
-      subst (IsDistinct bytes_eq)
-      (sym (keys-change_named (with_query name q) (holders_in old) coll))
-      (distinct_in old so.distinct)
-
-  pub watched_due : due_in (Some coll) more
-      ≡ emissions (session_after (watch name coll q) (session_of old moment hooks streams ps))
-  watched_due =
-      sym (due_of_one (world_of old) more same_then coll quiet_rest (ps ++ place_in coll name ∷ [])
-      added_then)
-      ∙ ap (λ qs. flat_map (emission_due (world_of old)) qs) query_then
-
-  -- the world stays
-  watched_world : world_of last ≡ world_of old
-  watched_world =
-      same_world last old
-      (ap colls so.emitted ∙ settled_colls more coll ∙ added_colls (holders_in old) coll name q)
-      so.replications so.epochs
-
-  -- all queries are settled
-  watched_queries : queries_of (holders_in last) (ps ++ place_in coll name ∷ [])
-      ≡ map (settled_query (world_of old))
-      (queries_of (holders_in old) ps ++ new_query (world_of old) name coll q ∷ [])
-  watched_queries =
-      ap (λ ls. queries_of ls (ps ++ place_in coll name ∷ [])) so.emitted
-      ∙ settled_queries (world_of old) more same_then coll quiet_rest
-      (ps ++ place_in coll name ∷ [])
-      ∙ ap (map (settled_query (world_of old))) query_then
-
-  pub watched_session : session_of last moment hooks streams (ps ++ place_in coll name ∷ [])
-      ≡ settled_session (session_after (watch name coll q) (session_of old moment hooks streams ps))
-  watched_session =
-      λ i. record {
-        world = watched_world i;
-        moment = moment;
-        hooks = hooks;
-        streams = streams;
-        queries = watched_queries i;
-      }
-
-  pub watched_placed : ArePlaced (holders_in last) (ps ++ place_in coll name ∷ [])
-  watched_placed =
-      subst (λ ls. ArePlaced ls (ps ++ place_in coll name ∷ [])) (sym so.emitted)
-      (settled_placed more coll (ps ++ place_in coll name ∷ []) added_then)
-
-  pub watched_streamed : AreStreamed (world_of old) streams → AreStreamed (world_of last) streams
-  watched_streamed all = subst (λ w. AreStreamed w streams) (sym watched_world) all
-
-  pub watched_distinct : AreDistinct (world_of last)
-  watched_distinct = subst AreDistinct (sym watched_world) so.distinct
-
-  pub watched_quiet : AllByRecursion IsQuiet (holders_in last)
-  watched_quiet =
-      subst (AllByRecursion IsQuiet) (sym so.emitted)
-      (settled_all_quiet more coll distinct_more quiet_rest)
+  -- its name is free in its collection
+  pub free_there : list_any (λ o. bytes_eq name o.name) (session_in i).queries ≡ false
+      → named (queries_at (named ls coll)) name ≡ None
+  free_there free =
+      ap (λ qs. named qs name) (so.placed.listed coll)
+      ∙ no_name name coll (session_in i).queries free
 
 -- ---- once a query is observed no more
 
--- the query of a name was left out of settled collections
-pub record IsLeft (name : List ℕ) (old new : Holders Observing)
-    (ps : List QueryPlace) : Type 0 where
-  pub placed : ArePlaced (holders_in old) ps
-  pub distinct : AreDistinct (world_of old)
-  pub quiet : AllByRecursion IsQuiet (holders_in old)
-  pub dropped : holders_in new ≡ without_observed name (place_named name ps) (holders_in old)
-  pub replications : new.replications ≡ old.replications
-  pub epochs : new.epoch ≡ old.epoch
+module _ (i : Inside) (so : IsInOrder i) (name : List ℕ) (new : Holders Observing)
+    (dropped : holders_in new
+    ≡ without_observed name (place_named name i.places.items) (holders_in i.world))
+    (replications : new.replications ≡ i.world.replications) (epochs : new.epoch ≡ i.world.epoch)
+  where
+    abbrev was : Lives
+    was = holders_in i.world
 
-module _ (name : List ℕ) (old new : Holders Observing) (moment : ℕ) (hooks : Hooking)
-    (streams : List Stream) (ps : List QueryPlace)
-    (so : IsLeft name old new ps) where
-  -- by its place
-  left_colls : (o : Option QueryPlace) → colls (without_observed name o (holders_in old))
-      ≡ colls (holders_in old)
-  left_colls None = refl
-  left_colls (Some p) = dropped_colls (holders_in old) p.coll name
+    abbrev left_places : List QueryPlace
+    left_places = filter (λ (p : QueryPlace). not (bytes_eq name p.name)) i.places.items
 
-  left_queries : (o : Option QueryPlace)
-      → queries_of (without_observed name o (holders_in old)) (rest_of name ps)
-      ≡ filter (λ x. not (bytes_eq name x.name)) (queries_of (holders_in old) ps)
-  left_queries None = undropped_queries name (holders_in old) ps
-  left_queries (Some p) = dropped_queries name (holders_in old) ps p.coll
+    abbrev left : List Observed
+    left = filter (λ (o : Observed). not (bytes_eq name o.name)) (session_in i).queries
 
-  left_placed : (o : Option QueryPlace) → place_named name ps ≡ o
-      → ArePlaced (without_observed name o (holders_in old)) (rest_of name ps)
-  left_placed None is =
-      undropped_placed (holders_in old) ps name so.placed
-      (none_found (λ p. bytes_eq name p.name) ps is)
-  left_placed (Some p) is =
-      dropped_placed (holders_in old) ps name p.coll so.placed (distinct_in old so.distinct)
-      (all_in_first name ps p so.placed.distinct is)
+    -- each collection's queries are without it
+    each_less : (o : Option QueryPlace) → place_named name i.places.items ≡ o → (n : List ℕ)
+        → queries_at (named (without_observed name o was) n)
+        ≡ without name (queries_at (named was n))
+    each_less None none n =
+        sym (without_none name (queries_at (named was n))
+        (ap (λ qs. named qs name) (so.placed.listed n)
+        ∙ no_name name n (session_in i).queries
+        (sym (any_place was i.places.items (session_in i).queries so.placed name)
+        ∙ ap is_some none)))
+    each_less (Some p) at n =
+        ap queries_at (named-changed (without_query name) was p.coll n)
+        ∙ elim (bytes_eq p.coll n) as (λ b. bytes_eq p.coll n ≡ b
+        → queries_at (cond b (option_map (without_query name) (named was n)) (named was n))
+        ≡ without name (queries_at (named was n))) [
+          | true ↦ (λ is. here (named was n))
+          | false ↦ (λ is.
+              sym (without_none name (queries_at (named was n))
+              (ap (λ qs. named qs name) (so.placed.listed n)
+              ∙ apart (find (λ o. bytes_eq name o.name) (session_in i).queries) refl
+              (sym (first_place was i.places.items (session_in i).queries so.placed
+              (λ q. bytes_eq name q.name)) ∙ at) is)))
+        ] refl
+      where
+        here : (o : Option Observing)
+            → queries_at (option_map (without_query name) o) ≡ without name (queries_at o)
+        here None = refl
+        here (Some l) = refl
 
-  left_quiet : (o : Option QueryPlace)
-      → AllByRecursion IsQuiet (without_observed name o (holders_in old))
-  left_quiet None = so.quiet
-  left_quiet (Some p) = dropped_quiet (holders_in old) p.coll name so.quiet
+        apart : (o : Option Observed)
+            → find (λ x. bytes_eq name x.name) (session_in i).queries ≡ o
+            → option_map place_of o ≡ Some p → bytes_eq p.coll n ≡ false
+            → named (queries_in n (session_in i).queries) name ≡ None
+        apart None first is other = absurd (none-some p is)
+        apart (Some o) first is other =
+            elsewhere name n (session_in i).queries o so.placed.distinct first
+            (bytes_apart_turned o.coll n
+            (ap (λ (q : QueryPlace). bytes_eq q.coll n) (same_Some (place_of o) p is) ∙ other))
 
-  -- the world stays
-  without_world : world_of new ≡ world_of old
-  without_world = same_world new old
-      (ap colls so.dropped ∙ left_colls (place_named name ps)) so.replications so.epochs
+    all_left : ArePlaced (holders_in new) left_places left
+    all_left =
+        placed_less was (holders_in new) i.places.items (session_in i).queries so.placed name
+        (λ n. ap (λ (x : Lives). queries_at (named x n)) dropped
+        ∙ each_less (place_named name i.places.items) refl n)
 
-  -- the other queries stay
-  without_queries : queries_of (holders_in new) (rest_of name ps)
-      ≡ filter (λ x. not (bytes_eq name x.name)) (queries_of (holders_in old) ps)
-  without_queries =
-      ap (λ ls. queries_of ls (rest_of name ps)) so.dropped ∙ left_queries (place_named name ps)
+    pub left_placed : ArePlaced (holders_in new) left_places
+        (queries_of (holders_in new) left_places)
+    left_placed = placed_seen (holders_in new) left_places left all_left
 
-  pub without_placed : ArePlaced (holders_in new) (rest_of name ps)
-  without_placed =
-      subst (λ ls. ArePlaced ls (rest_of name ps)) (sym so.dropped)
-      (left_placed (place_named name ps) refl)
+    left_queries : queries_of (holders_in new) left_places ≡ left
+    left_queries = seen (holders_in new) left_places left all_left
 
-  pub without_streamed : AreStreamed (world_of old) streams → AreStreamed (world_of new) streams
-  without_streamed all = subst (λ w. AreStreamed w streams) (sym without_world) all
+    -- the world stays
+    pub left_world : world_of new ≡ world_of i.world
+    left_world =
+        same_world new i.world (ap colls dropped ∙ same (place_named name i.places.items))
+        replications epochs
+      where
+        same : (o : Option QueryPlace) → colls (without_observed name o was) ≡ colls was
+        same None = refl
+        same (Some p) = colls-change_named (without_query name) (λ l. refl) was p.coll
 
-  pub without_distinct : AreDistinct (world_of new)
-  without_distinct = subst AreDistinct (sym without_world) so.distinct
+    -- nothing of the others is to be emitted
+    quiet_left : AreQuietUnless [] (world_of i.world) left
+    quiet_left =
+        all_passed (λ (o : Observed). list_any (bytes_eq o.coll) [] ≡ false
+        → emission_due (world_of i.world) o ≡ []) (λ o. not (bytes_eq name o.name))
+        (session_in i).queries so.quiet
 
-  pub without_quiet : AllByRecursion IsQuiet (holders_in new)
-  without_quiet = subst (AllByRecursion IsQuiet) (sym so.dropped) (left_quiet (place_named name ps))
+    pub left_quiet : AreQuietUnless [] (world_of new) (queries_of (holders_in new) left_places)
+    left_quiet =
+        subst (λ v. AreQuietUnless [] v (queries_of (holders_in new) left_places)) (sym left_world)
+        (subst (AreQuietUnless [] (world_of i.world)) (sym left_queries) quiet_left)
 
-  pub without_due :
-      emissions (session_after (unwatch name) (session_of old moment hooks streams ps)) ≡ []
-  without_due =
-      sym (ap (λ qs. flat_map (emission_due (world_of old)) qs) without_queries)
-      ∙ sym (ap (λ w. flat_map (emission_due w) (queries_of (holders_in new) (rest_of name ps)))
-      without_world)
-      ∙ none_due new (rest_of name ps) without_quiet
+    pub left_due : emissions (session_after (unwatch name) (session_in i)) ≡ []
+    left_due = quiet_due (world_of i.world) left quiet_left
 
-  -- nothing of them is to be emitted
-  without_settled : queries_of (holders_in new) (rest_of name ps)
-      ≡ map (settled_query (world_of old))
-      (filter (λ x. not (bytes_eq name x.name)) (queries_of (holders_in old) ps))
-  without_settled =
-      sym (all_settled new (rest_of name ps) without_quiet)
-      ∙ ap (map (settled_query (world_of new))) without_queries
-      ∙ ap (λ w. map (settled_query w)
-      (filter (λ x. not (bytes_eq name x.name)) (queries_of (holders_in old) ps))) without_world
-
-  pub without_session : session_of new moment hooks streams (rest_of name ps)
-      ≡ settled_session (session_after (unwatch name) (session_of old moment hooks streams ps))
-  without_session =
-      λ i. record {
-        world = without_world i;
-        moment = moment;
-        hooks = hooks;
-        streams = streams;
-        queries = without_settled i;
-      }
+    pub left_session : session_of new (session_in i).moment (session_in i).hooks
+        (session_in i).streams left_places
+        ≡ settled_session (session_after (unwatch name) (session_in i))
+    left_session =
+        let queries = left_queries ∙ sym (all_settled (world_of i.world) left quiet_left) in
+        λ k. record {
+          world = left_world k;
+          moment = (session_in i).moment;
+          hooks = (session_in i).hooks;
+          streams = (session_in i).streams;
+          queries = queries k;
+        }

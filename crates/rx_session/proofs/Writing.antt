@@ -1,52 +1,73 @@
--- What a record makes of the queries, of their places, and of what is to be emitted.
-use Rattle.std.proofs.Common.{◌≡◌, ◌≢◌, ℕ, true, false, cond, Bool, List, [], ◌∷◌, map, Option, Some, None, is_some, option_map, refl, sym, ap, ◌∙◌, subst, true≢false}
-use Rattle.std.proofs.lemmas.Bool.{and_parts}
+-- What a record makes of the queries, and of what is to be emitted.
+use Rattle.std.proofs.Common.{◌≡◌, ℕ, true, false, true≢false, cond, Bool, List, [], ◌∷◌, ◌++◌, map, filter, Option, Some, None, option_map, refl, sym, ap, ◌∙◌, subst}
+use Rattle.std.proofs.lemmas.Bool.{and_parts, or_parts}
+use Rattle.std.proofs.lemmas.List.{map-id}
+use Rattle.std.proofs.lemmas.List.Folds.{list_any-append}
+use Rattle.std.proofs.lemmas.Option.{none-some}
 use Rattle.std.proofs.lemmas.Slice.Eq.{bytes_eq-Decides}
-use Rattle.std.specs.Prelude.{filter, option_and_then, IsSome}
-use Rattle.std.specs.List.{AllByRecursion}
-use Rattle.std.specs.Map.{keys_of}
+use Rattle.std.specs.List.{AllByRecursion, list_any}
 use Rattle.std.specs.Option.{option_map_or}
 use Rattle.std.specs.Str.{bytes_eq}
-use Rattle.rx_value.specs.Named.{named, change_named, put_named}
+use Rattle.rx_value.specs.Named.{named, change_named}
+use Rattle.rx_value.proofs.Named.{named-put_named}
 use Rattle.rx_value.proofs.Outcomes.{none_is, none_mapped}
 use Rattle.rx_value.proofs.Lists.{all_both, all_weaker}
-use Rattle.rx_value.proofs.Bytes.{bytes_itself, bytes_apart}
-use Rattle.rx_collection.specs.Held.{Held}
+use Rattle.rx_value.proofs.Bytes.{bytes_itself}
 use Rattle.rx_record.specs.Content.{Content, collection, rows, replication, exchange, migration}
 use Rattle.rx_record.specs.declared.record.RowOut.{RowOut}
-use Rattle.rx_observe.specs.Observing.{Observing, watch_after}
+use Rattle.rx_observe.specs.Observing.{Observing, each}
+use Rattle.rx_observe.specs.Rows.{unseen, with_emission}
 use Rattle.rx_observe.specs.Watched.{Watched}
 use Rattle.rx_world.specs.Migrating.{is_in_group}
 use Rattle.rx_world.specs.Schema.{schema_in}
-use Rattle.rx_world.specs.Step.{legal, stored_rows}
+use Rattle.rx_world.specs.Step.{legal}
 use Rattle.rx_world.specs.Touch.{IsNoMigration, Touch, no_collection, new_collection, new_rows, remade, remade_where, new_where, fork_rows, touch}
 use Rattle.rx_world.specs.World.{World}
 use Rattle.rx_world.specs.declared.replication.Replication.{Replication}
-use Rattle.rx_world.proofs.Looked.{all_put_named, named-change_other, named-change_same, named-put_other}
-use Rattle.rx_session.specs.Applied.{IsAfter, with_written}
+use Rattle.rx_session.specs.Applied.{IsAfter, coll_written, with_written}
 use Rattle.rx_session.specs.Doing.{query_after, watch_in, IsUnobserved}
-use Rattle.rx_session.specs.Placed.{Lives, ArePlaced, names_in, queries_of, watched_at, with_found}
+use Rattle.rx_session.specs.Emissions.{emission_due, rows_on}
+use Rattle.rx_session.specs.Placed.{ArePlaced, AreQuietUnless, Lives, queries_at, queries_in}
+use Rattle.rx_session.specs.Playing.{add_written}
 use Rattle.rx_session.specs.Session.{Observed, with_watched}
 use Rattle.rx_session.specs.declared.query_place.QueryPlace.{QueryPlace}
-use Rattle.rx_session.proofs.Places.{AreFound, all_of, colls, keys-map, map_same, named-colls, named-map, observed_at, placed_changed, placed_found, queries_become, queries_stay, query_at}
-use Rattle.rx_session.proofs.Remade.{remade_each, remade_stays}
+use Rattle.rx_session.proofs.Places.{at_coll, changed, colls, named-changed, named-colls, own, placed_same, placed_told, told}
+use Rattle.rx_session.proofs.Remade.{remade_bare, remade_stays}
+use Rattle.rx_session.proofs.Showing.{held_at}
 
 -- ---- a new collection
 
--- the name of what a record makes isn't held, and no place is in what it makes anew
-abbrev pub IsUnheld : World → List QueryPlace → Touch → Type 0
-IsUnheld w ps no_collection = Unit {0}
-IsUnheld w ps (new_collection name schema) = named w.collections name ≡ None
-IsUnheld w ps (new_rows name lwt written) = Unit {0}
-IsUnheld w ps (remade in_group schema steps) = AllByRecursion (λ p. in_group p.coll ≡ false) ps
+-- the name of what a record makes isn't held
+abbrev pub IsUnheld : World → Touch → Type 0
+IsUnheld w no_collection = Unit {0}
+IsUnheld w (new_collection name schema) = named w.collections name ≡ None
+IsUnheld w (new_rows name lwt written) = Unit {0}
+IsUnheld w (remade in_group schema steps) = Unit {0}
 
--- the fork of an exchange is no new collection
-fork_unheld : (w : World) (ps : List QueryPlace) (lwt : ℕ) (written : List RowOut)
-    (o : Option Replication)
-    → IsUnheld w ps (option_map_or (fork_rows lwt written) o no_collection)
-fork_unheld w ps lwt written None = tt
-fork_unheld w ps lwt [] (Some r) = tt
-fork_unheld w ps lwt (row ∷ written) (Some r) = tt
+-- so it is with a legal one
+pub legal_unheld : (content : Content) (w : World) → legal content w ≡ true
+    → IsUnheld w (touch content w)
+legal_unheld (collection name schema) w allowed =
+    let is = (and_parts _ _ (and_parts _ _ (and_parts _ _ allowed).0).0).1 in
+    elim (schema_in schema) as (λ o. IsUnheld w (new_where name o)) [
+      | None ↦ tt
+      | Some s ↦ none_is (named w.collections name) is
+    ]
+legal_unheld (rows name lwt written) w allowed = tt
+legal_unheld (replication name fork master handler field) w allowed = tt
+legal_unheld (exchange name lwt written known up down) w allowed =
+    of_fork (named w.replications name) written
+  where
+    of_fork : (o : Option Replication) (written : List RowOut)
+        → IsUnheld w (option_map_or (fork_rows lwt written) o no_collection)
+    of_fork None written = tt
+    of_fork (Some r) [] = tt
+    of_fork (Some r) (row ∷ written) = tt
+legal_unheld (migration name text steps) w allowed =
+    elim (schema_in text) as (λ o.
+    IsUnheld w (remade_where (is_in_group w.replications name) steps o))
+    [ None ↦ tt | Some s ↦ tt ]
+legal_unheld entry w allowed = tt
 
 fork_none_anew : (lwt : ℕ) (written : List RowOut) (queries : List Observed)
     (o : Option Replication)
@@ -54,45 +75,6 @@ fork_none_anew : (lwt : ℕ) (written : List RowOut) (queries : List Observed)
 fork_none_anew lwt written queries None = tt
 fork_none_anew lwt [] queries (Some r) = tt
 fork_none_anew lwt (row ∷ written) queries (Some r) = tt
-
--- a query that is found is in the collection of its place
-found_apart : (in_group : List ℕ → Bool) (p : QueryPlace) (o : Option Watched) (os : List Observed)
-    → IsSome o → AllByRecursion (λ x. in_group x.coll ≡ false) (with_found p o os)
-    → (in_group p.coll ≡ false) × AllByRecursion (λ x. in_group x.coll ≡ false) os
-found_apart in_group p None os is all = cc
-found_apart in_group p (Some w) os is all = all
-
--- where no query is in a group, no place is
-places_apart : (in_group : List ℕ → Bool) (ls : Lives) (ps : List QueryPlace) → AreFound ls ps
-    → AllByRecursion (λ x. in_group x.coll ≡ false) (queries_of ls ps)
-    → AllByRecursion (λ p. in_group p.coll ≡ false) ps
-places_apart in_group ls [] found all = tt
-places_apart in_group ls (p ∷ ps) found all =
-    let both = found_apart in_group p (watched_at ls p) (queries_of ls ps) found.0 all in
-    (both.0, places_apart in_group ls ps found.1 both.1)
-
--- so it is with a legal one, where no query is observed in what it makes anew
-pub legal_unheld : (content : Content) (w : World) (ls : Lives) (ps : List QueryPlace)
-    → ArePlaced ls ps → legal content w ≡ true → IsUnobserved (touch content w) (queries_of ls ps)
-    → IsUnheld w ps (touch content w)
-legal_unheld (collection name schema) w ls ps placed allowed apart =
-    let is = (and_parts _ _ (and_parts _ _ (and_parts _ _ allowed).0).0).1 in
-    elim (schema_in schema) as (λ o. IsUnheld w ps (new_where name o)) [
-      | None ↦ tt
-      | Some s ↦ none_is (named w.collections name) is
-    ]
-legal_unheld (rows name lwt written) w ls ps placed allowed apart = tt
-legal_unheld (replication name fork master handler field) w ls ps placed allowed apart = tt
-legal_unheld (exchange name lwt written known up down) w ls ps placed allowed apart =
-    fork_unheld w ps lwt written (named w.replications name)
-legal_unheld (migration name text steps) w ls ps placed allowed apart =
-    let G = is_in_group w.replications name in
-    (elim (schema_in text) as (λ o. IsUnobserved (remade_where G steps o) (queries_of ls ps)
-    → IsUnheld w ps (remade_where G steps o)) [
-      | None ↦ (λ all. tt)
-      | Some s ↦ (λ all. places_apart G ls ps (placed_found ls ps placed) all)
-    ]) apart
-legal_unheld entry w ls ps placed allowed apart = tt
 
 -- a record that is no migration makes none anew
 pub none_anew : (content : Content) (w : World) (queries : List Observed) → IsNoMigration content
@@ -109,205 +91,164 @@ none_anew (exchange name lwt written known up down) w queries other =
 none_anew (migration name text steps) w queries other = absurd other
 none_anew entry w queries other = tt
 
--- so no collection with queries has it
-free_name : (name : List ℕ) (w : World) (ls : Lives) → w.collections ≡ colls ls
-    → named w.collections name ≡ None → named ls name ≡ None
-free_name name w ls same none =
-    none_mapped (λ (l : Observing). l.collection) (named ls name)
-    (sym (named-colls ls name) ∙ ap (λ cs. named cs name) (sym same) ∙ none)
+-- ---- the collections that were written
 
--- a name that is held is another than one that isn't
-other_held : (ls : Lives) (name coll : List ℕ) → named ls name ≡ None → IsSome (named ls coll)
-    → coll ≢ name
-other_held ls name coll none held same =
-    true≢false (sym held ∙ ap (λ n. is_some (named ls n)) same ∙ ap is_some none)
+-- all that were written before are still noted
+still_noted : (coll : List ℕ) (written : List (List ℕ)) (name : List ℕ)
+    → list_any (bytes_eq name) (add_written (Some coll) written) ≡ false
+    → list_any (bytes_eq name) written ≡ false
+still_noted coll written name none =
+    elim (list_any (bytes_eq coll) written)
+    as (λ b. list_any (bytes_eq name) (cond b written (written ++ coll ∷ [])) ≡ false
+    → list_any (bytes_eq name) written ≡ false) [
+      | true ↦ (λ n. n)
+      | false ↦
+          (λ n. (or_parts (list_any (bytes_eq name) written) (list_any (bytes_eq name) (coll ∷ []))
+          (sym (list_any-append (bytes_eq name) written (coll ∷ [])) ∙ n)).0)
+    ] none
 
--- no place is in a collection that isn't held
-none_in : (name : List ℕ) (ps : List QueryPlace) → AllByRecursion (λ p. p.coll ≢ name) ps
-    → names_in name ps ≡ []
-none_in name [] all = refl
-none_in name (p ∷ ps) all =
-    let other = bytes_apart name p.coll (λ same. all.0 (sym same)) in
-    ap (λ b. map (λ (q : QueryPlace). q.name)
-    (cond b (p ∷ filter (λ q. bytes_eq name q.coll) ps) (filter (λ q. bytes_eq name q.coll) ps)))
-    other ∙ none_in name ps all.1
-
-module _ (ls : Lives) (ps : List QueryPlace) (name : List ℕ) (l : Observing)
-    (none : named ls name ≡ None)
-    (placed : ArePlaced ls ps) where
-  -- each place is in another collection
-  all_other : AllByRecursion (λ p. p.coll ≢ name) ps
-  all_other =
-      all_weaker (λ p. IsSome (named ls p.coll)) (λ p. p.coll ≢ name)
-      (λ p held. other_held ls name p.coll none held) ps placed.held
-
-  -- the collection of each place stays
-  new_other : (p : QueryPlace) → p.coll ≢ name
-      → named (put_named ls name l) p.coll ≡ named ls p.coll
-  new_other p other = named-put_other ls name p.coll l other
-
-  -- so do the queries
-  new_queries : queries_of (put_named ls name l) ps ≡ queries_of ls ps
-  new_queries =
-      queries_stay ls (put_named ls name l) ps
-      (all_weaker (λ p. p.coll ≢ name) (λ p. watched_at (put_named ls name l) p ≡ watched_at ls p)
-      (λ p other.
-      ap (option_and_then (λ (x : Observing). named x.queries p.name)) (new_other p other))
-      ps all_other)
-
-  -- a collection without queries has no place
-  new_placed : l.queries ≡ [] → ArePlaced (put_named ls name l) ps
-  new_placed empty = record {
-    distinct = placed.distinct;
-    held = all_weaker (λ p. IsSome (named ls p.coll))
-        (λ p. IsSome (named (put_named ls name l) p.coll))
-        (λ p held. ap is_some (new_other p (other_held ls name p.coll none held)) ∙ held)
-        ps placed.held;
-    listed = all_put_named (λ n (x : Observing). keys_of x.queries ≡ names_in n ps) ls name l
-        (ap (λ qs. keys_of qs) empty ∙ sym (none_in name ps all_other)) placed.listed;
-  }
-
--- ---- rows
-
--- what is done to a query of a place
-observed_then : (f : Watched → Watched) (p : QueryPlace) (o : Option Watched)
-    → option_map (observed_at p) (option_map f o)
-    ≡ option_map (λ (x : Observed). with_watched (f x.watched) x) (option_map (observed_at p) o)
-observed_then f p None = refl
-observed_then f p (Some v) = refl
-
-module _ (w : World) (ls : Lives) (same : w.collections ≡ colls ls) (lwt : ℕ)
-    (written : List RowOut)
-  where
-    -- the query of a place in the collection that takes the rows
-    told : (p : QueryPlace) (o : Option Observing) (c : Option Held)
-        → c ≡ option_map (λ (l : Observing). l.collection) o
-        → option_map (observed_at p)
-        (option_and_then (λ (l : Observing). named l.queries p.name)
-        (option_map (with_written lwt written) o))
-        ≡ option_map (λ (x : Observed). with_watched (watch_in c lwt written x.watched) x)
-        (option_map (observed_at p) (option_and_then (λ (l : Observing). named l.queries p.name) o))
-    told p None c is = refl
-    told p (Some l) c is =
-        let h = watch_after l.collection (stored_rows l.collection.name lwt written) in
-        subst (λ (x : Option Held). option_map (observed_at p)
-        (named (map (λ (e : List ℕ × Watched). (e.0, h e.1)) l.queries) p.name)
-        ≡ option_map (λ (y : Observed). with_watched (watch_in x lwt written y.watched) y)
-        (option_map (observed_at p) (named l.queries p.name))) (sym is)
-        (ap (option_map (observed_at p)) (named-map h l.queries p.name)
-        ∙ observed_then h p (named l.queries p.name))
-
-    -- the choice by the name
-    told_here : (p : QueryPlace) (o : Option Watched)
-        → option_map (λ (x : Observed).
-        with_watched (watch_in (named w.collections p.coll) lwt written x.watched) x)
-        (option_map (observed_at p) o)
-        ≡ option_map (query_after w (new_rows p.coll lwt written)) (option_map (observed_at p) o)
-    told_here p None = refl
-    told_here p (Some v) =
-        ap (λ (c : Bool). Some (cond c
-        (with_watched (watch_in (named w.collections p.coll) lwt written v) (observed_at p v))
-        (observed_at p v))) (sym (bytes_itself p.coll))
-
-    -- a place in the collection of the rows
-    after_same : (p : QueryPlace)
-        → query_at (change_named ls p.coll (with_written lwt written)) p
-        ≡ option_map (query_after w (new_rows p.coll lwt written)) (query_at ls p)
-    after_same p =
-        ap (λ o. option_map (observed_at p)
-        (option_and_then (λ (l : Observing). named l.queries p.name) o))
-        (named-change_same (with_written lwt written) ls p.coll)
-        ∙ told p (named ls p.coll) (named w.collections p.coll)
-        (ap (λ cs. named cs p.coll) same ∙ named-colls ls p.coll)
-        ∙ told_here p (watched_at ls p)
-
-    -- a query of another collection
-    not_told : (name : List ℕ) (p : QueryPlace) (o : Option Watched) → bytes_eq name p.coll ≡ false
-        → option_map (observed_at p) o
-        ≡ option_map (query_after w (new_rows name lwt written)) (option_map (observed_at p) o)
-    not_told name p None other = refl
-    not_told name p (Some v) other =
-        ap (λ (c : Bool). Some (cond c
-        (with_watched (watch_in (named w.collections name) lwt written v) (observed_at p v))
-        (observed_at p v))) (sym other)
-
-    -- a place in another collection
-    after_other : (name : List ℕ) (p : QueryPlace) → bytes_eq name p.coll ≡ false
-        → query_at (change_named ls name (with_written lwt written)) p
-        ≡ option_map (query_after w (new_rows name lwt written)) (query_at ls p)
-    after_other name p other =
-        let apart : p.coll ≢ name =
-        λ is. true≢false (sym ((bytes_eq-Decides name p.coll).1 (sym is)) ∙ other) in
-        ap (λ o. option_map (observed_at p)
-        (option_and_then (λ (l : Observing). named l.queries p.name) o))
-        (named-change_other (with_written lwt written) ls name p.coll apart)
-        ∙ not_told name p (watched_at ls p) other
-
-    -- each place
-    after_at : (name : List ℕ) (p : QueryPlace)
-        → query_at (change_named ls name (with_written lwt written)) p
-        ≡ option_map (query_after w (new_rows name lwt written)) (query_at ls p)
-    after_at name p =
-        elim (bytes_eq name p.coll) as (λ b. bytes_eq name p.coll ≡ b
-        → query_at (change_named ls name (with_written lwt written)) p
-        ≡ option_map (query_after w (new_rows name lwt written)) (query_at ls p)) [
-          | true ↦ (λ is.
-              subst (λ n. query_at (change_named ls n (with_written lwt written)) p
-              ≡ option_map (query_after w (new_rows n lwt written)) (query_at ls p))
-              (sym ((bytes_eq-Decides name p.coll).0 is)) (after_same p))
-          | false ↦ (λ is. after_other name p is)
-        ] refl
+-- and so is the one that is written now
+now_noted : (coll : List ℕ) (written : List (List ℕ))
+    → list_any (bytes_eq coll) (add_written (Some coll) written) ≡ false → true ≡ false
+now_noted coll written none =
+    elim (list_any (bytes_eq coll) written) as (λ b. list_any (bytes_eq coll) written ≡ b
+    → list_any (bytes_eq coll) (cond b written (written ++ coll ∷ [])) ≡ false → true ≡ false) [
+      | true ↦ (λ is n. sym is ∙ n)
+      | false ↦ (λ is n.
+          let last =
+          (or_parts (list_any (bytes_eq coll) written) (list_any (bytes_eq coll) (coll ∷ []))
+          (sym (list_any-append (bytes_eq coll) written (coll ∷ [])) ∙ n)).1 in
+          sym (bytes_itself coll) ∙ (or_parts (bytes_eq coll coll) false last).0)
+    ] refl none
 
 -- ---- what a record touches
 
--- each query follows it
-pub queries_after : (t : Touch) (w : World) (ls new : Lives) (ps : List QueryPlace)
-    → w.collections ≡ colls ls → ArePlaced ls ps → IsUnheld w ps t → IsAfter t ls new
-    → queries_of new ps ≡ map (query_after w t) (queries_of ls ps)
-queries_after no_collection w ls new ps same placed unheld after =
-    ap (λ ls. queries_of ls ps) after
-    ∙ sym (map_same (query_after w no_collection) (λ o. refl) (queries_of ls ps))
-queries_after (new_collection name schema) w ls new ps same placed unheld after =
-    ap (λ ls. queries_of ls ps) after.2
-    ∙ new_queries ls ps name after.0 (free_name name w ls same unheld) placed
-    ∙ sym (map_same (query_after w (new_collection name schema)) (λ o. refl) (queries_of ls ps))
-queries_after (new_rows name lwt written) w ls new ps same placed unheld after =
-    ap (λ ls. queries_of ls ps) after
-    ∙ queries_become (query_after w (new_rows name lwt written)) ls
-    (change_named ls name (with_written lwt written)) ps
-    (all_of _ (after_at w ls same lwt written name) ps)
-queries_after (remade in_group schema steps) w ls new ps same placed unheld after =
-    queries_stay ls new ps (all_weaker (λ p. in_group p.coll ≡ false)
-    (λ p. watched_at new p ≡ watched_at ls p)
-    (λ p out. ap (option_and_then (λ (x : Observing). named x.queries p.name))
-    (remade_stays in_group schema steps ls new p.coll out after)) ps unheld)
-    ∙ sym (map_same (query_after w (remade in_group schema steps)) (λ o. refl) (queries_of ls ps))
+-- no query is in a collection of a group in which none is
+none_in : (in_group : List ℕ → Bool) (coll : List ℕ) (os : List Observed) → in_group coll ≡ true
+    → AllByRecursion (λ o. in_group o.coll ≡ false) os → queries_in coll os ≡ []
+none_in in_group coll [] is out = refl
+none_in in_group coll (o ∷ os) is out =
+    let shown : Observed → List ℕ × Watched = λ x. (x.name, x.watched) in
+    let here = filter (λ (x : Observed). bytes_eq coll x.coll) os in
+    elim (bytes_eq coll o.coll) as (λ b. bytes_eq coll o.coll ≡ b
+    → map shown (cond b (o ∷ here) here) ≡ []) [
+      | true ↦ (λ same. absurd (true≢false
+          (sym is ∙ ap in_group ((bytes_eq-Decides coll o.coll).0 same) ∙ out.0)))
+      | false ↦ (λ other. none_in in_group coll os is out.1)
+    ] refl
 
--- all stays in its places
-pub placed_after : (t : Touch) (w : World) (ls new : Lives) (ps : List QueryPlace)
-    → w.collections ≡ colls ls → ArePlaced ls ps → IsUnheld w ps t → IsAfter t ls new
-    → ArePlaced new ps
-placed_after no_collection w ls new ps same placed unheld after =
-    subst (λ ls. ArePlaced ls ps) (sym after) placed
-placed_after (new_collection name schema) w ls new ps same placed unheld after =
-    subst (λ ls. ArePlaced ls ps) (sym after.2)
-    (new_placed ls ps name after.0 (free_name name w ls same unheld) placed
-    (ap (λ (l : Observing). l.queries) after.1))
-placed_after (new_rows name lwt written) w ls new ps same placed unheld after =
-    subst (λ ls. ArePlaced ls ps) (sym after)
-    (placed_changed (with_written lwt written)
-    (λ l. keys-map (watch_after l.collection (stored_rows l.collection.name lwt written)) l.queries)
-    ls name ps placed)
-placed_after (remade in_group schema steps) w ls new ps same placed unheld after = record {
-  distinct = placed.distinct;
-  held = all_weaker (λ p. IsSome (named ls p.coll) × (in_group p.coll ≡ false))
-      (λ p. IsSome (named new p.coll))
-      (λ p at. ap is_some (remade_stays in_group schema steps ls new p.coll at.1 after) ∙ at.0) ps
-      (all_both _ _ ps placed.held unheld);
-  listed =
-      remade_each in_group schema steps (λ n (l : Observing). keys_of l.queries ≡ names_in n ps)
-      (λ name c l is made. ap (λ (x : Observing). keys_of x.queries) made
-      ∙ sym (none_in name ps (all_weaker (λ p. in_group p.coll ≡ false) (λ p. p.coll ≢ name)
-      (λ p out at. true≢false (sym is ∙ ap in_group (sym at) ∙ out)) ps unheld)))
-      ls new placed.listed after;
-}
+-- what rows of a collection tell the queries
+rows_told : (w : World) (name : List ℕ) (lwt : ℕ) (written : List RowOut) (os : List Observed)
+    → told (at_coll name (watch_in (named w.collections name) lwt written)) os
+    ≡ map (query_after w (new_rows name lwt written)) os
+rows_told w name lwt written [] = refl
+rows_told w name lwt written (o ∷ os) =
+    let g = watch_in (named w.collections name) lwt written in
+    ap (λ x. x ∷ told (at_coll name g) os)
+    (elim (bytes_eq name o.coll) as (λ b. with_watched (cond b (g o.watched) o.watched) o
+    ≡ cond b (with_watched (g o.watched) o) o) [ true ↦ refl | false ↦ refl ])
+    ∙ ap (λ xs. query_after w (new_rows name lwt written) o ∷ xs) (rows_told w name lwt written os)
+
+module _ (w then : World) (ls new : Lives) (same : w.collections ≡ colls ls)
+    (same_then : then.collections ≡ colls new) (ps : List QueryPlace) (os : List Observed)
+    (placed : ArePlaced ls ps os) (written : List (List ℕ)) (quiet : AreQuietUnless written w os)
+  where
+    -- what becomes of the queries
+    abbrev pub AreKept : List (List ℕ) → List Observed → Type 0
+    AreKept now qs = ArePlaced new ps qs × AreQuietUnless now then qs
+
+    -- what is to be emitted of one in a collection that stays is what was
+    same_due : (o : Observed) → named new o.coll ≡ named ls o.coll
+        → emission_due then o ≡ emission_due w o
+    same_due o stays =
+        ap (λ c.
+        with_emission o.name (unseen (Some (rows_on o.watched.query c)) o.watched.emitted) [])
+        (ap (λ cs. named cs o.coll) same_then ∙ named-colls new o.coll
+        ∙ ap (option_map (λ (l : Observing). l.collection)) stays
+        ∙ sym (ap (λ cs. named cs o.coll) same ∙ named-colls ls o.coll))
+
+    -- where the collections of all queries stay
+    untouched : ((n : List ℕ) → queries_at (named new n) ≡ queries_at (named ls n))
+        → AllByRecursion (λ o. named new o.coll ≡ named ls o.coll) os
+        → AreKept written (map (λ o. o) os)
+    untouched so stay =
+        subst (AreKept written) (sym (map-id os)) (
+          placed_same ls new ps os placed so,
+          all_weaker (λ (o : Observed). (named new o.coll ≡ named ls o.coll)
+              × (list_any (bytes_eq o.coll) written ≡ false → emission_due w o ≡ []))
+              (λ o. list_any (bytes_eq o.coll) written ≡ false → emission_due then o ≡ [])
+              (λ o h none. same_due o h.0 ∙ h.1 none) os (all_both _ _ os stay quiet),
+        )
+
+    -- the others' stay where one takes rows
+    others_quiet : (name : List ℕ) (f : Observing → Observing) (g : Watched → Watched)
+        → new ≡ change_named ls name f → (qs : List Observed) → AreQuietUnless written w qs
+        → AreQuietUnless (add_written (Some name) written) then (told (at_coll name g) qs)
+    others_quiet name f g after [] all = tt
+    others_quiet name f g after (o ∷ qs) all = (
+      λ none. elim (bytes_eq name o.coll) as (λ b. bytes_eq name o.coll ≡ b
+          → emission_due then (with_watched (cond b (g o.watched) o.watched) o) ≡ []) [
+            | true ↦ (λ is. absurd (true≢false (now_noted name written
+                (subst (λ n. list_any (bytes_eq n) (add_written (Some name) written) ≡ false)
+                (sym ((bytes_eq-Decides name o.coll).0 is)) none))))
+            | false ↦ (λ is.
+                same_due o (ap (λ (x : Lives). named x o.coll) after
+                ∙ named-changed f ls name o.coll
+                ∙ ap (λ b. cond b (option_map f (named ls o.coll)) (named ls o.coll)) is)
+                ∙ all.0 (still_noted name written o.coll none))
+          ] refl,
+      others_quiet name f g after qs all.1,
+    )
+
+    -- the queries follow a record, and nothing is to be emitted of any but its collection's
+    pub all_follow : (t : Touch) → IsUnheld w t → IsUnobserved t os → IsAfter t ls new
+        → AreKept (add_written (coll_written t) written) (map (query_after w t) os)
+    all_follow no_collection unheld out after =
+        untouched (λ n. ap (λ (x : Lives). queries_at (named x n)) after)
+        (all_weaker (λ (o : Observed). named (queries_at (named ls o.coll)) o.name ≡ Some o.watched)
+        (λ o. named new o.coll ≡ named ls o.coll)
+        (λ o is. ap (λ (x : Lives). named x o.coll) after) os (own ls ps os placed))
+    all_follow (new_collection name schema) unheld out after =
+        let l = after.0 in
+        let at : (n : List ℕ) → named new n ≡ cond (bytes_eq n name) (Some l) (named ls n) =
+        λ n. ap (λ (x : Lives). named x n) after.2 ∙ named-put_named ls name n l in
+        let none : (n : List ℕ) → bytes_eq n name ≡ true → named ls n ≡ None =
+        λ n is. ap (named ls) ((bytes_eq-Decides n name).0 is)
+        ∙ none_mapped (λ (x : Observing). x.collection) (named ls name)
+        (sym (named-colls ls name) ∙ ap (λ cs. named cs name) (sym same) ∙ unheld) in
+        untouched
+        (λ n. ap queries_at (at n) ∙ elim (bytes_eq n name) as (λ b. bytes_eq n name ≡ b
+        → queries_at (cond b (Some l) (named ls n)) ≡ queries_at (named ls n)) [
+          | true ↦ (λ is.
+              ap (λ (x : Observing). x.queries) after.1 ∙ sym (ap queries_at (none n is)))
+          | false ↦ (λ is. refl)
+        ] refl)
+        (all_weaker (λ (o : Observed). named (queries_at (named ls o.coll)) o.name ≡ Some o.watched)
+        (λ o. named new o.coll ≡ named ls o.coll)
+        (λ o is. at o.coll ∙ elim (bytes_eq o.coll name) as (λ b. bytes_eq o.coll name ≡ b
+        → cond b (Some l) (named ls o.coll) ≡ named ls o.coll) [
+          | true ↦ (λ here. absurd (none-some o.watched
+              (ap (λ x. named (queries_at x) o.name) (sym (none o.coll here)) ∙ is)))
+          | false ↦ (λ other. refl)
+        ] refl) os (own ls ps os placed))
+    all_follow (new_rows name lwt added) unheld out after =
+        let g = watch_in (named w.collections name) lwt added in
+        subst (AreKept (add_written (Some name) written)) (rows_told w name lwt added os) (
+          placed_told ls new ps os placed (at_coll name g)
+              (λ n. ap (λ (x : Lives). queries_at (named x n)) after
+              ∙ changed (with_written lwt added) g ls name (λ l at.
+              ap (λ h. each (watch_in h lwt added) l.queries)
+              (sym (held_at w ls same name l at))) n),
+          others_quiet name (with_written lwt added) g after os quiet,
+        )
+    all_follow (remade in_group schema steps) unheld out after =
+        untouched
+        (λ n. elim (in_group n) as (λ b. in_group n ≡ b
+        → queries_at (named new n) ≡ queries_at (named ls n)) [
+          | true ↦ (λ is. remade_bare in_group schema steps ls new n is after
+              ∙ sym (placed.listed n ∙ none_in in_group n os is out))
+          | false ↦ (λ is. ap queries_at (remade_stays in_group schema steps ls new n is after))
+        ] refl)
+        (all_weaker (λ (o : Observed). in_group o.coll ≡ false)
+        (λ o. named new o.coll ≡ named ls o.coll)
+        (λ o is. remade_stays in_group schema steps ls new o.coll is after) os out)

@@ -1,14 +1,14 @@
 -- How a session is kept: each collection with its queries, and the places of all in order.
-use Rattle.std.specs.Prelude.{◌≡◌, false, ℕ, List, [], ◌∷◌, map, filter, Option, Some, None, option_and_then, IsSome}
-use Rattle.std.specs.List.{AllByRecursion, IsDistinct, find}
-use Rattle.std.specs.Map.{keys_of}
+use Rattle.std.specs.Prelude.{◌≡◌, false, ℕ, List, [], map, filter, Option, Some, None, option_map}
+use Rattle.std.specs.List.{AllByRecursion, IsDistinct, filter_map, find, list_any}
 use Rattle.std.specs.Str.{bytes_eq}
 use Rattle.rx_value.specs.Named.{named}
-use Rattle.rx_observe.specs.Observing.{Observing}
+use Rattle.rx_observe.specs.Observing.{Observing, Queries}
 use Rattle.rx_observe.specs.Rows.{emissions_due}
 use Rattle.rx_observe.specs.Watched.{Watched}
 use Rattle.rx_world.specs.Holders.{Holders, world_in}
 use Rattle.rx_world.specs.World.{World}
+use Rattle.rx_session.specs.Emissions.{emission_due}
 use Rattle.rx_session.specs.Session.{Observed}
 use Rattle.rx_session.specs.declared.query_place.QueryPlace.{QueryPlace}
 
@@ -24,42 +24,46 @@ world_of h = world_in (λ (l : Observing). l.collection) h
 abbrev pub place_named : List ℕ → List QueryPlace → Option QueryPlace
 place_named name ps = find (λ p. bytes_eq name p.name) ps
 
--- the query of a place
-abbrev pub watched_at : Lives → QueryPlace → Option Watched
-watched_at ls p = option_and_then (λ l. named l.queries p.name) (named ls p.coll)
+-- the queries of a collection, if it is there
+abbrev pub queries_at : Option Observing → Queries
+queries_at None = []
+queries_at (Some l) = l.queries
 
--- with the query of a place in front, where it is there
-abbrev pub with_found : QueryPlace → Option Watched → List Observed → List Observed
-with_found p None os = os
-with_found p (Some w) os = record { name = p.name; coll = p.coll; watched = w } ∷ os
+-- the query of a place with its state
+abbrev pub observed_at : QueryPlace → Watched → Observed
+observed_at p w = record { name = p.name; coll = p.coll; watched = w }
+
+-- the query of a place, if it is there
+abbrev pub query_at : Lives → QueryPlace → Option Observed
+query_at ls p = option_map (observed_at p) (named (queries_at (named ls p.coll)) p.name)
 
 -- the queries of all places
 abbrev pub queries_of : Lives → List QueryPlace → List Observed
-queries_of ls [] = []
-queries_of ls (p ∷ ps) = with_found p (watched_at ls p) (queries_of ls ps)
+queries_of ls ps = filter_map (query_at ls) ps
 
--- the names of the places in a collection
-abbrev pub names_in : List ℕ → List QueryPlace → List (List ℕ)
-names_in coll ps = map (λ p. p.name) (filter (λ p. bytes_eq coll p.coll) ps)
+-- the place of a query
+abbrev pub place_of : Observed → QueryPlace
+place_of o = record { name = o.name; coll = o.coll }
 
--- the queries of a collection are those of its places, in order
-abbrev pub IsListed : List QueryPlace → List ℕ × Observing → Type 0
-IsListed ps l = keys_of l.1.queries ≡ names_in l.0 ps
+-- the queries among all that are observed in a collection
+abbrev pub queries_in : List ℕ → List Observed → Queries
+queries_in coll os = map (λ o. (o.name, o.watched)) (filter (λ o. bytes_eq coll o.coll) os)
+
+-- the places are those of these queries, whose names differ, and each collection has those that are
+-- observed in it, in order
+pub record ArePlaced (ls : Lives) (ps : List QueryPlace) (os : List Observed) : Type 0 where
+  pub places : map place_of os ≡ ps
+  pub distinct : IsDistinct bytes_eq (map (λ o. o.name) os)
+  pub listed : (coll : List ℕ) → queries_at (named ls coll) ≡ queries_in coll os
 
 -- no rows of a collection's queries are to be emitted
 abbrev pub IsQuiet : List ℕ × Observing → Type 0
 IsQuiet l = emissions_due l.1.collection l.1.queries ≡ []
 
--- no name stands twice, each place's collection is held, and each collection has the queries of its
--- places
-pub record ArePlaced (ls : Lives) (ps : List QueryPlace) : Type 0 where
-  pub distinct : IsDistinct bytes_eq (map (λ p. p.name) ps)
-  pub held : AllByRecursion (λ p. IsSome (named ls p.coll)) ps
-  pub listed : AllByRecursion (IsListed ps) ls
-
--- that of all collections, but one perhaps
-abbrev pub AreQuietBut : List ℕ → Lives → Type 0
-AreQuietBut coll ls = AllByRecursion (λ l. bytes_eq coll l.0 ≡ false → IsQuiet l) ls
+-- nothing is to be emitted of queries in any collection but these
+abbrev pub AreQuietUnless : List (List ℕ) → World → List Observed → Type 0
+AreQuietUnless written w os =
+    AllByRecursion (λ o. list_any (bytes_eq o.coll) written ≡ false → emission_due w o ≡ []) os
 
 -- no query is observed in a collection, and it isn't broken
 pub record IsUnwatched (l : Observing) : Type 0 where

@@ -1,6 +1,6 @@
 -- A session in play: a line has written records, whose emissions are still due.
-use Rattle.std.specs.Prelude.{◌≡◌, ℕ, false, List, [], ◌∷◌, ◌++◌, Option, Some, None, if◌then◌else◌}
-use Rattle.std.specs.List.{AllByRecursion, cons_option, find, list_any}
+use Rattle.std.specs.Prelude.{ℕ, List, [], ◌∷◌, ◌++◌, Option, Some, None, if◌then◌else◌}
+use Rattle.std.specs.List.{cons_option, find, list_any}
 use Rattle.std.specs.Str.{bytes_eq}
 use Rattle.rx_value.specs.Named.{named, change_named}
 use Rattle.rx_observe.specs.declared.emission.Emission.{Emission}
@@ -11,7 +11,7 @@ use Rattle.rx_world.specs.Touch.{Touch}
 use Rattle.rx_world.specs.Valid.{AreDistinct}
 use Rattle.rx_session.specs.Applied.{coll_written}
 use Rattle.rx_session.specs.Lives.{due_of, with_settled}
-use Rattle.rx_session.specs.Placed.{Lives, ArePlaced, IsQuiet, queries_of, world_of}
+use Rattle.rx_session.specs.Placed.{Lives, ArePlaced, AreQuietUnless, queries_of, world_of}
 use Rattle.rx_session.specs.Session.{Session}
 use Rattle.rx_session.specs.Streams.{AreStreamed}
 use Rattle.rx_session.specs.declared.query_place.QueryPlace.{QueryPlace}
@@ -35,11 +35,6 @@ add_written None written = written
 add_written (Some coll) written =
     if list_any (bytes_eq coll) written then written else written ++ coll ∷ []
 
--- nothing is to be emitted of any other
-abbrev pub AreQuietUnless : List (List ℕ) → Lives → Type 0
-AreQuietUnless written ls =
-    AllByRecursion (λ l. list_any (bytes_eq l.0) written ≡ false → IsQuiet l) ls
-
 -- seen as the session after the records so far
 abbrev pub session_in_play : Inside → Session
 session_in_play s = record {
@@ -55,9 +50,11 @@ session_in_play s = record {
 -- written
 pub record IsInPlay (s : Inside) : Type 0 where
   pub placed : ArePlaced (holders_in s.world) s.places.items
+      (queries_of (holders_in s.world) s.places.items)
   pub distinct : AreDistinct (world_of s.world)
   pub streamed : AreStreamed (world_of s.world) s.streams.items
-  pub quiet : AreQuietUnless s.written.items (holders_in s.world)
+  pub quiet : AreQuietUnless s.written.items (world_of s.world)
+      (queries_of (holders_in s.world) s.places.items)
 
 -- ---- their emissions
 

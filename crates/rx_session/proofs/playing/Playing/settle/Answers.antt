@@ -1,20 +1,25 @@
-use Rattle.std.proofs.Common.{◌≡◌, ap, ap₂, ◌∙◌, subst}
+use Rattle.std.proofs.Common.{◌≡◌, sym, ap, ap₂, ◌∙◌, subst}
 use Rattle.rx_update.specs.Shown.{hooking_of}
 use Rattle.rx_world.specs.Holders.{holders_in}
+use Rattle.rx_world.specs.Valid.{AreDistinct}
 use Rattle.rx_session.specs.Emissions.{emissions, settled_session}
+use Rattle.rx_session.specs.Placed.{queries_of, world_of}
 use Rattle.rx_session.specs.Playing.{due_in_all, settled_each}
 use Rattle.rx_session.specs.Session.{Session}
-use Rattle.rx_session.proofs.Played.{IsTaken, taken_distinct, taken_due, taken_placed, taken_quiet, taken_session, taken_streamed}
-use Rattle.rx_session.proofs.Settling.{session_of}
+use Rattle.rx_session.specs.Streams.{AreStreamed}
+use Rattle.rx_session.proofs.Places.{world_colls}
+use Rattle.rx_session.proofs.Settling.{IsTaken, session_of, taken_due, taken_placed, taken_quiet, taken_session, taken_world}
 use Rattle.rx_session.proofs.playing.Playing.settle.Goals as goal
 
 -- what was done to the collections
 done : (c : goal.In_ok-due)
-    → IsTaken c.self.inside.world c.take_all.new.world c.self.inside.places.items
-    c.self.inside.written.items
+    → IsTaken (world_of c.self.inside.world) (holders_in c.self.inside.world)
+    c.self.inside.places.items
+    (queries_of (holders_in c.self.inside.world) c.self.inside.places.items)
+    c.self.inside.written.items c.take_all.new.world
 done c = record {
   placed = c.self.invariant.placed;
-  distinct = c.self.invariant.distinct;
+  collections = world_colls c.self.inside.world;
   quiet = c.self.invariant.quiet;
   emitted = c.in_ok-due.ensures.lives
       ∙ ap (λ names. settled_each names (holders_in c.self.inside.world))
@@ -25,11 +30,13 @@ done c = record {
 
 -- the same at the return
 done_then : (c : goal.After-drop-written-2)
-    → IsTaken c.self.inside.world c.take_all.new.world c.self.inside.places.items
-    c.self.inside.written.items
+    → IsTaken (world_of c.self.inside.world) (holders_in c.self.inside.world)
+    c.self.inside.places.items
+    (queries_of (holders_in c.self.inside.world) c.self.inside.places.items)
+    c.self.inside.written.items c.take_all.new.world
 done_then c = record {
   placed = c.self.invariant.placed;
-  distinct = c.self.invariant.distinct;
+  collections = world_colls c.self.inside.world;
   quiet = c.self.invariant.quiet;
   emitted = c.in_ok-due.ensures.lives
       ∙ ap (λ names. settled_each names (holders_in c.self.inside.world))
@@ -40,36 +47,26 @@ done_then c = record {
 
 pub invariant_of-session : goal.invariant_of-session
 invariant_of-session c =
-    let i = c.self.inside in
-    let new = c.take_all.new.world in
+    let same = sym (taken_world _ _ _ _ _ _ (done c)) in
     record {
-      placed = taken_placed i.world new i.moment
-          (hooking_of i.hooks) i.streams.items i.places.items i.written.items (done c);
-      streamed = taken_streamed i.world new i.moment
-          (hooking_of i.hooks) i.streams.items i.places.items i.written.items
-          (done c) c.self.invariant.streamed;
-      distinct = taken_distinct i.world new i.moment
-          (hooking_of i.hooks) i.streams.items i.places.items i.written.items (done c);
-      quiet = taken_quiet i.world new i.moment
-          (hooking_of i.hooks) i.streams.items i.places.items i.written.items (done c);
+      placed = taken_placed _ _ _ _ _ _ (done c);
+      streamed = subst (λ v. AreStreamed v c.self.inside.streams.items) same
+          c.self.invariant.streamed;
+      distinct = subst AreDistinct same c.self.invariant.distinct;
+      quiet = taken_quiet _ _ _ _ _ _ (done c);
     }
 
 pub returns-clause-session : goal.returns-clause-session
 returns-clause-session c =
     let i = c.self.inside in
-    let new = c.take_all.new.world in
-    subst (λ (s : Session).
-    session_of new i.moment (hooking_of i.hooks) i.streams.items i.places.items ≡ settled_session s)
-    c.self.view_is
-    (taken_session i.world new i.moment
-    (hooking_of i.hooks) i.streams.items i.places.items i.written.items (done_then c))
+    subst (λ (s : Session). session_of c.take_all.new.world i.moment (hooking_of i.hooks)
+    i.streams.items i.places.items ≡ settled_session s) c.self.view_is
+    (taken_session _ _ _ _ _ _ (done_then c) i.moment (hooking_of i.hooks) i.streams.items)
 
 pub returns-clause-emissions : goal.returns-clause-emissions
 returns-clause-emissions c =
-    let i = c.self.inside in
     c.in_ok-due.ensures.due
-    ∙ ap₂ (λ names ps. due_in_all names ps (holders_in i.world)) c.as_slice-2.ensures.value
-    c.as_slice.ensures.value
-    ∙ taken_due i.world c.take_all.new.world i.moment
-    (hooking_of i.hooks) i.streams.items i.places.items i.written.items (done_then c)
+    ∙ ap₂ (λ names ps. due_in_all names ps (holders_in c.self.inside.world))
+    c.as_slice-2.ensures.value c.as_slice.ensures.value
+    ∙ taken_due _ _ _ _ _ _ (done_then c)
     ∙ ap (λ (s : Session). emissions s) c.self.view_is

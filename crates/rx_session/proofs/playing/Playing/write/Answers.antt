@@ -6,8 +6,8 @@ use Rattle.rx_world.specs.Step.{legal}
 use Rattle.rx_world.specs.Touch.{touch}
 use Rattle.rx_session.specs.Applied.{coll_written}
 use Rattle.rx_session.specs.Doing.{session_after, still_open, stream_after, write, IsUnobserved}
-use Rattle.rx_session.specs.Placed.{world_of}
-use Rattle.rx_session.specs.Playing.{AreQuietUnless, coll_to_follow, coll_to_note, add_written}
+use Rattle.rx_session.specs.Placed.{AreQuietUnless, queries_of, world_of}
+use Rattle.rx_session.specs.Playing.{coll_to_follow, coll_to_note, add_written}
 use Rattle.rx_session.specs.Session.{Session}
 use Rattle.rx_session.specs.Streams.{AreStreamed}
 use Rattle.rx_session.proofs.Played.{IsPlayed, played_distinct, played_placed, played_quiet, played_session, played_streamed}
@@ -68,7 +68,8 @@ invariant_of-result c =
           (done c) c.self.invariant.streamed);
       distinct = played_distinct entry i.world new i.moment
           (hooking_of i.hooks) i.streams.items ps written (done c);
-      quiet = subst (λ names. AreQuietUnless names (holders_in new))
+      quiet = subst (λ names. AreQuietUnless names (world_of new)
+          (queries_of (holders_in new) ps))
           (sym (c.in_ok-note.ensures ∙ ap (λ o. add_written o written)
           (c.in_ok-coll.ensures
           ∙ ap (λ qs. coll_to_note qs (touch entry (world_of i.world))) c.as_slice.ensures.value)))

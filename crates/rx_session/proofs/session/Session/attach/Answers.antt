@@ -1,9 +1,9 @@
-use Rattle.std.proofs.Common.{◌≡◌, ◌∙◌, [], ap, subst}
+use Rattle.std.proofs.Common.{◌≡◌, ◌∙◌, [], sym, ap, subst}
 use Rattle.rx_update.specs.Shown.{hooking_of}
-use Rattle.rx_session.specs.Doing.{attach, session_after}
+use Rattle.rx_session.specs.Doing.{attach, session_after, with_attached}
 use Rattle.rx_session.specs.Emissions.{emissions, settled_session, IsSettled}
 use Rattle.rx_session.specs.Session.{Session}
-use Rattle.rx_session.proofs.Settling.{attached_session, is_settled, none_due, session_of}
+use Rattle.rx_session.proofs.Settling.{is_settled, session_of}
 use Rattle.rx_session.proofs.session.Session.attach.Goals as goal
 
 pub returns-clause-session : goal.returns-clause-session
@@ -15,31 +15,24 @@ returns-clause-session c =
     ≡ settled_session (session_after (attach one) s)) c.self.view_is
     (ap (λ hooks. session_of i.world i.moment hooks i.streams.items i.places.items)
     c.in_ok-add_hook.ensures
-    ∙ attached_session i.world i.places.items c.self.invariant.quiet i.moment
-    (hooking_of i.hooks) i.streams.items one)
+    ∙ ap (λ (s : Session). record s { hooks = with_attached one s.hooks })
+    (sym (is_settled i c.self.invariant).same))
 
 pub returns-clause-emissions : goal.returns-clause-emissions
 returns-clause-emissions c =
     let i = c.self.inside in
     subst (λ (s : Session). emissions (session_after (attach c.args.one) s) ≡ []) c.self.view_is
-    (none_due i.world i.places.items c.self.invariant.quiet)
+    (is_settled i c.self.invariant).quiet
 
 pub returns-clause-before : goal.returns-clause-before
-returns-clause-before c =
-    let i = c.self.inside in
-    subst IsSettled c.self.view_is
-    (is_settled i.world i.places.items c.self.invariant.quiet i.moment
-    (hooking_of i.hooks) i.streams.items)
+returns-clause-before c = subst IsSettled c.self.view_is (is_settled c.self.inside c.self.invariant)
 
 pub returns-in_err-add_hook-clause-emissions : goal.returns-in_err-add_hook-clause-emissions
 returns-in_err-add_hook-clause-emissions c =
     let i = c.self.inside in
     subst (λ (s : Session). emissions (session_after (attach c.args.one) s) ≡ []) c.self.view_is
-    (none_due i.world i.places.items c.self.invariant.quiet)
+    (is_settled i c.self.invariant).quiet
 
 pub returns-in_err-add_hook-clause-before : goal.returns-in_err-add_hook-clause-before
 returns-in_err-add_hook-clause-before c =
-    let i = c.self.inside in
-    subst IsSettled c.self.view_is
-    (is_settled i.world i.places.items c.self.invariant.quiet i.moment
-    (hooking_of i.hooks) i.streams.items)
+    subst IsSettled c.self.view_is (is_settled c.self.inside c.self.invariant)

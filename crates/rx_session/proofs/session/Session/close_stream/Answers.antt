@@ -1,4 +1,5 @@
-use Rattle.std.proofs.Common.{◌≡◌, ◌∙◌, [], List, sym, ap, subst}
+use Rattle.std.proofs.Common.{◌≡◌, ◌∙◌, [], List, filter, not, sym, ap, subst}
+use Rattle.std.specs.Str.{bytes_eq}
 use Rattle.rx_stream.specs.declared.stream.Stream.{Stream}
 use Rattle.rx_update.specs.Shown.{hooking_of}
 use Rattle.rx_session.specs.Doing.{session_after, close_stream}
@@ -6,7 +7,7 @@ use Rattle.rx_session.specs.Emissions.{emissions, settled_session, IsSettled}
 use Rattle.rx_session.specs.Placed.{world_of}
 use Rattle.rx_session.specs.Session.{Session}
 use Rattle.rx_session.specs.Streams.{AreStreamed}
-use Rattle.rx_session.proofs.Settling.{closed_session, is_settled, none_due, session_of}
+use Rattle.rx_session.proofs.Settling.{is_settled, session_of}
 use Rattle.rx_session.proofs.Streamed.{closed_streamed}
 use Rattle.rx_session.proofs.session.Session.close_stream.Goals as goal
 
@@ -31,18 +32,15 @@ returns-clause-session c =
     c.self.view_is
     (ap (λ (sts : List Stream). session_of i.world i.moment (hooking_of i.hooks) sts i.places.items)
     c.drop_stream.ensures
-    ∙ closed_session i.world i.places.items c.self.invariant.quiet i.moment (hooking_of i.hooks)
-    i.streams.items c.args.name.now)
+    ∙ ap (λ (s : Session).
+    record s { streams = filter (λ st. not (bytes_eq c.args.name.now st.name)) s.streams })
+    (sym (is_settled i c.self.invariant).same))
 
 pub returns-clause-emissions : goal.returns-clause-emissions
 returns-clause-emissions c =
     let i = c.self.inside in
     subst (λ (s : Session). emissions (session_after (close_stream c.args.name.now) s) ≡ [])
-    c.self.view_is (none_due i.world i.places.items c.self.invariant.quiet)
+    c.self.view_is (is_settled i c.self.invariant).quiet
 
 pub returns-clause-before : goal.returns-clause-before
-returns-clause-before c =
-    let i = c.self.inside in
-    subst IsSettled c.self.view_is
-    (is_settled i.world i.places.items c.self.invariant.quiet i.moment
-    (hooking_of i.hooks) i.streams.items)
+returns-clause-before c = subst IsSettled c.self.view_is (is_settled c.self.inside c.self.invariant)

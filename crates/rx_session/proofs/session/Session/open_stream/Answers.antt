@@ -10,7 +10,7 @@ use Rattle.rx_session.specs.Emissions.{emissions, settled_session, IsSettled}
 use Rattle.rx_session.specs.Placed.{world_of}
 use Rattle.rx_session.specs.Session.{Session}
 use Rattle.rx_session.specs.Streams.{AreStreamed, IsStreamable}
-use Rattle.rx_session.proofs.Settling.{is_settled, none_due, opened_session, session_of}
+use Rattle.rx_session.proofs.Settling.{is_settled, session_of}
 use Rattle.rx_session.proofs.Streamed.{new_streamed, opened_streamed}
 use Rattle.rx_session.proofs.session.Session.open_stream.Goals as goal
 use Rattle.rx_session.proofs.session.Session.open_stream.Goals.{In_ok-push}
@@ -51,47 +51,38 @@ returns-clause-session c =
     ≡ settled_session (session_after (doing.open_stream o.name o.master) s)) c.self.view_is
     (ap (λ (sts : List Stream). session_of i.world i.moment (hooking_of i.hooks) sts i.places.items)
     (opened c)
-    ∙ opened_session i.world i.places.items c.self.invariant.quiet i.moment (hooking_of i.hooks)
-    i.streams.items o.name o.master)
+    ∙ ap (λ (s : Session).
+    record s { streams = s.streams ++ new_stream s.world o.name o.master ∷ [] })
+    (sym (is_settled i c.self.invariant).same))
 
 pub returns-clause-emissions : goal.returns-clause-emissions
 returns-clause-emissions c =
     let i = c.self.inside in
     let o = c.args.opening in
     subst (λ (s : Session). emissions (session_after (doing.open_stream o.name o.master) s) ≡ [])
-    c.self.view_is (none_due i.world i.places.items c.self.invariant.quiet)
+    c.self.view_is (is_settled i c.self.invariant).quiet
 
 pub returns-clause-before : goal.returns-clause-before
-returns-clause-before c =
-    let i = c.self.inside in
-    subst IsSettled c.self.view_is
-    (is_settled i.world i.places.items c.self.invariant.quiet i.moment
-    (hooking_of i.hooks) i.streams.items)
+returns-clause-before c = subst IsSettled c.self.view_is (is_settled c.self.inside c.self.invariant)
 
 pub returns-in_err-new_stream-clause-emissions : goal.returns-in_err-new_stream-clause-emissions
 returns-in_err-new_stream-clause-emissions c =
     let i = c.self.inside in
     let o = c.args.opening in
     subst (λ (s : Session). emissions (session_after (doing.open_stream o.name o.master) s) ≡ [])
-    c.self.view_is (none_due i.world i.places.items c.self.invariant.quiet)
+    c.self.view_is (is_settled i c.self.invariant).quiet
 
 pub returns-in_err-new_stream-clause-before : goal.returns-in_err-new_stream-clause-before
 returns-in_err-new_stream-clause-before c =
-    let i = c.self.inside in
-    subst IsSettled c.self.view_is
-    (is_settled i.world i.places.items c.self.invariant.quiet i.moment
-    (hooking_of i.hooks) i.streams.items)
+    subst IsSettled c.self.view_is (is_settled c.self.inside c.self.invariant)
 
 pub returns-in_err-push-clause-emissions : goal.returns-in_err-push-clause-emissions
 returns-in_err-push-clause-emissions c =
     let i = c.self.inside in
     let o = c.args.opening in
     subst (λ (s : Session). emissions (session_after (doing.open_stream o.name o.master) s) ≡ [])
-    c.self.view_is (none_due i.world i.places.items c.self.invariant.quiet)
+    c.self.view_is (is_settled i c.self.invariant).quiet
 
 pub returns-in_err-push-clause-before : goal.returns-in_err-push-clause-before
 returns-in_err-push-clause-before c =
-    let i = c.self.inside in
-    subst IsSettled c.self.view_is
-    (is_settled i.world i.places.items c.self.invariant.quiet i.moment
-    (hooking_of i.hooks) i.streams.items)
+    subst IsSettled c.self.view_is (is_settled c.self.inside c.self.invariant)

@@ -1,53 +1,48 @@
-use Rattle.std.proofs.Common.{◌≡◌, [], sym, ap, ◌∙◌, subst}
+use Rattle.std.proofs.Common.{◌≡◌, [], filter, not, sym, ap, ◌∙◌, subst}
+use Rattle.std.specs.Str.{bytes_eq}
 use Rattle.rx_update.specs.Shown.{hooking_of}
 use Rattle.rx_world.specs.Holders.{holders_in}
+use Rattle.rx_world.specs.Valid.{AreDistinct}
 use Rattle.rx_session.specs.Applied.{without_observed}
 use Rattle.rx_session.specs.Doing.{session_after, unwatch}
 use Rattle.rx_session.specs.Emissions.{emissions, settled_session, IsSettled}
-use Rattle.rx_session.specs.Placed.{ArePlaced, place_named}
+use Rattle.rx_session.specs.Placed.{ArePlaced, AreQuietUnless, place_named, queries_of, world_of}
 use Rattle.rx_session.specs.Session.{Session}
-use Rattle.rx_session.proofs.Dropping.{rest_of}
-use Rattle.rx_session.proofs.Settling.{IsLeft, is_settled, session_of, without_due, without_session, without_placed, without_distinct, without_quiet, without_streamed}
+use Rattle.rx_session.specs.Streams.{AreStreamed}
+use Rattle.rx_session.proofs.Settling.{is_settled, left_due, left_placed, left_quiet, left_session, left_world, session_of}
 use Rattle.rx_session.proofs.session.Session.unwatch.Goals as goal
 
 -- what was done to the collections
-done : (c : goal.After-drop_place)
-    → IsLeft c.args.name.now c.self.inside.world c.unobserve_at.new.world c.self.inside.places.items
-done c =
-    let i = c.self.inside in
-    let name = c.args.name.now in
-    record {
-      placed = c.self.invariant.placed;
-      distinct = c.self.invariant.distinct;
-      quiet = c.self.invariant.quiet;
-      dropped = c.unobserve_at.ensures.lives
-          ∙ ap (λ o. without_observed name o (holders_in i.world))
-          (c.find_place.ensures ∙ ap (place_named name) c.as_slice.ensures.value);
-      replications = c.unobserve_at.ensures.replications;
-      epochs = c.unobserve_at.ensures.epoch;
-    }
+dropped : (c : goal.After-drop_place) → holders_in c.unobserve_at.new.world
+    ≡ without_observed c.args.name.now
+    (place_named c.args.name.now c.self.inside.places.items) (holders_in c.self.inside.world)
+dropped c =
+    c.unobserve_at.ensures.lives
+    ∙ ap (λ o. without_observed c.args.name.now o (holders_in c.self.inside.world))
+    (c.find_place.ensures ∙ ap (place_named c.args.name.now) c.as_slice.ensures.value)
 
 -- the places that are left
-left : (c : goal.After-drop_place)
-    → c.drop_place.new.places.items ≡ rest_of c.args.name.now c.self.inside.places.items
+left : (c : goal.After-drop_place) → c.drop_place.new.places.items
+    ≡ filter (λ p. not (bytes_eq c.args.name.now p.name)) c.self.inside.places.items
 left c = c.drop_place.ensures
 
 pub invariant_of-result : goal.invariant_of-result
 invariant_of-result c =
     let i = c.self.inside in
+    let so = c.self.invariant in
     let name = c.args.name.now in
     let new = c.unobserve_at.new.world in
-    let ps = i.places.items in
+    let same = sym (left_world i so name new (dropped c) c.unobserve_at.ensures.replications
+    c.unobserve_at.ensures.epoch) in
     record {
-      placed = subst (ArePlaced (holders_in new)) (sym (left c))
-          (without_placed name i.world new i.moment
-          (hooking_of i.hooks) i.streams.items ps (done c));
-      streamed = without_streamed name i.world new i.moment (hooking_of i.hooks) i.streams.items ps
-          (done c) c.self.invariant.streamed;
-      distinct = without_distinct name i.world new i.moment
-          (hooking_of i.hooks) i.streams.items ps (done c);
-      quiet =
-          without_quiet name i.world new i.moment (hooking_of i.hooks) i.streams.items ps (done c);
+      placed = subst (λ ps. ArePlaced (holders_in new) ps (queries_of (holders_in new) ps))
+          (sym (left c)) (left_placed i so name new (dropped c)
+          c.unobserve_at.ensures.replications c.unobserve_at.ensures.epoch);
+      streamed = subst (λ v. AreStreamed v i.streams.items) same so.streamed;
+      distinct = subst AreDistinct same so.distinct;
+      quiet = subst (λ ps. AreQuietUnless [] (world_of new) (queries_of (holders_in new) ps))
+          (sym (left c)) (left_quiet i so name new (dropped c)
+          c.unobserve_at.ensures.replications c.unobserve_at.ensures.epoch);
     }
 
 pub returns-clause-session : goal.returns-clause-session
@@ -59,20 +54,15 @@ returns-clause-session c =
     session_of new i.moment (hooking_of i.hooks) i.streams.items c.drop_place.new.places.items
     ≡ settled_session (session_after (unwatch name) s)) c.self.view_is
     (ap (session_of new i.moment (hooking_of i.hooks) i.streams.items) (left c)
-    ∙ without_session name i.world new i.moment
-    (hooking_of i.hooks) i.streams.items i.places.items (done c))
+    ∙ left_session i c.self.invariant name new (dropped c) c.unobserve_at.ensures.replications
+    c.unobserve_at.ensures.epoch)
 
 pub returns-clause-emissions : goal.returns-clause-emissions
 returns-clause-emissions c =
-    let i = c.self.inside in
-    let name = c.args.name.now in
-    subst (λ (s : Session). emissions (session_after (unwatch name) s) ≡ []) c.self.view_is
-    (without_due name i.world c.unobserve_at.new.world i.moment
-    (hooking_of i.hooks) i.streams.items i.places.items (done c))
+    subst (λ (s : Session). emissions (session_after (unwatch c.args.name.now) s) ≡ [])
+    c.self.view_is
+    (left_due c.self.inside c.self.invariant c.args.name.now c.unobserve_at.new.world (dropped c)
+    c.unobserve_at.ensures.replications c.unobserve_at.ensures.epoch)
 
 pub returns-clause-before : goal.returns-clause-before
-returns-clause-before c =
-    let i = c.self.inside in
-    subst IsSettled c.self.view_is
-    (is_settled i.world i.places.items c.self.invariant.quiet i.moment
-    (hooking_of i.hooks) i.streams.items)
+returns-clause-before c = subst IsSettled c.self.view_is (is_settled c.self.inside c.self.invariant)
