@@ -65,7 +65,7 @@ module _ (c : WantedCall) (s : Standing) (session : Session) (now : ℕ) (asks :
       TurnsRemotely d old new limit IsFirst IsThen
       (λ (heard : List Heard). remote_turn (terms c.name n s.kinds) c.batch c.budget heard x.world
       (asks_of c.name l))
-      (IsRemoteMadeByName c.name x l then) (IsDialledBy tells x.world c.name dial dial') r
+      (IsRemoteMadeByName c.name x l then) (IsDialledBy tells c.port x.world c.name dial dial') r
 
   -- from what the disk holds
   abbrev pub Turns : {D : Type 0} → Ghosts D → D → D → Journal → ℕ → (Made → List (List ℕ) → Type 0)

@@ -1,5 +1,5 @@
 -- What a dial shows of a turn over one of its wires.
-use Rattle.std.proofs.Common.{◌≡◌, ◌∙◌, ◌≤◌, ℕ, List, [], ◌∷◌, ◌++◌, nat_lt, true, refl, sym, ap, subst, arith, inl, inr, Result, Ok, Err}
+use Rattle.std.proofs.Common.{◌≡◌, ◌⊎◌, ◌∙◌, ◌≤◌, ℕ, List, [], ◌∷◌, ◌++◌, nat_lt, true, refl, sym, ap, subst, arith, inl, inr, Result, Ok, Err}
 use Rattle.std.proofs.lemmas.List.{length-map}
 use Rattle.rx_disk.specs.declared.disk.Disk.{Ghosts}
 use Rattle.rx_outside.specs.Failed.{Rises, one_more}
@@ -35,15 +35,17 @@ broken_rises : (broken faults : ℕ) → nat_lt 0 faults ≡ true
     → Rises broken (broken_after broken faults)
 broken_rises broken faults is = rw is (more_rises broken)
 
-pub handed_back : (tells : Type 0) (w : World) (name : List ℕ) (wire wire' : WireStanding)
+pub handed_back : (tells : Type 0) (port : ℕ) (w : World) (name : List ℕ) (wire wire' : WireStanding)
     (dial dial' : DialStanding)
     → dial.faults ≤ dial'.faults → dial'.broken ≡ broken_after dial.broken wire'.faults
     → (tells → dial'.talks ≡ dial.talks
     ++ talk wire'.given wire'.left wire'.sent wire'.faults ∷ [])
+    → (tells → dial'.asked ≡ dial.asked ++ port ∷ [])
     → (requests : List Request) (heard : List Heard)
     → IsHeardOver tells w name wire wire' requests heard
-    → IsDialledBy tells w name dial dial' requests heard
-handed_back tells w name wire wire' dial dial' faults broken talks requests heard over schema at =
+    → IsDialledBy tells port w name dial dial' requests heard
+handed_back tells port w name wire wire' dial dial' faults broken talks asked requests heard over
+    schema at =
     inr (record {
       wire = wire'.faults;
       each = length-map requests (request_text schema) ∙ over.each;
@@ -54,6 +56,7 @@ handed_back tells w name wire wire' dial dial' faults broken talks requests hear
           subst (λ (n : ℕ). Rises dial.broken n) (sym broken)
           (broken_rises dial.broken wire'.faults
           (above wire.faults wire'.faults (over.failed front is)));
+      asked = asked;
       talk = λ told_so. (
         talk wire'.given wire'.left wire'.sent wire'.faults,
         refl,
@@ -67,16 +70,17 @@ handed_back tells w name wire wire' dial dial' faults broken talks requests hear
 module _ {D : Type 0} (d : Ghosts D) (disk : D)
     (only_now : d.tells → (c : List ℕ) → d.image_since disk (d.moment disk) c → d.image disk c)
     (tells : Type 0) (t : Terms) (batch budget : ℕ) (play : Play) (a b : Asks)
-    (dial dial' : DialStanding) where
+    (port : ℕ) (dial dial' : DialStanding) where
   -- whose first exchange was lost
   pub missed_so : (made : Made) → IsMissed t.name batch play a b made → 1 ≤ budget
       → Rises dial.faults dial'.faults → dial'.broken ≡ dial.broken → dial'.talks ≡ dial.talks
+      → (dial'.asked ≡ dial.asked ++ port ∷ []) ⊎ (dial'.asked ≡ dial.asked)
       → TurnsRemotely d disk disk play.journal.limit (IsPlayAt d disk play)
       (λ (m : Made). IsPlayAt d disk m.play)
       (λ heard. remote_turn t batch budget heard play.playing.world a)
       (IsRemoteMade play.playing b)
-      (IsDialledBy tells play.playing.world t.name dial dial') (Ok made)
-  missed_so made is some rises broken talks =
+      (IsDialledBy tells port play.playing.world t.name dial dial') (Ok made)
+  missed_so made is some rises broken talks asked =
       let whole : (later : List Heard)
       → remote_turn t batch budget (no_dial ∷ later) play.playing.world a
       ≡ missed a is.asked later =
@@ -110,6 +114,7 @@ module _ {D : Type 0} (d : Ghosts D) (disk : D)
           rises = rises;
           same_broken = broken;
           same_talks = talks;
+          asked = asked;
         });
       }
 

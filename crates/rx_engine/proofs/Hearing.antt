@@ -79,7 +79,7 @@ module _ {D : Type 0} (d : Ghosts D) (tells : Type 0) (kinds : Kinds) (number : 
   module _ (c : WantedCall) (is : to_do ≡ calls c)
       (made : TurnsRemotely d old new (limit_of e) (IsAt d old e) (λ p. IsAt d new p.0)
       (λ heard. called c (standing heard)) (AnswersCall number c.name kinds e)
-      (IsDialledBy tells (session_of e).world c.name dial dial') r) where
+      (IsDialledBy tells c.port (session_of e).world c.name dial dial') r) where
     abbrev then : List Heard → RemoteTurned
     then later = called c (standing (made.heard ++ later))
 

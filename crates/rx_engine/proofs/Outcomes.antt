@@ -33,9 +33,9 @@ use Rattle.rx_migrate.specs.declared.step.Step.{Step}
 use Rattle.rx_world.specs.Chain.{may_follow}
 use Rattle.rx_world.specs.Migrating.{is_in_group}
 use Rattle.rx_world.specs.Migration.{migration_of}
+use Rattle.rx_world.specs.Touch.{IsNoExchange}
 use Rattle.rx_world.specs.World.{World, max_replications}
 use Rattle.rx_world.specs.Commit.{commit_to, out_of}
-use Rattle.rx_world.proofs.Sounds.{IsNoExchange}
 use Rattle.rx_engine.specs.Shown.{WritesNoExchange}
 use Rattle.rx_writes.specs.Documents.{document_at, next_revision}
 use Rattle.rx_world.specs.declared.replication.Replication.{Replication}

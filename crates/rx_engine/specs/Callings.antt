@@ -160,11 +160,11 @@ pub record IsHeardOver (tells : Type 0) (w : World) (name : List ℕ) (wire wire
   pub failed : (front : List Heard) → heard ≡ front ++ no_wire ∷ []
       → Rises wire.faults wire'.faults
 
--- a dial, which was dialled once, shows it
-abbrev pub IsDialledBy : Type 0 → World → List ℕ → DialStanding → DialStanding → List Request
+-- a dial, which was dialled once, at a port, shows it
+abbrev pub IsDialledBy : Type 0 → ℕ → World → List ℕ → DialStanding → DialStanding → List Request
     → List Heard → Type 0
-IsDialledBy tells w name dial dial' requests heard =
-    OfTexts w name requests (λ texts. IsDialled tells dial dial' texts heard)
+IsDialledBy tells port w name dial dial' requests heard =
+    OfTexts w name requests (λ texts. IsDialled tells port dial dial' texts heard)
 
 -- ---- without a wire
 

@@ -35,24 +35,26 @@ pub record IsHeardIn (texts : List (List ℕ)) (heard : List Heard) (t : Talk) :
   pub lines : heard ≡ map (λ l. line l) (cut t.given).whole ++ last
   pub ends : EndsBy last texts t
 
--- how a dial stands: the count of its calls that failed, that of its wires that failed, and its
--- talks
+-- how a dial stands: the count of its calls that failed, that of its wires that failed, its talks,
+-- and the ports that were dialled
 pub record DialStanding : Type 0 where
   pub faults : ℕ
   pub broken : ℕ
   pub talks : List Talk
+  pub asked : List ℕ
 
--- it gave no wire
-pub record FailsToDial (old new : DialStanding) (heard : List Heard) : Type 0 where
+-- it was dialled once, at a port, and gave no wire; a form in memory may want memory to note that
+pub record FailsToDial (port : ℕ) (old new : DialStanding) (heard : List Heard) : Type 0 where
   pub heard_so : heard ≡ no_dial ∷ []
   pub rises : Rises old.faults new.faults
   pub same_broken : new.broken ≡ old.broken
   pub same_talks : new.talks ≡ old.talks
+  pub asked : (new.asked ≡ old.asked ++ port ∷ []) ⊎ (new.asked ≡ old.asked)
 
--- it gave one wire, over which something was heard after each text; the wire was handed back, and
--- its talk is the last one where wires tell; it is heard to have failed only where the count of
--- such wires rose
-pub record Dials (tells : Type 0) (old new : DialStanding) (texts : List (List ℕ))
+-- it was dialled once, at a port, and gave a wire, over which something was heard after each text;
+-- the wire was handed back, and its talk is the last one where wires tell; it is heard to have
+-- failed only where the count of such wires rose
+pub record Dials (tells : Type 0) (port : ℕ) (old new : DialStanding) (texts : List (List ℕ))
     (heard : List Heard) : Type 0 where
   pub wire : ℕ
   pub each : length texts ≡ length heard
@@ -60,10 +62,12 @@ pub record Dials (tells : Type 0) (old new : DialStanding) (texts : List (List �
   pub faults : old.faults ≤ new.faults
   pub broken : new.broken ≡ broken_after old.broken wire
   pub failed : (front : List Heard) → heard ≡ front ++ no_wire ∷ [] → Rises old.broken new.broken
+  pub asked : tells → new.asked ≡ old.asked ++ port ∷ []
   pub talk : tells → (t : Talk) × (t.failed ≡ nat_lt 0 wire)
       × (new.talks ≡ old.talks ++ t ∷ []) × IsHeardIn texts heard t
 
--- It was dialled once, with these texts, and that was heard.
-abbrev pub IsDialled : Type 0 → DialStanding → DialStanding → List (List ℕ) → List Heard → Type 0
-IsDialled tells old new texts heard =
-    FailsToDial old new heard ⊎ Dials tells old new texts heard
+-- It was dialled once, at a port, with these texts, and that was heard.
+abbrev pub IsDialled : Type 0 → ℕ → DialStanding → DialStanding → List (List ℕ) → List Heard
+    → Type 0
+IsDialled tells port old new texts heard =
+    FailsToDial port old new heard ⊎ Dials tells port old new texts heard

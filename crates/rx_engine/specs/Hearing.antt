@@ -17,14 +17,14 @@ use Rattle.rx_engine.specs.Standing.{Standing}
 use Rattle.rx_engine.specs.declared.engine.Engine.{Engine}
 use Rattle.rx_engine.specs.declared.output.Output.{Output}
 
--- the dial shows what was heard in a turn: the requests that it made were sent; all of them but at
--- a stop
+-- the dial shows what was heard in a turn: it was dialled at the port of the master, and the
+-- requests that the turn made were sent; all of them but at a stop
 pub record IsShown (tells : Type 0) (c : WantedCall) (s : Standing) (old new : DialStanding)
     (heard : List Heard) (Done : Type 0) : Type 0 where
   pub requests : List Request
   pub made : (later : List Heard)
       → HasMade requests (called c (to_hear (heard ++ later) s)) Done
-  pub dialled : IsDialledBy tells s.session.world c.name old new requests heard
+  pub dialled : IsDialledBy tells c.port s.session.world c.name old new requests heard
 
 -- the dial shows what was heard in a line: nothing, where it makes no turn to a master elsewhere
 abbrev pub IsShownBy : Type 0 → Task → Standing → DialStanding → DialStanding → List Heard → Type 0

@@ -7,7 +7,7 @@ use Rattle.rx_session.specs.Session.{Session, stream_of}
 use Rattle.rx_session.specs.Shown.{done_by}
 use Rattle.rx_engine.specs.Calling.{WantedCall}
 use Rattle.rx_engine.specs.Lines.{Task, answered, turns, calls, sweeps, delivers}
-use Rattle.rx_world.proofs.Sounds.{IsNoExchange}
+use Rattle.rx_world.specs.Touch.{IsNoExchange}
 use Rattle.rx_engine.specs.Outcome.{Outcome}
 use Rattle.rx_engine.specs.Streams.{WantedDelivery}
 use Rattle.rx_engine.specs.Sweeping.{WantedSweep}

@@ -43,16 +43,18 @@ impl Engine {
             (IsAt D.Disk disk.old self) (λ p. IsAt D.Disk disk.new p.0)
             (λ heard. called (call_of wanted.now) (standing_of (kinds_of handlers.now) heard self))
             (AnswersCall number wanted.now.name (kinds_of handlers.now) self)
-            (IsDialledBy L.W.tells (session_of self).world wanted.now.name
+            (IsDialledBy L.W.tells wanted.now.port (session_of self).world wanted.now.name
             (record {
               faults = L.faults dial.old;
               broken = L.broken dial.old;
               talks = L.talks dial.old;
+              asked = L.asked dial.old;
             })
             (record {
               faults = L.faults dial.new;
               broken = L.broken dial.new;
               talks = L.talks dial.new;
+              asked = L.asked dial.new;
             })) result }
         ensures limit { IfOk result (λ p. limit_of p.0 ≡ limit_of self) }
         ensures not_journal { IsErrOf result Stop.NotJournal → ⊥ }
@@ -81,16 +83,18 @@ impl Engine {
             (IsAt D.Disk disk.old self) (λ m. IsAt D.Disk disk.new m.engine)
             (λ heard. called (call_of wanted.now) (standing_of (kinds_of handlers.now) heard self))
             (IsAfterCall wanted.now.name (kinds_of handlers.now) self)
-            (IsDialledBy L.W.tells (session_of self).world wanted.now.name
+            (IsDialledBy L.W.tells wanted.now.port (session_of self).world wanted.now.name
             (record {
               faults = L.faults dial.old;
               broken = L.broken dial.old;
               talks = L.talks dial.old;
+              asked = L.asked dial.old;
             })
             (record {
               faults = L.faults dial.new;
               broken = L.broken dial.new;
               talks = L.talks dial.new;
+              asked = L.asked dial.new;
             })) result }
         ensures limit { IfOk result (λ m. limit_of m.engine ≡ limit_of self) }
         ensures not_journal { IsErrOf result Stop.NotJournal → ⊥ }

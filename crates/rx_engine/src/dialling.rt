@@ -53,16 +53,18 @@ pub(crate) fn call_by_name<D: Disk, L: Dial>(
         (asks_of wanted.now.name (by_bytes asks.old.entries)))
         (IsRemoteMadeByName wanted.now.name play.playing (by_bytes asks.old.entries)
         (by_bytes asks.new.entries))
-        (IsDialledBy L.W.tells play.playing.world wanted.now.name
+        (IsDialledBy L.W.tells wanted.now.port play.playing.world wanted.now.name
         (record {
           faults = L.faults dial.old;
           broken = L.broken dial.old;
           talks = L.talks dial.old;
+          asked = L.asked dial.old;
         })
         (record {
           faults = L.faults dial.new;
           broken = L.broken dial.new;
           talks = L.talks dial.new;
+          asked = L.asked dial.new;
         })) result }
     ensures limit { IfOk result (λ made. made.play.journal.limit ≡ play.journal.limit) }
     ensures none { IfOk result (λ made. made.pulled ≡ true
@@ -103,16 +105,18 @@ fn dial_turn<D: Disk, L: Dial>(
         (λ heard. remote_turn (terms wanted.now.name now (kinds_of handlers.now)) wanted.now.batch
         wanted.now.budget heard play.playing.world asks.old)
         (IsRemoteMade play.playing asks.new)
-        (IsDialledBy L.W.tells play.playing.world wanted.now.name
+        (IsDialledBy L.W.tells wanted.now.port play.playing.world wanted.now.name
         (record {
           faults = L.faults dial.old;
           broken = L.broken dial.old;
           talks = L.talks dial.old;
+          asked = L.asked dial.old;
         })
         (record {
           faults = L.faults dial.new;
           broken = L.broken dial.new;
           talks = L.talks dial.new;
+          asked = L.asked dial.new;
         })) result }
     ensures limit { IfOk result (λ made. made.play.journal.limit ≡ play.journal.limit) }
     ensures none { IfOk result (λ made. made.pulled ≡ true

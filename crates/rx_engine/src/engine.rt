@@ -121,11 +121,13 @@ impl Engine {
               faults = L.faults dial.old;
               broken = L.broken dial.old;
               talks = L.talks dial.old;
+              asked = L.asked dial.old;
             })
             (record {
               faults = L.faults dial.new;
               broken = L.broken dial.new;
               talks = L.talks dial.new;
+              asked = L.asked dial.new;
             }) self result }
         ensures limit { IfOk result (λ p. limit_of p.0 ≡ limit_of self) }
 

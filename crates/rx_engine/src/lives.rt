@@ -39,7 +39,7 @@ pub(crate) fn open<D: Disk>(
         → IsCrashSafe D.Disk disk.old disk.new bodies [] limit
         (λ p all. Holds D.Disk disk.new p.0 all w) result }
     ensures limit { IfOk result (λ p. p.0.limit ≡ limit) }
-    ensures epoch { IfOk result (λ p. p.1.epoch < 2 ^ 63) }
+    ensures epoch { IfOk result (λ p. p.1.epoch < 2 ^ 53) }
     ensures illegal { D.tells → IsIllegalFile (D.content disk.old)
         → IsUntouched D.Disk disk.old disk.new }
     ensures no_full { (would most : ℕ) → IsErrOf result (Stop.Full would most) → ⊥ }

@@ -23,7 +23,8 @@ returns-in_err-remember-clause-turned g c =
     c.args.wanted.now.batch c.args.wanted.now.budget c.args.play
     (asks_of name (by_bytes c.args.asks.now.entries))
     (asks_of name (by_bytes c.args.asks.now.entries))
-    (record { faults = 0; broken = 0; talks = [] }) (record { faults = 0; broken = 0; talks = [] })
+    c.args.wanted.now.port (record { faults = 0; broken = 0; talks = []; asked = [] })
+    (record { faults = 0; broken = 0; talks = []; asked = [] })
     _ _ c.from_residual.result
     (search rules)
 
@@ -78,7 +79,7 @@ returns-clause-turned g c =
     (λ (heard : List Heard). remote_turn t c.args.wanted.now.batch c.args.wanted.now.budget heard
     first.world c.in-Some.remembered.now)
     (IsRemoteMade first left)
-    (IsDialledBy g.L.W.Wire.tells first.world name _
+    (IsDialledBy g.L.W.Wire.tells c.args.wanted.now.port first.world name _
     _) c.dial_turn.result c.dial_turn.ensures.turned
     (IsPlayAt g.D.Disk c.args.disk.now c.args.play)
     (λ (m : Made). IsPlayAt g.D.Disk c.dial_turn.new.disk m.play)

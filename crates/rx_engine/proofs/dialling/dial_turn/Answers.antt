@@ -38,11 +38,12 @@ returns-in_ok-close-in-Ok-clause-turned g c =
     (λ (m : Made). IsPlayAt g.D.Disk c.call_turn-made.new.disk m.play) turn
     (IsRemoteMade c.args.play.playing c.call_turn-made.new.asks) _
     (λ bodies at. at) (λ m bodies held. held) (λ heard. refl) (λ u later m so. so)
-    (handed_back g.L.W.Wire.tells w name wire then_wire _ _ (search rules)
+    (handed_back g.L.W.Wire.tells c.args.wanted.now.port w name wire then_wire _ _ (search rules)
     (c.in_ok-close-in-Ok.ensures.breaks
     ∙ ap (λ (n : ℕ). broken_after n then_wire.faults) c.dial.ensures.same_broken)
     (λ told. c.in_ok-close-in-Ok.ensures.joins told
-    ∙ ap (λ (ts : List Talk). ts ++ more ∷ []) c.dial.ensures.same_talks))
+    ∙ ap (λ (ts : List Talk). ts ++ more ∷ []) c.dial.ensures.same_talks)
+    (λ told. c.in_ok-close-in-Ok.ensures.keeps_asked ∙ c.in-Ok.ensures.asks told))
 
 pub returns-in_err-miss_turn-in-Err-clause-turned :
     goal.returns-in_err-miss_turn-in-Err-clause-turned
@@ -52,7 +53,8 @@ returns-in_err-miss_turn-in-Err-clause-turned g c =
     (λ told left e. g.met.D.Disk.only_now c.args.disk.now left told e) g.L.W.Wire.tells t
     c.args.wanted.now.batch c.args.wanted.now.budget c.args.play c.args.asks.now
     c.miss_turn.new.asks
-    (record { faults = 0; broken = 0; talks = [] }) (record { faults = 0; broken = 0; talks = [] })
+    c.args.wanted.now.port (record { faults = 0; broken = 0; talks = []; asked = [] })
+    (record { faults = 0; broken = 0; talks = []; asked = [] })
     _ _ c.from_residual-in_err-miss_turn-in-Err.result
     (search rules)
 
@@ -63,6 +65,7 @@ returns-in_ok-miss_turn-in-Err-clause-turned g c =
     missed_so g.D.Disk c.args.disk.now
     (λ told left e. g.met.D.Disk.only_now c.args.disk.now left told e) g.L.W.Wire.tells t
     c.args.wanted.now.batch c.args.wanted.now.budget c.args.play c.args.asks.now
-    c.miss_turn.new.asks _ _ c.in_ok-miss_turn-in-Err.field-0
+    c.miss_turn.new.asks c.args.wanted.now.port _ _ c.in_ok-miss_turn-in-Err.field-0
     c.in_ok-miss_turn-in-Err.ensures.missed
     c.requires.budget c.in-Err.ensures.failed c.dial.ensures.same_broken c.dial.ensures.same_talks
+    c.in-Err.ensures.asks_once
