@@ -1,0 +1,27 @@
+mod Examples
+pub mod Systems
+pub mod Standing
+pub mod Shown
+pub mod Going
+pub mod Exchanges
+pub mod Staying
+pub mod Courses
+pub mod Turns
+pub mod Touched
+pub mod Records
+pub mod Histories
+pub mod Found
+pub mod Refused
+pub mod Learns
+pub mod LastTimes
+pub mod Clock
+pub mod ClockElsewhere
+pub mod Updates
+pub mod Stale
+pub mod Served
+pub mod Handlings
+pub mod Outcomes
+pub mod Beside
+pub mod Scripts
+pub mod Sounds
+pub mod Keeps

@@ -1,0 +1,10 @@
+pub mod Shows
+pub mod Exchanging
+pub mod Records
+pub mod History
+pub mod Takings
+pub mod Updates
+pub mod Clock
+pub mod Stale
+pub mod Served
+pub mod Scripts
