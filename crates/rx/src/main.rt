@@ -1,19 +1,10 @@
-//! The program: the real streams, file, sockets and clock, and the handlers and hooks that lines
-//! may name, around the command that its words are.
+//! The program: the real streams, file, sockets and clock around the command that its words are.
 #![tactic(auto)]
 
-ghost use Rattle.std.specs.Prelude.{◌≡◌, IfOk};
-ghost use Rattle.rx_handler.specs.Resolve.{resolve};
-ghost use Rattle.rx_update.specs.Hooked.{hooked as becomes};
-
-use rx_disk::{Disk, FileDisk};
-use rx_handler::{Handler, HandlerFault, HandlerKind, Handlers, resolved};
-use rx_outside::{
-    Clock, Dial, Listen, Sink, Source, StdSink, StdSource, SystemClock, TcpDial, TcpDoor, write_all,
-};
-use rx_top::rx;
-use rx_update::{Hook, HookFault, HookKind, Hooks, hooked};
-use rx_value::{RxText, State};
+use rx_disk::FileDisk;
+use rx_outside::{StdSink, StdSource, SystemClock, TcpDial, TcpDoor, write_all};
+use rx_top::program;
+use rx_value::RxText;
 use rx_words::{Words, command_of};
 use std::alloc::{AllocError, Global};
 use std::env::Env;
@@ -25,19 +16,6 @@ use std::{env, io};
 // Standard input, output and error have the descriptors below this.
 const STREAMS: i32 = 3;
 
-const HANDLERS: [(&str, HandlerKind); 4] = [
-    ("master_wins", HandlerKind::MasterWins),
-    ("fork_wins", HandlerKind::ForkWins),
-    ("greater", HandlerKind::Greater),
-    ("join", HandlerKind::Join),
-];
-
-const HOOKS: [(&str, HookKind); 3] = [
-    ("count", HookKind::Count),
-    ("zero", HookKind::Zero),
-    ("lock", HookKind::Lock),
-];
-
 fn main(rt: HostRuntime) -> ExitCode {
     let filled = fill_streams(&rt);
     let mut source = StdSource::new(&rt);
@@ -46,100 +24,24 @@ fn main(rt: HostRuntime) -> ExitCode {
         let _ = write_all(&mut out, b"{\"stop\":\"disk\"}\n");
         return ExitCode::from(3);
     }
-    let played = match command(&rt) {
-        Ok(Asked { words, path, copy }) => {
-            let mut disk = FileDisk::new(&rt, path);
-            let mut copy = FileDisk::new(&rt, copy);
-            let mut door = TcpDoor::new(&rt);
-            let mut dial = TcpDial::new(&rt);
-            let mut clock = SystemClock::new(&rt);
-            play(
-                rt.alloc(),
-                &words,
-                &mut source,
-                &mut out,
-                &mut disk,
-                &mut door,
-                &mut dial,
-                &mut clock,
-                &mut copy,
-            )
-        }
-        Err(refused) => Err(HandlerFault::from(refused)),
-    };
-    match played {
-        Ok(status) => ExitCode::from(status),
+    let status = match command(&rt) {
+        Ok(Asked { words, path, copy }) => program(
+            rt.alloc(),
+            &words,
+            &mut source,
+            &mut out,
+            &mut FileDisk::new(&rt, path),
+            &mut TcpDoor::new(&rt),
+            &mut TcpDial::new(&rt),
+            &mut SystemClock::new(&rt),
+            &mut FileDisk::new(&rt, copy),
+        ),
         Err(_) => {
             let _ = write_all(&mut out, b"{\"stop\":\"memory\"}\n");
-            ExitCode::from(6)
+            6
         }
-    }
-}
-
-// Runs the command with the handlers that a replication may name. They are made where they are
-// used: what makes a closure and gives it away would hide what it does.
-fn play<S: Source, K: Sink, D: Disk, L: Listen, N: Dial, C: Clock, E: Disk>(
-    alloc: Global,
-    words: &Words,
-    source: &mut S,
-    out: &mut K,
-    disk: &mut D,
-    door: &mut L,
-    dial: &mut N,
-    clock: &mut C,
-    copy: &mut E,
-) -> Result<u8, HandlerFault> {
-    let mut handlers = Handlers::new(alloc);
-    for (name, kind) in HANDLERS {
-        let call = Box::new(
-            alloc,
-            move |alloc: Global, field: &str, real: &State, new: &State|
-                ensures { IfOk result (λ s. s ≡ resolve kind field.now real.now new.now) }
-            { resolved(alloc, kind, field, real, new) },
-        );
-        match call {
-            Ok(call) => handlers.add(Handler::new(RxText::new(alloc, name)?, kind, call))?,
-            Err(refused) => return Err(AllocError::from(refused).into()),
-        }
-    }
-    match play_hooked(
-        alloc, words, source, out, disk, door, dial, clock, &handlers, copy,
-    ) {
-        Ok(status) => Ok(status),
-        // The names of the hooks differ, so want of memory alone is left.
-        Err(_) => Err(AllocError.into()),
-    }
-}
-
-// And with the hooks that a collection may have.
-fn play_hooked<S: Source, K: Sink, D: Disk, L: Listen, N: Dial, C: Clock, E: Disk>(
-    alloc: Global,
-    words: &Words,
-    source: &mut S,
-    out: &mut K,
-    disk: &mut D,
-    door: &mut L,
-    dial: &mut N,
-    clock: &mut C,
-    handlers: &Handlers,
-    copy: &mut E,
-) -> Result<u8, HookFault> {
-    let mut hooks = Hooks::new(alloc);
-    for (name, kind) in HOOKS {
-        let call = Box::new(
-            alloc,
-            move |alloc: Global, field: &str, state: &State|
-                ensures { IfOk result (λ s. s ≡ becomes kind field.now state.now) }
-            { hooked(alloc, kind, field, state) },
-        );
-        match call {
-            Ok(call) => hooks.add(Hook::new(RxText::new(alloc, name)?, kind, call))?,
-            Err(refused) => return Err(AllocError::from(refused).into()),
-        }
-    }
-    Ok(rx(
-        alloc, words, source, out, disk, door, dial, clock, handlers, &hooks, copy,
-    ))
+    };
+    ExitCode::from(status)
 }
 
 // Opens the root folder in the place of each standard stream that is closed, so that the journal

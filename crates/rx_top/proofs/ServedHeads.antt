@@ -6,7 +6,7 @@ use Rattle.rx_disk.specs.declared.disk.Disk.{Ghosts}
 use Rattle.rx_host.specs.Connections.{ServedConnection, collection_after, commits_through, moments_of}
 use Rattle.rx_host.specs.Engine.{Finds, IsAt, collection_of, limit_of, name_of}
 use Rattle.rx_host.specs.Keeping.{Keeps}
-use Rattle.rx_host.specs.Outside.{BreaksOff, HaltsAfter, HaltsAtLine, HaltsBetween, HaltsBy, HaltsWithin, HaveServed, IsStopBy, Outside, outside_after}
+use Rattle.rx_host.specs.Outside.{BreaksOff, HaltsAfter, HaltsAtLine, HaltsBetween, HaltsBy, HaltsWithin, HaveServed, IsStopBy, Outside, opened_at, outside_after}
 use Rattle.rx_host.specs.Records.{bodies_of}
 use Rattle.rx_host.specs.Serving.{HasKept, HasStopped}
 use Rattle.rx_host.specs.Worlds.{collection_at}
@@ -67,6 +67,8 @@ module _ (L M : Left)
   module _ (wires sink : Type 0) (old new : Outside) (G : List ℕ → Type 0) (i : ℕ) (c : Held) where
     between_as : HaltsBetween wires sink old new G L → HaltsBetween wires sink old new G M
     between_as h = record {
+      opened = h.opened;
+      accepted = h.accepted;
       talks = h.talks;
       written = h.written;
       moments = h.moments;
@@ -77,6 +79,8 @@ module _ (L M : Left)
     line_as h = record {
       last = h.last;
       each = h.each;
+      opened = h.opened;
+      accepted = h.accepted;
       talks = h.talks;
       written = h.written;
       moments = h.moments;
@@ -90,6 +94,8 @@ module _ (L M : Left)
       moments = h.moments;
       spare = h.spare;
       breaks = λ told. breaks_as why c h.talk h.moments (h.breaks told);
+      opened = h.opened;
+      accepted = h.accepted;
       talks = h.talks;
       written = h.written;
       given = h.given;
@@ -104,18 +110,20 @@ module _ (L M : Left)
 module _ (wires sink : Type 0) (c : Held) (old new : Outside) (G : List ℕ → Type 0) where
   halts_as : (L M : Left)
       → ((stop : Option Stop) (sure more : Commits) → L stop sure more → M stop sure more)
-      → (f : ServeFault) (most : ℕ) → HaltsAfter f most wires sink 1 c old new G L
-      → HaltsAfter f most wires sink 1 c old new G M
-  halts_as L M into f most h =
+      → (f : ServeFault) (port most : ℕ) → HaltsAfter f port most wires sink 1 c old new G L
+      → HaltsAfter f port most wires sink 1 c old new G M
+  halts_as L M into f port most h =
       let done = commits_through c h.conns in
       record {
         conns = h.conns;
         few = h.few;
         each = h.each;
+        begun = h.begun;
+        opened = h.opened;
         last = by_as (λ stop sure more. L stop (done ++ sure) more)
             (λ stop sure more. M stop (done ++ sure) more)
             (λ stop sure more left. into stop (done ++ sure) more left) wires sink
-            (outside_after 1 h.conns old) new (λ moments. G (moments_of h.conns ++ moments))
+            (outside_after 1 h.conns h.begun) new (λ moments. G (moments_of h.conns ++ moments))
             (1 + length h.conns) (collection_after c h.conns) f h.last;
       }
 
@@ -125,6 +133,8 @@ module _ (wires sink : Type 0) (c : Held) (old new : Outside) (G : List ℕ → 
   served_as K M into c' conns h = record {
     each = h.each;
     after = h.after;
+    opened = h.opened;
+    accepted = h.accepted;
     talks = h.talks;
     written = h.written;
     moments = h.moments;
@@ -134,7 +144,7 @@ module _ (wires sink : Type 0) (c : Held) (old new : Outside) (G : List ℕ → 
 -- ---- the collection of the world that was opened
 
 module _
-    (wires sink : Type 0) (name : List ℕ) (connections : ℕ) (w : World) (old new : Outside)
+    (wires sink : Type 0) (name : List ℕ) (port connections : ℕ) (w : World) (old new : Outside)
     (G : List ℕ → Type 0) (M : Left) (m : MasterEngine) (found : Finds name w (Some m))
   where
     same : collection_of m ≡ collection_at name w
@@ -143,28 +153,30 @@ module _
     all_served : (K : Commits → Type 0) → ((commits : Commits) → K commits → M None commits [])
         → (c : Held)
         → ((conns : List ServedConnection) × (length conns ≡ connections)
-        × HaveServed wires sink 1 (collection_of m) c conns old new G K)
-        → ServesTo (Ok tt) wires sink name connections w old new G M
+        × HaveServed wires sink 1 (collection_of m) c conns (opened_at port old) new G K)
+        → ServesTo (Ok tt) wires sink name port connections w old new G M
     all_served K into c served = (
       found.0,
       served.0,
       served.1,
       c,
       subst (λ (h : Held).
-          HaveServed wires sink 1 h c served.0 old new G (λ commits. M None commits [])) same
-          (served_as wires sink (collection_of m) old new G K
+          HaveServed wires sink 1 h c served.0 (opened_at port old) new G
+          (λ commits. M None commits [])) same
+          (served_as wires sink (collection_of m) (opened_at port old) new G K
           (λ commits. M None commits []) into c served.0
           served.2),
     )
 
     halted : (L : Left)
         → ((stop : Option Stop) (sure more : Commits) → L stop sure more → M stop sure more)
-        → (f : ServeFault) → HaltsAfter f connections wires sink 1 (collection_of m) old new G L
-        → ServesTo (Err (Fault f)) wires sink name connections w old new G M
+        → (f : ServeFault)
+        → HaltsAfter f port connections wires sink 1 (collection_of m) old new G L
+        → ServesTo (Err (Fault f)) wires sink name port connections w old new G M
     halted L into f halts = inr (
       found.0,
-      subst (λ (h : Held). HaltsAfter f connections wires sink 1 h old new G M) same
-          (halts_as wires sink (collection_of m) old new G L M into f connections halts),
+      subst (λ (h : Held). HaltsAfter f port connections wires sink 1 h old new G M) same
+          (halts_as wires sink (collection_of m) old new G L M into f port connections halts),
     )
 
     pub serves_to : (L : Left) (K : MasterEngine → Commits → Type 0)
@@ -172,9 +184,10 @@ module _
         → ((m' : MasterEngine) (commits : Commits) → K m' commits → M None commits [])
         → (r : Result MasterEngine ServeFault)
         → IfOk r (λ m'. (conns : List ServedConnection) × (length conns ≡ connections)
-        × HaveServed wires sink 1 (collection_of m) (collection_of m') conns old new G (K m'))
-        → IfErr r (λ f. HaltsAfter f connections wires sink 1 (collection_of m) old new G L)
-        → ServesTo (ended_of r) wires sink name connections w old new G M
+        × HaveServed wires sink 1 (collection_of m) (collection_of m') conns
+        (opened_at port old) new G (K m'))
+        → IfErr r (λ f. HaltsAfter f port connections wires sink 1 (collection_of m) old new G L)
+        → ServesTo (ended_of r) wires sink name port connections w old new G M
     serves_to L K left kept (Ok m') served halts =
         all_served (K m') (kept m') (collection_of m') served
     serves_to L K left kept (Err f) served halts = halted L left f halts

@@ -1,12 +1,10 @@
 -- The stop line after what was told.
-use Rattle.std.proofs.Common.{◌≡◌, ◌∙◌, refl, ap, subst, ℕ, ◌≤◌, List, ◌++◌, ◌⊎◌, inl, inr, arith, sym, append_assoc, Result, Ok, Err, OnOk, OnErr}
-use Rattle.std.specs.Prelude.{codes}
+use Rattle.std.proofs.Common.{◌≡◌, ◌∙◌, refl, ap, subst, ℕ, ◌≤◌, List, [], ◌∷◌, ◌++◌, ◌⊎◌, inl, inr, arith, sym, append_assoc, append-nil, Result, Ok, Err, OnOk, OnErr}
 use Rattle.rx_outside.proofs.Counts.{rises_later}
 use Rattle.std.proofs.lemmas.Bool.Decides.{leb_tells}
 use Rattle.rx_outside.specs.Failed.{Rises}
 use Rattle.rx_outside.specs.Sink.{WritesFront}
-use Rattle.rx_top.specs.Stops.{EndsWith, Stops, stop_line}
-use Rattle.rx_top.specs.Untouched.{LacksMemory, Reach}
+use Rattle.rx_top.specs.Stops.{EndsWith, Stops}
 
 stopped : (f0 f1 f2 : ℕ) (mid mid' new line : List ℕ) → f0 ≤ f1 → mid ≡ mid'
     → (new ≡ mid ++ line) ⊎ (WritesFront mid new line × Rises f1 f2)
@@ -67,17 +65,17 @@ three old one two new a b c e f h =
     h ∙ ap (λ v. v ++ c) (f ∙ ap (λ v. v ++ b) e) ∙ append_assoc (old ++ a) b c
     ∙ append_assoc old a (b ++ c)
 
--- memory was wanting, and nothing was done but to write the line that says so
-pub lacks_memory : {S D L N C F : Type 0} {T E : Type 0} (tells : Type 0) (f0 f1 : ℕ)
-    (old new : List ℕ)
-    (r : Result T E) (reach : Reach S D L N C F)
-    → (tells → OnOk r (new ≡ old ++ stop_line (codes "memory")))
-    → (tells → OnErr r (WritesFront old new (stop_line (codes "memory"))))
-    → OnErr r (Rises f0 f1) → LacksMemory 6 tells f0 f1 old new reach reach
-lacks_memory tells f0 f1 old new r reach ok err failed = record {
-  is = refl;
-  only = record {
-    untouched = refl;
-    told = ended_with tells f0 f1 old new (stop_line (codes "memory")) r ok err failed;
-  };
-}
+pub none_in : {A : Type 0} (xs ys : List A) (y : A) → [] ≡ xs ++ y ∷ ys → ⊥
+none_in [] ys y h = cc
+none_in (x ∷ xs) ys y h = cc
+
+pub none_before : {A : Type 0} (xs ys : List A) → [] ≡ xs ++ ys → xs ≡ []
+none_before [] ys h = refl
+none_before (x ∷ xs) ys h = cc
+
+-- where no last line is due none is there
+pub no_line : (f0 f2 : ℕ) (a b : List ℕ) → (b ≡ a ++ []) ⊎ (WritesFront a b [] × Rises f0 f2)
+    → b ≡ a
+no_line f0 f2 a b (inl e) = e ∙ append-nil a
+no_line f0 f2 a b (inr f) =
+    f.0.3 ∙ ap (λ v. a ++ v) (none_before f.0.0 f.0.1 f.0.2) ∙ append-nil a

@@ -1,5 +1,5 @@
 -- What the headline of a trial tells of its status, and a trial from its parts.
-use Rattle.std.proofs.Common.{◌≡◌, ◌∙◌, refl, sym, ap, subst, ℕ, ◌≤◌, List, [], ◌∷◌, ◌++◌, ◌⊎◌, ⊎_elim, inl, inr, Option, None, Some, Result, Ok, Err, IfOk, MatchResult, IsErrOf, append-nil}
+use Rattle.std.proofs.Common.{◌≡◌, ◌∙◌, refl, sym, ap, subst, ℕ, List, [], ◌∷◌, ◌++◌, ⊎_elim, inl, inr, Option, None, Some, Result, Ok, Err, IfOk, IsErrOf, append-nil}
 use Rattle.std.specs.Prelude.{String, string_bytes, ⊤}
 use Rattle.std.specs.Result.{result_err}
 use Rattle.std.specs.declared.alloc.Global.{Global}
@@ -9,27 +9,21 @@ use Rattle.rx_engine.specs.Engine.{IsAt, limit_of, standing_of}
 use Rattle.rx_engine.specs.Opening.{Host, epoch_body, opened}
 use Rattle.rx_engine.specs.declared.engine.Engine.{Engine}
 use Rattle.rx_engine.specs.Standing.{Standing}
-use Rattle.rx_frame.specs.File.{end_of}
-use Rattle.rx_outside.specs.Sink.{WritesFront}
 use Rattle.rx_outside.specs.declared.stop.Stop.{Stop}
-use Rattle.rx_outside.specs.declared.stop.Stop.TheVariants.{Full, Memory}
+use Rattle.rx_outside.specs.declared.stop.Stop.TheVariants.{Memory}
 use Rattle.rx_sync.specs.Remote.{Heard}
-use Rattle.rx_store.specs.Holds.{IsLegalFile}
 use Rattle.rx_store.specs.Safe.{IsCrashSafe}
 use Rattle.rx_store.proofs.Growing.{behind}
 use Rattle.rx_world.specs.World.{World}
 use Rattle.rx_top.specs.Chunks.{Keeps, ahead, all_of, singly}
 use Rattle.rx_top.specs.Hears.{HearsAll}
-use Rattle.rx_top.specs.Run.{IsDue, KeepsFrom, KeepsRun, due_after, run_bodies, run_chunks}
+use Rattle.rx_top.specs.Run.{KeepsFrom, KeepsRun, due_after, run_chunks}
 use Rattle.rx_top.specs.Start.{IsStart, StaysLegal}
-use Rattle.rx_top.specs.Stops.{EndsWith, full_line}
 use Rattle.rx_top.specs.Tally.{summary_of}
-use Rattle.rx_top.specs.Tells.{TellsStop, TellsText}
 use Rattle.rx_top.specs.TriesScript.{DoesLines, HasTried, as_run}
 use Rattle.rx_top.proofs.Chunks.{CountsNow, OnlyNow}
 use Rattle.rx_top.proofs.Hears.{heard_at_first, unheard}
 use Rattle.rx_top.proofs.Heads.{open_keeps, played_keeps}
-use Rattle.rx_top.proofs.Statuses.{legal_now, past}
 use Rattle.rx_top.proofs.Through.{does_as}
 use Rattle.rx_top.proofs.Told as by
 
@@ -37,15 +31,12 @@ use Rattle.rx_top.proofs.Told as by
 pub has_tried : (wires : Type 0) (n0 n1 : DialStanding) (tells : Type 0) (f0 f1 : ℕ)
     (w0 w1 : List ℕ)
     (status : ℕ) (r : Result (String Global) Stop) (lines : List (List ℕ)) (s : Standing)
-    (Kept : Option Stop → List (List ℕ) → List (List ℕ) → Type 0)
-    → DoesLines lines (result_err r) (HearsAll wires s n0 n1 (as_run (result_err r)))
-    (Kept (result_err r))
+    (Kept : List (List ℕ) → List (List ℕ) → Type 0)
+    → DoesLines lines (result_err r) (HearsAll wires s n0 n1 (as_run (result_err r))) Kept
     → IfOk r (λ t. string_bytes t ≡ summary_of lines s)
-    → MatchResult r (λ t. TellsText tells f0 f1 w0 w1 status (string_bytes t))
-    (λ why. TellsStop tells f0 f1 w0 w1 status why)
-    → HasTried wires n0 n1 tells f0 f1 w0 w1 lines s status Kept
+    → by.ToldResult tells f0 f1 w0 w1 status r
+    → HasTried wires n0 n1 tells f0 f1 w0 w1 lines s status (result_err r) Kept
 has_tried wires n0 n1 tells f0 f1 w0 w1 status r lines s Kept does summed told = record {
-  stop = result_err r;
   does = does;
   told = by.told_as tells f0 f1 w0 w1 status r (summary_of lines s) summed told;
 }
@@ -200,12 +191,12 @@ module _
         (kept_whole does.done does.rest does.kept)))
 
     -- all lines were done
-    all_kept : {Shown : List (List ℕ) → List (List ℕ) → Type 0} (stop : Option Stop)
-        (lines : List (List ℕ)) → stop ≡ None → DoesLines lines stop Shown (KeepsTrial stop)
+    pub all_kept : {Shown : List (List ℕ) → List (List ℕ) → Type 0} (lines : List (List ℕ))
+        → DoesLines lines None Shown (KeepsTrial None)
         → (rest : List (List ℕ))
         × Keeps singly d old new bodies (run_chunks host heard w lines)
         (due_after host heard w lines rest) limit None
-    all_kept None lines is does =
+    all_kept lines does =
         let whole : lines ≡ does.done =
         does.whole ∙ ap (λ (v : List (List ℕ)). does.done ++ v) (does.all refl)
         ∙ append-nil does.done in (
@@ -215,57 +206,9 @@ module _
               (due_after host heard w v does.rest) limit None)
               (sym whole) (kept_whole does.done does.rest does.kept),
         )
-    all_kept (Some why) lines is does = cc
 
-    module _
-        (n0 n1 : DialStanding) (tells : Type 0) (f0 f1 : ℕ) (w0 w1 : List ℕ) (lines : List (List ℕ))
-        (status : ℕ) (has : HasTried wires n0 n1 tells f0 f1 w0 w1 lines
-        (opened host heard w) status KeepsTrial)
-      where
-        abbrev summary : List ℕ
-        summary = summary_of lines (opened host heard w)
-
-        pub legal : StaysLegal d old new bodies
-        legal = ⊎_elim (λ un. stays d old new bodies _ _ limit _ un.2)
-            (λ keeps. stays d old new bodies _ _ limit _ keeps) has.does.kept
-
-        pub wrote : status ≡ 0 → tells → w1 ≡ w0 ++ summary
-        wrote = by.wrote tells f0 f1 w0 w1 status has.stop summary has.told
-
-        pub front : status ≡ 5 → tells → WritesFront w0 w1 summary
-        front is = (by.failed tells f0 f1 w0 w1 status has.stop summary has.told is).1
-
-        whole : (status ≡ 0) ⊎ (status ≡ 5)
-            → (rest : List (List ℕ))
-            × Keeps singly d old new bodies (run_chunks host heard w lines)
-            (due_after host heard w lines rest) limit None
-        whole is = all_kept has.stop lines
-            (by.unstopped tells f0 f1 w0 w1 status has.stop summary has.told is) has.does
-
-        pub kept : (status ≡ 0) ⊎ (status ≡ 5) → (c : List ℕ) → d.image new c
-            → (after : World) × IsLegalFile c (bodies ++ run_bodies host heard w lines) after
-        kept is c here =
-            legal_now (bodies ++ run_bodies host heard w lines) c ((whole is).1.sure c here)
-
-        pub fits : (status ≡ 0) ⊎ (status ≡ 5)
-            → end_of (bodies ++ run_bodies host heard w lines) ≤ limit
-        fits is = ⊎_elim (λ none. cc) (λ le. le) (whole is).1.fits
-
-        -- a record was due that didn't fit
-        pub full : status ≡ 8
-            → (done : List (List ℕ)) × (rest : List (List ℕ)) × (would : ℕ)
-            × IsDue host heard d new bodies w lines done rest would limit
-            × EndsWith tells f0 f1 w0 w1 (full_line would limit)
-        full is =
-            let why = by.full tells f0 f1 w0 w1 status has.stop summary has.told is in
-            let done = has.does.done in
-            let rest = has.does.rest in
-            let kept : KeepsTrial (Some (Full why.0 why.1)) done rest =
-            subst (λ (x : Option Stop). KeepsTrial x done rest) why.2 has.does.kept in
-            let p = past host heard d old new bodies w limit singly why.0 why.1 done rest kept in (
-              done,
-              rest,
-              why.0,
-              record { whole = has.does.whole; past = p.1 },
-              subst (λ (n : ℕ). EndsWith tells f0 f1 w0 w1 (full_line why.0 n)) p.0 why.3,
-            )
+    pub stays_legal : {Shown : List (List ℕ) → List (List ℕ) → Type 0} (stop : Option Stop)
+        (lines : List (List ℕ)) → DoesLines lines stop Shown (KeepsTrial stop)
+        → StaysLegal d old new bodies
+    stays_legal stop lines does = ⊎_elim (λ un. stays d old new bodies _ _ limit _ un.2)
+        (λ keeps. stays d old new bodies _ _ limit _ keeps) does.kept

@@ -1,5 +1,5 @@
 -- Turns of lines that follow each other come to their end in time.
-use Rattle.std.proofs.Common.{◌≡◌, ◌∙◌, refl, sym, ap, subst, ℕ, ◌+◌, ◌≤◌, cond, List, [], ◌∷◌, length, false}
+use Rattle.std.proofs.Common.{◌≡◌, ◌∙◌, inl, inr, refl, sym, ap, subst, ℕ, ◌+◌, ◌≤◌, cond, List, [], ◌∷◌, length, false, Option}
 use Rattle.std.specs.List.{AllByRecursion}
 use Rattle.rx_engine.specs.Lines.{Task, turns, task}
 use Rattle.rx_engine.specs.Meaning.{meaning, task_meaning, turn_meaning}
@@ -29,17 +29,19 @@ as_next t s = record {
 }
 
 abbrev next_turns : (name : List ℕ) (n : ℕ) (ls : List (List ℕ)) (s : Standing)
-    → AreTurnsOf name n ls s
-    → List NextTurn
+    → AreTurnsOf name n ls s → List NextTurn
 next_turns name n [] s are = []
-next_turns name n (l ∷ ls) s are =
-    as_next are.0 s ∷ next_turns name (n + 1) ls (line_effect n l s).next are.6
+next_turns name n (l ∷ ls) s (inl m, are) =
+    as_next m.wanted s ∷ next_turns name (n + 1) ls (line_effect n l s).next are
+next_turns name n (l ∷ ls) s (inr idle, are) =
+    next_turns name (n + 1) ls (line_effect n l s).next are
 
 all_ok : (name : List ℕ) (n : ℕ) (ls : List (List ℕ)) (s : Standing) (are : AreTurnsOf name n ls s)
     → AllByRecursion IsOkTurn (next_turns name n ls s are)
 all_ok name n [] s are = tt
-all_ok name n (l ∷ ls) s are =
-    ((are.4, are.5), all_ok name (n + 1) ls (line_effect n l s).next are.6)
+all_ok name n (l ∷ ls) s (inl m, are) =
+    ((m.some, m.ok), all_ok name (n + 1) ls (line_effect n l s).next are)
+all_ok name n (l ∷ ls) s (inr idle, are) = all_ok name (n + 1) ls (line_effect n l s).next are
 
 -- ---- how things stand after the line of a turn
 
@@ -65,23 +67,31 @@ same_count : (name : List ℕ) (n : ℕ) (ls : List (List ℕ)) (s : Standing)
     (are : AreTurnsOf name n ls s)
     → exchanges_by n ls s ≡ exchanges_of name s.kinds (next_turns name n ls s are) s.session.world
 same_count name n [] s are = refl
-same_count name n (l ∷ ls) s are =
-    let t = are.0 in
+same_count name n (l ∷ ls) s (inl m, are) =
+    let t = m.wanted in
     let then = (line_effect n l s).next in
-    let ns = next_turns name (n + 1) ls then are.6 in
+    let ns = next_turns name (n + 1) ls then are in
     let u = turned t s in
     let behind : exchanges_by (n + 1) ls then
     ≡ exchanges_of name s.kinds ns (world_after u.records s.session.world) =
-    same_count name (n + 1) ls then are.6
-    ∙ ap (λ (k : Kinds). exchanges_of name k ns then.session.world) (same_kinds n l s t are.1 are.2)
-    ∙ ap (λ (w : World). exchanges_of name s.kinds ns w) (next_world n l s t are.1 are.2) in
-    ap (λ (x : Task). with_those_behind (turn_made x s) (exchanges_by (n + 1) ls then)) are.2
+    same_count name (n + 1) ls then are
+    ∙ ap (λ (k : Kinds). exchanges_of name k ns then.session.world)
+    (same_kinds n l s t m.some_line m.is)
+    ∙ ap (λ (w : World). exchanges_of name s.kinds ns w) (next_world n l s t m.some_line m.is) in
+    ap (λ (x : Task). with_those_behind (turn_made x s) (exchanges_by (n + 1) ls then)) m.is
     ∙ ap (λ (k : ℕ). length u.exchanges + cond (is_done u.ended) 0 k) behind
     ∙ ap (λ (at : List ℕ).
     let v : Turned = bound.turn_of_line at s.kinds (as_next t s) s.session.world in
     length v.exchanges
     + cond (is_done v.ended) 0
-    (exchanges_of name s.kinds ns (world_after v.records s.session.world))) are.3
+    (exchanges_of name s.kinds ns (world_after v.records s.session.world))) m.by_name
+same_count name n (l ∷ ls) s (inr idle, are) =
+    let then = (line_effect n l s).next in
+    let ns = next_turns name (n + 1) ls then are in
+    ap (λ (u : Option Turned). with_those_behind u (exchanges_by (n + 1) ls then)) idle.no_turn
+    ∙ same_count name (n + 1) ls then are
+    ∙ ap (λ (k : Kinds). exchanges_of name k ns then.session.world) idle.same_kinds
+    ∙ ap (λ (w : World). exchanges_of name s.kinds ns w) idle.same_world
 
 pub turn_lines_in_time : TurnLinesEndInTime
 turn_lines_in_time name n lines s ready are =

@@ -1,5 +1,5 @@
 -- A copy of a journal, and what runs over both come to.
-use Rattle.std.specs.Prelude.{◌≡◌, ◌<◌, ℕ, List, ◌++◌, map}
+use Rattle.std.specs.Prelude.{◌≡◌, ℕ, List, ◌++◌, map, Bool, Ok}
 use Rattle.rx_compact.specs.Plan.{plan}
 use Rattle.rx_compact.specs.Writing.{IsCopied}
 use Rattle.rx_compact.specs.declared.copying.Copied.{Copied}
@@ -11,7 +11,7 @@ use Rattle.rx_outside.specs.declared.source.Source.{Ghosts as SourceGhosts}
 use Rattle.rx_record.specs.Content.{content_bytes}
 use Rattle.rx_sync.specs.Remote.{Heard}
 use Rattle.rx_world.specs.World.{World}
-use Rattle.rx_top.specs.PlaysScript.{PlaysScript}
+use Rattle.rx_top.specs.RunEnds.{Ran}
 use Rattle.rx_top.specs.Start.{IsStart}
 
 -- a disk that holds the copy of a world is a journal of that world, which a run may begin with
@@ -33,26 +33,19 @@ pub record HasPlayed
     (heard : List Heard)
     (w : World)
     (input output : List ℕ) : Type 0 where
-  pub source : S
-  pub source' : S
-  pub out : K
-  pub out' : K
-  pub disk : D
-  pub disk' : D
-  pub dial : N
-  pub dial' : N
-  pub limit : ℕ
-  pub status : ℕ
-  pub plays : PlaysScript s k d n wires host heard limit status source source' out out' disk disk'
-      dial dial'
+  pub run : Ran s k d n wires
+  pub by_host : run.host ≡ host
+  pub hears : run.heard ≡ heard
   pub source_tells : s.tells
   pub sink_tells : k.tells
   pub disk_tells : d.tells
   pub bodies : List (List ℕ)
-  pub start : IsStart d disk bodies w
-  pub given : s.left source ≡ input
-  pub whole : status < 2
-  pub wrote : k.written out' ≡ k.written out ++ output
+  pub start : IsStart d run.disk bodies w
+  pub given : s.left run.source ≡ input
+  -- it was played to its end
+  pub refused : Bool
+  pub whole : run.plays.ended ≡ Ok refused
+  pub wrote : k.written run.out' ≡ k.written run.out ++ output
 
 -- Over two journals of one world, a journal and its copy for example, the same input is answered
 -- alike where the same was heard.

@@ -1,5 +1,5 @@
 -- The command `compact`: what it promises, wherever it ends.
-use Rattle.std.specs.Prelude.{◌≡◌, ◌≢◌, ◌<◌, ◌≤◌, ◌⊎◌, ℕ, List, [], ◌++◌, codes, decimal}
+use Rattle.std.specs.Prelude.{◌≡◌, ◌≢◌, ◌<◌, ◌≤◌, ◌⊎◌, ⊤, ℕ, List, [], ◌++◌, codes, decimal, Option, None, IfSome}
 use Rattle.rx_compact.specs.Compacting.{IsEmptyDisk}
 use Rattle.rx_compact.specs.Plan.{plan}
 use Rattle.rx_compact.specs.Writing.{IsCopied, IsPast, IsSafeCopy}
@@ -11,12 +11,13 @@ use Rattle.rx_disk.specs.declared.disk.Disk.{Ghosts}
 use Rattle.rx_frame.specs.File.{end_of}
 use Rattle.rx_journal.specs.Reading.{IsUntouched}
 use Rattle.rx_outside.specs.Failed.{Rises}
-use Rattle.rx_outside.specs.Sink.{WritesFront}
 use Rattle.rx_outside.specs.declared.sink.Sink.{Ghosts as SinkGhosts}
+use Rattle.rx_outside.specs.declared.stop.Stop.TheVariants.{Disk, NotJournal, Full, Memory}
 use Rattle.rx_store.specs.Holds.{IsIllegalFile, IsLegalFile}
 use Rattle.rx_world.specs.Copy.{most_copied_epoch}
 use Rattle.rx_world.specs.World.{World}
-use Rattle.rx_top.specs.Stops.{EndsWith, full_line, stop_line, stop_status, stop_words}
+use Rattle.rx_top.specs.Stops.{EndsWith, stop_line, stop_status, stop_words}
+use Rattle.rx_top.specs.Tells.{TellsText}
 
 -- ---- the status, and the line
 
@@ -46,12 +47,30 @@ OverJournals d e disk copy P =
     d.tells → e.tells → IsEmptyDisk e copy → (bodies : List (List ℕ)) (w : World)
     → IsLegalFile (d.content disk) bodies w → P bodies w
 
--- the copy is whole, and this holds of the line that tells of it
-pub record IsMade {E : Type 0} (e : Ghosts E) (copy : E) (P : List ℕ → Type 0)
+-- the copy is whole, and this is the line that tells of it
+pub record IsMade {E : Type 0} (e : Ghosts E) (copy : E) (line : List ℕ)
     (bodies : List (List ℕ)) (w : World) : Type 0 where
   pub made : Copied
   pub is_copied : IsCopied e copy w made
-  pub told : P (made_line made.end (end_of bodies) made.records)
+  pub told : line ≡ made_line made.end (end_of bodies) made.records
+
+-- Why there is no copy. Where the journal is none, or its epoch is too great, nothing is asked of
+-- the copy's file. Want of memory is free.
+abbrev pub HasCopyCause
+    : {D E : Type 0} → Ghosts D → Ghosts E → ℕ → D → D → E → E → CompactFault → Type 0
+-- the file for the copy holds a byte
+HasCopyCause d e limit disk disk' copy copy' Exists = e.tells → e.content copy ≢ []
+HasCopyCause d e limit disk disk' copy copy' Epoch =
+    (copy' ≡ copy) × (d.tells → (bodies : List (List ℕ)) (w : World)
+    → IsLegalFile (d.content disk) bodies w → most_copied_epoch < w.epoch)
+HasCopyCause d e limit disk disk' copy copy' (Stopped Disk) =
+    Rises (d.faults disk) (d.faults disk') ⊎ Rises (e.faults copy) (e.faults copy')
+HasCopyCause d e limit disk disk' copy copy' (Stopped NotJournal) =
+    (copy' ≡ copy) × (d.tells → IsIllegalFile (d.content disk))
+-- a record of the copy would end past the limit
+HasCopyCause d e limit disk disk' copy copy' (Stopped (Full would most)) =
+    OverJournals d e disk copy (λ bodies w. (most ≡ limit) × IsPast (plan w) would limit)
+HasCopyCause d e limit disk disk' copy copy' (Stopped Memory) = ⊤
 
 -- A copy ended with a status, from one state of its sink and its two disks to a later one.
 pub record CopiesJournal
@@ -63,37 +82,25 @@ pub record CopiesJournal
     (out out' : K)
     (disk disk' : D)
     (copy copy' : E) : Type 0 where
-  -- The copy makes the journal's world, now and after a crash, and its line was written.
-  pub copied : status ≡ 0 → k.tells → OverJournals d e disk copy
-      (IsMade e copy' (λ line. k.written out' ≡ k.written out ++ line))
-  -- The sink failed, and took a front of that line.
-  pub sink : status ≡ 5 → k.tells → OverJournals d e disk copy
-      (IsMade e copy' (λ line. WritesFront (k.written out) (k.written out') line))
-  pub sink_fault : status ≡ 5 → Rises (k.faults out) (k.faults out')
+  -- why there is no copy, if there is none
+  pub fault : Option CompactFault
+  -- The copy makes the journal's world, now and after a crash, and its line was written, or a front
+  -- of it where the sink failed.
+  pub copied : fault ≡ None → (line : List ℕ)
+      × TellsText k.tells (k.faults out) (k.faults out') (k.written out) (k.written out') status
+      line
+      × OverJournals d e disk copy (IsMade e copy' line)
+  -- Or the stop line that tells why not.
+  pub stopped : IfSome fault (λ f. (status ≡ fault_status f)
+      × EndsWith k.tells (k.faults out) (k.faults out') (k.written out) (k.written out')
+      (fault_words f))
+  pub cause : IfSome fault (HasCopyCause d e limit disk disk' copy copy')
   -- At each moment an image of the copy has no record, is no journal, or makes that world.
   pub moments : OverJournals d e disk copy
       (λ bodies w. LeavesOnly e copy copy' (IsSafeCopy w))
-  -- The journal is left as it is, and so is a file that holds a byte; where the journal is none, or
-  -- its epoch is too great, nothing is asked of the copy's file.
+  -- The journal is left as it is, and so is a file that holds a byte.
   pub untouched : d.tells → IsUntouched d disk disk'
   pub kept : e.tells → e.content copy ≢ [] → IsUntouched e copy copy'
-  pub unasked : (status ≡ 7) ⊎ (status ≡ 12) → copy' ≡ copy
-  -- Why there is no copy, and the stop line that tells it: that of a fault with this status.
-  pub exists : status ≡ 11 → e.tells → e.content copy ≢ []
-  pub epoch : status ≡ 12 → d.tells → (bodies : List (List ℕ)) (w : World)
-      → IsLegalFile (d.content disk) bodies w → most_copied_epoch < w.epoch
-  pub not_journal : status ≡ 7 → d.tells → IsIllegalFile (d.content disk)
-  pub full : status ≡ 8 → OverJournals d e disk copy (λ bodies w. (would : ℕ)
-      × IsPast (plan w) would limit × EndsWith k.tells (k.faults out) (k.faults out')
-      (k.written out) (k.written out') (full_line would limit))
-  pub disk_fault : status ≡ 3
-      → Rises (d.faults disk) (d.faults disk') ⊎ Rises (e.faults copy) (e.faults copy')
-  pub stopped : status ≢ 0 → status ≢ 5 → (fault : CompactFault) × (status ≡ fault_status fault)
-      × EndsWith k.tells (k.faults out) (k.faults out') (k.written out) (k.written out')
-      (fault_words fault)
-  -- no other status comes, and counts don't fall
-  pub statuses : (status ≡ 0) ⊎ (status ≡ 3) ⊎ (status ≡ 5) ⊎ (status ≡ 6) ⊎ (status ≡ 7)
-      ⊎ (status ≡ 8) ⊎ (status ≡ 11) ⊎ (status ≡ 12)
-  pub sink_faults : k.faults out ≤ k.faults out'
-  pub disk_faults : d.faults disk ≤ d.faults disk'
-  pub copy_faults : e.faults copy ≤ e.faults copy'
+  -- the counts of calls that failed don't fall
+  pub counts : (k.faults out ≤ k.faults out') × (d.faults disk ≤ d.faults disk')
+      × (e.faults copy ≤ e.faults copy')

@@ -16,8 +16,12 @@ use Rattle.rx_top.specs.declared.early_end.EarlyEnd.TheVariants.{Read, Sink, Wor
 
 -- how a dial stands
 abbrev pub stands : {N W : Type 0} → Ghosts N W → N → DialStanding
-stands n dial =
-    record { faults = n.faults dial; broken = n.broken dial; talks = n.talks dial }
+stands n dial = record {
+  faults = n.faults dial;
+  broken = n.broken dial;
+  talks = n.talks dial;
+  asked = n.asked dial;
+}
 
 -- it shows what was heard in a line; in a blank one nothing was
 abbrev pub IsShownAt : Type 0 → List ℕ → Standing → DialStanding → DialStanding → List Heard

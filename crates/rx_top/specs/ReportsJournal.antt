@@ -1,16 +1,16 @@
 -- The command `check`: what it promises, wherever it ends.
-use Rattle.std.specs.Prelude.{◌≡◌, ◌≤◌, ◌⊎◌, ℕ, List, ◌++◌, length, codes}
+use Rattle.std.specs.Prelude.{◌≡◌, ◌≤◌, ℕ, List, length, Option, None, Some, IfSome}
 use Rattle.rx_disk.specs.declared.disk.Disk.{Ghosts}
 use Rattle.rx_disk.specs.Calls.{OnlyReads}
 use Rattle.rx_frame.specs.File.{end_of}
 use Rattle.rx_host.specs.Report.{report_of}
 use Rattle.rx_journal.specs.Reading.{IsUntouched}
-use Rattle.rx_outside.specs.Failed.{Rises}
-use Rattle.rx_outside.specs.Sink.{WritesFront}
 use Rattle.rx_outside.specs.declared.sink.Sink.{Ghosts as SinkGhosts}
-use Rattle.rx_store.specs.Holds.{IsIllegalFile, IsJournalOfSome, IsLegalFile}
+use Rattle.rx_outside.specs.declared.stop.Stop.{Stop}
+use Rattle.rx_outside.specs.declared.stop.Stop.TheVariants.{Full}
+use Rattle.rx_store.specs.Holds.{IsJournalOfSome, IsLegalFile}
 use Rattle.rx_world.specs.World.{World}
-use Rattle.rx_top.specs.Stops.{EndsWith, stop_line}
+use Rattle.rx_top.specs.Tells.{HasStopCause, TellsStop, TellsText}
 
 -- a fact of the report that is due: over a disk that tells its content, that of the legal file's
 -- world; and over any disk that of some world
@@ -27,28 +27,21 @@ pub record ReportsJournal
     (status : ℕ)
     (out out' : K)
     (disk disk' : D) : Type 0 where
-  -- The report was written.
-  pub report : status ≡ 0 → k.tells
-      → OfReport d disk (λ report. k.written out' ≡ k.written out ++ report)
-  -- The sink failed, and took a front of it.
-  pub sink_fault : status ≡ 5 → Rises (k.faults out) (k.faults out')
-  pub sink : status ≡ 5 → k.tells
-      → OfReport d disk (λ report. WritesFront (k.written out) (k.written out') report)
-  -- The disk failed, memory ran out, or the file is no journal, and the stop line tells which.
-  pub disk_fault : status ≡ 3 → Rises (d.faults disk) (d.faults disk')
-  pub disk_line : status ≡ 3 → EndsWith k.tells (k.faults out) (k.faults out') (k.written out)
-      (k.written out') (stop_line (codes "disk"))
-  pub memory_line : status ≡ 6 → EndsWith k.tells (k.faults out) (k.faults out') (k.written out)
-      (k.written out') (stop_line (codes "memory"))
-  pub not_journal_line : status ≡ 7 → EndsWith k.tells (k.faults out) (k.faults out')
-      (k.written out) (k.written out') (stop_line (codes "not_journal"))
-  -- A legal file is never refused, and no other is reported of.
-  pub not_journal : status ≡ 7 → d.tells → IsIllegalFile (d.content disk)
-  pub stood : (status ≡ 0) ⊎ (status ≡ 5) → d.tells → IsJournalOfSome (d.content disk)
+  -- why work stopped, if it did; nothing is written to the journal, so it is never full
+  pub stop : Option Stop
+  pub never_full : (would limit : ℕ) → stop ≡ Some (Full would limit) → ⊥
+  -- The report was written, or a front of it where the sink failed.
+  pub report : stop ≡ None → OfReport d disk (λ report.
+      TellsText k.tells (k.faults out) (k.faults out') (k.written out) (k.written out') status
+      report)
+  -- Or the disk failed, memory ran out, or the file is no journal, and the stop line tells which.
+  pub stopped : IfSome stop (λ why. TellsStop k.tells (k.faults out) (k.faults out')
+      (k.written out) (k.written out') status why)
+  pub cause : IfSome stop (HasStopCause d disk disk')
+  -- Of no other file than a journal is anything reported.
+  pub stood : stop ≡ None → d.tells → IsJournalOfSome (d.content disk)
   -- Nothing is written to the journal, nor synced.
   pub untouched : d.tells → IsUntouched d disk disk'
   pub only_reads : d.tells → OnlyReads d disk disk'
-  -- no other status comes, and counts don't fall
-  pub statuses : (status ≡ 0) ⊎ (status ≡ 3) ⊎ (status ≡ 5) ⊎ (status ≡ 6) ⊎ (status ≡ 7)
-  pub sink_faults : k.faults out ≤ k.faults out'
-  pub disk_faults : d.faults disk ≤ d.faults disk'
+  -- the counts of calls that failed don't fall
+  pub counts : (k.faults out ≤ k.faults out') × (d.faults disk ≤ d.faults disk')

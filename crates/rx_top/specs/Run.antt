@@ -19,7 +19,7 @@ use Rattle.rx_top.specs.Hears.{HearsAll}
 use Rattle.rx_top.specs.Lines.{lines}
 use Rattle.rx_top.specs.Reader.{max_input_bytes}
 use Rattle.rx_top.specs.Script.{line_effect, transcript}
-use Rattle.rx_top.specs.Stops.{EndsWith, Stops, last_words, status_of}
+use Rattle.rx_top.specs.Stops.{EndsWith, Stops, last_words}
 use Rattle.rx_top.specs.Story.{EachLine, Step, any_refused, chunks, next_chunk, replies, state_after}
 use Rattle.rx_top.specs.Turns.{HoldsOfTurn}
 use Rattle.rx_top.specs.declared.early_end.EarlyEnd.{EarlyEnd}
@@ -172,9 +172,9 @@ KeepsRun by host heard d old new bodies w limit ended done rest =
 
 -- ---- both, and the end
 
--- A run ended with this status, and its last line, or a front of it where the sink failed, stands
--- behind the replies. What was heard in its lines its dial shows. What it kept is said of how it
--- ended, the lines done and the rest.
+-- A run ended so, and its last line, or a front of it where the sink failed, stands behind the
+-- replies. What was heard in its lines its dial shows. What it kept is said of how it ended, the
+-- lines done and the rest.
 pub record HasRun
     (host : Host)
     (heard : List Heard)
@@ -185,10 +185,8 @@ pub record HasRun
     (written written' : List ℕ)
     (w : World)
     (input left : List ℕ)
-    (status : ℕ)
+    (ended : Result Bool EarlyEnd)
     (Kept : Result Bool EarlyEnd → List (List ℕ) → List (List ℕ) → Type 0) : Type 0 where
-  pub ended : Result Bool EarlyEnd
-  pub is_status : status ≡ status_of ended
   -- what the sink had before the last line
   pub before : List ℕ
   pub run : Plays line_effect HoldsOfTurn tells written before input left (opened host heard w)
@@ -199,11 +197,10 @@ pub record HasRun
 -- the same where nothing is known of the disk: some world has the session that the run began with
 abbrev pub HasRunSomewhere
     : Host → List Heard → Type 0 → DialStanding → DialStanding → Type 0 → ℕ → ℕ → List ℕ → List ℕ
-    → List ℕ → List ℕ → ℕ → Type 0
-HasRunSomewhere host heard wires dial dial' tells faults faults' written written'
-    input left status =
+    → List ℕ → List ℕ → Result Bool EarlyEnd → Type 0
+HasRunSomewhere host heard wires dial dial' tells faults faults' written written' input left ended =
     (w : World)
-    × HasRun host heard wires dial dial' tells faults faults' written written' w input left status
+    × HasRun host heard wires dial dial' tells faults faults' written written' w input left ended
     (λ ended done rest. ⊤)
 
 -- the replies to some lines, from the first on, and then a line that tells of a stop

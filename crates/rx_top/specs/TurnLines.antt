@@ -1,5 +1,5 @@
--- Lines that make turns of one replication, one after another.
-use Rattle.std.specs.Prelude.{◌≡◌, ℕ, ◌+◌, ◌≤◌, List, [], ◌∷◌, length, false, Option, Some, None, if◌then◌else◌}
+-- Lines that make turns of one replication, one after another, and what else stands between them.
+use Rattle.std.specs.Prelude.{◌≡◌, ◌⊎◌, ℕ, ◌+◌, ◌≤◌, List, [], ◌∷◌, length, false, Option, Some, None, if◌then◌else◌}
 use Rattle.rx_engine.specs.Lines.{Task, turns, task}
 use Rattle.rx_engine.specs.Standing.{Standing}
 use Rattle.rx_engine.specs.Turning.{WantedTurn, turned}
@@ -9,18 +9,33 @@ use Rattle.rx_sync.specs.Turn.{Turned}
 use Rattle.rx_top.specs.Lines.{is_blank}
 use Rattle.rx_top.specs.Script.{line_effect}
 
--- each of them makes one whose link does nothing, of one document an exchange at least, as a line
--- that is read does
-abbrev pub AreTurnsOf : List ℕ → ℕ → List (List ℕ) → Standing → Type 0
-AreTurnsOf name n [] s = Unit {0}
-AreTurnsOf name n (l ∷ ls) s =
-    (t : WantedTurn) × (is_blank l ≡ false) × (task s.kinds l s.session ≡ turns t) × (t.name ≡ name)
-    × (1 ≤ t.batch) × AreOk t.link × AreTurnsOf name (n + 1) ls (line_effect n l s).next
-
 -- the turn that a task is, where it is one
 abbrev pub turn_made : Task → Standing → Option Turned
 turn_made (turns t) s = Some (turned t s)
 turn_made other s = None
+
+-- the line makes one whose link does nothing, of one document an exchange at least, as a line that
+-- is read does
+pub record MakesTurnOf (name : List ℕ) (line : List ℕ) (s : Standing) : Type 0 where
+  pub wanted : WantedTurn
+  pub some_line : is_blank line ≡ false
+  pub is : task s.kinds line s.session ≡ turns wanted
+  pub by_name : wanted.name ≡ name
+  pub some : 1 ≤ wanted.batch
+  pub ok : AreOk wanted.link
+
+-- the line makes none and writes nothing, as a blank one, or one that only asks
+pub record WritesNothing (n : ℕ) (line : List ℕ) (s : Standing) : Type 0 where
+  pub no_turn : turn_made (task s.kinds line s.session) s ≡ None
+  pub same_world : (line_effect n line s).next.session.world ≡ s.session.world
+  pub same_kinds : (line_effect n line s).next.kinds ≡ s.kinds
+
+-- each of them does one or the other
+abbrev pub AreTurnsOf : List ℕ → ℕ → List (List ℕ) → Standing → Type 0
+AreTurnsOf name n [] s = Unit {0}
+AreTurnsOf name n (l ∷ ls) s =
+    (MakesTurnOf name l s ⊎ WritesNothing n l s)
+    × AreTurnsOf name (n + 1) ls (line_effect n l s).next
 
 -- the exchanges of a turn and those behind it, where it isn't the last that is needed
 abbrev pub with_those_behind : Option Turned → ℕ → ℕ

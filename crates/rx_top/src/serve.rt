@@ -2,7 +2,7 @@
 ghost use Rattle.std.specs.Prelude.{◌≡◌, ◌≤◌, ◌<◌, ◌^◌, ◌++◌, ◌⊎◌, ⊤, ℕ, List, OnOk, OnErr, IsErrOf};
 ghost use Rattle.rx_host.specs.Keeping.{Keeps};
 ghost use Rattle.rx_host.specs.Moments.{GivesMoments};
-ghost use Rattle.rx_host.specs.Outside.{HasGivenUp};
+ghost use Rattle.rx_host.specs.Outside.{HasGivenUp, told_by};
 ghost use Rattle.rx_host.specs.Records.{bodies_of};
 ghost use Rattle.rx_host.specs.declared.connections.ServeFault.TheVariants as fault;
 ghost use Rattle.rx_journal.specs.Reading.{IsUntouched};
@@ -52,7 +52,7 @@ pub(crate) fn serve<K: Sink, D: Disk, L: Listen, C: Clock>(
     requires low { 9 ≤ limit }
     requires high { limit < 2 ^ 32 }
     ensures serves { ServesCollection K.Sink D.Disk L.Listen L.W.tells C.Clock
-        offer.now.collection.now
+        offer.now.collection.now offer.now.port
         offer.now.connections limit result out.old out.new disk.old disk.new door.old door.new
         clock.old clock.new }
 {
@@ -75,18 +75,20 @@ fn open_and_serve<K: Sink, D: Disk, L: Listen, C: Clock>(
     requires low { 9 ≤ limit }
     requires high { limit < 2 ^ 32 }
     ensures serves { FromStart D.Disk disk.old (λ bodies w.
-        ServesTo result L.W.tells K.tells offer.now.collection.now offer.now.connections w
-        (record { talks = L.talks door.old; written = K.written out.old })
-        (record { talks = L.talks door.new; written = K.written out.new })
+        ServesTo result L.W.tells K.tells offer.now.collection.now offer.now.port
+        offer.now.connections w
+        (told_by L.Listen K.Sink door.old out.old)
+        (told_by L.Listen K.Sink door.new out.new)
         (λ moments. C.tells → GivesMoments (C.given clock.old) (C.given clock.new) moments)
         (λ why sure more.
         Keeps D.Disk disk.old disk.new bodies offer.now.collection.now limit sure more why)) }
     ensures legal { FromStart D.Disk disk.old (λ bodies w.
         StaysLegal D.Disk disk.old disk.new bodies) }
     ensures over_any_disk { (w : World)
-        × ServesTo result L.W.tells K.tells offer.now.collection.now offer.now.connections w
-        (record { talks = L.talks door.old; written = K.written out.old })
-        (record { talks = L.talks door.new; written = K.written out.new })
+        × ServesTo result L.W.tells K.tells offer.now.collection.now offer.now.port
+        offer.now.connections w
+        (told_by L.Listen K.Sink door.old out.old)
+        (told_by L.Listen K.Sink door.new out.new)
         (λ moments. C.tells → GivesMoments (C.given clock.old) (C.given clock.new) moments)
         (λ why sure more. ⊤) }
     ensures illegal { D.tells → IsIllegalFile (D.content disk.old)

@@ -1,16 +1,9 @@
 // The program: a command, and its status.
-ghost use Rattle.std.specs.Prelude.{◌≡◌, ◌⊎◌, List, ℕ, None, Some, codes};
+ghost use Rattle.std.specs.Prelude.{◌≡◌, codes};
 ghost use Rattle.rx_engine.specs.Opening.{host_of};
-ghost use Rattle.rx_sync.specs.Remote.{Heard};
 ghost use Rattle.rx_words.specs.Words.{command_of};
-ghost use Rattle.rx_words.specs.declared.command.Command.TheVariants.{Run, Serve, Check, Trial, Compact};
-ghost use Rattle.rx_top.specs.CopiesJournal.{CopiesJournal};
-ghost use Rattle.rx_top.specs.PlaysScript.{PlaysScript};
-ghost use Rattle.rx_top.specs.ReportsJournal.{ReportsJournal};
-ghost use Rattle.rx_top.specs.ServesCollection.{ServesCollection};
+ghost use Rattle.rx_top.specs.Program.{Plays, reach};
 ghost use Rattle.rx_top.specs.Stops.{EndsWith, stop_line};
-ghost use Rattle.rx_top.specs.TriesScript.{TriesScript};
-ghost use Rattle.rx_top.specs.Untouched.{LacksMemory, OnlyWrites, reach};
 
 use crate::check::check;
 use crate::compact::compact;
@@ -72,87 +65,11 @@ pub fn rx<S: Source, K: Sink, D: Disk, L: Listen, N: Dial, C: Clock, E: Disk>(
     hooks: &Hooks,
     copy: &mut E,
 ) -> u8
-    // The command `run`, by what was heard of masters elsewhere, unless memory was wanting for its
-    // words.
-    ensures runs { (path : List ℕ) (limit : ℕ)
-        → command_of words.now.words.items ≡ Some (Run path limit)
-        → ((heard : List Heard)
-        × PlaysScript S.Source K.Sink D.Disk N.Dial N.W.tells (host_of handlers.now hooks.now)
-        heard limit result
-        source.old source.new out.old out.new disk.old disk.new dial.old dial.new)
-        ⊎ LacksMemory result K.tells (K.faults out.old) (K.faults out.new) (K.written out.old)
-        (K.written out.new)
-        (reach source.old disk.old door.old dial.old clock.old copy.old)
-        (reach source.new disk.new door.new dial.new clock.new copy.new) }
-
-    // The command `serve`, likewise.
-    ensures serves { (path name : List ℕ) (port connections limit : ℕ)
-        → command_of words.now.words.items ≡ Some (Serve path name port connections limit)
-        → ServesCollection K.Sink D.Disk L.Listen L.W.tells C.Clock name connections limit result
-        out.old out.new disk.old disk.new door.old door.new clock.old clock.new
-        ⊎ LacksMemory result K.tells (K.faults out.old) (K.faults out.new) (K.written out.old)
-        (K.written out.new)
-        (reach source.old disk.old door.old dial.old clock.old copy.old)
-        (reach source.new disk.new door.new dial.new clock.new copy.new) }
-
-    // The command `check`, likewise.
-    ensures reports { (path : List ℕ)
-        → command_of words.now.words.items ≡ Some (Check path)
-        → ReportsJournal K.Sink D.Disk result out.old out.new disk.old disk.new
-        ⊎ LacksMemory result K.tells (K.faults out.old) (K.faults out.new) (K.written out.old)
-        (K.written out.new)
-        (reach source.old disk.old door.old dial.old clock.old copy.old)
-        (reach source.new disk.new door.new dial.new clock.new copy.new) }
-
-    // The command `trial`, likewise.
-    ensures tries { (path : List ℕ) (seed count limit : ℕ)
-        → command_of words.now.words.items ≡ Some (Trial path seed count limit)
-        → ((heard : List Heard)
-        × TriesScript K.Sink D.Disk N.Dial N.W.tells (host_of handlers.now hooks.now)
-        heard limit seed count result out.old out.new disk.old disk.new dial.old dial.new)
-        ⊎ LacksMemory result K.tells (K.faults out.old) (K.faults out.new) (K.written out.old)
-        (K.written out.new)
-        (reach source.old disk.old door.old dial.old clock.old copy.old)
-        (reach source.new disk.new door.new dial.new clock.new copy.new) }
-
-    // The command `compact`, likewise.
-    ensures copies { (path out_path : List ℕ) (limit : ℕ)
-        → command_of words.now.words.items ≡ Some (Compact path out_path limit)
-        → CopiesJournal K.Sink D.Disk E.Disk limit result out.old out.new disk.old disk.new
-        copy.old copy.new
-        ⊎ LacksMemory result K.tells (K.faults out.old) (K.faults out.new) (K.written out.old)
-        (K.written out.new)
-        (reach source.old disk.old door.old dial.old clock.old copy.old)
-        (reach source.new disk.new door.new dial.new clock.new copy.new) }
-
-    // What a command doesn't need it leaves alone.
-    ensures run_alone { (path : List ℕ) (limit : ℕ)
-        → command_of words.now.words.items ≡ Some (Run path limit)
-        → (door.new ≡ door.old) × (clock.new ≡ clock.old) × (copy.new ≡ copy.old) }
-    ensures serve_alone { (path name : List ℕ) (port connections limit : ℕ)
-        → command_of words.now.words.items ≡ Some (Serve path name port connections limit)
-        → (source.new ≡ source.old) × (dial.new ≡ dial.old) × (copy.new ≡ copy.old) }
-    ensures check_alone { (path : List ℕ)
-        → command_of words.now.words.items ≡ Some (Check path)
-        → (source.new ≡ source.old) × (door.new ≡ door.old) × (dial.new ≡ dial.old)
-        × (clock.new ≡ clock.old) × (copy.new ≡ copy.old) }
-    ensures trial_alone { (path : List ℕ) (seed count limit : ℕ)
-        → command_of words.now.words.items ≡ Some (Trial path seed count limit)
-        → (source.new ≡ source.old) × (door.new ≡ door.old) × (clock.new ≡ clock.old)
-        × (copy.new ≡ copy.old) }
-    ensures compact_alone { (path out_path : List ℕ) (limit : ℕ)
-        → command_of words.now.words.items ≡ Some (Compact path out_path limit)
-        → (source.new ≡ source.old) × (door.new ≡ door.old) × (dial.new ≡ dial.old)
-        × (clock.new ≡ clock.old) }
-
-    // The words are no command: nothing is read, opened or asked, and a line says so.
-    ensures usage { result ≡ 2 → command_of words.now.words.items ≡ None }
-    ensures usage_only { command_of words.now.words.items ≡ None → (result ≡ 2) ⊎ (result ≡ 6) }
-    ensures usage_line { result ≡ 2 → OnlyWrites K.tells (K.faults out.old) (K.faults out.new)
-        (K.written out.old) (K.written out.new)
+    ensures { Plays S.Source K.Sink D.Disk L.Listen L.W.tells N.Dial N.W.tells C.Clock E.Disk
+        (host_of handlers.now hooks.now) result out.old out.new
         (reach source.old disk.old door.old dial.old clock.old copy.old)
         (reach source.new disk.new door.new dial.new clock.new copy.new)
-        (stop_line (codes "usage")) }
+        (command_of words.now.words.items) }
 {
     match command_of(alloc, words) {
         Ok(Some(command)) => match command {

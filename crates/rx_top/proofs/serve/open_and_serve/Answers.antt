@@ -3,7 +3,7 @@ use Rattle.std.specs.Prelude.{⊤}
 use Rattle.rx_host.specs.Engine.{Finds, IsAt, IsAtIfFound, limit_of}
 use Rattle.rx_host.specs.Keeping.{Keeps}
 use Rattle.rx_host.specs.Moments.{GivesMoments}
-use Rattle.rx_host.specs.Outside.{Outside}
+use Rattle.rx_host.specs.Outside.{Outside, told_by}
 use Rattle.rx_host.specs.Serving.{HasKept, HasStopped}
 use Rattle.rx_host.specs.declared.engine.MasterEngine.{MasterEngine}
 use Rattle.rx_outside.specs.declared.stop.Stop.TheVariants.{Full, NotJournal}
@@ -12,7 +12,7 @@ use Rattle.rx_top.specs.Serve.{ServesTo}
 use Rattle.rx_top.proofs.Chunks.{stays_legal}
 use Rattle.rx_top.proofs.Heads.{not_both}
 use Rattle.rx_top.proofs.ServedHeads.{ended_of, full_to, joined, kept_too, legal_to, none_kept, serves_to}
-use Rattle.rx_top.proofs.ServedStatuses.{Ended}
+use Rattle.rx_top.proofs.ServeEnds.{Ended}
 use Rattle.rx_top.proofs.serve.open_and_serve.Goals as goal
 use Rattle.rx_top.proofs.serve.open_and_serve.Goals.{in-Ok, in-Err-served}
 
@@ -29,14 +29,11 @@ returns-after-served-clause-serves g c = λ t bodies w start.
       | in-Ok w ↦ w.result-is ∙ sym (ap ended_of w.in-Ok.is)
       | in-Err-served w ↦ w.result-is ∙ sym (ap ended_of w.in-Err-served.is)
     ] in
-    let old : Outside = record {
-      talks = g.L.Listen.talks c.args.door.now;
-      written = g.K.Sink.written c.args.out.now;
-    } in
-    let new : Outside = record {
-      talks = g.L.Listen.talks c.serve_connections-served.new.door;
-      written = g.K.Sink.written c.serve_connections-served.new.out;
-    } in
+    let old : Outside =
+    told_by g.L.Listen g.K.Sink c.args.door.now c.args.out.now in
+    let new : Outside =
+    told_by g.L.Listen g.K.Sink c.serve_connections-served.new.door
+    c.serve_connections-served.new.out in
     let given : List ℕ → Type 0 = λ moments. g.C.Clock.tells
     → GivesMoments (g.C.Clock.given c.args.clock.now)
     (g.C.Clock.given c.serve_connections-served.new.clock) moments in
@@ -51,10 +48,11 @@ returns-after-served-clause-serves g c = λ t bodies w start.
     subst (λ (o : Option MasterEngine). IfSome o (λ e. limit_of e ≡ c.args.limit)) is
     c.in-Ok-Some.ensures.limit in
     subst (λ (e : Ended). ServesTo e g.L.W.Wire.tells g.K.Sink.tells name
-    c.args.offer.now.connections w old new given
+    c.args.offer.now.port c.args.offer.now.connections w old new given
     (λ why sure more. Keeps g.D.Disk c.args.disk.now disk2 bodies name c.args.limit sure more why))
     (sym same)
-    (serves_to g.L.W.Wire.tells g.K.Sink.tells name c.args.offer.now.connections w old new given
+    (serves_to g.L.W.Wire.tells g.K.Sink.tells name c.args.offer.now.port
+    c.args.offer.now.connections w old new given
     (λ why sure more. Keeps g.D.Disk c.args.disk.now disk2 bodies name c.args.limit sure more why) m
     found (HasStopped g.D.Disk disk1 disk2 m) (HasKept g.D.Disk disk1 disk2 m)
     (joined g.D.Disk c.args.disk.now disk1 bodies name c.args.limit grows disk2 m t at found.2
@@ -95,14 +93,11 @@ returns-after-served-clause-over_any_disk g c =
       | in-Ok w ↦ w.result-is ∙ sym (ap ended_of w.in-Ok.is)
       | in-Err-served w ↦ w.result-is ∙ sym (ap ended_of w.in-Err-served.is)
     ] in
-    let old : Outside = record {
-      talks = g.L.Listen.talks c.args.door.now;
-      written = g.K.Sink.written c.args.out.now;
-    } in
-    let new : Outside = record {
-      talks = g.L.Listen.talks c.serve_connections-served.new.door;
-      written = g.K.Sink.written c.serve_connections-served.new.out;
-    } in
+    let old : Outside =
+    told_by g.L.Listen g.K.Sink c.args.door.now c.args.out.now in
+    let new : Outside =
+    told_by g.L.Listen g.K.Sink c.serve_connections-served.new.door
+    c.serve_connections-served.new.out in
     let given : List ℕ → Type 0 = λ moments. g.C.Clock.tells
     → GivesMoments (g.C.Clock.given c.args.clock.now)
     (g.C.Clock.given c.serve_connections-served.new.clock) moments in
@@ -112,9 +107,11 @@ returns-after-served-clause-over_any_disk g c =
     somewhere.1 in (
       somewhere.0,
       subst (λ (e : Ended). ServesTo e g.L.W.Wire.tells g.K.Sink.tells name
-          c.args.offer.now.connections somewhere.0 old new given (λ why sure more. ⊤))
+          c.args.offer.now.port c.args.offer.now.connections somewhere.0 old new given
+          (λ why sure more. ⊤))
           (sym same)
-          (serves_to g.L.W.Wire.tells g.K.Sink.tells name c.args.offer.now.connections somewhere.0
+          (serves_to g.L.W.Wire.tells g.K.Sink.tells name c.args.offer.now.port
+          c.args.offer.now.connections somewhere.0
           old
           new given (λ why sure more. ⊤) m found (HasStopped g.D.Disk disk1 disk2 m)
           (HasKept g.D.Disk disk1 disk2 m) (λ why sure more left. tt) (λ m' commits kept. tt) r
@@ -157,6 +154,8 @@ returns-in-Ok-None-clause-serves g c = λ t bodies w start.
       subst (λ (o : Option MasterEngine). Finds c.args.offer.now.collection.now w o)
           c.in-Ok-None.field-0-is (c.in-Ok-None.ensures.found t bodies w start.legal),
       record {
+        opened = λ told. refl;
+        accepted = λ told. refl;
         talks = λ told. refl;
         written = λ told. refl;
         moments = λ told. inl (sym (append-nil (g.C.Clock.given c.args.clock.now)));
@@ -181,6 +180,8 @@ returns-in-Err-clause-serves g c = λ t bodies w start.
       c.in-Err.stop,
       refl,
       record {
+        opened = λ told. refl;
+        accepted = λ told. refl;
         talks = λ told. refl;
         written = λ told. refl;
         moments = λ told. inl (sym (append-nil (g.C.Clock.given c.args.clock.now)));
@@ -206,6 +207,8 @@ returns-in-Err-clause-over_any_disk g c = (
     c.in-Err.stop,
     refl,
     record {
+      opened = λ told. refl;
+      accepted = λ told. refl;
       talks = λ told. refl;
       written = λ told. refl;
       moments = λ told. inl (sym (append-nil (g.C.Clock.given c.args.clock.now)));

@@ -1,7 +1,6 @@
-use Rattle.std.proofs.Common.{◌≡◌, Some, inr, subst, rules}
+use Rattle.std.proofs.Common.{◌≡◌, Some, subst, rules}
 use Rattle.rx_words.proofs.Granted.{HasLimit, granted}
 use Rattle.rx_words.specs.Words.{command_of}
-use Rattle.rx_top.proofs.Stopping.{lacks_memory}
 use Rattle.rx_top.proofs.top.rx.Goals as goal
 
 pub run-requires-clause-low : goal.run-requires-clause-low
@@ -45,28 +44,3 @@ compact-requires-clause-high g c =
     let is : command_of c.args.words.now.words.items ≡ Some c.in-Ok-Some.command = search rules in
     (subst HasLimit c.in-Compact.is
     (granted c.args.words.now.words.items c.in-Ok-Some.command is)).1
-
-pub returns-clause-runs : goal.returns-clause-runs
-returns-clause-runs g c =
-    λ path limit is. inr (lacks_memory g.K.Sink.tells _ _ _ _ c.write_all.result _
-    c.write_all.ensures.ok c.write_all.ensures.err c.write_all.ensures.failed)
-
-pub returns-clause-serves : goal.returns-clause-serves
-returns-clause-serves g c = λ path name port connections limit is.
-    inr (lacks_memory g.K.Sink.tells _ _ _ _ c.write_all.result _
-    c.write_all.ensures.ok c.write_all.ensures.err c.write_all.ensures.failed)
-
-pub returns-clause-reports : goal.returns-clause-reports
-returns-clause-reports g c =
-    λ path is. inr (lacks_memory g.K.Sink.tells _ _ _ _ c.write_all.result _
-    c.write_all.ensures.ok c.write_all.ensures.err c.write_all.ensures.failed)
-
-pub returns-clause-tries : goal.returns-clause-tries
-returns-clause-tries g c =
-    λ path seed count limit is. inr (lacks_memory g.K.Sink.tells _ _ _ _ c.write_all.result _
-    c.write_all.ensures.ok c.write_all.ensures.err c.write_all.ensures.failed)
-
-pub returns-clause-copies : goal.returns-clause-copies
-returns-clause-copies g c =
-    λ path out_path limit is. inr (lacks_memory g.K.Sink.tells _ _ _ _ c.write_all.result _
-    c.write_all.ensures.ok c.write_all.ensures.err c.write_all.ensures.failed)
