@@ -1,5 +1,5 @@
 -- Lines that call no master elsewhere hear nothing.
-use Rattle.std.proofs.Common.{◌≡◌, ◌<◌, ◌∙◌, refl, sym, ap, subst, ℕ, ◌+◌, Bool, true, false, Ok, List, [], ◌∷◌, ◌++◌, append-nil}
+use Rattle.std.proofs.Common.{◌≡◌, ◌∙◌, refl, sym, ap, subst, ℕ, ◌+◌, Bool, true, false, Ok, List, [], ◌∷◌, ◌++◌, append-nil}
 use Rattle.rx_engine.specs.Calling.{WantedCall}
 use Rattle.rx_engine.specs.Dialled.{DialStanding}
 use Rattle.rx_engine.specs.Hearing.{IsShownBy}
@@ -13,7 +13,6 @@ use Rattle.rx_top.specs.Run.{HasRun, Reads}
 use Rattle.rx_top.specs.Script.{line_effect}
 use Rattle.rx_top.specs.Story.{EachLine, state_after}
 use Rattle.rx_top.proofs.Hears.{heard_at_first}
-use Rattle.rx_top.proofs.Statuses.{is_ok}
 use Rattle.rx_world.specs.World.{World}
 use Rattle.rx_tests.specs.Headline.{CallsNoOne}
 
@@ -44,20 +43,19 @@ unheard_lines wires n (l ∷ ls) s old new hears each =
         (hears.3.1 is)
 
 pub unheard : {host : Host} {heard : List Heard} {wires : Type 0} {n0 n2 : DialStanding}
-    {tells : Type 0} {f0 f2 : ℕ} {w0 w2 : List ℕ} (w : World) (input left : List ℕ) (status : ℕ)
-    {Kept : _}
-    → HasRun host heard wires n0 n2 tells f0 f2 w0 w2 w input left status Kept → status < 2
+    {tells : Type 0} {f0 f2 : ℕ} {w0 w2 : List ℕ} {ended : _} (w : World)
+    (input left : List ℕ) (refused : Bool) {Kept : _} → ended ≡ Ok refused
+    → HasRun host heard wires n0 n2 tells f0 f2 w0 w2 w input left ended Kept
     → EachLine line_effect CallsNoOne 1 (lines input) (opened host heard w) → heard ≡ []
-unheard {host = host} {heard = heard} {wires = wires} {n0 = n0} {n2 = n2} w input left
-    status has low each =
+unheard {host = host} {heard = heard} {wires = wires} {n0 = n0} {n2 = n2} {ended = ended} w input
+    left refused is has each =
     let s = opened host heard w in
     let run = has.run in
-    let ok = is_ok has.ended (subst (λ (n : ℕ). n < 2) has.is_status low) in
-    let reads : Reads line_effect (Ok ok.0) input left run.done run.rest s =
-    subst (λ e. Reads line_effect e input left run.done run.rest s) ok.1 run.reads
+    let reads : Reads line_effect (Ok refused) input left run.done run.rest s =
+    subst (λ e. Reads line_effect e input left run.done run.rest s) is run.reads
     in
-    let shown : HearsAll wires s n0 n2 (Ok ok.0) run.done run.rest =
-    subst (λ e. HearsAll wires s n0 n2 e run.done run.rest) ok.1 run.shown in
+    let shown : HearsAll wires s n0 n2 (Ok refused) run.done run.rest =
+    subst (λ e. HearsAll wires s n0 n2 e run.done run.rest) is run.shown in
     let whole : lines input ≡ run.done =
     run.whole ∙ ap (λ (v : List (List ℕ)). run.done ++ v) reads.0 ∙ append-nil run.done in
     sym (heard_at_first host heard w)

@@ -20,6 +20,10 @@ no #-1 >
 no #0
 no #255
 no #256
+no #65535
+no #65536
+no #4294967295
+no #4294967296
 no #9007199254740991
 no '
 no ' 'z
@@ -49,17 +53,17 @@ yes >
 #[test]
 fn bytes_stand_as_positions(rt: HostRuntime) -> Result<(), Fail> {
     let alloc = rt.alloc();
-    assert_eq!(rt; compare_all(alloc)?, 38);
+    assert_eq!(rt; compare_all(alloc)?, 42);
     Ok(())
 }
 
-// -2 is 2 below 2^63, in bytes.
+// -2 is 2 below 2^63, in eight bytes, and 258 has two.
 #[test]
 fn a_position_in_bytes(rt: HostRuntime) -> Result<(), Fail> {
     let alloc = rt.alloc();
-    let bound = position(alloc, "no #-2 ~ 'é >")?;
+    let bound = position(alloc, "no #-2 #258 ~ 'é >")?;
     let due = [
-        2, 4, 127, 255, 255, 255, 255, 255, 255, 254, 1, 5, 201, 175, 0, 6,
+        2, 4, 127, 255, 255, 255, 255, 255, 255, 254, 6, 1, 2, 1, 9, 206, 180, 0, 10,
     ];
     assert_eq!(rt; bound.name().as_bytes(), due.as_slice());
     Ok(())

@@ -1,17 +1,13 @@
 // A command over forms in memory.
-ghost use Rattle.std.specs.Prelude.{◌≡◌, IfOk};
-ghost use Rattle.rx_handler.specs.Resolve.{resolve};
-ghost use Rattle.rx_update.specs.Hooked.{hooked as becomes};
+ghost use Rattle.std.specs.Prelude.{IfOk};
 ghost use Rattle.rx_outside.specs.MemoryWire.{Unused};
 
 use rx_disk::MemoryDisk;
-use rx_handler::{Handler, HandlerFault, HandlerKind, Handlers, resolved};
 use rx_outside::{
     MemoryClock, MemoryDial, MemoryDoor, MemorySink, MemorySource, MemoryWire, Source,
 };
-use rx_top::rx;
-use rx_update::{Hook, HookFault, HookKind, Hooks, hooked};
-use rx_value::{RxText, State};
+use rx_top::program;
+use rx_value::RxText;
 use rx_words::Words;
 use std::alloc::{AllocError, Global};
 use std::test::Fail;
@@ -133,7 +129,19 @@ pub fn run_from<S: Source>(
         copy: disk_of(alloc, setting.copy, &[])?,
     };
     play(alloc, setting, &words, source, &mut ran)?;
+    had_memory(ran.disk.starved())?;
+    had_memory(ran.copy.starved())?;
     Ok(ran)
+}
+
+// A form in memory that wanted some has failed a call that wasn't to fail, and the run shows
+// nothing.
+fn had_memory(starved: u64) -> Result<(), AllocError> {
+    if starved == 0 {
+        Ok(())
+    } else {
+        Err(AllocError)
+    }
 }
 
 fn disk_of(alloc: Global, held: &[u8], fails: &[u64]) -> Result<MemoryDisk, AllocError> {
@@ -150,6 +158,7 @@ fn play<S: Source>(
 ) -> Result<(), AllocError> {
     let mut sink = MemorySink::new(alloc, setting.write_fails.to_vec(alloc)?);
     play_wired(alloc, setting, words, source, &mut sink, ran)?;
+    had_memory(sink.starved())?;
     ran.output.extend_from_slice(sink.bytes())
 }
 
@@ -166,16 +175,16 @@ fn play_wired<S: Source>(
     let mut dial = MemoryDial::new(alloc, masters_of(alloc, setting.masters)?, Vec::new(alloc));
     let disk = &mut ran.disk;
     let copy = &mut ran.copy;
-    match play_handled(alloc, words, source, sink, disk, &mut door, &mut dial, copy) {
-        Ok(status) => ran.status = status,
-        Err(_) => return Err(AllocError),
-    }
+    ran.status = status_of(alloc, words, source, sink, disk, &mut door, &mut dial, copy);
+    had_memory(door.starved())?;
+    had_memory(dial.starved())?;
     add_sent(door.closed_wires(), &mut ran.sent)?;
     add_sent(dial.closed_wires(), &mut ran.sent)
 }
 
 fn add_sent(wires: &[MemoryWire], sent: &mut Vec<u8>) -> Result<(), AllocError> {
     for wire in wires {
+        had_memory(wire.starved())?;
         sent.extend_from_slice(wire.sent())?;
     }
     Ok(())
@@ -193,8 +202,8 @@ fn wires_of(alloc: Global, peers: &str) -> Result<Vec<MemoryWire>, AllocError>
     Ok(wires)
 }
 
-// The wires to masters that send this, in turn. None was used.
-fn masters_of(alloc: Global, masters: &str) -> Result<Vec<MemoryWire>, AllocError>
+/// The wires to masters that send this, in turn. None was used.
+pub fn masters_of(alloc: Global, masters: &str) -> Result<Vec<MemoryWire>, AllocError>
     ensures { IfOk result (λ wires. Unused wires.items) }
 {
     let mut wires = Vec::new(alloc);
@@ -223,87 +232,7 @@ fn bytes_of(alloc: Global, text: &str) -> Result<Vec<u8>, AllocError> {
     Ok(bytes)
 }
 
-const HANDLERS: [(&str, HandlerKind); 4] = [
-    ("master_wins", HandlerKind::MasterWins),
-    ("fork_wins", HandlerKind::ForkWins),
-    ("greater", HandlerKind::Greater),
-    ("join", HandlerKind::Join),
-];
-
-const HOOKS: [(&str, HookKind); 3] = [
-    ("count", HookKind::Count),
-    ("zero", HookKind::Zero),
-    ("lock", HookKind::Lock),
-];
-
-// The run with the handlers that the program has. They are made where they are used: what makes a
-// closure and gives it away would hide what it does.
-fn play_handled<S: Source>(
-    alloc: Global,
-    words: &Words,
-    source: &mut S,
-    sink: &mut MemorySink,
-    disk: &mut MemoryDisk,
-    door: &mut MemoryDoor,
-    dial: &mut MemoryDial,
-    copy: &mut MemoryDisk,
-) -> Result<u8, HandlerFault> {
-    let mut handlers = Handlers::new(alloc);
-    for (name, kind) in HANDLERS.iter() {
-        let name = RxText::new(alloc, name)?;
-        let kind = *kind;
-        let call = Box::new(
-            alloc,
-            move |alloc: Global, field: &str, real: &State, new: &State|
-                ensures { IfOk result (λ s. s ≡ resolve kind field.now real.now new.now) }
-            { resolved(alloc, kind, field, real, new) },
-        );
-        match call {
-            Ok(call) => handlers.add(Handler::new(name, kind, call))?,
-            Err(refused) => return Err(AllocError::from(refused).into()),
-        }
-    }
-    match play_hooked(
-        alloc, words, source, sink, disk, door, dial, copy, &handlers,
-    ) {
-        Ok(status) => Ok(status),
-        Err(_) => Err(AllocError.into()),
-    }
-}
-
-// And with its hooks.
-fn play_hooked<S: Source>(
-    alloc: Global,
-    words: &Words,
-    source: &mut S,
-    sink: &mut MemorySink,
-    disk: &mut MemoryDisk,
-    door: &mut MemoryDoor,
-    dial: &mut MemoryDial,
-    copy: &mut MemoryDisk,
-    handlers: &Handlers,
-) -> Result<u8, HookFault> {
-    let mut hooks = Hooks::new(alloc);
-    for (name, kind) in HOOKS.iter() {
-        let name = RxText::new(alloc, name)?;
-        let kind = *kind;
-        let call = Box::new(
-            alloc,
-            move |alloc: Global, field: &str, state: &State|
-                ensures { IfOk result (λ s. s ≡ becomes kind field.now state.now) }
-            { hooked(alloc, kind, field, state) },
-        );
-        match call {
-            Ok(call) => hooks.add(Hook::new(name, kind, call))?,
-            Err(refused) => return Err(AllocError::from(refused).into()),
-        }
-    }
-    Ok(status_of(
-        alloc, words, source, sink, disk, door, dial, copy, handlers, &hooks,
-    ))
-}
-
-// A call of its own, since what `rx` ensures would burden the proof of its caller.
+// A call of its own, since what the program ensures would burden the proof of its caller.
 fn status_of<S: Source>(
     alloc: Global,
     words: &Words,
@@ -313,17 +242,15 @@ fn status_of<S: Source>(
     door: &mut MemoryDoor,
     dial: &mut MemoryDial,
     copy: &mut MemoryDisk,
-    handlers: &Handlers,
-    hooks: &Hooks,
 ) -> u8 {
     let mut clock = MemoryClock::new(Vec::new(alloc));
-    rx(
-        alloc, words, source, sink, disk, door, dial, &mut clock, handlers, hooks, copy,
+    program(
+        alloc, words, source, sink, disk, door, dial, &mut clock, copy,
     )
 }
 
-// The words that stand in a text, between spaces. Apostrophes around one are no part of it.
-fn split(alloc: Global, text: &str) -> Result<Words, AllocError> {
+/// The words that stand in a text, between spaces. Apostrophes around one are no part of it.
+pub fn split(alloc: Global, text: &str) -> Result<Words, AllocError> {
     let mut words = Vec::new(alloc);
     for word in text.split_whitespace() {
         words.push(RxText::new(alloc, word.trim_matches('\''))?)?;
