@@ -8,7 +8,9 @@ goes over collections of 1,000, 10,000 and 100,000 documents with 0, 16, 64 and 
 Each query has a selector, a sort and a limit of 20, and an index holds its rows in order. sqlite3 gets the same
 writes and is asked for the rows of all queries after each, since any of them may have changed: with the same index,
 and for 64 queries also without one, over a few of the writes. What it takes to make the documents and to observe is taken off
-both. Then the queries are explained: the share of the changes by what was done to the rows.
+both. Beside 64 and 256 queries rx is timed over 20,000 writes, so that caches are warm and the difference of two runs is more
+than their noise; sqlite3 takes milliseconds for each and gets the first 500 of them. Then the queries are explained: the share
+of the changes by what was done to the rows.
 """
 import json
 import os
@@ -21,8 +23,9 @@ from collections import Counter
 from measuring import compact, figure, measure, program, sqlite
 
 RUNS = 3
-# More writes where each takes less.
-LINES = {0: 40_000, 16: 8_000, 64: 2_000, 256: 2_000}
+# More writes where each takes less, of each peer.
+LINES = {0: 40_000, 16: 8_000, 64: 20_000, 256: 20_000}
+THEIR_LINES = {0: 40_000, 16: 8_000, 64: 500, 256: 500}
 STORAGE = sys.argv[2] if len(sys.argv) > 2 else "/dev/shm"
 SCHEMA = {
     "version": 0, "primaryKey": "id", "type": "object", "required": ["id"],
@@ -118,8 +121,8 @@ def asked_again(count, queries, index, lines):
     """The seconds of one write with all queries asked again by sqlite3."""
     peer, start = [sqlite(), "-batch"], made_in_sql(count, index)
     begun = min(run(peer, start)[0] for _ in range(RUNS))
-    # One run over fewer writes is enough where each takes long.
-    runs, lines = (1, lines // 4) if queries >= 64 else (RUNS, lines)
+    # One run is enough where each write takes long.
+    runs = 1 if queries >= 64 else RUNS
     return (min(run(peer, start + list(theirs(count, queries, lines)))[0] for _ in range(runs)) - begun) / lines
 
 
@@ -128,12 +131,12 @@ def compare(count, queries):
     begun = min(run(rx, start)[0] for _ in range(RUNS))
     seconds, memory, size = min(run(rx, start + list(ours(count, lines))) for _ in range(RUNS))
     taken = max(seconds - begun, 1e-6) / lines
-    peer = asked_again(count, queries, INDEX, lines)
+    peer = asked_again(count, queries, INDEX, THEIR_LINES[queries])
     print(f"{count:,} documents, {queries} queries: rx {1 / taken:,.0f} lines a second, peak {memory:,} KiB, journal {size // 1024:,} KiB")
     print(f"    sqlite3 with an index {1 / peer:,.0f}: {peer / taken:.1f} times the time", flush=True)
     figure("writes", documents=count, queries=queries, rx=1 / taken, sqlite3=1 / peer)
     if queries == 64:
-        slow = asked_again(count, queries, "", 80)
+        slow = asked_again(count, queries, "", 20)
         print(f"    sqlite3 without one {1 / slow:,.0f}: {slow / taken:.1f} times the time", flush=True)
 
 

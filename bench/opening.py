@@ -1,13 +1,13 @@
 #!/usr/bin/env python3
-"""Opening a journal of a gigabyte, of documents of 100,000 letters written ten times each, and one of a
-million records, which is checked too.
+"""Opening a journal of a gigabyte, of documents of 100,000 letters written ten times each, one of a
+million records, which is checked too, and one of a fork that pulled 100,000 documents.
 
     bench/opening.py [PROGRAM] [FOLDER]
 
 A second run with an empty script opens the journal that the first one left. Beside it a bare loop
 reads the same file in pieces of a window's size. Then a journal of 1,000,000 records, each of one
-document, is opened so and by `rx check` in turn, three times each. The files lie in FOLDER, or else
-in memory-backed storage.
+document, is opened so and by `rx check` in turn, three times each. The last has a master's bulks of
+1,000 and the fork's exchanges of 100. The files lie in FOLDER, or else in memory-backed storage.
 """
 import os
 import shutil
@@ -22,6 +22,8 @@ KEYS = 1_000
 TIMES = 10
 WINDOW = 65_536
 RECORDS = 1_000_000
+PULLED = 100_000
+BULK = 1_000
 MOST = 4_294_967_295
 SCHEMA = {
     "version": 0,
@@ -84,12 +86,29 @@ def check_small(command, journal):
     print(f"a check takes {checked[0] / opened[0]:.2f} times as long")
 
 
+def pulled():
+    yield from (collection(name) for name in "mf")
+    yield compact({"do": "replicate", "name": "r", "fork": "f", "master": "m", "handler": "master_wins"})
+    for start in range(0, PULLED, BULK):
+        docs = [{"id": f"k{key}", "n": key % 2} for key in range(start, start + BULK)]
+        yield compact({"do": "bulk", "in": "m", "docs": docs})
+    yield compact({"do": "turn", "name": "r", "budget": 100_000})
+
+
+def open_fork(command, journal):
+    measure(command, pulled())
+    size = os.path.getsize(journal)
+    used, seconds, peak = min(timed(command) for _ in range(3))
+    print(f"{PULLED:,} documents of a master and its fork, {size / 1e6:,.1f} MB: opened in {used:.2f} s of a processor, "
+          f"{seconds:.2f} s by the clock, {size / used / 1e6:,.0f} MB a second, peak {peak:,} KiB")
+
+
 def main():
     folder = sys.argv[2] if len(sys.argv) > 2 else "/dev/shm"
     path = os.path.join(folder, f"rx-opening-{os.getpid()}")
     os.mkdir(path)
     try:
-        for name, measured in (("large", open_large), ("small", check_small)):
+        for name, measured in (("large", open_large), ("small", check_small), ("fork", open_fork)):
             journal = os.path.join(path, name)
             measured([program(), "run", journal, "--max-journal", str(MOST)], journal)
             os.remove(journal)

@@ -2,7 +2,7 @@
 """Random turns, sweeps and deliveries of forks and their masters over the built program, beside a model of
 docs/SCRIPT.md.
 
-For each of eight seeds a script of 4,000 lines over a master, its fork and a fork of that: writes on all
+For each of eight seeds a script of 4,000 lines, and for each of 300 more one of 1,000, over a master, its fork and a fork of that: writes on all
 sides with hooks before some, now and then more at once than a stream keeps, the moment, restarts,
 migrations of all, of which some are refused, turns of any batch and budget over a link that loses, repeats
 and delays, sweeps over each side, and streams that are opened and closed, whose events a link loses, repeats
@@ -41,6 +41,10 @@ from shared import HANDLERS, Wrong, add, case, collection, command, compact, con
 SEEDS = range(1, 9)
 LINES = 4_000
 RUNS = 4
+# Shorter ones, so many in a case.
+SHORT_SEEDS = range(101, 401)
+SHORT_LINES = 1_000
+TOGETHER = 30
 KEYS = [f"k{n}" for n in range(20)]
 # A field has one kind in all schemas, and another one of its kind that it may become.
 KINDS = {"b": "boolean", "d": "boolean", "n": "integer", "v": "integer", "t": "string", "u": "string"}
@@ -327,7 +331,7 @@ APART = [{**OBSERVE, "name": "o", "in": "p"},
          {"do": "hook", "in": "p", "when": "save", "hook": "count", "field": "n"}]
 
 
-def script(numbers, how, model, run):
+def script(numbers, how, model, run, lines):
     """One run, with turns without a fault at its end, between collections of the first fields."""
     def rules():
         return model.sides["f"].rules
@@ -336,7 +340,7 @@ def script(numbers, how, model, run):
         sides = [{**it, **how} if it["do"] == "replicate" else it for it in SIDES]
         yield from numbers.choice([[*sides, *ELSEWHERE], [*ELSEWHERE, *sides]])
     yield from [*APART, OBSERVE, *hooks_at_random(numbers), *streams(numbers, 0.9)]
-    for number in range(LINES // RUNS):
+    for number in range(lines):
         if (draw := numbers.random()) < 0.04:
             yield from migrating(numbers, rules()) if draw < 0.03 else burst(numbers, rules())
             continue
@@ -557,22 +561,51 @@ def try_run(journal, run, audits):
     compare(run, answers(journal, [it.line for it in run]), follow)
 
 
-def try_seed(seed, how, folder):
-    numbers, model, sweeps = random.Random(seed), Noting(), Sweeps()
-    first, second = Audit("r", "f", "m"), Audit("u", "g", "f")
-    for number in range(RUNS):
-        model.open()
-        run = [*played(model, script(numbers, how, model, number))]
-        try_run(os.path.join(folder, "journal"), run, [first, second, sweeps])
-    return (f"{first.exchanges + second.exchanges:,} exchanges, {first.conflicts + second.conflicts:,} conflicts; "
-            f"ends: {counted(first.ends + second.ends)}; sweeps: {counted(sweeps.ends)}; "
-            f"events: {counted(first.took + second.took)}; migrations: {counted(first.migrations)}")
+class Course:
+    """A script in so many runs, one after another on the same journal, and what was made of its lines."""
+
+    def __init__(self, seed, lines):
+        self.numbers, self.how, self.lines = random.Random(seed), HANDLERS[seed % len(HANDLERS)], lines
+        self.sweeps, self.audits = Sweeps(), [Audit("r", "f", "m"), Audit("u", "g", "f")]
+
+    def play(self, folder):
+        model = Noting()
+        for number in range(RUNS):
+            model.open()
+            run = [*played(model, script(self.numbers, self.how, model, number, self.lines // RUNS))]
+            try_run(os.path.join(folder, "journal"), run, [*self.audits, self.sweeps])
+        return self
+
+
+def summed(courses):
+    audits = [audit for it in courses for audit in it.audits]
+
+    def all_of(name):
+        return counted(sum((getattr(audit, name) for audit in audits), Counter()))
+
+    return (f"{sum(audit.exchanges for audit in audits):,} exchanges, "
+            f"{sum(audit.conflicts for audit in audits):,} conflicts; ends: {all_of('ends')}; "
+            f"sweeps: {counted(sum((it.sweeps.ends for it in courses), Counter()))}; "
+            f"events: {all_of('took')}; "
+            f"migrations: {counted(sum((it.audits[0].migrations for it in courses), Counter()))}")
+
+
+def try_short(seeds, folder):
+    courses = []
+    for seed in seeds:
+        inside = os.path.join(folder, str(seed))
+        os.mkdir(inside)
+        courses.append(Course(seed, SHORT_LINES).play(inside))
+    return summed(courses)
 
 
 for number in SEEDS:
-    handler = HANDLERS[number % len(HANDLERS)]
-    add(f"seed {number}, {handler['handler']}",
-        lambda folder, seed=number, how=handler: try_seed(seed, how, folder), seconds=900, in_memory=True)
+    add(f"seed {number}, {HANDLERS[number % len(HANDLERS)]['handler']}",
+        lambda folder, seed=number: summed([Course(seed, LINES).play(folder)]), seconds=900, in_memory=True)
+for at in range(0, len(SHORT_SEEDS), TOGETHER):
+    some = SHORT_SEEDS[at:at + TOGETHER]
+    add(f"seeds {some[0]} to {some[-1]}, shorter", lambda folder, seeds=some: try_short(seeds, folder), seconds=900,
+        in_memory=True)
 
 
 # ---- trees
