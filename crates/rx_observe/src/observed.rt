@@ -15,7 +15,7 @@ ghost use Rattle.rx_observe.specs.Rows.{unseen, emitted};
 ghost use Rattle.rx_observe.specs.Observing.{cooled};
 ghost use Rattle.rx_observe.specs.Watched.{cold, bits_at, action_at, asked_at, applied, IsReady, StaysFresh};
 
-use crate::deciding::{Told, decide};
+use crate::deciding::{Memo, decide};
 use crate::front::Front;
 use crate::full::rows_of;
 use crate::rows::are_same_rows;
@@ -124,16 +124,16 @@ impl Observed {
         ensures err { OnErr result (self.new ≡ self.old) }
     {
         let matches = Matches::of(&self.query, change);
-        self.hear(diagram, change, matches, &mut None)
+        self.hear(diagram, change, matches, &mut Memo::new())
     }
 
-    /// The same where it is known already what the selector says, and what was told last.
+    /// The same where it is known already what the selector says, and what was told of the change.
     pub(crate) fn hear(
         &mut self,
         diagram: &Diagram,
         change: &Change,
         matches: Matches,
-        last: &mut Option<Told>,
+        memo: &mut Memo,
     ) -> Result<Applied, AllocError>
         requires matches { TellMatches self.old.query change.now matches }
         requires cold { self.old.rows ≡ None → change.now.before ≡ Unknown }
@@ -145,7 +145,7 @@ impl Observed {
             (StaysFresh self.old.query change.now self.old.rows self.new.rows) }
         ensures err { OnErr result (self.new ≡ self.old) }
     {
-        let decided = self.decide(diagram, change, matches, last);
+        let decided = self.decide(diagram, change, matches, memo);
         self.follow(decided.action, decided.asked.count_ones(), change)
     }
 
@@ -177,7 +177,7 @@ impl Observed {
         diagram: &Diagram,
         change: &Change,
         matches: Matches,
-        last: &mut Option<Told>,
+        memo: &mut Memo,
     ) -> Decided
         requires matches { TellMatches self.now.query change.now matches }
         requires cold { self.now.rows ≡ None → change.now.before ≡ Unknown }
@@ -186,10 +186,10 @@ impl Observed {
         ensures asked { result.asked ≡ asked_of (bits_at self.now.query change.now self.now.rows) }
     {
         match &self.rows {
-            Some(rows) => decide(diagram, &self.query, change, rows, matches, last),
+            Some(rows) => decide(diagram, &self.query, change, rows, matches, memo),
             None => {
                 let none = Results::new(self.alloc);
-                decide(diagram, &self.query, change, &none, matches, last)
+                decide(diagram, &self.query, change, &none, matches, memo)
             }
         }
     }

@@ -13,7 +13,7 @@ ghost use Rattle.rx_observe.specs.Indexes.{AreIndexesOf};
 ghost use Rattle.rx_observe.specs.Observing.{AllRight, each, change_by, queries_after};
 ghost use Rattle.rx_observe.specs.Watched.{unknown, action_at, applied, IsReady, stepped};
 
-use crate::deciding::Told;
+use crate::deciding::Memo;
 use crate::front::{Front, align};
 use crate::indexes::put_in_each;
 use crate::observed::{Applied, Observed};
@@ -130,7 +130,7 @@ fn step_all(
         ≡ each (stepped collection.now.documents change.now) queries.old.items) }
     ensures fronts { OnOk result (AreFronts collection.now queries.new.items fronts.new.items) }
 {
-    let mut last = None;
+    let mut memo = Memo::new();
     for i in 0..queries.len() {
         let query = &mut queries[i];
         let front = &mut fronts[i];
@@ -142,7 +142,7 @@ fn step_all(
             collection,
             indexes,
             change,
-            &mut last,
+            &mut memo,
         )?;
     }
     Ok(())
@@ -157,7 +157,7 @@ fn step(
     collection: &Collection,
     indexes: &[Index],
     change: &Change,
-    last: &mut Option<Told>,
+    memo: &mut Memo,
 ) -> Result<(), AllocError>
     requires follows { Follows change.now observed.old front.old collection.now }
     requires indexed { AreIndexesOf collection.now indexes.now }
@@ -169,7 +169,7 @@ fn step(
     let query = observed.query();
     let matches = Matches::of(query, change);
     front.follow(alloc, query, change, matches)?;
-    match apply(alloc, diagram, observed, change, matches, last)? {
+    match apply(alloc, diagram, observed, change, matches, memo)? {
         Applied::Patched => Ok(()),
         Applied::NeedsFull => {
             let rows = observed.run(collection, indexes, front)?;
@@ -186,7 +186,7 @@ fn apply(
     observed: &mut Observed,
     change: &Change,
     matches: Matches,
-    last: &mut Option<Told>,
+    memo: &mut Memo,
 ) -> Result<Applied, AllocError>
     requires matches { TellMatches observed.old.query change.now matches }
     requires ready { IfSome observed.old.rows (IsReady observed.old.query change.now) }
@@ -197,7 +197,7 @@ fn apply(
     if observed.rows().is_none() {
         return observed.apply(diagram, &unknown(alloc, change)?);
     }
-    observed.hear(diagram, change, matches, last)
+    observed.hear(diagram, change, matches, memo)
 }
 
 // The change as a cold query gets it.

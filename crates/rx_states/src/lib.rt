@@ -7,6 +7,6 @@ mod facts;
 mod forms;
 mod matches;
 
-pub use beside::Beside;
+pub use beside::{Beside, SPOTS};
 pub use facts::Facts;
 pub use matches::Matches;
