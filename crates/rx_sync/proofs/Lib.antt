@@ -15,6 +15,7 @@ pub mod Ends
 pub mod Going
 pub mod Repeats
 pub mod Turns
+pub mod Updates
 pub mod Calls
 pub mod Refusals
 pub mod Leaves
@@ -28,6 +29,7 @@ pub mod Apart
 pub mod Within
 pub mod Untouched
 pub mod Forks
+pub mod SweptTurns
 pub mod Sweeps
 pub mod KeysWithin
 pub mod SweepsInTime

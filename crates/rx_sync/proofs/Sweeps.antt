@@ -1,14 +1,12 @@
 -- Where a sweep ends quiet, each collection of the tree equals its root.
-use Rattle.std.proofs.Common.{◌≡◌, ◌≢◌, ◌∙◌, ℕ, suc, ◌≤◌, true, false, cond, List, [], ◌∷◌, ◌++◌, map, length, Option, Some, refl, sym, ap, subst, arith, append-nil}
-use Rattle.std.proofs.lemmas.Bool.{false≢true}
+use Rattle.std.proofs.Common.{◌≡◌, ◌≢◌, ◌∙◌, ℕ, suc, ◌≤◌, List, [], ◌∷◌, ◌++◌, map, length, Option, Some, refl, sym, ap, subst, arith, append-nil}
 use Rattle.std.proofs.lemmas.Slice.Eq.{bytes_eq-Decides}
-use Rattle.std.specs.Prelude.{option_and_then, unwrap_or}
+use Rattle.std.specs.Prelude.{option_and_then}
 use Rattle.std.specs.List.{AllByRecursion}
 use Rattle.std.specs.Str.{bytes_eq}
 use Rattle.rx_value.specs.Due.{◌>>=◌}
 use Rattle.rx_value.specs.Named.{named, put_named}
 use Rattle.rx_value.specs.declared.state.State.{State}
-use Rattle.rx_value.proofs.Named.{named-put_named}
 use Rattle.rx_value.proofs.Outcomes.{some_same}
 use Rattle.rx_collection.specs.Held.{Held}
 use Rattle.rx_record.specs.declared.record.MasterName.TheVariants.{Local, Port}
@@ -22,9 +20,8 @@ use Rattle.rx_tree.specs.Orders.{levels_down, levels_up}
 use Rattle.rx_world.specs.Chain.{Forks, fork_before, forest_of}
 use Rattle.rx_world.specs.World.{World, Replications}
 use Rattle.rx_world.specs.declared.replication.Replication.{Replication}
-use Rattle.rx_world.proofs.Looked.{named-put_other}
 use Rattle.rx_sync.specs.Asking.{fork_in, pending_in}
-use Rattle.rx_sync.specs.Asks.{Asks, asks_of, no_asks}
+use Rattle.rx_sync.specs.Asks.{Asks, asks_of}
 use Rattle.rx_sync.specs.Exchange.{Terms, world_after}
 use Rattle.rx_sync.specs.Laws.{ComeSoundly, IsReady, MayTurn, RemembersLawful}
 use Rattle.rx_sync.specs.Sweep.{AreEqualIn, HasHandler, MaySweep, QuietSweepIsEqual, Sweep, forks_in, replication_of, steps_of, sweep, sweep_from, swept_on, turn_in}
@@ -32,19 +29,13 @@ use Rattle.rx_sync.specs.declared.sweeping.Step.{Step}
 use Rattle.rx_sync.specs.Turn.{Turned}
 use Rattle.rx_sync.proofs.Ends.{ends_of}
 use Rattle.rx_sync.proofs.Forks.{are_forks, found_in}
-use Rattle.rx_sync.proofs.Staying.{IsStillThere, ready_after, ready_after-fork, ready_after-master, remembers_after, soundly_in_turn, stay_after, still_after}
-use Rattle.rx_sync.proofs.Turns.{turn_again, turn_quiet, turn_sound}
+use Rattle.rx_sync.proofs.Staying.{IsStillThere, ready_after, ready_after-fork, ready_after-master, soundly_in_turn, stay_after, still_after}
+use Rattle.rx_sync.proofs.SweptTurns.{may_then}
+use Rattle.rx_sync.proofs.Turns.{turn_quiet, turn_sound}
 use Rattle.rx_sync.proofs.Untouched.{exchanges_within, unlearnt, untouched}
 use Rattle.rx_tree.proofs.Walks.{AllQuiet, AreTurns, all_parts, of_below, walk_ends_equal, walked}
 use Rattle.rx_sync.proofs.Within.{turn_idle, turn_settles, turn_within}
 use Rattle.rx_sync.proofs.Worlds.{after-append}
-
--- what was put at a name is found there
-put_same : (asks : List (List ℕ × Asks)) (name : List ℕ) (a : Asks)
-    → named (put_named asks name a) name ≡ Some a
-put_same asks name a =
-    named-put_named asks name name a
-    ∙ ap (λ b. cond b (Some a) (named asks name)) ((bytes_eq-Decides name name).1 refl)
 
 -- a world, and what is remembered of requests beside it
 abbrev pub Standing : Type 0
@@ -212,33 +203,14 @@ module _ (s : Sweep) (some : 1 ≤ s.batch) (first : World) where
 
     -- each replication of the tree may make a turn again
     pub one_ready : (d k : List ℕ) → IsReadyFor d k at → IsReadyFor d k (step_of c at)
-    one_ready d k other =
-        let in_turn = soundly_in_turn at.0 t.records come in
-        record {
-          ready = ready_after t.records at.0 (called d) s.kinds other.ready come;
-          fork = ready_after-fork t.records at.0 (called d) s.kinds other.ready come ∙ other.fork;
-          master =
-              ready_after-master t.records at.0 (called d) s.kinds other.ready come ∙ other.master;
-          asks = elim (bytes_eq (called d) (called c)) as (λ b. bytes_eq (called d) (called c) ≡ b
-              → RemembersLawful then (called d) (asks_of (called d) (step_of c at).1)) [
-                | true ↦ (λ same.
-                    let is_c = (bytes_eq-Decides (called d) (called c)).0 same in
-                    subst (λ (n : List ℕ). RemembersLawful then n (asks_of n (step_of c at).1))
-                    (sym is_c)
-                    (subst (RemembersLawful then (called c))
-                    (sym (ap (λ o. unwrap_or o no_asks) (put_same at.1 (called c) t.asks)))
-                    (turn_again (terms_of c) s.batch s.budget [] at.0 (asks_of (called c) at.1) some
-                    may).asks))
-                | false ↦ (λ apart.
-                    subst (RemembersLawful then (called d))
-                    (sym (ap (λ o. unwrap_or o no_asks)
-                    (named-put_other at.1 (called c) (called d) t.asks
-                    (λ same.
-                    false≢true (sym apart ∙ (bytes_eq-Decides (called d) (called c)).1 same)))))
-                    (remembers_after t.records at.0 (called d) s.kinds (asks_of (called d) at.1)
-                    other.ready in_turn other.asks))
-              ] refl;
-        }
+    one_ready d k other = record {
+      ready = ready_after t.records at.0 (called d) s.kinds other.ready come;
+      fork = ready_after-fork t.records at.0 (called d) s.kinds other.ready come ∙ other.fork;
+      master =
+          ready_after-master t.records at.0 (called d) s.kinds other.ready come ∙ other.master;
+      asks = (may_then s some (called c) (called d) at.0 at.1 may
+          (record { ready = other.ready; asks = other.asks })).asks;
+    }
 
     -- fork and master are equal then
     one_equal : IsQuiet c at → AreEqual (step_of c at) c n

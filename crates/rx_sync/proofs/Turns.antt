@@ -30,7 +30,7 @@ use Rattle.rx_sync.proofs.Going.{GoesWell, behind_well, due_here, handled_come, 
 use Rattle.rx_sync.proofs.Messages.{asked_at}
 use Rattle.rx_sync.proofs.Repeats.{twice_is_once}
 use Rattle.rx_sync.proofs.Staying.{ready_after, ready_after-master, remembers_after, soundly_in_turn}
-use Rattle.rx_sync.proofs.Worlds.{after-append, soundly-append}
+use Rattle.rx_sync.proofs.Worlds.{after-append, soundly-append, soundly_front}
 
 -- ---- an exchange
 
@@ -67,7 +67,7 @@ module _ (t : Terms) (w : World) (ready : IsReady w t.name t.kinds) (n batch : �
       ∙ ap (λ (k : ℕ). Some (asked_of e.fork.documents r.side k n batch)) hh.leaves.epoch
       ∙ ap Some (asked_at w t.name n batch asked r e.fork ready.here.held e.held is)
 
-late_lawful : (s : Shape) (x : Happening) (a : Asks) (q : Request) → AsksAreLawful s a
+pub late_lawful : (s : Shape) (x : Happening) (a : Asks) (q : Request) → AsksAreLawful s a
     → late_request x a ≡ Some q → IsLawfulRequest s q
 late_lawful s (link.Late j) a q lawful is =
     all_at (IsLawfulRequest s) a.requests q lawful (from_slice_get a.requests j q is)
@@ -110,6 +110,14 @@ module _ (t : Terms) (w : World) (ready : IsReady w t.name t.kinds) (n batch : �
       late_by (late_request x a) (λ q at.
       late_lawful e.fork.schema x a q
       (lawful ready.here.replication ready.here.held e.fork e.held) at)
+
+  -- the records of the earlier request come soundly
+  pub late_come : (a : Asks) → RemembersLawful w t.name a → (cs : List Content)
+      → late_records t.name t.now w (late_request x a) ≡ Some cs → ComeSoundly w cs
+  late_come a lawful cs at =
+      soundly_front w cs (exchange t asked x (world_after cs w)).records
+      (subst (λ (o : Option (List Content)). ComeSoundly w (once_late t asked x w o).records) at
+      (late_well a lawful).come)
 
   -- the request is still the one that was asked, once the late one was handled
   once_handled_asked : (q : Request) (o : Option Handled) (cs : List Content)

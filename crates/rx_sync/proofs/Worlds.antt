@@ -73,6 +73,13 @@ soundly-append w [] ds first rest = rest
 soundly-append w (c ∷ cs) ds first rest =
     (first.0, first.1, soundly-append (step c w) cs ds first.2 rest)
 
+-- the first of records that come soundly do
+pub soundly_front : (w : World) (cs ds : List Content) → ComeSoundly w (cs ++ ds)
+    → ComeSoundly w cs
+soundly_front w [] ds come = tt
+soundly_front w (c ∷ cs) ds come =
+    (come.0, come.1, soundly_front (step c w) cs ds come.2)
+
 -- the world after them is sound
 pub sound_after : (w : World) (cs : List Content) → IsSoundWorld w → ComeSoundly w cs
     → IsSoundWorld (world_after cs w)

@@ -6,6 +6,7 @@ pub mod Exchange
 pub mod Turn
 pub mod Shown
 pub mod Laws
+pub mod Updates
 pub mod MessageLaws
 pub mod Bound
 pub mod AnyReply

@@ -22,7 +22,7 @@ use Rattle.rx_world.specs.Sound.{IsSoundWorld}
 use Rattle.rx_world.specs.World.{World, Replications}
 use Rattle.rx_world.specs.declared.replication.Replication.{Replication}
 use Rattle.rx_sync.specs.Asks.{Asks, asks_of}
-use Rattle.rx_sync.specs.Exchange.{world_after}
+use Rattle.rx_sync.specs.Exchange.{Terms, world_after}
 use Rattle.rx_sync.specs.Handling.{local_name}
 use Rattle.rx_sync.specs.Laws.{RemembersLawful}
 use Rattle.rx_tree.specs.Orders.{levels_down, levels_up}
@@ -76,11 +76,13 @@ pub record Sweep : Type 0 where
   pub now : ℕ
   pub kinds : Kinds
 
--- the turn of the replication of a name
+-- what stays the same through the turn of the replication of a name
+abbrev pub terms_in : Sweep → List ℕ → Terms
+terms_in s name = record { name = name; now = s.now; kinds = s.kinds }
+
+-- that turn, over a link that does nothing
 abbrev pub turn_in : Sweep → List ℕ → World → List (List ℕ × Asks) → Turned
-turn_in s name w asks =
-    turn (record { name = name; now = s.now; kinds = s.kinds }) s.batch s.budget [] w
-    (asks_of name asks)
+turn_in s name w asks = turn (terms_in s name) s.batch s.budget [] w (asks_of name asks)
 
 -- What turns write, which requests are remembered after them, what each of them came to, and how
 -- the last one ended: quiet, where there was none.
@@ -123,6 +125,17 @@ sweep s (step ∷ steps) w asks =
 -- those of the tree of a collection
 abbrev pub sweep_from : Sweep → List ℕ → World → List (List ℕ × Asks) → Swept
 sweep_from s root w asks = sweep s (sweep_steps w root) w asks
+
+-- what holds of each of its turns, up to the first that isn't quiet: of the name of its replication,
+-- of the world before it, and of what was asked before
+abbrev pub EachSwept : (List ℕ → World → List (List ℕ × Asks) → Type 0) → Sweep → List Step → World
+    → List (List ℕ × Asks) → Type 0
+EachSwept P s [] w asks = Unit {0}
+EachSwept P s (step ∷ steps) w asks =
+    let t = turn_in s step.name w asks in
+    P step.name w asks
+    × (t.ended ≡ Quiet
+    → EachSwept P s steps (world_after t.records w) (put_named asks step.name t.asks))
 
 -- ---- what holds of it
 

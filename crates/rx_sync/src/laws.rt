@@ -5,6 +5,7 @@ ghost use Rattle.rx_sync.specs.RemoteLaws.{EachIsUnharmed, EveryCall, IsCallSoun
 ghost use Rattle.rx_sync.specs.Sweep.{QuietSweepIsEqual, SweepEndsInTime};
 ghost use Rattle.rx_sync.specs.MessageLaws.{AnswersItsFork, AnswersLawfully, AsksLawfully};
 ghost use Rattle.rx_sync.specs.Laws.{EveryTurn, IsTurnSound, MayTurnAgain, QuietIsLevel, RefusedByTheClockAlone, TwiceIsOnce};
+ghost use Rattle.rx_sync.specs.Updates.{EachKeepsUpdates, SweepsKeepUpdates};
 
 /// States that what the two ends send each other is lawful, so that each may write it and the other
 /// reads it back, and does nothing.
@@ -26,6 +27,9 @@ pub fn turn_laws()
     ensures again { EveryTurn MayTurnAgain }
     // Quiet means equal.
     ensures quiet { EveryTurn QuietIsLevel }
+    // In none of its exchanges a document that is to be pushed changes but by the handler's answer
+    // on its conflict in the reply that is taken, and where none is taken the fork stays as it is.
+    ensures no_lost_update { EveryTurn EachKeepsUpdates }
     // A request that comes twice does what it does once.
     ensures twice { TwiceIsOnce }
     // A reply of the master is refused only where no write time is left.
@@ -95,6 +99,8 @@ pub fn delivery_laws()
 pub fn sweep_laws()
     // Where it ends quiet, each collection of the tree has the same state as its root at each key.
     ensures quiet { QuietSweepIsEqual }
+    // Nor does an exchange of one of its turns lose an update.
+    ensures no_lost_update { SweepsKeepUpdates }
     // For K keys in the tree, turns of 3 K + 1 exchanges are enough to end quiet, unless a commit
     // finds no write time.
     ensures in_time { SweepEndsInTime }

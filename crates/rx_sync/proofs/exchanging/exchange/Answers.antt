@@ -1,4 +1,4 @@
-use Rattle.std.proofs.Common.{◌≡◌, ◌∙◌, ap, rules}
+use Rattle.std.proofs.Common.{◌∙◌, ap, rules}
 use Rattle.rx_handler.specs.Shown.{kinds_of}
 use Rattle.rx_script.specs.declared.happening.Happening.{Happening}
 use Rattle.rx_world.specs.Holders.{world_in}
