@@ -1,5 +1,5 @@
 -- One answer of a master.
-use Rattle.std.proofs.Common.{◌≡◌, ◌∙◌, refl, sym, ap, subst, ℕ, true, List, [], ◌∷◌, inl, inr, map, Option, None, Some, option_map, is_some}
+use Rattle.std.proofs.Common.{◌≡◌, ◌∙◌, refl, sym, ap, subst, ℕ, true, List, [], ◌∷◌, inr, map, Option, None, Some, option_map, is_some}
 use Rattle.rx_value.specs.Named.{named}
 use Rattle.rx_collection.specs.Held.{Held}
 use Rattle.rx_record.specs.Content.{Content, content_bytes}
@@ -52,13 +52,6 @@ pub stops_by : (ask : AskKind) (q : Request) (old : Held) (before after : List �
 stops_by (Push pushed) q old before after now Holds has holds = inr (now, has, holds)
 stops_by (Pull place batch) q old before after now Holds has holds =
     (has.1, subst (Holds []) (no_commit (answered_at old now q)) holds)
-
--- or before it had a moment
-pub stops_early : (ask : AskKind) (q : Request) (old : Held) (before after : List ℕ)
-    (Holds : Commits → Commits → Type 0) → after ≡ before → Holds [] []
-    → StopsAsk ask q old before after Holds
-stops_early (Push pushed) q old before after Holds same holds = inl (same, holds)
-stops_early (Pull place batch) q old before after Holds same holds = (same, holds)
 
 -- ---- what was planned
 

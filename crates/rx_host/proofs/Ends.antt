@@ -1,7 +1,7 @@
 -- How a connection ended, by another meaning of what holds.
 use Rattle.std.proofs.Common.{ℕ, List, [], ◌∷◌, inl, inr, arith}
 use Rattle.rx_outside.specs.Clock.{GivesMoment}
-use Rattle.rx_host.specs.Moments.{GivesMoments, Ticks}
+use Rattle.rx_host.specs.Moments.{GivesMoments}
 use Rattle.rx_serve.specs.Answered.{Commits}
 use Rattle.rx_serve.specs.Ends.{Connection, EndsBy, IsCutOff, IsServed, IsStopped}
 use Rattle.rx_serve.specs.declared.ended.Why.{Why}
@@ -58,15 +58,3 @@ pub gives_one : (old new : List ℕ) (now : ℕ) → GivesMoment old new now
     → GivesMoments old new (now ∷ [])
 gives_one old new now (inl is) = inl is
 gives_one old new now (inr past) = inr (omega (arith, past))
-
--- what holds of moments while work goes on, by another reason for it
-pub ticks_as : (tells early later : Type 0) (given given' moments moments' : List ℕ)
-    → (later → early) → Ticks tells early given given' moments moments'
-    → Ticks tells later given given' moments moments'
-ticks_as tells early later given given' moments moments' still ticks = record {
-  joined = ticks.joined;
-  spare = ticks.spare;
-  more = ticks.more;
-  of_clock = ticks.of_clock;
-  none_spare = λ goes. ticks.none_spare (still goes);
-}

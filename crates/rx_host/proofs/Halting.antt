@@ -139,7 +139,6 @@ module _
     within why halts = record {
       talk = halts.talk;
       moments = halts.moments;
-      spare = halts.spare;
       breaks = λ told.
           breaking why halts.talk halts.moments (first.kept told)
           (subst (λ (h : Held). BreaksOff why h halts.talk halts.moments L₂) (first.after told)

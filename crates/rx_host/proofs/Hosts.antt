@@ -13,7 +13,7 @@ use Rattle.rx_store.proofs.Growing.{held, held_alike, leaves_now}
 use Rattle.rx_host.specs.Engine.{IsAt, limit_of, name_of, world_at}
 use Rattle.rx_host.specs.Keeping.{Keeps}
 use Rattle.rx_host.specs.Hosting.{Hosts, stop_in}
-use Rattle.rx_host.specs.Laws.{CountsNow, OnlyNow, keeps_none, later}
+use Rattle.rx_host.specs.Laws.{CountsNow}
 use Rattle.rx_host.specs.Serving.{HasKept, HasStopped}
 use Rattle.rx_host.specs.declared.host.Work.{Work}
 use Rattle.rx_host.specs.declared.host.Work.TheVariants.{Going, Stopped}
@@ -117,24 +117,6 @@ module _ {D : Type 0} (d : Ghosts D) where
       } in
       subst (λ (w : Work). Hosts d old new w (Stopped why) [] commits) (sym is) hosts
 
-  -- memory ran out before anything was done
-  pub hosts_untouched : OnlyNow d → (disk : D) (work work' : Work) (m : MasterEngine)
-      → work ≡ Going m → work' ≡ Stopped Memory → Hosts d disk disk work work' [] []
-  hosts_untouched only_now disk work work' m is is' =
-      let hosts : Hosts d disk disk (Going m) (Stopped Memory) [] [] = record {
-        name = λ still. absurd (cc);
-        limit = λ still. absurd (cc);
-        keeps = λ told bodies at.
-            keeps_none d only_now told disk m bodies at (Some Memory)
-            (λ would most none. absurd (cc));
-        goes_on = λ told bodies at still. absurd (cc);
-        count = later (d.faults disk);
-        disk_only = λ none. absurd (cc);
-        lawful = λ none. absurd (cc);
-      } in
-      subst (λ (w : Work). Hosts d disk disk w work' [] []) (sym is)
-      (subst (λ (w : Work). Hosts d disk disk (Going m) w [] []) (sym is') hosts)
-
   -- ---- a connection
 
   module _ (x x' y y' : D) (work work' : Work) (m : MasterEngine) (same : x ≡ x') (same' : y ≡ y')
@@ -182,7 +164,3 @@ module _ {D : Type 0} (d : Ghosts D) where
         let same : why ≡ NotJournal = cc in
         ⊎_elim (λ told. hosts.lawful (told ∙ ap (λ (s : Stop). Some s) same))
         (λ memory. let other : NotJournal ≡ Memory = sym same ∙ memory.0 in absurd (cc)) of
-
--- a stop is none
-pub not_still : (work : Work) (why : Stop) → work ≡ Stopped why → stop_in work ≡ None → ⊥
-not_still work why is still = let none : Some why ≡ None = sym (ap stop_in is) ∙ still in cc

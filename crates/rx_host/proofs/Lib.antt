@@ -2,6 +2,7 @@ mod Plans
 mod Hosts
 mod Answers
 mod Ends
+mod Causes
 mod Tries
 mod InTurn
 mod Halting

@@ -86,7 +86,7 @@ module _
 
     -- a stop came within it
     abbrev pub Breaks : Stop → Type 0
-    Breaks why = (moments : List ℕ) × (spare : List ℕ) × Given (moments ++ spare)
+    Breaks why = (moments : List ℕ) × Given moments
         × (wires → (after : Held) × (stop : Option Stop) × IsStopOf why stop
         × IsStopped (HasStopped d a b m stop) (seen after moments))
 
@@ -139,19 +139,14 @@ module _
       one_after old new one_wire talks written = record {
         talk = t;
         moments = ends.0;
-        spare = [];
         breaks = λ told. broke_after c (collection_of p.0) one Left (HasKept d a b m p.0)
             (λ commits kept. kept_left d a b m p.0 commits kept) (by_talk told) failed;
         opened = λ told. (one_wire told).0;
         accepted = λ told. (one_wire told).1;
         talks = talks;
         written = written;
-        given = subst Given (sym (no_more ends.0)) ends.1;
+        given = ends.1;
       }
-        where
-          no_more : (xs : List ℕ) → xs ++ [] ≡ xs
-          no_more [] = refl
-          no_more (x ∷ xs) = ap (λ ys. x ∷ ys) (no_more xs)
 
       -- and its line wasn't written whole
       pub line_halts : {T : Type 0} (i : ℕ) (old new : Outside) (f : ServeFault)
@@ -179,16 +174,15 @@ module _
     one_within why why' breaks same old new one_wire talks written = record {
       talk = t;
       moments = breaks.0;
-      spare = breaks.1;
       breaks = λ told.
-          let within = breaks.3 told in
+          let within = breaks.2 told in
           broke_within why why' c t breaks.0 coming sent Left within.0 within.1 same within.2
           (came told) (went told) within.3;
       opened = λ told. (one_wire told).0;
       accepted = λ told. (one_wire told).1;
       talks = talks;
       written = written;
-      given = breaks.2;
+      given = breaks.1;
     }
 
     -- the wire wasn't handed back

@@ -20,6 +20,11 @@ collection_of m = collection_at m.name (world_of m.world)
 abbrev pub limit_of : MasterEngine → ℕ
 limit_of m = m.journal.limit
 
+-- a later master of the same collection, within the same limit
+pub record IsStillOf (m m' : MasterEngine) : Type 0 where
+  pub name : name_of m' ≡ name_of m
+  pub limit : limit_of m' ≡ limit_of m
+
 -- the disk holds these bodies, and they are the master's world
 abbrev pub IsAt : {D : Type 0} → Ghosts D → D → MasterEngine → List (List ℕ) → Type 0
 IsAt d disk m bodies = Holds d disk m.journal bodies (world_of m.world)

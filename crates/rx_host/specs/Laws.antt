@@ -27,14 +27,12 @@ later n = omega arith
 pub at_most : (a b c : ℕ) → a ≤ b → b ≤ c → a ≤ c
 at_most a b c first second = omega (arith, first, second)
 
-pub ticks_none : (tells going : Type 0) (given moments : List ℕ)
-    → Ticks tells going given given moments moments
-ticks_none tells going given moments = record {
+pub ticks_none : (tells : Type 0) (given moments : List ℕ)
+    → Ticks tells given given moments moments
+ticks_none tells given moments = record {
   joined = [];
-  spare = [];
   more = sym (append-nil moments);
   of_clock = λ told. inl (sym (append-nil given));
-  none_spare = λ _. refl;
 }
 
 pub gives_on : (g0 g1 g2 xs ys : List ℕ) → GivesMoments g0 g1 xs → GivesMoments g1 g2 ys
@@ -46,23 +44,15 @@ gives_on g0 g1 g2 xs ys (inl first) (inr past) =
     inr (omega (arith, past, long, length-append xs ys))
 gives_on g0 g1 g2 xs ys (inr past) second = inr (omega (arith, past, length-append xs ys))
 
-pub ticks_on : (tells early going : Type 0) (g0 g1 g2 m0 m1 m2 : List ℕ) → early
-    → Ticks tells early g0 g1 m0 m1 → Ticks tells going g1 g2 m1 m2 → Ticks tells going g0 g2 m0 m2
-ticks_on tells early going g0 g1 g2 m0 m1 m2 still first second = record {
+pub ticks_on : (tells : Type 0) (g0 g1 g2 m0 m1 m2 : List ℕ) → Ticks tells g0 g1 m0 m1
+    → Ticks tells g1 g2 m1 m2 → Ticks tells g0 g2 m0 m2
+ticks_on tells g0 g1 g2 m0 m1 m2 first second = record {
   joined = first.joined ++ second.joined;
-  spare = second.spare;
   more = second.more ∙ ap (λ v. v ++ second.joined) first.more
       ∙ append_assoc m0 first.joined second.joined;
-  of_clock = λ told. subst (λ v. GivesMoments g0 g2 v)
-      (sym (append_assoc first.joined second.joined second.spare))
-      (gives_on g0 g1 g2 first.joined (second.joined ++ second.spare)
-      (subst (λ v. GivesMoments g0 g1 v) (none first.spare (first.none_spare still))
-      (first.of_clock told)) (second.of_clock told));
-  none_spare = second.none_spare;
+  of_clock = λ told.
+      gives_on g0 g1 g2 first.joined second.joined (first.of_clock told) (second.of_clock told);
 }
-  where
-    none : (spare : List ℕ) → spare ≡ [] → first.joined ++ spare ≡ first.joined
-    none spare is = ap (λ v. first.joined ++ v) is ∙ append-nil first.joined
 
 -- ---- what is kept
 

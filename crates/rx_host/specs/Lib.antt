@@ -9,4 +9,5 @@ pub mod Laws
 pub mod Serving
 pub mod Connections
 pub mod Outside
+pub mod Causes
 pub mod Report

@@ -14,11 +14,8 @@ abbrev pub GivesMoments : List ℕ → List ℕ → List ℕ → Type 0
 GivesMoments old new moments =
     (new ≡ old ++ moments) ⊎ (last_count ≤ length old + length moments)
 
--- The moments that joined are those that a clock gave. Where the work stopped, one more may be
--- given.
-pub record Ticks (tells going : Type 0) (given given' moments moments' : List ℕ) : Type 0 where
+-- The moments that joined are those that a clock gave, and it gave no others.
+pub record Ticks (tells : Type 0) (given given' moments moments' : List ℕ) : Type 0 where
   pub joined : List ℕ
-  pub spare : List ℕ
   pub more : moments' ≡ moments ++ joined
-  pub of_clock : tells → GivesMoments given given' (joined ++ spare)
-  pub none_spare : going → spare ≡ []
+  pub of_clock : tells → GivesMoments given given' joined

@@ -8,6 +8,7 @@ use Rattle.rx_outside.specs.declared.listen.Listen.{Ghosts as DoorGhosts}
 use Rattle.rx_outside.specs.declared.sink.Sink.{Ghosts as SinkGhosts}
 use Rattle.rx_outside.specs.declared.stop.Stop.{Stop}
 use Rattle.rx_outside.specs.declared.stop.Stop.TheVariants.{Memory}
+use Rattle.rx_outside.specs.declared.wire.Wire.{Ghosts as WireGhosts}
 use Rattle.rx_serve.specs.Answered.{Commits}
 use Rattle.rx_serve.specs.Ends.{IsStopped}
 use Rattle.rx_serve.specs.declared.ended.Ended.{Ended}
@@ -31,6 +32,18 @@ told_by l k door out = record {
   talks = l.talks door;
   written = k.written out;
 }
+
+-- a wire over which nothing went yet
+pub record IsNewWire {W : Type 0} (w : WireGhosts W) (wire : W) : Type 0 where
+  pub faults : w.faults wire ≡ 0
+  pub given : w.tells → w.given wire ≡ []
+  pub sent : w.tells → w.sent wire ≡ []
+
+-- a door gave wires at most: it wasn't opened again, and no wire was handed back
+pub record OnlyGives {L W : Type 0} (l : DoorGhosts L W) (old new : L) : Type 0 where
+  pub opened : l.opened new ≡ l.opened old
+  pub broken : l.broken new ≡ l.broken old
+  pub talks : l.talks new ≡ l.talks old
 
 -- with the door opened at a port
 abbrev pub opened_at : ℕ → Outside → Outside
@@ -119,7 +132,7 @@ BreaksOff why c talk moments Leaves =
     × (after : Held) × IsStopped (Leaves stop) (connection_of talk moments c after))
 
 -- Within one more: none of its line was written. Its wire was handed back, unless memory is
--- wanting. A moment may be given that none of its pushes has.
+-- wanting.
 pub record HaltsWithin
     (wires sink : Type 0)
     (why : Stop)
@@ -129,14 +142,13 @@ pub record HaltsWithin
     (Leaves : Option Stop → Commits → Commits → Type 0) : Type 0 where
   pub talk : Talk
   pub moments : List ℕ
-  pub spare : List ℕ
   pub breaks : wires → BreaksOff why c talk moments Leaves
   pub opened : wires → new.opened ≡ old.opened
   pub accepted : wires → new.accepted ≡ one_more old.accepted
   pub talks : wires → (new.talks ≡ old.talks ++ talk ∷ [])
       ⊎ ((why ≡ Memory) × (new.talks ≡ old.talks))
   pub written : sink → new.written ≡ old.written
-  pub given : Gives (moments ++ spare)
+  pub given : Gives moments
 
 -- by its fault
 abbrev pub HaltsBy

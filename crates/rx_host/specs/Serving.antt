@@ -1,8 +1,10 @@
 -- What a connection leaves.
-use Rattle.std.specs.Prelude.{ℕ, List, [], ◌++◌, Option, None}
+use Rattle.std.specs.Prelude.{◌≡◌, ◌≤◌, ℕ, List, [], ◌++◌, Option, None}
 use Rattle.rx_disk.specs.declared.disk.Disk.{Ghosts}
 use Rattle.rx_outside.specs.declared.stop.Stop.{Stop}
+use Rattle.rx_outside.specs.declared.wire.Wire.{Ghosts as WireGhosts}
 use Rattle.rx_serve.specs.Answered.{Commits}
+use Rattle.rx_serve.specs.Ends.{joined_since}
 use Rattle.rx_host.specs.Engine.{IsAt, limit_of, name_of}
 use Rattle.rx_host.specs.Keeping.{Keeps}
 use Rattle.rx_host.specs.Records.{bodies_of}
@@ -32,3 +34,10 @@ abbrev pub HasStopped
 HasStopped d old new m stop sure more =
     d.tells → (bodies : List (List ℕ)) → IsAt d old m bodies
     → Keeps d old new bodies (name_of m) (limit_of m) sure more stop
+
+-- Over a wire bytes were sent behind those sent before, what its peer sends stayed what it was, and
+-- its count of failed calls didn't fall.
+pub record TalksOn {W : Type 0} (w : WireGhosts W) (old new : W) : Type 0 where
+  pub sent : w.tells → w.sent new ≡ w.sent old ++ joined_since (w.sent old) (w.sent new)
+  pub whole : w.tells → w.given new ++ w.left new ≡ w.given old ++ w.left old
+  pub count : w.faults old ≤ w.faults new

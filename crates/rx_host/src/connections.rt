@@ -1,9 +1,10 @@
 // Connections to a master, one after another.
 ghost use Rattle.std.specs.Prelude.{◌≡◌, ◌⊎◌, ◌≤◌, ◌++◌, ◌∷◌, ℕ, List, [], length, Option, IfOk, IfErr, OnOk, OnErr, IsErrOf};
+ghost use Rattle.rx_host.specs.Causes.{AreNoLess, HasHaltCause, failed_calls};
 ghost use Rattle.rx_host.specs.Connections.{ServedConnection, connection_line};
-ghost use Rattle.rx_host.specs.Engine.{IsAt, collection_of, limit_of, name_of};
+ghost use Rattle.rx_host.specs.Engine.{IsAt, IsStillOf, collection_of};
 ghost use Rattle.rx_host.specs.Moments.{GivesMoments};
-ghost use Rattle.rx_host.specs.Outside.{HaltsAfter, HaltsBy, HasGivenUp, HaveServed, IsStopBy, opened_at, told_by};
+ghost use Rattle.rx_host.specs.Outside.{HaltsAfter, HaltsBy, HasGivenUp, HaveServed, IsNewWire, IsStopBy, OnlyGives, opened_at, told_by};
 ghost use Rattle.rx_host.specs.Serving.{HasKept, HasStopped};
 ghost use Rattle.rx_outside.specs.Failed.{Rises, one_more};
 ghost use Rattle.rx_outside.specs.Sink.{WritesFront};
@@ -74,21 +75,19 @@ pub fn serve_connections<L: Listen, D: Disk, C: Clock, K: Sink>(
         × (stop : Option Stopping) × IsStopBy fault stop
         × HasStopped D.Disk disk.old disk.new first stop sure more) }
 
-    ensures name { IfOk result (λ m. name_of m ≡ name_of first) }
-    ensures limit { IfOk result (λ m. limit_of m ≡ limit_of first) }
-    ensures door { IsErrOf result ServeFault.Door → Rises (L.faults door.old) (L.faults door.new) }
+    ensures same { IfOk result (IsStillOf first) }
+    // What failed shows in its count.
+    ensures cause { IfErr result (λ fault. HasHaltCause fault
+        (failed_calls L.Listen D.Disk K.Sink door.old disk.old out.old)
+        (failed_calls L.Listen D.Disk K.Sink door.new disk.new out.new)) }
     // Once a line was written, a record kept or the clock asked, the door is given up only where so
     // many of its calls failed.
     ensures given_up { IsErrOf result ServeFault.Door
         → ((out.new ≡ out.old) × (disk.new ≡ disk.old) × (clock.new ≡ clock.old))
         ⊎ HasGivenUp (L.faults door.old) (L.faults door.new) }
-    ensures sink { IsErrOf result ServeFault.Sink → Rises (K.faults out.old) (K.faults out.new) }
-    ensures disk_only { IsErrOf result (ServeFault.Stopped Stop.Disk)
-        → Rises (D.faults disk.old) (D.faults disk.new) }
-    ensures not_journal { IsErrOf result (ServeFault.Stopped Stop.NotJournal) → ⊥ }
-    ensures door_count { L.faults door.old ≤ L.faults door.new }
-    ensures sink_count { K.faults out.old ≤ K.faults out.new }
-    ensures disk_count { D.faults disk.old ≤ D.faults disk.new }
+    ensures counts { AreNoLess
+        (failed_calls L.Listen D.Disk K.Sink door.old disk.old out.old)
+        (failed_calls L.Listen D.Disk K.Sink door.new disk.new out.new) }
 {
     let Ok(()) = door.open(port) else {
         return Err(ServeFault::Door);
@@ -133,18 +132,16 @@ fn serve_next<L: Listen, D: Disk, C: Clock, K: Sink>(
         × (stop : Option Stopping) × IsStopBy fault stop
         × HasStopped D.Disk disk.old disk.new engine stop sure more) }
     ensures stays_open { L.is_open door.new }
-    ensures name { IfOk result (λ m. name_of m ≡ name_of engine) }
-    ensures limit { IfOk result (λ m. limit_of m ≡ limit_of engine) }
-    ensures door { IsErrOf result ServeFault.Door → Rises (L.faults door.old) (L.faults door.new) }
+    ensures same { IfOk result (IsStillOf engine) }
+    // What failed shows in its count.
+    ensures cause { IfErr result (λ fault. HasHaltCause fault
+        (failed_calls L.Listen D.Disk K.Sink door.old disk.old out.old)
+        (failed_calls L.Listen D.Disk K.Sink door.new disk.new out.new)) }
     ensures given_up { IsErrOf result ServeFault.Door
         → HasGivenUp (L.faults door.old) (L.faults door.new) }
-    ensures sink { IsErrOf result ServeFault.Sink → Rises (K.faults out.old) (K.faults out.new) }
-    ensures disk_only { IsErrOf result (ServeFault.Stopped Stop.Disk)
-        → Rises (D.faults disk.old) (D.faults disk.new) }
-    ensures not_journal { IsErrOf result (ServeFault.Stopped Stop.NotJournal) → ⊥ }
-    ensures door_count { L.faults door.old ≤ L.faults door.new }
-    ensures sink_count { K.faults out.old ≤ K.faults out.new }
-    ensures disk_count { D.faults disk.old ≤ D.faults disk.new }
+    ensures counts { AreNoLess
+        (failed_calls L.Listen D.Disk K.Sink door.old disk.old out.old)
+        (failed_calls L.Listen D.Disk K.Sink door.new disk.new out.new) }
 {
     let Ok(mut wire) = next_wire(door) else {
         return Err(ServeFault::Door);
@@ -165,16 +162,12 @@ fn serve_next<L: Listen, D: Disk, C: Clock, K: Sink>(
 // The wire of the next one that dialled. A call that failed is made again.
 fn next_wire<L: Listen>(door: &mut L) -> Result<L::W, Failed>
     requires listens { L.is_open door.old }
-    ensures fresh { IfOk result (λ wire. L.W.faults wire ≡ 0) }
-    ensures none_given { L.W.tells → IfOk result (λ wire. L.W.given wire ≡ []) }
-    ensures none_sent { L.W.tells → IfOk result (λ wire. L.W.sent wire ≡ []) }
+    ensures new_wire { IfOk result (IsNewWire L.W.Wire) }
     ensures stays_open { L.is_open door.new }
-    ensures same_broken { L.broken door.new ≡ L.broken door.old }
+    ensures only_gives { OnlyGives L.Listen door.old door.new }
     ensures gives { L.W.tells →
         OnOk result (L.accepted door.new ≡ one_more (L.accepted door.old)) }
     ensures gives_none { OnErr result (L.accepted door.new ≡ L.accepted door.old) }
-    ensures same_opened { L.opened door.new ≡ L.opened door.old }
-    ensures same_talks { L.talks door.new ≡ L.talks door.old }
     ensures count { L.faults door.old ≤ L.faults door.new }
     ensures failed { OnErr result (Rises (L.faults door.old) (L.faults door.new)) }
     ensures given_up { OnErr result (HasGivenUp (L.faults door.old) (L.faults door.new)) }

@@ -1,10 +1,10 @@
 // A connection to a master.
-ghost use Rattle.std.specs.Prelude.{◌≡◌, ◌≤◌, ◌++◌, ℕ, List, Option, IfOk, IfErr, IsErrOf};
+ghost use Rattle.std.specs.Prelude.{◌≡◌, ℕ, List, Option, IfOk, IfErr, IsErrOf};
 ghost use Rattle.rx_collection.specs.Held.{Held};
 ghost use Rattle.rx_outside.specs.declared.stop.Stop.{Stop};
-ghost use Rattle.rx_host.specs.Engine.{IsAt, collection_of, limit_of, name_of};
+ghost use Rattle.rx_host.specs.Engine.{IsAt, IsStillOf, collection_of};
 ghost use Rattle.rx_host.specs.Moments.{GivesMoments};
-ghost use Rattle.rx_host.specs.Serving.{HasKept, HasStopped};
+ghost use Rattle.rx_host.specs.Serving.{HasKept, HasStopped, TalksOn};
 ghost use Rattle.rx_outside.specs.Failed.{Rises};
 ghost use Rattle.rx_outside.specs.declared.stop.Stop.TheVariants as Stop;
 ghost use Rattle.rx_serve.specs.Answered.{Commits};
@@ -14,6 +14,7 @@ ghost use Rattle.rx_store.specs.Safe.{HasDiskCause};
 
 use crate::engine::MasterEngine;
 use crate::host::{Host, Hosting, Work};
+use crate::moments::Moments;
 use rx_disk::Disk;
 use rx_outside::{Clock, Stop, Wire};
 use rx_serve::{Ended, serve};
@@ -44,10 +45,9 @@ impl MasterEngine {
               sent = joined_since (W.sent wire.old) (W.sent wire.new);
             }))) }
 
-        // A stop came: no record is missing of a reply of which a byte was sent. A moment may be
-        // given that no push has.
-        ensures stopped { IfErr result (λ why. (moments : List ℕ) × (spare : List ℕ)
-            × (C.tells → GivesMoments (C.given clock.old) (C.given clock.new) (moments ++ spare))
+        // A stop came: no record is missing of a reply of which a byte was sent.
+        ensures stopped { IfErr result (λ why. (moments : List ℕ)
+            × (C.tells → GivesMoments (C.given clock.old) (C.given clock.new) moments)
             × (W.tells → (after : Held) × (stop : Option Stop) × IsStopOf why stop
             × IsStopped (HasStopped D.Disk disk.old disk.new self stop) (record {
               before = collection_of self;
@@ -66,15 +66,10 @@ impl MasterEngine {
         ensures at { D.tells → IfOk result (λ p. (bodies : List (List ℕ))
             × IsAt D.Disk disk.new p.0 bodies) }
 
-        ensures name { IfOk result (λ p. name_of p.0 ≡ name_of self) }
-        ensures limit { IfOk result (λ p. limit_of p.0 ≡ limit_of self) }
-        ensures sent { W.tells → W.sent wire.new
-            ≡ W.sent wire.old ++ joined_since (W.sent wire.old) (W.sent wire.new) }
-        ensures whole { W.tells →
-            W.given wire.new ++ W.left wire.new ≡ W.given wire.old ++ W.left wire.old }
+        ensures same { IfOk result (λ p. IsStillOf self p.0) }
+        ensures wire { TalksOn W.Wire wire.old wire.new }
         ensures failed { IfOk result (λ p. p.1.why ≡ why.Wire
             → Rises (W.faults wire.old) (W.faults wire.new)) }
-        ensures count { W.faults wire.old ≤ W.faults wire.new }
         ensures not_journal { IsErrOf result Stop.NotJournal → ⊥ }
         ensures cause { HasDiskCause (D.faults disk.old) (D.faults disk.new) result }
     {
@@ -84,7 +79,7 @@ impl MasterEngine {
             Hosting {
                 alloc,
                 work: Work::Going(self),
-                moments: Vec::new(alloc),
+                moments: Moments::new(),
             },
         );
         let ended = serve(alloc, wire, &mut host);

@@ -1,11 +1,11 @@
 use Rattle.std.proofs.Common.{◌≡◌, ◌∙◌, ◌+◌, [], ◌∷◌, ◌++◌, length, None, inl, inr, refl, sym, append-nil, arith, length-append}
-use Rattle.rx_outside.proofs.Counts.{rises_later}
 use Rattle.rx_serve.specs.Answered.{Commits}
 use Rattle.rx_host.specs.Engine.{collection_of}
 use Rattle.rx_host.specs.Laws.{gives_on}
 use Rattle.rx_host.specs.Moments.{GivesMoments}
 use Rattle.rx_host.specs.Outside.{opened_at, told_by}
 use Rattle.rx_host.specs.Serving.{HasKept, HasStopped}
+use Rattle.rx_host.proofs.Causes.{cause_later, no_less_on}
 use Rattle.rx_host.proofs.Halting.{halts_on, unopened}
 use Rattle.rx_host.proofs.InTurn.{have_none, have_on}
 use Rattle.rx_host.proofs.Kept.{kept_left, kept_none, kept_on, stopped_on}
@@ -61,11 +61,8 @@ connections-init g c =
       );
       kept = ([], only_now);
       listens = c.in-Ok.ensures.opens;
-      name = refl;
-      limit = refl;
-      door_count = c.in-Ok.ensures.count;
-      sink_count = omega arith;
-      disk_count = omega arith;
+      same = record { name = refl; limit = refl };
+      counts = record { door = c.in-Ok.ensures.count; disk = omega arith; sink = omega arith };
     }
 
 pub returns-in-Err-clause-halted : goal.returns-in-Err-clause-halted
@@ -90,7 +87,7 @@ returns-in-Err-clause-halted g c =
     (λ a b early later told. gives_on first mid last a b (early told) (later told))
     (λ stop a sure more kept left.
     stopped_on g.D.Disk c.args.disk.now c.connections.disk c.serve_next.new.disk c.args.first
-    c.connections.engine inv.name inv.limit a kept stop sure more left)
+    c.connections.engine inv.same.name inv.same.limit a kept stop sure more left)
     c.in-Err.fault c.args.port c.args.connections
     (told_by g.L.Listen g.K.Sink c.args.door.now c.args.out.now) refl
     (omega (arith, inv.served.1, c.connections-test.true))
@@ -105,26 +102,23 @@ returns-in-Err-clause-left g c =
       left.2,
       left.3,
       stopped_on g.D.Disk c.args.disk.now c.connections.disk c.serve_next.new.disk c.args.first
-          c.connections.engine inv.name inv.limit inv.kept.0 inv.kept.1 left.2 left.0 left.1 left.4,
+          c.connections.engine inv.same.name inv.same.limit inv.kept.0 inv.kept.1 left.2 left.0
+          left.1 left.4,
     )
 
 -- a search for these takes long
 
-pub returns-in-Err-clause-door : goal.returns-in-Err-clause-door
-returns-in-Err-clause-door g c = λ is.
-    rises_later _ _ _ c.connections.invariant.door_count (c.in-Err.ensures.door is)
+pub returns-in-Err-clause-cause : goal.returns-in-Err-clause-cause
+returns-in-Err-clause-cause g c =
+    cause_later c.in-Err.fault _ _ _ c.connections.invariant.counts c.in-Err.ensures.cause
+
+pub returns-in-Err-clause-counts : goal.returns-in-Err-clause-counts
+returns-in-Err-clause-counts g c =
+    no_less_on _ _ _ c.connections.invariant.counts c.in-Err.ensures.counts
 
 pub returns-in-Err-clause-given_up : goal.returns-in-Err-clause-given_up
 returns-in-Err-clause-given_up g c = λ is.
-    inr (given_up_later _ _ _ c.connections.invariant.door_count (c.in-Err.ensures.given_up is))
-
-pub returns-in-Err-clause-sink : goal.returns-in-Err-clause-sink
-returns-in-Err-clause-sink g c = λ is.
-    rises_later _ _ _ c.connections.invariant.sink_count (c.in-Err.ensures.sink is)
-
-pub returns-in-Err-clause-disk_only : goal.returns-in-Err-clause-disk_only
-returns-in-Err-clause-disk_only g c = λ is.
-    rises_later _ _ _ c.connections.invariant.disk_count (c.in-Err.ensures.disk_only is)
+    inr (given_up_later _ _ _ c.connections.invariant.counts.door (c.in-Err.ensures.given_up is))
 
 pub connections-preserved : goal.connections-preserved
 connections-preserved g c =
@@ -143,7 +137,7 @@ connections-preserved g c =
     (next : HasKept g.D.Disk c.connections.disk c.serve_next.new.disk c.connections.engine
     c.in-Ok-serve_next.engine b).
     kept_on g.D.Disk c.args.disk.now c.connections.disk c.serve_next.new.disk c.args.first
-    c.connections.engine inv.name inv.limit a kept c.in-Ok-serve_next.engine b next in
+    c.connections.engine inv.same.name inv.same.limit a kept c.in-Ok-serve_next.engine b next in
     record {
       served = (
         conns ++ one.0 ∷ [],
@@ -166,9 +160,9 @@ connections-preserved g c =
       );
       kept = (inv.kept.0 ++ more.0, keeps inv.kept.0 more.0 inv.kept.1 more.1);
       listens = c.in-Ok-serve_next.ensures.stays_open;
-      name = c.in-Ok-serve_next.ensures.name ∙ inv.name;
-      limit = c.in-Ok-serve_next.ensures.limit ∙ inv.limit;
-      door_count = omega (arith, inv.door_count, c.in-Ok-serve_next.ensures.door_count);
-      sink_count = omega (arith, inv.sink_count, c.in-Ok-serve_next.ensures.sink_count);
-      disk_count = omega (arith, inv.disk_count, c.in-Ok-serve_next.ensures.disk_count);
+      same = record {
+        name = c.in-Ok-serve_next.ensures.same.name ∙ inv.same.name;
+        limit = c.in-Ok-serve_next.ensures.same.limit ∙ inv.same.limit;
+      };
+      counts = no_less_on _ _ _ inv.counts c.in-Ok-serve_next.ensures.counts;
     }

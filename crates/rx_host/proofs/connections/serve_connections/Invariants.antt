@@ -1,7 +1,8 @@
-use Rattle.std.proofs.Common.{◌≡◌, ◌≤◌, List, length}
+use Rattle.std.proofs.Common.{◌≡◌, List, length}
 use Rattle.rx_serve.specs.Answered.{Commits}
+use Rattle.rx_host.specs.Causes.{AreNoLess, failed_calls}
 use Rattle.rx_host.specs.Connections.{ServedConnection}
-use Rattle.rx_host.specs.Engine.{collection_of, limit_of, name_of}
+use Rattle.rx_host.specs.Engine.{IsStillOf, collection_of}
 use Rattle.rx_host.specs.Moments.{GivesMoments}
 use Rattle.rx_host.specs.Outside.{HaveServed, opened_at, told_by}
 use Rattle.rx_host.specs.Serving.{HasKept}
@@ -19,9 +20,7 @@ invariant-connections g l = record {
       (HasKept g.D.Disk l.fn.disk l.disk l.fn.first l.engine);
   kept : (commits : Commits) × HasKept g.D.Disk l.fn.disk l.disk l.fn.first l.engine commits;
   listens : g.L.Listen.is_open l.door;
-  name : name_of l.engine ≡ name_of l.fn.first;
-  limit : limit_of l.engine ≡ limit_of l.fn.first;
-  door_count : g.L.Listen.faults l.fn.door ≤ g.L.Listen.faults l.door;
-  sink_count : g.K.Sink.faults l.fn.out ≤ g.K.Sink.faults l.out;
-  disk_count : g.D.Disk.faults l.fn.disk ≤ g.D.Disk.faults l.disk;
+  same : IsStillOf l.fn.first l.engine;
+  counts : AreNoLess (failed_calls g.L.Listen g.D.Disk g.K.Sink l.fn.door l.fn.disk l.fn.out)
+      (failed_calls g.L.Listen g.D.Disk g.K.Sink l.door l.disk l.out);
 }

@@ -1,4 +1,4 @@
-use Rattle.std.proofs.Common.{◌≡◌, ◌∙◌, ◌++◌, ℕ, List, [], None, sym, ap, subst, append-nil, rules}
+use Rattle.std.proofs.Common.{◌≡◌, ◌∙◌, ℕ, List, [], sym, ap, subst, rules}
 use Rattle.rx_collection.specs.Held.{Held}
 use Rattle.rx_serve.specs.Answered.{Commits}
 use Rattle.rx_serve.specs.Ends.{EndsBy, IsStopped, joined_since}
@@ -32,7 +32,6 @@ returns-in-Ok-Going-clause-served g c =
     let disk' : b.disk.now ≡ c.disk-1.given.0 = search rules in
     let clock : a.clock.now ≡ c.args.clock.now = search rules in
     let clock' : b.clock.now ≡ c.clock-1.given.0 = search rules in
-    let going : stop_in b.state.work ≡ None = ap stop_in work' in
     let kept = rw c.in-Ok-Going.is-0 at c.serve-ended.ensures.keeps in
     let ticks = kept.1.3 in
     let moments = joined_since a.state.moments.items b.state.moments.items in
@@ -62,11 +61,8 @@ returns-in-Ok-Going-clause-served g c =
     let R : List ℕ → Type 0 = λ v. g.C.Clock.tells
     → GivesMoments (g.C.Clock.given c.args.clock.now) (g.C.Clock.given c.clock-1.given.0) v in
     let given : R ticks.joined = λ told.
-    subst (λ v.
-    GivesMoments (g.C.Clock.given c.args.clock.now) (g.C.Clock.given c.clock-1.given.0) v)
-    (ap (λ v. ticks.joined ++ v) (ticks.none_spare going) ∙ append-nil ticks.joined)
-    (gave (g.C.Clock.given) a.clock.now c.args.clock.now b.clock.now c.clock-1.given.0
-    (ticks.joined ++ ticks.spare) clock clock' (ticks.of_clock told)) in (
+    gave (g.C.Clock.given) a.clock.now c.args.clock.now b.clock.now c.clock-1.given.0
+    ticks.joined clock clock' (ticks.of_clock told) in (
       moments,
       subst R (sym (since a.state.moments.items b.state.moments.items ticks.joined ticks.more))
           given,
@@ -100,23 +96,31 @@ returns-in-Ok-Going-clause-at g c = λ told.
     let there : IsAt g.D.Disk b.disk.now engine here.0 = subst P work' here.1 in
     (here.0, subst (λ v. IsAt g.D.Disk v engine here.0) disk' there)
 
-pub returns-in-Ok-Going-clause-name : goal.returns-in-Ok-Going-clause-name
-returns-in-Ok-Going-clause-name g c =
+pub returns-in-Ok-Going-clause-same : goal.returns-in-Ok-Going-clause-same
+returns-in-Ok-Going-clause-same g c =
     let a = c.new-host.result in
     let b = c.serve-ended.new.answer in
     let work : a.state.work ≡ Going c.args.self = search rules in
     let work' : b.state.work ≡ Going c.in-Ok-Going.engine = search rules in
     let kept = rw c.in-Ok-Going.is-0 at c.serve-ended.ensures.keeps in
-    sym (ap served_name work') ∙ kept.1.2.name (ap stop_in work') ∙ ap served_name work
+    record {
+      name = sym (ap served_name work') ∙ kept.1.2.name (ap stop_in work') ∙ ap served_name work;
+      limit = sym (ap limit_in work') ∙ kept.1.2.limit (ap stop_in work') ∙ ap limit_in work;
+    }
 
-pub returns-in-Ok-Going-clause-limit : goal.returns-in-Ok-Going-clause-limit
-returns-in-Ok-Going-clause-limit g c =
-    let a = c.new-host.result in
-    let b = c.serve-ended.new.answer in
-    let work : a.state.work ≡ Going c.args.self = search rules in
-    let work' : b.state.work ≡ Going c.in-Ok-Going.engine = search rules in
-    let kept = rw c.in-Ok-Going.is-0 at c.serve-ended.ensures.keeps in
-    sym (ap limit_in work') ∙ kept.1.2.limit (ap stop_in work') ∙ ap limit_in work
+pub returns-in-Ok-Going-clause-wire : goal.returns-in-Ok-Going-clause-wire
+returns-in-Ok-Going-clause-wire g c = record {
+  sent = c.serve-ended.ensures.sent;
+  whole = c.serve-ended.ensures.whole;
+  count = c.serve-ended.ensures.count;
+}
+
+pub returns-in-Err-default-clause-wire : goal.returns-in-Err-default-clause-wire
+returns-in-Err-default-clause-wire g c = record {
+  sent = c.serve-ended.ensures.sent;
+  whole = c.serve-ended.ensures.whole;
+  count = c.serve-ended.ensures.count;
+}
 
 pub returns-in-Ok-Going-clause-cause : goal.returns-in-Ok-Going-clause-cause
 returns-in-Ok-Going-clause-cause g c =
@@ -129,8 +133,8 @@ returns-in-Ok-Going-clause-cause g c =
     cause_ok g.D.Disk a.disk.now c.args.disk.now b.disk.now c.disk-1.given.0 a.state.work
     b.state.work c.args.self disk disk' work _ kept.0 [] kept.1.2
 
-pub returns-clause-left : goal.returns-clause-left
-returns-clause-left g c =
+pub returns-in-Err-default-clause-left : goal.returns-in-Err-default-clause-left
+returns-in-Err-default-clause-left g c =
     let a = c.new-host.result in
     let b = c.serve-ended.new.answer in
     let work : a.state.work ≡ Going c.args.self = search rules in
@@ -145,8 +149,8 @@ returns-clause-left g c =
           b.state.work c.args.self disk disk' work left.0 left.1 left.2.2,
     )
 
-pub returns-clause-cause : goal.returns-clause-cause
-returns-clause-cause g c =
+pub returns-in-Err-default-clause-cause : goal.returns-in-Err-default-clause-cause
+returns-in-Err-default-clause-cause g c =
     let a = c.new-host.result in
     let b = c.serve-ended.new.answer in
     let work : a.state.work ≡ Going c.args.self = search rules in
@@ -157,8 +161,8 @@ returns-clause-cause g c =
     cause_err g.D.Disk a.disk.now c.args.disk.now b.disk.now c.disk-1.given.0 a.state.work
     b.state.work c.args.self disk disk' work c.in-Err-default.stop left.0 left.1 of left.2.2
 
-pub returns-clause-not_journal : goal.returns-clause-not_journal
-returns-clause-not_journal g c =
+pub returns-in-Err-default-clause-not_journal : goal.returns-in-Err-default-clause-not_journal
+returns-in-Err-default-clause-not_journal g c =
     let a = c.new-host.result in
     let b = c.serve-ended.new.answer in
     let work : a.state.work ≡ Going c.args.self = search rules in
@@ -169,8 +173,8 @@ returns-clause-not_journal g c =
     lawful_err g.D.Disk a.disk.now c.args.disk.now b.disk.now c.disk-1.given.0 a.state.work
     b.state.work c.args.self disk disk' work c.in-Err-default.stop left.0 left.1 of left.2.2
 
-pub returns-clause-stopped : goal.returns-clause-stopped
-returns-clause-stopped g c =
+pub returns-in-Err-default-clause-stopped : goal.returns-in-Err-default-clause-stopped
+returns-in-Err-default-clause-stopped g c =
     let a = c.new-host.result in
     let b = c.serve-ended.new.answer in
     let work : a.state.work ≡ Going c.args.self = search rules in
@@ -197,13 +201,12 @@ returns-clause-stopped g c =
     c.disk-1.given.0 a.state.work b.state.work c.args.self disk disk' work sure more holds.2)
     _ (stopped told) in
     let of = rw c.in-Err-default.is-0 at c.serve-ended.ensures.stop in
-    let R : List ℕ → Type 0 = λ v. g.C.Clock.tells → GivesMoments
-    (g.C.Clock.given c.args.clock.now) (g.C.Clock.given c.clock-1.given.0) (v ++ ticks.spare) in
+    let R : List ℕ → Type 0 = λ v. g.C.Clock.tells
+    → GivesMoments (g.C.Clock.given c.args.clock.now) (g.C.Clock.given c.clock-1.given.0) v in
     let given : R ticks.joined = λ told.
     gave (g.C.Clock.given) a.clock.now c.args.clock.now b.clock.now c.clock-1.given.0
-    (ticks.joined ++ ticks.spare) clock clock' (ticks.of_clock told) in (
+    ticks.joined clock clock' (ticks.of_clock told) in (
       moments,
-      ticks.spare,
       subst R (sym (since a.state.moments.items b.state.moments.items ticks.joined ticks.more))
           given,
       λ told. (after, stop_in b.state.work, of, subst P (ap collection_in work) (here told)),
