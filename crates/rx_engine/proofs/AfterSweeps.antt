@@ -13,7 +13,7 @@ use Rattle.rx_world.specs.Made.{IsMadeWorld}
 use Rattle.rx_world.specs.Sound.{IsSoundWorld}
 use Rattle.rx_world.specs.World.{World}
 use Rattle.rx_engine.specs.Engine.{Answers, IsWellSwept, session_of, standing_of}
-use Rattle.rx_engine.specs.Lines.{Task, sweeps, task}
+use Rattle.rx_engine.specs.Lines.{sweeps, task}
 use Rattle.rx_engine.specs.Meaning.{sweep_meaning}
 use Rattle.rx_engine.specs.Remembered.{AreRemembered}
 use Rattle.rx_engine.specs.Standing.{Standing}
@@ -99,13 +99,3 @@ module _ (number : ℕ) (line : List ℕ) (s : Standing) (v : WantedSweep)
         → ((swept y s).ended ≡ Quiet) ⊎ ((swept y s).ended ≡ Clock)) same
         (ends_in_time root (swept_over s.kinds line s.session v root batch budget asks is));
   }
-
--- nothing is to be said of another line
-pub not_swept : (line : List ℕ) (s : Standing) (t : Task) → task s.kinds line s.session ≡ t
-    → ((v : WantedSweep) → t ≡ sweeps v → ⊥) → (r : Result (Engine × Output) Stop)
-    → IfOk r (λ x. IsWellSwept line s (session_of x.0).world)
-not_swept line s t is none (Err stop) = tt
-not_swept line s t is none (Ok x) = record {
-  equal = λ root batch budget asks v at. absurd (none v (sym is ∙ at));
-  in_time = λ root batch budget asks v at. absurd (none v (sym is ∙ at));
-}

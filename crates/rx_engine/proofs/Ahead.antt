@@ -9,6 +9,7 @@ use Rattle.rx_session.specs.Doing.{Doing, write, session_after, MayDo}
 use Rattle.rx_session.specs.Emissions.{emissions, settled_session}
 use Rattle.rx_session.specs.Session.{Session}
 use Rattle.rx_session.specs.Shown.{done_by}
+use Rattle.rx_session.specs.Streams.{AreStreamed}
 use Rattle.rx_session.specs.declared.doing.Doing.{Doing as Done}
 use Rattle.rx_session.specs.declared.doing.Doing.TheVariants as done
 use Rattle.rx_store.specs.Staged.{Adds, Stages}
@@ -34,6 +35,7 @@ use Rattle.rx_engine.specs.declared.grouping.Staged.{Staged}
 use Rattle.rx_engine.specs.declared.grouping.Staged.TheVariants as staged
 use Rattle.rx_engine.proofs.Keeping.{sound_then, world_kept}
 use Rattle.rx_engine.proofs.Meanings.{answers_so, records_so}
+use Rattle.rx_engine.proofs.WellMeant.{in_order_as, well_meant}
 
 -- ---- nothing was done
 
@@ -153,14 +155,18 @@ answers_changed p x is e next due did o text emitted refused ended =
 
 pub plays_printed : (kinds : Kinds) (number : ℕ) (text : List ℕ) (e next : Engine) (o : Output)
     (outcome : Outcome) (p : Printed) → task kinds text (session_of e) ≡ answered outcome
-    → IsPrinted number p outcome → AnswersAhead p e next o
+    → IsPrinted number p outcome → HasSoundWorld e.session
+    → AreStreamed e.session.session.world e.session.session.streams
+    → MayDo (doing_of p.doing) e.session.session → AnswersAhead p e next o
     → PlaysAhead kinds number text e next o
 unfolding session_of asks_in standing_of
-plays_printed kinds number text e next o outcome p is printed done =
+plays_printed kinds number text e next o outcome p is printed good streamed may done =
     let s : List Heard → Standing = λ heard. standing_of kinds heard e in
     record {
       outcome = outcome;
       is = is;
+      meant = λ heard. well_meant text (s heard) good streamed;
+      in_order = in_order_as text (s []) outcome (doing_of p.doing) is printed.doing may;
       answers = λ heard. answers_so number text (s heard) outcome p is printed (Ok (next, o))
           done.session done.asks done.text done.emitted done.refused done.ended;
       adds = λ heard. subst (λ (cs : List Content). AddsTo e next (bodies_of cs))
@@ -170,8 +176,12 @@ plays_printed kinds number text e next o outcome p is printed done =
 -- so it was, or nothing of it was done
 pub stages_printed : (kinds : Kinds) (number : ℕ) (text : List ℕ) (e : Engine)
     (outcome : Outcome) (p : Printed) → task kinds text (session_of e) ≡ answered outcome
-    → IsPrinted number p outcome → (x : Staged) → StagesPrinted p e x
+    → IsPrinted number p outcome → HasSoundWorld e.session
+    → AreStreamed e.session.session.world e.session.session.streams
+    → MayDo (doing_of p.doing) e.session.session → (x : Staged) → StagesPrinted p e x
     → StagesLine kinds number text e x
-stages_printed kinds number text e outcome p is printed (staged.Played next o) done =
-    plays_printed kinds number text e next o outcome p is printed done
-stages_printed kinds number text e outcome p is printed (staged.Alone next) left = left
+stages_printed kinds number text e outcome p is printed good streamed may
+    (staged.Played next o) done =
+    plays_printed kinds number text e next o outcome p is printed good streamed may done
+stages_printed kinds number text e outcome p is printed good streamed may (staged.Alone next)
+    left = left

@@ -4,6 +4,7 @@ pub mod Keeping
 pub mod Remembering
 pub mod Marking
 pub mod CanTurns
+pub mod Batches
 pub mod AfterTurns
 pub mod Opened
 pub mod Outcomes
@@ -34,3 +35,5 @@ pub mod Grouped
 pub mod EachEvent
 pub mod AfterDeliveries
 pub mod Streamable
+pub mod WellMeant
+pub mod LinesKept

@@ -9,23 +9,15 @@ use Rattle.rx_reply.specs.Reply.{answer_lines, is_refusal}
 use Rattle.rx_reply.specs.declared.given.Given.{Given}
 use Rattle.rx_reply.specs.declared.turn.Exchanged.{Exchanged}
 use Rattle.rx_reply.specs.declared.turn.TurnEnd.{TurnEnd}
-use Rattle.rx_reply.specs.declared.turn.TurnEnd.TheVariants.{Quiet}
-use Rattle.rx_script.specs.declared.happening.Happening.{Happening}
-use Rattle.rx_session.specs.Doing.{Doing, MayDo, nothing, session_after, with_emptied}
+use Rattle.rx_session.specs.Doing.{Doing, MayDo, nothing, session_after}
 use Rattle.rx_session.specs.Emissions.{emissions, settled_session}
 use Rattle.rx_session.specs.Session.{Session, has_lost, stream_of}
-use Rattle.rx_sync.specs.Asks.{Asks, asks_of}
-use Rattle.rx_sync.proofs.Bound.{exchanges_lower, turn_in_time, turn_pushes_twice}
-use Rattle.rx_sync.proofs.Elsewhere.{remote_turn_unharmed}
-use Rattle.rx_sync.specs.Bound.{AreOk, EveryOkTurn}
+use Rattle.rx_sync.specs.Asks.{Asks}
 use Rattle.rx_sync.specs.Delivery.{is_level, is_resync}
-use Rattle.rx_sync.specs.Exchange.{Terms, world_after}
-use Rattle.rx_sync.specs.Laws.{IsLevel, MayTurn}
+use Rattle.rx_sync.specs.Exchange.{world_after}
 use Rattle.rx_sync.specs.Remote.{Heard}
-use Rattle.rx_sync.specs.RemoteLaws.{EachIsUnharmed, MayCall}
 use Rattle.rx_sync.specs.Turn.{Turned}
-use Rattle.rx_world.specs.World.{World}
-use Rattle.rx_engine.specs.Engine.{Answers, IsAfterDelivery, IsAfterTurn, IsBounded, IsUnharmedBy, LeavesAll, LevelIsEqual, OfOkTurn, QuietIsLevel, asks_in, session_of, standing_of, IsAfterSweep}
+use Rattle.rx_engine.specs.Engine.{Answers, IsAfterDelivery, IsAfterTurn, LeavesAll, asks_in, session_of, standing_of, IsAfterSweep}
 use Rattle.rx_engine.specs.Judged.{IsJudged, IsPrinted, MayDoJudged}
 use Rattle.rx_engine.specs.Calling.{WantedCall, called, to_hear}
 use Rattle.rx_engine.specs.Lines.{IsIdleTask, Task, answered, turns, calls, sweeps, delivers, task}
@@ -34,7 +26,7 @@ use Rattle.rx_engine.specs.Outcome.{Outcome}
 use Rattle.rx_engine.specs.Shown.{call_of, deliver_of, doing_of, turn_of, sweep_of}
 use Rattle.rx_engine.specs.Standing.{Standing, standing_with}
 use Rattle.rx_engine.specs.Streams.{WantedDelivery, delivered_by}
-use Rattle.rx_engine.specs.Turning.{WantedTurn, terms, turned}
+use Rattle.rx_engine.specs.Turning.{WantedTurn, turned}
 use Rattle.rx_engine.specs.declared.changing.AfterTurn.{AfterTurn}
 use Rattle.rx_engine.specs.declared.deliveries.AfterDelivery.{AfterDelivery}
 use Rattle.rx_engine.specs.declared.engine.Engine.{Engine}
@@ -49,7 +41,6 @@ use Rattle.rx_reply.specs.declared.swept.Swept.{Swept as SweptTurn}
 use Rattle.rx_engine.specs.declared.sweeps.AfterSweep.{AfterSweep}
 use Rattle.rx_engine.specs.declared.sweeping.Sweep.{Sweep}
 use Rattle.rx_engine.specs.declared.turning.Turn.{Turn}
-use Rattle.rx_engine.proofs.Plays.{written-world}
 
 -- ---- what a line was judged to be
 
@@ -137,14 +128,6 @@ pub may_do : (seen session : Session) → seen ≡ session → (x : Judged) (p :
 may_do seen session same x p is may =
     subst (λ (s : Session). MayDo (doing_of p.doing) s) same
     (subst (λ (x : Judged). MayDoJudged x seen) is may)
-
-pub some_asked : (x : Judged) (m : Turn) (s : Session) → x ≡ judged.Turns m → MayDoJudged x s
-    → 1 ≤ m.batch
-some_asked x m s is may = subst (λ (x : Judged). MayDoJudged x s) is may
-
-pub some_called : (x : Judged) (m : Call) (s : Session) → x ≡ judged.Calls m → MayDoJudged x s
-    → 1 ≤ m.batch
-some_called x m s is may = (subst (λ (x : Judged). MayDoJudged x s) is may).0
 
 pub some_swept : (x : Judged) (m : Sweep) (s : Session) → x ≡ judged.Sweeps m → MayDoJudged x s
     → 1 ≤ m.batch
@@ -249,28 +232,6 @@ module _ (number : ℕ) (line : List ℕ) (s : Standing) (o : Outcome) (p : Prin
       let none = idle (sym printed.refused ∙ sym refused ∙ is_so) in
       (stays (printed.doing ∙ none), left none)
 
-  -- it is no turn
-  pub no_turn_so : (r : Result (Engine × Output) Stop) → IfOk r (λ x. QuietIsLevel line s x.0)
-  no_turn_so (Err stop) = tt
-  no_turn_so (Ok x) = λ t at quiet. absurd (cc)
-
-  -- nor a delivery
-  pub no_delivery_so : (r : Result (Engine × Output) Stop) → IfOk r (λ x. LevelIsEqual line s x.0)
-  no_delivery_so (Err stop) = tt
-  no_delivery_so (Ok x) = λ d at level. absurd (cc)
-
-  -- so nothing is to be said of its exchanges
-  pub unbounded_so : IsBounded line s
-  unbounded_so = record {
-    lowered = λ t at. absurd (cc);
-    twice = λ t at. absurd (cc);
-    in_time = λ t at. absurd (cc);
-  }
-
-  -- nor is there a master elsewhere that could harm a fork
-  pub no_master_so : IsUnharmedBy line s
-  no_master_so c at = absurd (cc)
-
 -- ---- a line that makes a turn
 
 -- the engine and the output are those of the turn's meaning
@@ -305,48 +266,6 @@ module _ (number : ℕ) (line : List ℕ) (s : Standing) (u : WantedTurn)
   unfolding meaning
   turn_so = sym (ap (λ (t : Task). task_meaning number t s) is)
 
-  -- where it ends quiet, fork and master are level
-  pub level_so : (r : Result (Engine × Output) Stop)
-      → IfOk r (λ x. (turned u s).ended ≡ Quiet → IsLevel (session_of x.0).world u.name)
-      → IfOk r (λ x. QuietIsLevel line s x.0)
-  level_so (Err stop) level = tt
-  level_so (Ok x) level = λ t at quiet.
-      let same : u ≡ t = cc in
-      subst (λ (t : WantedTurn). IsLevel (session_of x.0).world t.name) same
-      (level (ap (λ (t : WantedTurn). (turned t s).ended) same ∙ quiet))
-
-  -- where its link does nothing, its exchanges are bounded
-  module _ (some : 1 ≤ u.batch)
-      (may : MayTurn (terms u.name s.session.moment s.kinds) s.session.world
-      (asks_of u.name s.asks))
-    where
-      ok_so : {P : Terms → ℕ → ℕ → List Happening → World → Asks → Type 0} → EveryOkTurn P
-          → OfOkTurn P line s
-      ok_so {P} law t at ok =
-          let same : u ≡ t = cc in
-          subst (λ (t : WantedTurn). AreOk t.link
-          → P (terms t.name s.session.moment s.kinds) t.batch t.budget t.link s.session.world
-          (asks_of t.name s.asks)) same
-          (law (terms u.name s.session.moment s.kinds) u.batch u.budget u.link s.session.world
-          (asks_of u.name s.asks) some may) ok
-
-      pub bounded_so : IsBounded line s
-      bounded_so = record {
-        lowered = ok_so exchanges_lower;
-        twice = ok_so turn_pushes_twice;
-        in_time = ok_so turn_in_time;
-      }
-
-  -- it is no delivery
-  pub turn_no_delivery : (r : Result (Engine × Output) Stop)
-      → IfOk r (λ x. LevelIsEqual line s x.0)
-  turn_no_delivery (Err stop) = tt
-  turn_no_delivery (Ok x) = λ d at level. absurd (cc)
-
-  -- its master is no one elsewhere
-  pub no_other_so : IsUnharmedBy line s
-  no_other_so c at = absurd (cc)
-
   -- it isn't idle
   pub busy_so : IsIdleTask (task s.kinds line s.session) → ⊥
   busy_so idle = subst IsIdleTask is idle
@@ -360,36 +279,6 @@ module _ (number : ℕ) (line : List ℕ) (s : Standing) (d : WantedCall)
       ≡ meaning number line s
   unfolding meaning
   call_so = sym (ap (λ (t : Task). task_meaning number t s) is)
-
-  -- it is no turn to a master here
-  pub no_level_so : (r : Result (Engine × Output) Stop) → IfOk r (λ x. QuietIsLevel line s x.0)
-  no_level_so (Err stop) = tt
-  no_level_so (Ok x) = λ t at quiet. absurd (cc)
-
-  -- nor a delivery
-  pub call_no_delivery : (r : Result (Engine × Output) Stop)
-      → IfOk r (λ x. LevelIsEqual line s x.0)
-  call_no_delivery (Err stop) = tt
-  call_no_delivery (Ok x) = λ d at level. absurd (cc)
-
-  -- nor are its exchanges bounded
-  pub no_bound_so : IsBounded line s
-  no_bound_so = record {
-    lowered = λ t at. absurd (cc);
-    twice = λ t at. absurd (cc);
-    in_time = λ t at. absurd (cc);
-  }
-
-  -- but none of them harms the fork
-  pub unharmed_so : 1 ≤ d.batch
-      → MayCall (terms d.name s.session.moment s.kinds) s.session.world (asks_of d.name s.asks)
-      → IsUnharmedBy line s
-  unharmed_so some may c at =
-      let same : d ≡ c = cc in
-      subst (λ (c : WantedCall). EachIsUnharmed (terms c.name s.session.moment s.kinds) c.batch
-      c.budget s.heard s.session.world (asks_of c.name s.asks)) same
-      (remote_turn_unharmed (terms d.name s.session.moment s.kinds) d.batch d.budget s.heard
-      s.session.world (asks_of d.name s.asks) some may)
 
   -- it isn't idle
   pub calling_so : IsIdleTask (task s.kinds line s.session) → ⊥
@@ -431,28 +320,8 @@ module _ (number : ℕ) (line : List ℕ) (s : Standing) (v : WantedSweep)
   unfolding meaning
   sweep_so = sym (ap (λ (t : Task). task_meaning number t s) is)
 
-  -- it is no turn, no delivery, and none to a master elsewhere
-  pub sweep_no_turn : (r : Result (Engine × Output) Stop) → IfOk r (λ x. QuietIsLevel line s x.0)
-  sweep_no_turn (Err stop) = tt
-  sweep_no_turn (Ok x) = λ t at quiet. absurd (cc)
-
-  pub sweep_unbounded : IsBounded line s
-  sweep_unbounded = record {
-    lowered = λ t at. absurd (cc);
-    twice = λ t at. absurd (cc);
-    in_time = λ t at. absurd (cc);
-  }
-
-  pub sweep_no_delivery : (r : Result (Engine × Output) Stop)
-      → IfOk r (λ x. LevelIsEqual line s x.0)
-  sweep_no_delivery (Err stop) = tt
-  sweep_no_delivery (Ok x) = λ d at level. absurd (cc)
-
   pub sweeping_so : IsIdleTask (task s.kinds line s.session) → ⊥
   sweeping_so idle = subst IsIdleTask is idle
-
-  pub sweep_no_master : IsUnharmedBy line s
-  sweep_no_master c at = absurd (cc)
 
 -- ---- a line that delivers
 
@@ -494,41 +363,6 @@ module _ (number : ℕ) (line : List ℕ) (s : Standing) (d : WantedDelivery)
   pub delivery_so : delivery_meaning number d s ≡ meaning number line s
   unfolding meaning
   delivery_so = sym (ap (λ (t : Task). task_meaning number t s) is)
-
-  -- it is no turn
-  pub delivery_no_turn : (r : Result (Engine × Output) Stop) → IfOk r (λ x. QuietIsLevel line s x.0)
-  delivery_no_turn (Err stop) = tt
-  delivery_no_turn (Ok x) = λ t at quiet. absurd (cc)
-
-  pub delivery_unbounded : IsBounded line s
-  delivery_unbounded = record {
-    lowered = λ t at. absurd (cc);
-    twice = λ t at. absurd (cc);
-    in_time = λ t at. absurd (cc);
-  }
-
-  pub delivery_no_master : IsUnharmedBy line s
-  delivery_no_master c at = absurd (cc)
-
-  -- where it is answered level, fork and master have the same states
-  pub equal_so : (r : Result (Engine × Output) Stop)
-      → IfOk r (λ x. Answers s.kinds s.heard (delivery_meaning number d s) x.0 x.1)
-      → (is_level (world_after (delivered_by d s.session).records s.session.world) d.name ≡ true
-      → IsLevel (world_after (delivered_by d s.session).records s.session.world) d.name)
-      → IfOk r (λ x. LevelIsEqual line s x.0)
-  unfolding standing_of
-  equal_so (Err stop) answers equal = tt
-  equal_so (Ok x) answers equal = λ e at level.
-      let same : d ≡ e = cc in
-      let m = delivered_by d s.session in
-      let then : (session_of x.0).world ≡ world_after m.records s.session.world =
-      ap (λ (y : Standing). y.session.world) answers.next
-      ∙ written-world m.records (with_emptied d.name s.session) in
-      subst (λ (e : WantedDelivery). IsLevel (session_of x.0).world e.name) same
-      (subst (λ (w : World). IsLevel w d.name) (sym then)
-      (equal (ap (λ (e : WantedDelivery).
-      is_level (world_after (delivered_by e s.session).records s.session.world) e.name) same
-      ∙ level)))
 
   -- it isn't idle
   pub delivering_so : IsIdleTask (task s.kinds line s.session) → ⊥

@@ -8,6 +8,7 @@ use Rattle.rx_session.specs.Emissions.{emissions, settled_session}
 use Rattle.rx_store.specs.Staged.{Adds, HoldsDue}
 use Rattle.rx_sync.specs.Remote.{Heard}
 use Rattle.rx_engine.specs.Engine.{Answers, asks_in, session_of, standing_of}
+use Rattle.rx_engine.specs.Kept.{IsInOrder, IsWellMeant}
 use Rattle.rx_engine.specs.Lines.{answered, task}
 use Rattle.rx_engine.specs.Meaning.{asks_kept, bodies_of, lines_of, meaning, records_of}
 use Rattle.rx_engine.specs.Outcome.{Outcome}
@@ -51,6 +52,8 @@ pub record PlaysAhead
     (o : Output) : Type 0 where
   pub outcome : Outcome
   pub is : task kinds text (session_of e) ≡ answered outcome
+  pub meant : (heard : List Heard) → IsWellMeant text (standing_of kinds heard e)
+  pub in_order : IsInOrder (task kinds text (session_of e)) (session_of e)
   pub answers : (heard : List Heard)
       → Answers kinds heard (meaning number text (standing_of kinds heard e)) next o
   pub adds : (heard : List Heard)

@@ -121,19 +121,19 @@ pub record AnswersCall (number : ℕ) (name : List ℕ) (kinds : Kinds) (e : Eng
   pub later_so : u.later ≡ later
 
 -- where the line is a turn that ends quiet, its fork and its master have the same states in the
--- engine
-abbrev pub QuietIsLevel : List ℕ → Standing → Engine → Type 0
-QuietIsLevel line s e =
+-- world after it
+abbrev pub QuietIsLevel : List ℕ → Standing → World → Type 0
+QuietIsLevel line s next =
     (t : WantedTurn) → task s.kinds line s.session ≡ turns t → (turned t s).ended ≡ Quiet
-    → IsLevel (session_of e).world t.name
+    → IsLevel next t.name
 
 -- where the line is a delivery that is answered level, its fork and its master have the same states
--- in the engine
-abbrev pub LevelIsEqual : List ℕ → Standing → Engine → Type 0
-LevelIsEqual line s e =
+-- in the world after it
+abbrev pub LevelIsEqual : List ℕ → Standing → World → Type 0
+LevelIsEqual line s next =
     (d : WantedDelivery) → task s.kinds line s.session ≡ delivers d
     → is_level (world_after (delivered_by d s.session).records s.session.world) d.name ≡ true
-    → IsLevel (session_of e).world d.name
+    → IsLevel next d.name
 
 -- where the line is a delivery to a fork that has something to push, it writes nothing
 abbrev pub WaitsForPushes : List ℕ → Standing → Type 0

@@ -1,5 +1,5 @@
 -- What a line does with an engine and a dial, by what is heard in it of masters elsewhere.
-use Rattle.std.specs.Prelude.{◌≡◌, ℕ, List, [], ◌++◌, Result, IfOk, IsOk, IsErrOf}
+use Rattle.std.specs.Prelude.{◌≡◌, ◌≤◌, ℕ, List, [], ◌++◌, Result, IfOk, IsOk, IsErrOf}
 use Rattle.rx_disk.specs.declared.disk.Disk.{Ghosts}
 use Rattle.rx_handler.specs.Handlers.{Kinds}
 use Rattle.rx_outside.specs.declared.stop.Stop.{Stop}
@@ -34,6 +34,12 @@ IsShownBy tells (turns t) s old new heard Done = (heard ≡ []) × (new ≡ old)
 IsShownBy tells (calls c) s old new heard Done = IsShown tells c s old new heard Done
 IsShownBy tells (sweeps v) s old new heard Done = (heard ≡ []) × (new ≡ old)
 IsShownBy tells (delivers d) s old new heard Done = (heard ≡ []) × (new ≡ old)
+
+-- a line that makes no turn to a master elsewhere leaves the dial, and the count of a dial's calls
+-- that failed never falls
+pub record DialsForCalls {L : Type 0} (faults : L → ℕ) (t : Task) (old new : L) : Type 0 where
+  pub undialled : ((c : WantedCall) → t ≡ calls c → ⊥) → new ≡ old
+  pub count : faults old ≤ faults new
 
 -- A line is played, and this is heard in it. Whatever is to be heard later, the answer is that of
 -- its meaning, and its records come to the disk one after another: those that are due depend on

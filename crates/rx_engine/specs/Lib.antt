@@ -20,6 +20,7 @@ pub mod Dialled
 pub mod Callings
 pub mod Opening
 pub mod Engine
+pub mod Kept
 pub mod Hearing
 pub mod Ahead
 pub mod SoundSession

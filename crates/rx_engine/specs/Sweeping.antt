@@ -9,7 +9,7 @@ use Rattle.rx_reply.specs.declared.refusal.Refusal.TheVariants.{NoHandler}
 use Rattle.rx_reply.specs.declared.turn.TurnEnd.{TurnEnd}
 use Rattle.rx_reply.specs.declared.turn.TurnEnd.TheVariants.{Quiet, Lost, Clock, More}
 use Rattle.rx_session.specs.Session.{Session}
-use Rattle.rx_sync.specs.Sweep.{Swept, sweep, sweep_steps}
+use Rattle.rx_sync.specs.Sweep.{Sweep, Swept, sweep, sweep_steps}
 use Rattle.rx_sync.specs.declared.sweeping.Step.{Step}
 use Rattle.rx_world.specs.World.{World}
 use Rattle.rx_writes.specs.declared.fault.Fault.{Fault}
@@ -41,11 +41,18 @@ swept_at kinds name batch budget s =
 
 -- ---- what it does
 
+-- how it sweeps
+abbrev pub sweep_by : WantedSweep → Standing → Sweep
+sweep_by v s = record {
+  batch = v.batch;
+  budget = v.budget;
+  now = s.session.moment;
+  kinds = s.kinds;
+}
+
 -- its records, its turns, and how the last one ended
 abbrev pub swept : WantedSweep → Standing → Swept
-swept v s =
-    sweep (record { batch = v.batch; budget = v.budget; now = s.session.moment; kinds = s.kinds })
-    v.steps s.session.world s.asks
+swept v s = sweep (sweep_by v s) v.steps s.session.world s.asks
 
 abbrev pub is_quiet : TurnEnd → Bool
 is_quiet Quiet = true

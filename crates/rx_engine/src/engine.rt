@@ -1,19 +1,17 @@
 // A journal in a run, from its opening on, line by line.
-ghost use Rattle.std.specs.Prelude.{◌≡◌, ◌≤◌, ◌<◌, ◌^◌, ℕ, List, [], ◌∷◌, true, IfOk, OnOk, IsErrOf, option_map};
+ghost use Rattle.std.specs.Prelude.{◌≡◌, ◌≤◌, ◌<◌, ◌^◌, ℕ, List, [], ◌∷◌, true, IfOk, IsErrOf, option_map};
 ghost use Rattle.rx_digest.specs.Digest.{digest_of};
 ghost use Rattle.rx_handler.specs.Handlers.{Kinds};
 ghost use Rattle.rx_handler.specs.Shown.{kinds_of};
 ghost use Rattle.rx_journal.specs.Reading.{IsUntouched};
 ghost use Rattle.rx_outside.specs.declared.stop.Stop.TheVariants as Stop;
 ghost use Rattle.rx_sync.specs.Remote.{Heard};
-ghost use Rattle.rx_session.specs.Streams.{AreStreamed};
 ghost use Rattle.rx_store.specs.Holds.{IsIllegalFile, IsJournalOfSome, IsLegalFile};
 ghost use Rattle.rx_store.specs.Safe.{HasDiskCause, IsCrashSafe};
 ghost use Rattle.rx_update.specs.Shown.{hook_kinds};
 ghost use Rattle.rx_value.specs.Named.{named};
 ghost use Rattle.rx_world.specs.World.{World};
-ghost use Rattle.rx_engine.specs.Calling.{WantedCall};
-ghost use Rattle.rx_engine.specs.Lines.{IsIdle, IsRestart, calls, task};
+ghost use Rattle.rx_engine.specs.Lines.{IsIdle, IsRestart, task};
 ghost use Rattle.rx_engine.specs.Opening.{epoch_body, host_with, opened};
 
 use crate::judging::{Judged, judge};
@@ -44,8 +42,9 @@ pub struct Engine {
 }
 
 impl Engine {
-    ghost use Rattle.rx_engine.specs.Engine.{IsAt, IsBounded, IsUnharmedBy, IsWellSwept, LeavesAll, LevelIsEqual, QuietIsLevel, WaitsForPushes, session_of, standing_of, limit_of};
-    ghost use Rattle.rx_engine.specs.Hearing.{PlaysLine};
+    ghost use Rattle.rx_engine.specs.Engine.{IsAt, LeavesAll, session_of, standing_of, limit_of};
+    ghost use Rattle.rx_engine.specs.Hearing.{DialsForCalls, PlaysLine};
+    ghost use Rattle.rx_engine.specs.Kept.{IsInOrder, IsLineKept, IsWellMeant};
 
     /// Opens a journal for a run that knows these hooks, plays its records, and begins a new epoch.
     pub fn open<D: Disk>(
@@ -131,32 +130,20 @@ impl Engine {
             }) self result }
         ensures limit { IfOk result (λ p. limit_of p.0 ≡ limit_of self) }
 
-        // Where a turn ends quiet, its fork and its master have the same states.
-        ensures quiet { IfOk result (λ p.
-            QuietIsLevel text.now (standing_of (kinds_of handlers.now) [] self) p.0) }
+        // Whatever comes of it, and whatever is to be heard: its turns lose no update and end in
+        // time, no master elsewhere harms a fork, and a fork that has something to push takes no
+        // event.
+        ensures meant { (heard : List Heard)
+            → IsWellMeant text.now (standing_of (kinds_of handlers.now) heard self) }
 
-        // Where a delivery answers level, so have they.
-        ensures level { IfOk result (λ p.
-            LevelIsEqual text.now (standing_of (kinds_of handlers.now) [] self) p.0) }
+        // What it comes to may be done.
+        ensures in_order { (IsErrOf result Stop.Memory → ⊥) → IsInOrder
+            (task (kinds_of handlers.now) text.now (session_of self)) (session_of self) }
 
-        // Where a sweep ends quiet, each collection of its tree has the states of the root, and
-        // three exchanges a key and one are enough for each of its turns.
-        ensures swept { IfOk result (λ p. IsWellSwept text.now
+        // Where a turn or a sweep ends quiet, or a delivery answers level, forks and masters have
+        // the same states.
+        ensures kept { IfOk result (λ p. IsLineKept text.now
             (standing_of (kinds_of handlers.now) [] self) (session_of p.0).world) }
-
-        // A delivery to a fork that has something to push writes nothing.
-        ensures waits { WaitsForPushes text.now (standing_of (kinds_of handlers.now) [] self) }
-
-        // Each event that waits in a stream is one of what its master committed.
-        ensures streamed { AreStreamed (session_of self).world (session_of self).streams }
-
-        // A turn whose link does nothing comes to its end in time.
-        ensures bounded { OnOk result
-            (IsBounded text.now (standing_of (kinds_of handlers.now) [] self)) }
-
-        // No master elsewhere, whatever it sends, harms a fork; nor does it at a stop.
-        ensures unharmed { (IsErrOf result Stop.Memory → ⊥) → (heard : List Heard)
-            → IsUnharmedBy text.now (standing_of (kinds_of handlers.now) heard self) }
 
         // A refused line leaves the session, the disk and the dial, and so does one that tells what
         // there is.
@@ -169,14 +156,12 @@ impl Engine {
             → LeavesAll number text.now (standing_of (kinds_of handlers.now) heard self) p.0 p.1) }
 
         // A line that makes no turn to a master elsewhere leaves the dial, whatever comes of it.
-        ensures undialled { ((c : WantedCall)
-            → task (kinds_of handlers.now) text.now (session_of self) ≡ calls c → ⊥)
-            → dial.new ≡ dial.old }
+        ensures dials { DialsForCalls L.faults
+            (task (kinds_of handlers.now) text.now (session_of self)) dial.old dial.new }
 
         // Only where a journal is opened again, it may be none any more.
         ensures not_journal { IsErrOf result Stop.NotJournal → IsRestart text.now }
         ensures cause { HasDiskCause (D.faults disk.old) (D.faults disk.new) result }
-        ensures dial_count { L.faults dial.old ≤ L.faults dial.new }
     {
         match judge(alloc, self.session.session(), handlers, hooks, text, number)? {
             Judged::Printed(printed) => self.answer(alloc, disk, printed),

@@ -1,5 +1,5 @@
-use Rattle.std.proofs.Common.{◌≡◌, ◌∙◌, sym, subst, refl, true, List, [], IfOk}
-use Rattle.rx_value.proofs.Outcomes.{if_ok, on_ok}
+use Rattle.std.proofs.Common.{◌≡◌, ◌∙◌, sym, subst, refl, true, List, [], IfOk, arith}
+use Rattle.rx_value.proofs.Outcomes.{if_ok}
 use Rattle.rx_handler.specs.Shown.{kinds_of}
 use Rattle.rx_record.specs.Content.{Content}
 use Rattle.rx_session.specs.Session.{Session}
@@ -7,19 +7,17 @@ use Rattle.rx_store.specs.Safe.{IsCrashSafe}
 use Rattle.rx_sync.specs.Remote.{Heard}
 use Rattle.rx_world.specs.Sound.{IsSoundWorld}
 use Rattle.rx_engine.specs.Engine.{Answers, IsAt, LeavesAll, asks_in, limit_of, session_of, standing_of}
-use Rattle.rx_engine.specs.Lines.{IsIdleTask, answered, turns, calls, delivers}
+use Rattle.rx_engine.specs.Lines.{IsIdleTask, turns, calls, sweeps, delivers}
 use Rattle.rx_engine.specs.Meaning.{Meaning, bodies_of}
 use Rattle.rx_engine.specs.Standing.{Standing}
-use Rattle.rx_engine.specs.Shown.{WritesNoExchange, call_of, deliver_of, sweep_of, turn_of}
-use Rattle.rx_engine.proofs.AfterCalls.{may_call}
-use Rattle.rx_engine.proofs.AfterDeliveries.{level_delivered, line_waits}
-use Rattle.rx_engine.proofs.AfterSweeps.{not_swept, well_swept}
-use Rattle.rx_engine.proofs.AfterTurns.{may}
+use Rattle.rx_engine.specs.Shown.{WritesNoExchange, call_of, deliver_of, doing_of, sweep_of, turn_of}
 use Rattle.rx_engine.proofs.CanSweeps.{can_sweep}
-use Rattle.rx_engine.proofs.CanTurns.{can_call, can_deliver, can_turn}
+use Rattle.rx_engine.proofs.CanTurns.{can_call, can_turn}
 use Rattle.rx_engine.proofs.Hearing.{plays_call, plays_none, plays_out_of_memory, shown_delivery, shown_printed, shown_sweep, shown_turn}
-use Rattle.rx_engine.proofs.Meanings.{answers_so, bounded_so, busy_so, call_is, call_no_delivery, calling_so, delivering_so, delivery_is, delivery_no_master, delivery_no_turn, delivery_so, delivery_unbounded, equal_so, left_so, level_so, may_do, no_bound_so, no_delivery_so, no_level_so, no_master_so, no_other_so, no_turn_so, not_refused, of_each, printed_is, records_so, refused_so, some_asked, some_called, some_open, some_swept, sweep_is, sweep_no_delivery, sweep_no_master, sweep_no_turn, sweep_so, sweep_unbounded, sweeping_so, turn_is, turn_no_delivery, turn_so, unbounded_so, unharmed_so}
+use Rattle.rx_engine.proofs.Meanings.{answers_so, busy_so, call_is, calling_so, delivering_so, delivery_is, delivery_so, left_so, may_do, not_refused, of_each, printed_is, records_so, refused_so, some_open, some_swept, sweep_is, sweep_so, sweeping_so, turn_is, turn_so}
+use Rattle.rx_engine.proofs.LinesKept.{answered_kept, call_kept, delivery_kept, sweep_kept, turn_kept}
 use Rattle.rx_engine.proofs.Outcomes.{lawful_outcome}
+use Rattle.rx_engine.proofs.WellMeant.{in_order, in_order_as, well_meant}
 use Rattle.rx_store.proofs.Stops.{memory_stop}
 use Rattle.rx_engine.specs.declared.engine.Engine.{Engine}
 use Rattle.rx_engine.specs.declared.output.Output.{Output}
@@ -82,16 +80,6 @@ returns-in-Printed-clause-plays g c =
     (shown_printed g.D.Disk g.L.W.Wire.tells kinds c.args.number c.args.text.now c.args.disk.now
     c.answer.new.disk _ _ c.args.self
     c.answer.result j.0 j.1 refl)
-
-pub returns-in-Printed-clause-quiet : goal.returns-in-Printed-clause-quiet
-unfolding session_of asks_in standing_of
-returns-in-Printed-clause-quiet g c =
-    let s = standing_of (kinds_of c.args.handlers.now) [] c.args.self in
-    let p = c.in-Printed.printed in
-    let j = printed_is c.args.number s.kinds c.args.text.now c.session.result.now s.session
-    c.session.ensures.value c.in_ok-printed.field-0 p c.in-Printed.is
-    c.in_ok-printed.ensures.judged in
-    no_turn_so c.args.number c.args.text.now s j.0 p j.1 j.2 c.answer.result
 
 pub returns-in-Printed-clause-refused : goal.returns-in-Printed-clause-refused
 unfolding session_of asks_in standing_of
@@ -187,17 +175,6 @@ returns-in-Turns-clause-plays g c =
     c.answer_turn.new.disk _ _ c.args.self r
     (turn_of m) is refl)
 
-pub returns-in-Turns-clause-quiet : goal.returns-in-Turns-clause-quiet
-unfolding session_of asks_in standing_of
-returns-in-Turns-clause-quiet g c =
-    let s = standing_of (kinds_of c.args.handlers.now) [] c.args.self in
-    let m = c.in-Turns.turn in
-    let is = turn_is c.args.number s.kinds c.args.text.now c.session.result.now s.session
-    c.session.ensures.value c.in_ok-printed.field-0 m c.in-Turns.is
-    c.in_ok-printed.ensures.judged in
-    level_so c.args.number c.args.text.now s (turn_of m) is c.answer_turn.result
-    c.answer_turn.ensures.quiet
-
 pub returns-in-Turns-clause-idle : goal.returns-in-Turns-clause-idle
 unfolding session_of asks_in standing_of
 returns-in-Turns-clause-idle g c idle =
@@ -233,16 +210,6 @@ returns-in-Calls-clause-plays g c =
     c.answer_call.new.disk _ _
     c.args.self c.answer_call.result (call_of m) is c.answer_call.ensures.turned
 
-pub returns-in-Calls-clause-quiet : goal.returns-in-Calls-clause-quiet
-unfolding session_of asks_in standing_of
-returns-in-Calls-clause-quiet g c =
-    let s = standing_of (kinds_of c.args.handlers.now) [] c.args.self in
-    let m = c.in-Calls.call in
-    let is = call_is c.args.number s.kinds c.args.text.now c.session.result.now s.session
-    c.session.ensures.value c.in_ok-printed.field-0 m c.in-Calls.is
-    c.in_ok-printed.ensures.judged in
-    no_level_so c.args.number c.args.text.now s (call_of m) is c.answer_call.result
-
 pub returns-in-Calls-clause-idle : goal.returns-in-Calls-clause-idle
 unfolding session_of asks_in standing_of
 returns-in-Calls-clause-idle g c idle =
@@ -252,96 +219,6 @@ returns-in-Calls-clause-idle g c idle =
     c.session.ensures.value c.in_ok-printed.field-0 m c.in-Calls.is
     c.in_ok-printed.ensures.judged in
     absurd (calling_so c.args.number c.args.text.now s (call_of m) is idle)
-
--- ---- how long a turn takes
-
-pub returns-in-Printed-clause-bounded : goal.returns-in-Printed-clause-bounded
-unfolding session_of asks_in standing_of
-returns-in-Printed-clause-bounded g c =
-    let s = standing_of (kinds_of c.args.handlers.now) [] c.args.self in
-    let p = c.in-Printed.printed in
-    let j = printed_is c.args.number s.kinds c.args.text.now c.session.result.now s.session
-    c.session.ensures.value c.in_ok-printed.field-0 p c.in-Printed.is c.in_ok-printed.ensures.judged
-    in
-    on_ok c.answer.result _ (unbounded_so c.args.number c.args.text.now s j.0 p j.1 j.2)
-
-pub returns-in-Turns-clause-bounded : goal.returns-in-Turns-clause-bounded
-unfolding session_of asks_in standing_of
-returns-in-Turns-clause-bounded g c =
-    let s = standing_of (kinds_of c.args.handlers.now) [] c.args.self in
-    let m = c.in-Turns.turn in
-    let u = turn_of m in
-    let is = turn_is c.args.number s.kinds c.args.text.now c.session.result.now s.session
-    c.session.ensures.value c.in_ok-printed.field-0 m c.in-Turns.is
-    c.in_ok-printed.ensures.judged in
-    let here = c.session.ensures.sound in
-    let some = some_asked c.in_ok-printed.field-0 m _ c.in-Turns.is c.in_ok-printed.ensures.may in
-    on_ok c.answer_turn.result _ (bounded_so c.args.number c.args.text.now s u is some
-    (may u s some here.made here.sound (can_turn s.kinds c.args.text.now s.session u is)
-    here.remembered))
-
-pub returns-in-Calls-clause-bounded : goal.returns-in-Calls-clause-bounded
-unfolding session_of asks_in standing_of
-returns-in-Calls-clause-bounded g c =
-    let s = standing_of (kinds_of c.args.handlers.now) [] c.args.self in
-    let m = c.in-Calls.call in
-    let is = call_is c.args.number s.kinds c.args.text.now c.session.result.now s.session
-    c.session.ensures.value c.in_ok-printed.field-0 m c.in-Calls.is
-    c.in_ok-printed.ensures.judged in
-    on_ok c.answer_call.result _ (no_bound_so c.args.number c.args.text.now s (call_of m) is)
-
--- ---- what no master can do
-
-pub returns-in_err-printed-clause-unharmed : goal.returns-in_err-printed-clause-unharmed
-returns-in_err-printed-clause-unharmed g c other =
-    absurd (other (memory_stop c.from_residual.result c.from_residual.ensures.1))
-
-pub returns-in-Printed-clause-unharmed : goal.returns-in-Printed-clause-unharmed
-unfolding session_of asks_in standing_of
-returns-in-Printed-clause-unharmed g c other heard =
-    let kinds = kinds_of c.args.handlers.now in
-    let s : List Heard → Standing = λ heard. standing_of kinds heard c.args.self in
-    let p = c.in-Printed.printed in
-    let j = printed_is c.args.number kinds c.args.text.now c.session.result.now (s []).session
-    c.session.ensures.value c.in_ok-printed.field-0 p c.in-Printed.is c.in_ok-printed.ensures.judged
-    in
-    no_master_so c.args.number c.args.text.now (s heard) j.0 p j.1 j.2
-
-pub returns-in-Turns-clause-unharmed : goal.returns-in-Turns-clause-unharmed
-unfolding session_of asks_in standing_of
-returns-in-Turns-clause-unharmed g c other heard =
-    let kinds = kinds_of c.args.handlers.now in
-    let s : List Heard → Standing = λ heard. standing_of kinds heard c.args.self in
-    let m = c.in-Turns.turn in
-    let is = turn_is c.args.number kinds c.args.text.now c.session.result.now (s []).session
-    c.session.ensures.value c.in_ok-printed.field-0 m c.in-Turns.is
-    c.in_ok-printed.ensures.judged in
-    no_other_so c.args.number c.args.text.now (s heard) (turn_of m) is
-
-pub returns-in-Calls-clause-unharmed : goal.returns-in-Calls-clause-unharmed
-unfolding session_of asks_in standing_of
-returns-in-Calls-clause-unharmed g c other heard =
-    let kinds = kinds_of c.args.handlers.now in
-    let s : List Heard → Standing = λ heard. standing_of kinds heard c.args.self in
-    let m = c.in-Calls.call in
-    let d = call_of m in
-    let is = call_is c.args.number kinds c.args.text.now c.session.result.now (s []).session
-    c.session.ensures.value c.in_ok-printed.field-0 m c.in-Calls.is
-    c.in_ok-printed.ensures.judged in
-    let here = c.session.ensures.sound in
-    let some = some_called c.in_ok-printed.field-0 m _ c.in-Calls.is c.in_ok-printed.ensures.may in
-    unharmed_so c.args.number c.args.text.now (s heard) d is some
-    (may_call d (s heard) some here.made here.sound
-    (can_call kinds c.args.text.now (s []).session d is) here.remembered)
-
-pub returns-in-Calls-clause-undialled : goal.returns-in-Calls-clause-undialled
-unfolding session_of asks_in standing_of
-returns-in-Calls-clause-undialled g c none =
-    let s = standing_of (kinds_of c.args.handlers.now) [] c.args.self in
-    let m = c.in-Calls.call in
-    absurd (none (call_of m)
-    (call_is c.args.number s.kinds c.args.text.now c.session.result.now s.session
-    c.session.ensures.value c.in_ok-printed.field-0 m c.in-Calls.is c.in_ok-printed.ensures.judged))
 
 -- a turn isn't refused
 pub returns-in-Turns-clause-refused : goal.returns-in-Turns-clause-refused
@@ -388,95 +265,6 @@ returns-in-Delivers-clause-plays g c =
     c.answer_delivery.new.disk _ _ c.args.self r
     (deliver_of m) is refl)
 
-pub returns-in-Delivers-clause-quiet : goal.returns-in-Delivers-clause-quiet
-unfolding session_of asks_in standing_of
-returns-in-Delivers-clause-quiet g c =
-    let s = standing_of (kinds_of c.args.handlers.now) [] c.args.self in
-    let m = c.in-Delivers.deliver in
-    let is = delivery_is c.args.number s.kinds c.args.text.now c.session.result.now s.session
-    c.session.ensures.value c.in_ok-printed.field-0 m c.in-Delivers.is
-    c.in_ok-printed.ensures.judged in
-    delivery_no_turn c.args.number c.args.text.now s (deliver_of m) is c.answer_delivery.result
-
-pub returns-in-Delivers-clause-level : goal.returns-in-Delivers-clause-level
-unfolding session_of asks_in standing_of
-returns-in-Delivers-clause-level g c =
-    let s = standing_of (kinds_of c.args.handlers.now) [] c.args.self in
-    let m = c.in-Delivers.deliver in
-    let is = delivery_is c.args.number s.kinds c.args.text.now c.session.result.now s.session
-    c.session.ensures.value c.in_ok-printed.field-0 m c.in-Delivers.is
-    c.in_ok-printed.ensures.judged in
-    let here = c.session.ensures.sound in
-    equal_so c.args.number c.args.text.now s (deliver_of m) is c.answer_delivery.result
-    (c.answer_delivery.ensures.answers s.kinds [])
-    (level_delivered (deliver_of m) s.session here.made here.sound c.session.ensures.streamed
-    (can_deliver s.kinds c.args.text.now s.session (deliver_of m) is))
-
-pub returns-in-Delivers-clause-waits : goal.returns-in-Delivers-clause-waits
-unfolding session_of asks_in standing_of
-returns-in-Delivers-clause-waits g c =
-    let here = c.session.ensures.sound in
-    line_waits c.args.text.now (standing_of (kinds_of c.args.handlers.now) [] c.args.self) here.made
-    here.sound c.session.ensures.streamed
-
-pub returns-in-Printed-clause-level : goal.returns-in-Printed-clause-level
-unfolding session_of asks_in standing_of
-returns-in-Printed-clause-level g c =
-    let s = standing_of (kinds_of c.args.handlers.now) [] c.args.self in
-    let p = c.in-Printed.printed in
-    let j = printed_is c.args.number s.kinds c.args.text.now c.session.result.now s.session
-    c.session.ensures.value c.in_ok-printed.field-0 p c.in-Printed.is
-    c.in_ok-printed.ensures.judged in
-    no_delivery_so c.args.number c.args.text.now s j.0 p j.1 j.2 c.answer.result
-
-pub returns-in_err-printed-clause-waits : goal.returns-in_err-printed-clause-waits
-unfolding session_of asks_in standing_of
-returns-in_err-printed-clause-waits g c =
-    let here = c.session.ensures.sound in
-    line_waits c.args.text.now (standing_of (kinds_of c.args.handlers.now) [] c.args.self) here.made
-    here.sound c.session.ensures.streamed
-
-pub returns-in-Printed-clause-waits : goal.returns-in-Printed-clause-waits
-unfolding session_of asks_in standing_of
-returns-in-Printed-clause-waits g c =
-    let here = c.session.ensures.sound in
-    line_waits c.args.text.now (standing_of (kinds_of c.args.handlers.now) [] c.args.self) here.made
-    here.sound c.session.ensures.streamed
-
-pub returns-in-Turns-clause-level : goal.returns-in-Turns-clause-level
-unfolding session_of asks_in standing_of
-returns-in-Turns-clause-level g c =
-    let s = standing_of (kinds_of c.args.handlers.now) [] c.args.self in
-    let m = c.in-Turns.turn in
-    let is = turn_is c.args.number s.kinds c.args.text.now c.session.result.now s.session
-    c.session.ensures.value c.in_ok-printed.field-0 m c.in-Turns.is
-    c.in_ok-printed.ensures.judged in
-    turn_no_delivery c.args.number c.args.text.now s (turn_of m) is c.answer_turn.result
-
-pub returns-in-Turns-clause-waits : goal.returns-in-Turns-clause-waits
-unfolding session_of asks_in standing_of
-returns-in-Turns-clause-waits g c =
-    let here = c.session.ensures.sound in
-    line_waits c.args.text.now (standing_of (kinds_of c.args.handlers.now) [] c.args.self) here.made
-    here.sound c.session.ensures.streamed
-
-pub returns-in-Calls-clause-level : goal.returns-in-Calls-clause-level
-unfolding session_of asks_in standing_of
-returns-in-Calls-clause-level g c =
-    let s = standing_of (kinds_of c.args.handlers.now) [] c.args.self in
-    let m = c.in-Calls.call in
-    let is = call_is c.args.number s.kinds c.args.text.now c.session.result.now s.session
-    c.session.ensures.value c.in_ok-printed.field-0 m c.in-Calls.is
-    c.in_ok-printed.ensures.judged in
-    call_no_delivery c.args.number c.args.text.now s (call_of m) is c.answer_call.result
-
-pub returns-in-Calls-clause-waits : goal.returns-in-Calls-clause-waits
-unfolding session_of asks_in standing_of
-returns-in-Calls-clause-waits g c =
-    let here = c.session.ensures.sound in
-    line_waits c.args.text.now (standing_of (kinds_of c.args.handlers.now) [] c.args.self) here.made
-    here.sound c.session.ensures.streamed
-
 pub returns-in-Delivers-clause-idle : goal.returns-in-Delivers-clause-idle
 unfolding session_of asks_in standing_of
 returns-in-Delivers-clause-idle g c idle =
@@ -486,28 +274,6 @@ returns-in-Delivers-clause-idle g c idle =
     c.session.ensures.value c.in_ok-printed.field-0 m c.in-Delivers.is
     c.in_ok-printed.ensures.judged in
     absurd (delivering_so c.args.number c.args.text.now s (deliver_of m) is idle)
-
-pub returns-in-Delivers-clause-bounded : goal.returns-in-Delivers-clause-bounded
-unfolding session_of asks_in standing_of
-returns-in-Delivers-clause-bounded g c =
-    let s = standing_of (kinds_of c.args.handlers.now) [] c.args.self in
-    let m = c.in-Delivers.deliver in
-    let is = delivery_is c.args.number s.kinds c.args.text.now c.session.result.now s.session
-    c.session.ensures.value c.in_ok-printed.field-0 m c.in-Delivers.is
-    c.in_ok-printed.ensures.judged in
-    on_ok c.answer_delivery.result _
-    (delivery_unbounded c.args.number c.args.text.now s (deliver_of m) is)
-
-pub returns-in-Delivers-clause-unharmed : goal.returns-in-Delivers-clause-unharmed
-unfolding session_of asks_in standing_of
-returns-in-Delivers-clause-unharmed g c other heard =
-    let kinds = kinds_of c.args.handlers.now in
-    let s : List Heard → Standing = λ heard. standing_of kinds heard c.args.self in
-    let m = c.in-Delivers.deliver in
-    let is = delivery_is c.args.number kinds c.args.text.now c.session.result.now (s []).session
-    c.session.ensures.value c.in_ok-printed.field-0 m c.in-Delivers.is
-    c.in_ok-printed.ensures.judged in
-    delivery_no_master c.args.number c.args.text.now (s heard) (deliver_of m) is
 
 pub returns-in-Delivers-clause-refused : goal.returns-in-Delivers-clause-refused
 returns-in-Delivers-clause-refused g c =
@@ -535,28 +301,6 @@ returns-in-Delivers-clause-limit g c = c.answer_delivery.ensures.commits.limit
 pub returns-in-Delivers-clause-cause : goal.returns-in-Delivers-clause-cause
 returns-in-Delivers-clause-cause g c = c.answer_delivery.ensures.commits.cause
 
--- ---- the streams
-
-pub returns-in_err-printed-clause-streamed : goal.returns-in_err-printed-clause-streamed
-unfolding session_of
-returns-in_err-printed-clause-streamed g c = c.session.ensures.streamed
-
-pub returns-in-Printed-clause-streamed : goal.returns-in-Printed-clause-streamed
-unfolding session_of
-returns-in-Printed-clause-streamed g c = c.session.ensures.streamed
-
-pub returns-in-Turns-clause-streamed : goal.returns-in-Turns-clause-streamed
-unfolding session_of
-returns-in-Turns-clause-streamed g c = c.session.ensures.streamed
-
-pub returns-in-Calls-clause-streamed : goal.returns-in-Calls-clause-streamed
-unfolding session_of
-returns-in-Calls-clause-streamed g c = c.session.ensures.streamed
-
-pub returns-in-Delivers-clause-streamed : goal.returns-in-Delivers-clause-streamed
-unfolding session_of
-returns-in-Delivers-clause-streamed g c = c.session.ensures.streamed
-
 -- ---- the turns of a tree
 
 pub answer_sweep-requires-clause-batch : goal.answer_sweep-requires-clause-batch
@@ -573,16 +317,6 @@ answer_sweep-requires-clause-can g c =
     c.session.ensures.value c.in_ok-printed.field-0 m c.in-Sweeps.is
     c.in_ok-printed.ensures.judged in
     can_sweep s.kinds c.args.text.now s.session (sweep_of m) c.session.ensures.sound.made is
-
-pub returns-in-Sweeps-clause-level : goal.returns-in-Sweeps-clause-level
-unfolding session_of asks_in standing_of
-returns-in-Sweeps-clause-level g c =
-    let s = standing_of (kinds_of c.args.handlers.now) [] c.args.self in
-    let m = c.in-Sweeps.sweep in
-    let is = sweep_is c.args.number s.kinds c.args.text.now c.session.result.now s.session
-    c.session.ensures.value c.in_ok-printed.field-0 m c.in-Sweeps.is
-    c.in_ok-printed.ensures.judged in
-    sweep_no_delivery c.args.number c.args.text.now s (sweep_of m) is c.answer_sweep.result
 
 pub returns-in-Sweeps-clause-plays : goal.returns-in-Sweeps-clause-plays
 unfolding session_of asks_in standing_of
@@ -609,23 +343,6 @@ returns-in-Sweeps-clause-plays g c =
     c.answer_sweep.new.disk _ _ c.args.self r
     (sweep_of m) is refl)
 
-pub returns-in-Sweeps-clause-quiet : goal.returns-in-Sweeps-clause-quiet
-unfolding session_of asks_in standing_of
-returns-in-Sweeps-clause-quiet g c =
-    let s = standing_of (kinds_of c.args.handlers.now) [] c.args.self in
-    let m = c.in-Sweeps.sweep in
-    let is = sweep_is c.args.number s.kinds c.args.text.now c.session.result.now s.session
-    c.session.ensures.value c.in_ok-printed.field-0 m c.in-Sweeps.is
-    c.in_ok-printed.ensures.judged in
-    sweep_no_turn c.args.number c.args.text.now s (sweep_of m) is c.answer_sweep.result
-
-pub returns-in-Sweeps-clause-waits : goal.returns-in-Sweeps-clause-waits
-unfolding session_of asks_in standing_of
-returns-in-Sweeps-clause-waits g c =
-    let here = c.session.ensures.sound in
-    line_waits c.args.text.now (standing_of (kinds_of c.args.handlers.now) [] c.args.self) here.made
-    here.sound c.session.ensures.streamed
-
 pub returns-in-Sweeps-clause-idle : goal.returns-in-Sweeps-clause-idle
 unfolding session_of asks_in standing_of
 returns-in-Sweeps-clause-idle g c idle =
@@ -635,28 +352,6 @@ returns-in-Sweeps-clause-idle g c idle =
     c.session.ensures.value c.in_ok-printed.field-0 m c.in-Sweeps.is
     c.in_ok-printed.ensures.judged in
     absurd (sweeping_so c.args.number c.args.text.now s (sweep_of m) is idle)
-
-pub returns-in-Sweeps-clause-bounded : goal.returns-in-Sweeps-clause-bounded
-unfolding session_of asks_in standing_of
-returns-in-Sweeps-clause-bounded g c =
-    let s = standing_of (kinds_of c.args.handlers.now) [] c.args.self in
-    let m = c.in-Sweeps.sweep in
-    let is = sweep_is c.args.number s.kinds c.args.text.now c.session.result.now s.session
-    c.session.ensures.value c.in_ok-printed.field-0 m c.in-Sweeps.is
-    c.in_ok-printed.ensures.judged in
-    on_ok c.answer_sweep.result _
-    (sweep_unbounded c.args.number c.args.text.now s (sweep_of m) is)
-
-pub returns-in-Sweeps-clause-unharmed : goal.returns-in-Sweeps-clause-unharmed
-unfolding session_of asks_in standing_of
-returns-in-Sweeps-clause-unharmed g c other heard =
-    let kinds = kinds_of c.args.handlers.now in
-    let s : List Heard → Standing = λ heard. standing_of kinds heard c.args.self in
-    let m = c.in-Sweeps.sweep in
-    let is = sweep_is c.args.number kinds c.args.text.now c.session.result.now (s []).session
-    c.session.ensures.value c.in_ok-printed.field-0 m c.in-Sweeps.is
-    c.in_ok-printed.ensures.judged in
-    sweep_no_master c.args.number c.args.text.now (s heard) (sweep_of m) is
 
 pub returns-in-Sweeps-clause-refused : goal.returns-in-Sweeps-clause-refused
 returns-in-Sweeps-clause-refused g c =
@@ -670,60 +365,185 @@ returns-in-Sweeps-clause-limit g c = c.answer_sweep.ensures.commits.limit
 pub returns-in-Sweeps-clause-cause : goal.returns-in-Sweeps-clause-cause
 returns-in-Sweeps-clause-cause g c = c.answer_sweep.ensures.commits.cause
 
-pub returns-in-Sweeps-clause-streamed : goal.returns-in-Sweeps-clause-streamed
-unfolding session_of
-returns-in-Sweeps-clause-streamed g c = c.session.ensures.streamed
+-- ---- what may be asked of its meaning
 
-pub returns-in-Sweeps-clause-swept : goal.returns-in-Sweeps-clause-swept
+pub returns-in_err-printed-clause-meant : goal.returns-in_err-printed-clause-meant
 unfolding session_of asks_in standing_of
-returns-in-Sweeps-clause-swept g c =
+returns-in_err-printed-clause-meant g c heard =
+    well_meant c.args.text.now (standing_of (kinds_of c.args.handlers.now) heard c.args.self)
+    c.session.ensures.sound c.session.ensures.streamed
+
+pub returns-in-Printed-clause-meant : goal.returns-in-Printed-clause-meant
+unfolding session_of asks_in standing_of
+returns-in-Printed-clause-meant g c heard =
+    well_meant c.args.text.now (standing_of (kinds_of c.args.handlers.now) heard c.args.self)
+    c.session.ensures.sound c.session.ensures.streamed
+
+pub returns-in-Turns-clause-meant : goal.returns-in-Turns-clause-meant
+unfolding session_of asks_in standing_of
+returns-in-Turns-clause-meant g c heard =
+    well_meant c.args.text.now (standing_of (kinds_of c.args.handlers.now) heard c.args.self)
+    c.session.ensures.sound c.session.ensures.streamed
+
+pub returns-in-Calls-clause-meant : goal.returns-in-Calls-clause-meant
+unfolding session_of asks_in standing_of
+returns-in-Calls-clause-meant g c heard =
+    well_meant c.args.text.now (standing_of (kinds_of c.args.handlers.now) heard c.args.self)
+    c.session.ensures.sound c.session.ensures.streamed
+
+pub returns-in-Delivers-clause-meant : goal.returns-in-Delivers-clause-meant
+unfolding session_of asks_in standing_of
+returns-in-Delivers-clause-meant g c heard =
+    well_meant c.args.text.now (standing_of (kinds_of c.args.handlers.now) heard c.args.self)
+    c.session.ensures.sound c.session.ensures.streamed
+
+pub returns-in-Sweeps-clause-meant : goal.returns-in-Sweeps-clause-meant
+unfolding session_of asks_in standing_of
+returns-in-Sweeps-clause-meant g c heard =
+    well_meant c.args.text.now (standing_of (kinds_of c.args.handlers.now) heard c.args.self)
+    c.session.ensures.sound c.session.ensures.streamed
+
+pub returns-in_err-printed-clause-in_order : goal.returns-in_err-printed-clause-in_order
+returns-in_err-printed-clause-in_order g c other =
+    absurd (other (memory_stop c.from_residual.result c.from_residual.ensures.1))
+
+pub returns-in-Printed-clause-in_order : goal.returns-in-Printed-clause-in_order
+unfolding session_of asks_in standing_of
+returns-in-Printed-clause-in_order g c other =
     let s = standing_of (kinds_of c.args.handlers.now) [] c.args.self in
-    let m = c.in-Sweeps.sweep in
-    let is = sweep_is c.args.number s.kinds c.args.text.now c.session.result.now s.session
-    c.session.ensures.value c.in_ok-printed.field-0 m c.in-Sweeps.is
+    let p = c.in-Printed.printed in
+    let j = printed_is c.args.number s.kinds c.args.text.now c.session.result.now s.session
+    c.session.ensures.value c.in_ok-printed.field-0 p c.in-Printed.is
     c.in_ok-printed.ensures.judged in
-    let here = c.session.ensures.sound in
-    well_swept c.args.number c.args.text.now s (sweep_of m) is
-    (some_swept c.in_ok-printed.field-0 m _ c.in-Sweeps.is c.in_ok-printed.ensures.may)
-    here.made here.sound here.remembered c.answer_sweep.result
-    (c.answer_sweep.ensures.answers [])
+    in_order_as c.args.text.now s j.0 (doing_of p.doing) j.1 j.2.doing
+    (may_do c.session.result.now c.args.self.session.session c.session.ensures.value
+    c.in_ok-printed.field-0 p c.in-Printed.is c.in_ok-printed.ensures.may)
 
-pub returns-in-Printed-clause-swept : goal.returns-in-Printed-clause-swept
+pub returns-in-Turns-clause-in_order : goal.returns-in-Turns-clause-in_order
 unfolding session_of asks_in standing_of
-returns-in-Printed-clause-swept g c =
-    let s = standing_of (kinds_of c.args.handlers.now) [] c.args.self in
-    let m = c.in-Printed.printed in
-    let is = printed_is c.args.number s.kinds c.args.text.now c.session.result.now s.session
-    c.session.ensures.value c.in_ok-printed.field-0 m c.in-Printed.is
-    c.in_ok-printed.ensures.judged in
-    not_swept c.args.text.now s (answered is.0) is.1 (λ v same. cc) c.answer.result
-
-pub returns-in-Turns-clause-swept : goal.returns-in-Turns-clause-swept
-unfolding session_of asks_in standing_of
-returns-in-Turns-clause-swept g c =
+returns-in-Turns-clause-in_order g c other =
     let s = standing_of (kinds_of c.args.handlers.now) [] c.args.self in
     let m = c.in-Turns.turn in
     let is = turn_is c.args.number s.kinds c.args.text.now c.session.result.now s.session
     c.session.ensures.value c.in_ok-printed.field-0 m c.in-Turns.is
     c.in_ok-printed.ensures.judged in
-    not_swept c.args.text.now s (turns (turn_of m)) is (λ v same. cc) c.answer_turn.result
+    in_order c.args.text.now s c.session.ensures.sound c.session.ensures.streamed
+    (turns (turn_of m)) is (λ o same. absurd (cc))
 
-pub returns-in-Calls-clause-swept : goal.returns-in-Calls-clause-swept
+pub returns-in-Calls-clause-in_order : goal.returns-in-Calls-clause-in_order
 unfolding session_of asks_in standing_of
-returns-in-Calls-clause-swept g c =
+returns-in-Calls-clause-in_order g c other =
     let s = standing_of (kinds_of c.args.handlers.now) [] c.args.self in
     let m = c.in-Calls.call in
     let is = call_is c.args.number s.kinds c.args.text.now c.session.result.now s.session
     c.session.ensures.value c.in_ok-printed.field-0 m c.in-Calls.is
     c.in_ok-printed.ensures.judged in
-    not_swept c.args.text.now s (calls (call_of m)) is (λ v same. cc) c.answer_call.result
+    in_order c.args.text.now s c.session.ensures.sound c.session.ensures.streamed
+    (calls (call_of m)) is (λ o same. absurd (cc))
 
-pub returns-in-Delivers-clause-swept : goal.returns-in-Delivers-clause-swept
+pub returns-in-Delivers-clause-in_order : goal.returns-in-Delivers-clause-in_order
 unfolding session_of asks_in standing_of
-returns-in-Delivers-clause-swept g c =
+returns-in-Delivers-clause-in_order g c other =
     let s = standing_of (kinds_of c.args.handlers.now) [] c.args.self in
     let m = c.in-Delivers.deliver in
     let is = delivery_is c.args.number s.kinds c.args.text.now c.session.result.now s.session
     c.session.ensures.value c.in_ok-printed.field-0 m c.in-Delivers.is
     c.in_ok-printed.ensures.judged in
-    not_swept c.args.text.now s (delivers (deliver_of m)) is (λ v same. cc) c.answer_delivery.result
+    in_order c.args.text.now s c.session.ensures.sound c.session.ensures.streamed
+    (delivers (deliver_of m)) is (λ o same. absurd (cc))
+
+pub returns-in-Sweeps-clause-in_order : goal.returns-in-Sweeps-clause-in_order
+unfolding session_of asks_in standing_of
+returns-in-Sweeps-clause-in_order g c other =
+    let s = standing_of (kinds_of c.args.handlers.now) [] c.args.self in
+    let m = c.in-Sweeps.sweep in
+    let is = sweep_is c.args.number s.kinds c.args.text.now c.session.result.now s.session
+    c.session.ensures.value c.in_ok-printed.field-0 m c.in-Sweeps.is
+    c.in_ok-printed.ensures.judged in
+    in_order c.args.text.now s c.session.ensures.sound c.session.ensures.streamed
+    (sweeps (sweep_of m)) is (λ o same. absurd (cc))
+
+-- ---- what may be asked of the world that it leaves
+
+pub returns-in-Printed-clause-kept : goal.returns-in-Printed-clause-kept
+unfolding session_of asks_in standing_of
+returns-in-Printed-clause-kept g c =
+    let s = standing_of (kinds_of c.args.handlers.now) [] c.args.self in
+    let p = c.in-Printed.printed in
+    let j = printed_is c.args.number s.kinds c.args.text.now c.session.result.now s.session
+    c.session.ensures.value c.in_ok-printed.field-0 p c.in-Printed.is
+    c.in_ok-printed.ensures.judged in
+    answered_kept c.args.text.now s j.0 j.1 c.answer.result
+
+pub returns-in-Turns-clause-kept : goal.returns-in-Turns-clause-kept
+unfolding session_of asks_in standing_of
+returns-in-Turns-clause-kept g c =
+    let s = standing_of (kinds_of c.args.handlers.now) [] c.args.self in
+    let m = c.in-Turns.turn in
+    let is = turn_is c.args.number s.kinds c.args.text.now c.session.result.now s.session
+    c.session.ensures.value c.in_ok-printed.field-0 m c.in-Turns.is
+    c.in_ok-printed.ensures.judged in
+    turn_kept c.args.text.now s (turn_of m) is c.answer_turn.result c.answer_turn.ensures.quiet
+
+pub returns-in-Calls-clause-kept : goal.returns-in-Calls-clause-kept
+unfolding session_of asks_in standing_of
+returns-in-Calls-clause-kept g c =
+    let s = standing_of (kinds_of c.args.handlers.now) [] c.args.self in
+    let m = c.in-Calls.call in
+    let is = call_is c.args.number s.kinds c.args.text.now c.session.result.now s.session
+    c.session.ensures.value c.in_ok-printed.field-0 m c.in-Calls.is
+    c.in_ok-printed.ensures.judged in
+    call_kept c.args.text.now s (call_of m) is c.answer_call.result
+
+pub returns-in-Delivers-clause-kept : goal.returns-in-Delivers-clause-kept
+unfolding session_of asks_in standing_of
+returns-in-Delivers-clause-kept g c =
+    let s = standing_of (kinds_of c.args.handlers.now) [] c.args.self in
+    let m = c.in-Delivers.deliver in
+    let is = delivery_is c.args.number s.kinds c.args.text.now c.session.result.now s.session
+    c.session.ensures.value c.in_ok-printed.field-0 m c.in-Delivers.is
+    c.in_ok-printed.ensures.judged in
+    delivery_kept c.args.text.now s c.session.ensures.sound c.session.ensures.streamed
+    (deliver_of m) is c.answer_delivery.result c.args.number
+    (c.answer_delivery.ensures.answers s.kinds [])
+
+pub returns-in-Sweeps-clause-kept : goal.returns-in-Sweeps-clause-kept
+unfolding session_of asks_in standing_of
+returns-in-Sweeps-clause-kept g c =
+    let s = standing_of (kinds_of c.args.handlers.now) [] c.args.self in
+    let m = c.in-Sweeps.sweep in
+    let is = sweep_is c.args.number s.kinds c.args.text.now c.session.result.now s.session
+    c.session.ensures.value c.in_ok-printed.field-0 m c.in-Sweeps.is
+    c.in_ok-printed.ensures.judged in
+    sweep_kept c.args.text.now s c.session.ensures.sound (sweep_of m) is c.answer_sweep.result
+    c.args.number (c.answer_sweep.ensures.answers [])
+
+-- ---- the dial
+
+pub returns-in_err-printed-clause-dials : goal.returns-in_err-printed-clause-dials
+returns-in_err-printed-clause-dials g c = record { undialled = λ none. refl; count = omega arith }
+
+pub returns-in-Printed-clause-dials : goal.returns-in-Printed-clause-dials
+returns-in-Printed-clause-dials g c = record { undialled = λ none. refl; count = omega arith }
+
+pub returns-in-Turns-clause-dials : goal.returns-in-Turns-clause-dials
+returns-in-Turns-clause-dials g c = record { undialled = λ none. refl; count = omega arith }
+
+pub returns-in-Delivers-clause-dials : goal.returns-in-Delivers-clause-dials
+returns-in-Delivers-clause-dials g c = record { undialled = λ none. refl; count = omega arith }
+
+pub returns-in-Sweeps-clause-dials : goal.returns-in-Sweeps-clause-dials
+returns-in-Sweeps-clause-dials g c = record { undialled = λ none. refl; count = omega arith }
+
+pub returns-in-Calls-clause-dials : goal.returns-in-Calls-clause-dials
+unfolding session_of asks_in standing_of
+returns-in-Calls-clause-dials g c =
+    let s = standing_of (kinds_of c.args.handlers.now) [] c.args.self in
+    let m = c.in-Calls.call in
+    let is = call_is c.args.number s.kinds c.args.text.now c.session.result.now s.session
+    c.session.ensures.value c.in_ok-printed.field-0 m c.in-Calls.is
+    c.in_ok-printed.ensures.judged in
+    record {
+      undialled = λ none. absurd (none (call_of m) is);
+      count = c.answer_call.ensures.dial_count;
+    }

@@ -48,7 +48,10 @@ returns-in-Printed g c =
     c.in_ok-printed.ensures.judged in
     if_ok c.stage_printed.result (StagesPrinted p c.args.self)
     (StagesLine kinds c.args.number c.args.text.now c.args.self) c.stage_printed.ensures
-    (stages_printed kinds c.args.number c.args.text.now c.args.self j.0 p j.1 j.2)
+    (stages_printed kinds c.args.number c.args.text.now c.args.self j.0 p j.1 j.2
+    c.session.ensures.sound c.session.ensures.streamed
+    (may_do c.session.result.now s c.session.ensures.value c.in_ok-printed.field-0 p
+    c.in-Printed.is c.in_ok-printed.ensures.may))
 
 pub returns-in-Turns : goal.returns-in-Turns
 returns-in-Turns g c = left_as_it_is c.args.self
