@@ -1,5 +1,5 @@
 -- A turn ends by the clock only where no write time is left.
-use Rattle.std.proofs.Common.{◌≡◌, ◌⊎◌, ◌∙◌, ℕ, zero, suc, ◌≤◌, Bool, true, false, cond, nat_lt, List, [], ◌∷◌, ◌++◌, length, Option, Some, None, Result, Ok, Err, refl, sym, ap, subst, inl, inr, append-nil}
+use Rattle.std.proofs.Common.{◌≡◌, ◌⊎◌, ◌∙◌, ℕ, zero, suc, ◌≤◌, Bool, true, false, cond, nat_lt, List, length, Option, Some, None, Result, Ok, Err, refl, sym, ap, subst, inl, inr, append-nil}
 use Rattle.rx_value.specs.Due.{◌>>=◌}
 use Rattle.rx_value.specs.Named.{named}
 use Rattle.rx_value.proofs.Outcomes.{none_mapped, not_none, some_same}
@@ -19,14 +19,13 @@ use Rattle.rx_reply.specs.declared.turn.TurnEnd.{TurnEnd}
 use Rattle.rx_reply.specs.declared.turn.TurnEnd.TheVariants.{Quiet, Clock}
 use Rattle.rx_script.specs.declared.happening.Happening.{Happening}
 use Rattle.rx_script.specs.declared.happening.Happening.TheVariants as link
-use Rattle.rx_world.specs.Step.{step}
 use Rattle.rx_world.specs.World.{World}
 use Rattle.rx_world.specs.declared.replication.Replication.{Replication}
 use Rattle.rx_sync.specs.Asking.{asked_by, asked_in, fork_in}
 use Rattle.rx_sync.specs.Asks.{Asks, next_number, with_request}
 use Rattle.rx_sync.specs.Exchange.{Course, Planned, Terms, behind, course, course_by, exchange, handled_and_taken, if_taken, late_records, late_request, once_handled, once_late, reply_lost, reply_taken, when_taken, world_after}
 use Rattle.rx_sync.specs.Handling.{Handled, handled_for, local_name, master_in}
-use Rattle.rx_sync.specs.Laws.{ComeSoundly, EveryTurn, IsReady, MayTurn, RemembersLawful}
+use Rattle.rx_sync.specs.Laws.{EveryTurn, IsReady, MayTurn, RemembersLawful}
 use Rattle.rx_sync.specs.Taking.{taken, taken_by}
 use Rattle.rx_sync.specs.Turn.{Turned, end_by, first_of, going_on, rest_of, turn}
 use Rattle.rx_sync.specs.declared.fault.TakeFault.{TakeFault}
@@ -38,7 +37,7 @@ use Rattle.rx_sync.proofs.Going.{asked_is, due_here, fork_then, handled_well, re
 use Rattle.rx_sync.proofs.Refusals.{by_the_clock_alone}
 use Rattle.rx_sync.proofs.Repeats.{twice_is_once}
 use Rattle.rx_sync.proofs.Staying.{ready_after}
-use Rattle.rx_sync.proofs.Turns.{CourseGoesWell, course_again, course_well, late_asked, late_well, remembers_more}
+use Rattle.rx_sync.proofs.Turns.{CourseGoesWell, course_again, course_well, late_asked, late_come, remembers_more}
 use Rattle.rx_sync.proofs.Worlds.{after-append}
 use Rattle.rx_steps.specs.Clock.{EndsByClockAlone, HasNoTimeLeft, fork_of, master_of}
 use Rattle.rx_steps.proofs.LastTimes.{handled_last, taken_last}
@@ -180,13 +179,6 @@ module _ (t : Terms) (w : World) (ready : IsReady w t.name t.kinds) (n batch : �
 
 -- ---- with an earlier request that arrives late
 
--- the first of records that come soundly do
-pub soundly_front : (w : World) (cs ds : List Content) → ComeSoundly w (cs ++ ds)
-    → ComeSoundly w cs
-soundly_front w [] ds come = tt
-soundly_front w (c ∷ cs) ds come =
-    (come.0, come.1, soundly_front (step c w) cs ds come.2)
-
 unhandled_late : (w : World) (name : List ℕ) (kinds : Kinds) (ready : IsReady w name kinds)
     (now : ℕ) (o : Option Request) → late_records name now w o ≡ None → IsOutOfTime w name
 unhandled_late w name kinds ready now None is = not_none (sym is)
@@ -200,20 +192,13 @@ module _ (t : Terms) (w : World) (ready : IsReady w t.name t.kinds) (n batch : �
   abbrev late : Option (List Content)
   late = late_records t.name t.now w (late_request x a)
 
-  -- the records of the earlier request come soundly
-  pub late_come : (cs : List Content) → late ≡ Some cs → ComeSoundly w cs
-  late_come cs at =
-      let well = late_well t w ready n batch some asked is x a lawful in
-      soundly_front w cs (exchange t asked x (world_after cs w)).records
-      (subst (λ (o : Option (List Content)). ComeSoundly w (once_late t asked x w o).records) at
-      well.come)
-
   late_by : (o : Option (List Content)) → late ≡ o → StopsByClock w t.name (once_late t asked x w o)
   late_by None at stop = unhandled_late w t.name t.kinds ready t.now (late_request x a) at
   late_by (Some cs) at stop =
       stops_behind w t.name cs (exchange t asked x (world_after cs w))
       (exchange_stops t (world_after cs w)
-      (ready_after cs w t.name t.kinds ready (late_come cs at)) n batch some asked
+      (ready_after cs w t.name t.kinds ready
+      (late_come t w ready n batch some asked is x a lawful cs at)) n batch some asked
       (late_asked t w ready n batch some asked is x a lawful cs at) x) stop
 
   late_stops : StopsByClock w t.name (once_late t asked x w late)

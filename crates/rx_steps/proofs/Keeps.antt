@@ -14,7 +14,7 @@ use Rattle.rx_engine.specs.Remembered.{AreRemembered}
 use Rattle.rx_engine.specs.Shown.{WritesNoExchange}
 use Rattle.rx_engine.specs.Standing.{Standing}
 use Rattle.rx_engine.specs.Streams.{delivered_by}
-use Rattle.rx_engine.specs.Sweeping.{swept}
+use Rattle.rx_engine.specs.Sweeping.{swept, sweep_by}
 use Rattle.rx_engine.proofs.AfterCalls.{made_called, remembered_called, sound_called}
 use Rattle.rx_engine.proofs.AfterTurns.{made_then, remembered_then, sound_then}
 use Rattle.rx_engine.proofs.CanSweeps.{can_sweep}
@@ -24,7 +24,7 @@ use Rattle.rx_engine.proofs.Keeping as keeping
 use Rattle.rx_engine.proofs.Plays.{written-world}
 use Rattle.rx_engine.proofs.Remembering.{remembered_after, remembered_doing}
 use Rattle.rx_steps.specs.History.{Lasting}
-use Rattle.rx_steps.specs.Scripts.{AreInOrder, IsInOrder, IsSoundStanding, LinesKeepSound, MayBePlayedInTurn, SoundScriptsAreHistories, sweep_terms}
+use Rattle.rx_steps.specs.Scripts.{AreInOrder, IsInOrderFor, IsSoundStanding, LinesKeepSound, MayBePlayedInTurn, SoundScriptsAreHistories}
 use Rattle.rx_steps.specs.History as history
 use Rattle.rx_steps.proofs.Outcomes.{IsOfLine, TaskWrites, WritesSo, line_writes}
 use Rattle.rx_steps.proofs.Scripts.{scripts_are_histories}
@@ -62,14 +62,14 @@ module _ (l : Lasting) (line : List ℕ) (s : Standing) (good : IsSoundStanding 
   abbrev w : World
   w = s.session.world
 
-  by_task : (n : ℕ) (t : Task) → task s.kinds line s.session ≡ t → IsInOrder l t s
+  by_task : (n : ℕ) (t : Task) → task s.kinds line s.session ≡ t → IsInOrderFor l t s
       → TaskWrites t
       → IsGood (task_meaning n t s).next.session.world (task_meaning n t s).next.asks
   by_task n (answered o) is order so = record {
-    made = keeping.made_then o.doing s.session order good.made;
-    sound = keeping.sound_then o.doing s.session order (no_exchange o.doing so) good.made
+    made = keeping.made_then o.doing s.session order.0 good.made;
+    sound = keeping.sound_then o.doing s.session order.0 (no_exchange o.doing so) good.made
         good.sound;
-    remembered = kept_remembered o.doing s.session s.asks order good.remembered;
+    remembered = kept_remembered o.doing s.session s.asks order.0 good.remembered;
   }
   by_task n (turns u) is order so =
       let can = can_turn s.kinds line s.session u is in
@@ -81,22 +81,22 @@ module _ (l : Lasting) (line : List ℕ) (s : Standing) (good : IsSoundStanding 
   by_task n (calls c) is order so =
       let can = can_call s.kinds line s.session c is in
       record {
-        made = made_called c s order good.made good.sound can good.remembered;
-        sound = sound_called c s order good.made good.sound can good.remembered;
-        remembered = remembered_called c s order good.made good.sound can good.remembered;
+        made = made_called c s order.0 good.made good.sound can good.remembered;
+        sound = sound_called c s order.0 good.made good.sound can good.remembered;
+        remembered = remembered_called c s order.0 good.made good.sound can good.remembered;
       }
   by_task n (sweeps v) is order so =
       let can = can_sweep s.kinds line s.session v good.made is in
       let t = swept v s in
       subst (λ (z : World). IsGood z t.asks) (sym (written-world t.records s.session))
-      (sweep_good l (sweep_terms v s) order.0 v.steps w s.asks
+      (sweep_good l (sweep_by v s) order.0 v.steps w s.asks
       (record { made = good.made; sound = good.sound; remembered = good.remembered })
       (ready_all s.kinds s.session v.steps good.made good.sound can))
   by_task n (delivers d) is order so =
       let es = queued_in d.name s.session in
       let cs : List Content = (delivered_by d s.session).records in
-      let come = delivery_sound d.name s.session.moment 1 d.link es w order.may in
-      let again = delivery_again d.name s.session.moment 1 d.link es w order.may in
+      let come = delivery_sound d.name s.session.moment 1 d.link es w order.0 in
+      let again = delivery_again d.name s.session.moment 1 d.link es w order.0 in
       subst (λ (z : World). IsGood z s.asks)
       (sym (written-world cs (with_emptied d.name s.session)))
       (record {

@@ -16,7 +16,6 @@ pub mod Learns
 pub mod LastTimes
 pub mod Clock
 pub mod ClockElsewhere
-pub mod Updates
 pub mod Stale
 pub mod Served
 pub mod Handlings
@@ -25,3 +24,9 @@ pub mod Beside
 pub mod Scripts
 pub mod Sounds
 pub mod Keeps
+pub mod Numbers
+pub mod TextsEscaped
+pub mod TextsOfStates
+pub mod TextsOfMessages
+pub mod TextsRead
+pub mod TextsUnderstood

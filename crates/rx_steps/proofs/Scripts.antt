@@ -37,11 +37,11 @@ use Rattle.rx_engine.specs.Meaning.{asks_kept, meaning, records_of, task_meaning
 use Rattle.rx_engine.specs.Opening.{opened}
 use Rattle.rx_engine.specs.Standing.{Standing, forgotten_where, is_of_group}
 use Rattle.rx_engine.specs.Streams.{WantedDelivery, delivered_by}
-use Rattle.rx_engine.specs.Sweeping.{is_quiet, swept}
+use Rattle.rx_engine.specs.Sweeping.{is_quiet, swept, sweep_by}
 use Rattle.rx_engine.specs.Turning.{terms, turned as made_turn, written as after_records}
 use Rattle.rx_steps.specs.History.{Event, IsOfSteps, Lasting, MayHappenInTurn, Moment, TurnEvent, beginning, lasting_of, moment_after, moment_behind, resolve_of, start_of, turned, turned_by, written}
 use Rattle.rx_steps.specs.Records.{asks_behind}
-use Rattle.rx_steps.specs.Scripts.{IsHeldIn, LinesAreEvents, MayBeCalled, MayBeDelivered, MayBeTurnedIn, MayBePlayed, MayBePlayedInTurn, MayBeSwept, OpeningsAreEvents, ScriptsAreHistories, moment_of, script_events, standing_behind, sweep_events, sweep_terms, task_events, turn_events, turn_of, turn_of_sweep}
+use Rattle.rx_steps.specs.Scripts.{IsHeldIn, LinesAreEvents, MayBeCalled, MayBeDelivered, MayBeTurnedIn, MayBePlayed, MayBePlayedInTurn, MayBeSwept, OpeningsAreEvents, ScriptsAreHistories, moment_of, script_events, standing_behind, sweep_events, task_events, turn_events, turn_of, turn_of_sweep}
 use Rattle.rx_steps.specs.Shows.{Shows}
 use Rattle.rx_steps.proofs.Beside.{IsOfTurn, MayComeInTurnBeside, come_beside, of_call, of_delivery, of_turn}
 use Rattle.rx_steps.proofs.Histories.{Stands, begins_so, event_leads, event_stands, histories_are_steps, history_leads, stands_new}
@@ -376,9 +376,9 @@ module _ (l : Lasting) where
       (asks_of l.name (put_named s.asks c.name t.asks)) s.session refl (call_leads c s has may)
   task_leads n (sweeps v) s kinds has writes may =
       let t : Swept = swept v s in
-      in_session (sweep_events l (sweep_terms v s) v.steps s.session.world s.asks) s t.records
+      in_session (sweep_events l (sweep_by v s) v.steps s.session.world s.asks) s t.records
       (asks_of l.name t.asks) s.session refl
-      (sweep_leads (sweep_terms v s) kinds v.steps s.session.world s.asks may)
+      (sweep_leads (sweep_by v s) kinds v.steps s.session.world s.asks may)
   task_leads n (delivers d) s kinds has writes may =
       let cs : List Content = (delivered_by d s.session).records in
       in_session (map written cs) s cs (asks_of l.name s.asks) (with_emptied d.name s.session) refl

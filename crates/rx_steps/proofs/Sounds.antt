@@ -21,13 +21,14 @@ use Rattle.rx_world.specs.World.{World}
 use Rattle.rx_engine.specs.Lines.{Task, answered, turns, calls, sweeps, delivers, task}
 use Rattle.rx_engine.specs.Remembered.{AreRemembered}
 use Rattle.rx_engine.specs.Standing.{Standing}
+use Rattle.rx_engine.specs.Sweeping.{sweep_by}
 use Rattle.rx_engine.specs.Sweeps.{CanSweep}
 use Rattle.rx_engine.specs.Turning.{CanTurn, terms}
 use Rattle.rx_engine.proofs.CanSweeps.{can_sweep}
 use Rattle.rx_engine.proofs.CanTurns.{can_call, can_turn}
 use Rattle.rx_engine.proofs.Remembering.{remembered_after, remembered_put, remembers_lawful}
 use Rattle.rx_steps.specs.History.{Lasting}
-use Rattle.rx_steps.specs.Scripts.{EachHasNumbers, IsInOrder, IsSoundStanding, MayBePlayed, MayBeSwept, SoundLinesMayBePlayed, sweep_terms}
+use Rattle.rx_steps.specs.Scripts.{EachHasNumbers, IsInOrderFor, IsSoundStanding, MayBePlayed, MayBeSwept, SoundLinesMayBePlayed}
 
 -- what a sound standing has
 pub record IsGood (w : World) (asks : List (List ℕ × Asks)) : Type 0 where
@@ -138,8 +139,8 @@ ready_all kinds s (x ∷ xs) made sound can =
 -- ---- a line
 
 module _ (l : Lasting) (line : List ℕ) (s : Standing) (good : IsSoundStanding s) where
-  by_task : (t : Task) → task s.kinds line s.session ≡ t → IsInOrder l t s → MayBePlayed l t s
-  by_task (answered o) is order = order
+  by_task : (t : Task) → task s.kinds line s.session ≡ t → IsInOrderFor l t s → MayBePlayed l t s
+  by_task (answered o) is order = order.0
   by_task (turns u) is order =
       let can = can_turn s.kinds line s.session u is in
       record {
@@ -153,7 +154,7 @@ module _ (l : Lasting) (line : List ℕ) (s : Standing) (good : IsSoundStanding 
   by_task (calls c) is order =
       let can = can_call s.kinds line s.session c is in
       record {
-        some = order;
+        some = order.0;
         may = record {
           ready = record {
             made = good.made;
@@ -167,10 +168,10 @@ module _ (l : Lasting) (line : List ℕ) (s : Standing) (good : IsSoundStanding 
       }
   by_task (sweeps v) is order =
       let can = can_sweep s.kinds line s.session v good.made is in
-      sweep_may l (sweep_terms v s) order.0 v.steps s.session.world s.asks
+      sweep_may l (sweep_by v s) order.0 v.steps s.session.world s.asks
       (record { made = good.made; sound = good.sound; remembered = good.remembered })
       (ready_all s.kinds s.session v.steps good.made good.sound can) order.1
-  by_task (delivers d) is order = order
+  by_task (delivers d) is order = record { may = order.0; none = order.1 }
 
 pub sound_lines_may_be_played : SoundLinesMayBePlayed
 sound_lines_may_be_played l line s good order =

@@ -25,7 +25,7 @@ few_by : (t : Terms) (x : Happening) (w : World) (a : Asks) (o : Option Asked)
 few_by t x w a None = omega arith
 few_by t x w a (Some asked) = omega arith
 
-few_more : (t : Terms) (batch : ℕ) (x : Happening) (w : World) (a : Asks)
+pub few_more : (t : Terms) (batch : ℕ) (x : Happening) (w : World) (a : Asks)
     → (course t batch x w a).asks.n ≤ a.n + 1
 few_more t batch x w a = few_by t x w a (asked_in w t.name (next_number a) batch)
 

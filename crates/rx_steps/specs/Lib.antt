@@ -3,8 +3,10 @@ pub mod Exchanging
 pub mod Records
 pub mod History
 pub mod Takings
-pub mod Updates
 pub mod Clock
 pub mod Stale
 pub mod Served
 pub mod Scripts
+pub mod Numbers
+pub mod Texts
+pub mod Understood

@@ -4,7 +4,6 @@ use Rattle.std.specs.Str.{bytes_eq}
 use Rattle.rx_value.specs.Named.{named, put_named}
 use Rattle.rx_record.specs.Content.{Content, epoch}
 use Rattle.rx_record.specs.declared.record.MasterName.TheVariants.{Local}
-use Rattle.rx_reply.specs.declared.turn.TurnEnd.TheVariants.{Quiet}
 use Rattle.rx_session.specs.Doing.{MayDo}
 use Rattle.rx_session.specs.Session.{queued_in}
 use Rattle.rx_sync.specs.Asks.{Asks, asks_of, most_number}
@@ -13,18 +12,19 @@ use Rattle.rx_sync.specs.Exchange.{Terms, world_after}
 use Rattle.rx_sync.specs.Laws.{MayTurn}
 use Rattle.rx_sync.specs.Remote.{Heard}
 use Rattle.rx_sync.specs.RemoteLaws.{MayCall}
-use Rattle.rx_sync.specs.Sweep.{Sweep, turn_in}
+use Rattle.rx_sync.specs.Sweep.{EachSwept, Sweep, terms_in, turn_in}
 use Rattle.rx_sync.specs.declared.sweeping.Step.{Step as SweepStep}
 use Rattle.rx_world.specs.World.{World}
 use Rattle.rx_world.specs.declared.replication.Replication.{Replication}
 use Rattle.rx_engine.specs.Calling.{WantedCall}
+use Rattle.rx_engine.specs.Kept.{IsInOrder}
 use Rattle.rx_engine.specs.Lines.{Task, answered, turns, calls, sweeps, delivers, task}
 use Rattle.rx_engine.specs.Meaning.{Meaning, meaning}
 use Rattle.rx_engine.specs.Opening.{Host, opened}
 use Rattle.rx_engine.specs.SoundSession.{HasSoundWorld, with_asks}
 use Rattle.rx_engine.specs.Standing.{Standing}
 use Rattle.rx_engine.specs.Streams.{WantedDelivery, delivered_by}
-use Rattle.rx_engine.specs.Sweeping.{WantedSweep, is_quiet}
+use Rattle.rx_engine.specs.Sweeping.{is_quiet, sweep_by}
 use Rattle.rx_engine.specs.Turning.{WantedTurn, terms}
 use Rattle.rx_steps.specs.History.{Event, IsOfSteps, Lasting, Making, MayBeMade, MayHappenInTurn, Moment, TurnEvent, beginning, lasting_of, moment_after, moment_behind, turned, written}
 
@@ -41,15 +41,6 @@ turn_of u s = record {
   budget = u.budget;
   over = u.link;
   now = s.session.moment;
-}
-
--- how a line sweeps
-abbrev pub sweep_terms : WantedSweep → Standing → Sweep
-sweep_terms v s = record {
-  batch = v.batch;
-  budget = v.budget;
-  now = s.session.moment;
-  kinds = s.kinds;
 }
 
 -- those of a turn of the replication of that name: of this one it is one event, and of another each
@@ -76,7 +67,7 @@ sweep_events l v (x ∷ xs) w asks =
 abbrev pub task_events : Lasting → Task → Meaning → Standing → List Event
 task_events l (turns u) m s = turn_events l u.name (turn_of u s) m.records
 task_events l (sweeps v) m s =
-    sweep_events l (sweep_terms v s) v.steps s.session.world s.asks
+    sweep_events l (sweep_by v s) v.steps s.session.world s.asks
 task_events l other m s = map written m.records
 
 abbrev pub line_events : Lasting → ℕ → List ℕ → Standing → List Event
@@ -104,12 +95,8 @@ pub record MayBeTurnedIn (l : Lasting) (t : Terms) (batch budget : ℕ) (w : Wor
 
 -- so may each turn of a sweep, as far as it goes
 abbrev pub MayBeSwept : Lasting → Sweep → List SweepStep → World → List (List ℕ × Asks) → Type 0
-MayBeSwept l v [] w asks = Unit {0}
-MayBeSwept l v (x ∷ xs) w asks =
-    let t = turn_in v x.name w asks in
-    MayBeTurnedIn l (terms x.name v.now v.kinds) v.batch v.budget w asks
-    × (t.ended ≡ Quiet
-    → MayBeSwept l v xs (world_after t.records w) (put_named asks x.name t.asks))
+MayBeSwept l v xs w asks =
+    EachSwept (λ name w asks. MayBeTurnedIn l (terms_in v name) v.batch v.budget w asks) v xs w asks
 
 -- a turn to a master elsewhere may be made
 pub record MayBeCalled (c : WantedCall) (s : Standing) : Type 0 where
@@ -129,7 +116,7 @@ MayBePlayed l (answered o) s = MayDo o.doing s.session
 MayBePlayed l (turns u) s =
     MayBeTurnedIn l (terms u.name s.session.moment s.kinds) u.batch u.budget s.session.world s.asks
 MayBePlayed l (calls c) s = MayBeCalled c s
-MayBePlayed l (sweeps v) s = MayBeSwept l (sweep_terms v s) v.steps s.session.world s.asks
+MayBePlayed l (sweeps v) s = MayBeSwept l (sweep_by v s) v.steps s.session.world s.asks
 MayBePlayed l (delivers d) s = MayBeDelivered l d s
 
 abbrev pub MayBePlayedInTurn : Lasting → ℕ → List (List ℕ) → Standing → Type 0
@@ -152,28 +139,26 @@ HasNumbers l name budget asks =
 -- so have those of each turn of a sweep, as far as it goes
 abbrev pub EachHasNumbers : Lasting → Sweep → List SweepStep → World → List (List ℕ × Asks)
     → Type 0
-EachHasNumbers l v [] w asks = Unit {0}
-EachHasNumbers l v (x ∷ xs) w asks =
-    let t = turn_in v x.name w asks in
-    HasNumbers l x.name v.budget asks
-    × (t.ended ≡ Quiet
-    → EachHasNumbers l v xs (world_after t.records w) (put_named asks x.name t.asks))
+EachHasNumbers l v xs w asks =
+    EachSwept (λ name w asks. HasNumbers l name v.budget asks) v xs w asks
 
--- A line is in order: what it does may be done in the session, an exchange is of one document at
--- least, and the requests have numbers.
-abbrev pub IsInOrder : Lasting → Task → Standing → Type 0
-IsInOrder l (answered o) s = MayDo o.doing s.session
-IsInOrder l (turns u) s = (1 ≤ u.batch) × HasNumbers l u.name u.budget s.asks
-IsInOrder l (calls c) s = 1 ≤ c.batch
-IsInOrder l (sweeps v) s =
-    (1 ≤ v.batch) × EachHasNumbers l (sweep_terms v s) v.steps s.session.world s.asks
-IsInOrder l (delivers d) s = MayBeDelivered l d s
+-- what the history of a replication asks of a line: the requests of its turns have numbers, and it
+-- delivers nothing to the fork
+abbrev pub FitsHistory : Lasting → Task → Standing → Type 0
+FitsHistory l (turns u) s = HasNumbers l u.name u.budget s.asks
+FitsHistory l (sweeps v) s = EachHasNumbers l (sweep_by v s) v.steps s.session.world s.asks
+FitsHistory l (delivers d) s = d.name ≡ l.name → (delivered_by d s.session).records ≡ []
+FitsHistory l other s = Unit {0}
+
+-- a line is in order, as each is that a session plays, and fits the history
+abbrev pub IsInOrderFor : Lasting → Task → Standing → Type 0
+IsInOrderFor l t s = IsInOrder t s.session × FitsHistory l t s
 
 -- it may be played in a sound world
 abbrev pub SoundLinesMayBePlayed : Type 0
 SoundLinesMayBePlayed =
     (l : Lasting) (line : List ℕ) (s : Standing) → IsSoundStanding s
-    → IsInOrder l (task s.kinds line s.session) s
+    → IsInOrderFor l (task s.kinds line s.session) s
     → MayBePlayed l (task s.kinds line s.session) s
 
 -- ---- what holds
@@ -216,18 +201,18 @@ ScriptsAreHistories =
 
 -- ---- scripts in a sound world
 
--- each line is in order, in how things stand before it
+-- each line is in order for the replication, in how things stand before it
 abbrev pub AreInOrder : Lasting → ℕ → List (List ℕ) → Standing → Type 0
 AreInOrder l n [] s = Unit {0}
 AreInOrder l n (line ∷ lines) s =
-    IsInOrder l (task s.kinds line s.session) s
+    IsInOrderFor l (task s.kinds line s.session) s
     × AreInOrder l (n + 1) lines (meaning n line s).next
 
 -- a line that is in order leaves a sound world
 abbrev pub LinesKeepSound : Type 0
 LinesKeepSound =
     (l : Lasting) (n : ℕ) (line : List ℕ) (s : Standing) → IsSoundStanding s
-    → IsInOrder l (task s.kinds line s.session) s → IsSoundStanding (meaning n line s).next
+    → IsInOrderFor l (task s.kinds line s.session) s → IsSoundStanding (meaning n line s).next
 
 -- so a script that begins in a sound world, and whose lines are in order, is a history
 abbrev pub SoundScriptsAreHistories : Type 0

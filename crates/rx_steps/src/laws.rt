@@ -1,5 +1,6 @@
 ghost use Rattle.rx_steps.specs.Exchanging.{ExchangesAreSteps, TurnsAreSteps};
 ghost use Rattle.rx_steps.specs.History.{HistoriesAreSteps};
+ghost use Rattle.rx_steps.specs.Numbers.{FewRequestsHaveNumbers, LinesAskNoMore, ScriptsAskNoMore};
 ghost use Rattle.rx_steps.specs.Records.{RecordsAreSteps, ReplicationsBegin};
 ghost use Rattle.rx_steps.specs.Scripts.{LinesAreEvents, LinesKeepSound, OpeningsAreEvents, ScriptsAreHistories, SoundLinesMayBePlayed, SoundScriptsAreHistories};
 ghost use Rattle.rx_steps.specs.Served.{AnswersAreSteps, ConnectionsAreSteps, HandlingsAreSteps};
@@ -52,4 +53,15 @@ pub fn script_laws()
     // sound world.
     ensures keep { LinesKeepSound }
     ensures sound { SoundScriptsAreHistories }
+{}
+
+/// States how far the numbers of requests go over the lines of a script, and does nothing.
+pub fn number_laws()
+    // A line raises the number of a replication's last request by no more than its turns may ask.
+    ensures lines { LinesAskNoMore }
+    // Nor do lines together.
+    ensures scripts { ScriptsAskNoMore }
+    // Where all that fits below 2^53 no number comes twice: lines that a session plays, and that
+    // deliver nothing to the fork, are in order for the replication.
+    ensures few { FewRequestsHaveNumbers }
 {}

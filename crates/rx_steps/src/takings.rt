@@ -4,7 +4,6 @@ ghost use Rattle.rx_sync.specs.RemoteLaws.{EveryCall};
 ghost use Rattle.rx_steps.specs.Clock.{CallEndsByClockAlone, EndsByClockAlone};
 ghost use Rattle.rx_steps.specs.Stale.{EarlierAreStale, OthersAreStale, StaleIsLost, StaleIsNoChange, StaleIsRefused};
 ghost use Rattle.rx_steps.specs.Takings.{EveryTakingLearns, ForeignIsRefused, MovedIsRefused};
-ghost use Rattle.rx_steps.specs.Updates.{EachKeepsUpdates};
 
 /// States what a taking learns of a master and which replies are never taken, and does nothing.
 pub fn taking_laws()
@@ -32,9 +31,6 @@ pub fn stale_laws()
 
 /// States what holds of every exchange of every turn, whatever its link does, and does nothing.
 pub fn exchange_laws()
-    // No document that is to be pushed changes but by the handler's answer on its conflict in the
-    // reply that is taken, and where none is taken the fork stays as it is.
-    ensures no_lost_update { EveryTurn EachKeepsUpdates }
     // A turn ends by the clock only where no write time is left to its fork or its master; one to a
     // master elsewhere only where none is left to its fork.
     ensures clock { EveryTurn EndsByClockAlone }

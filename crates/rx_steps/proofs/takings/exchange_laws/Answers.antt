@@ -1,10 +1,6 @@
 use Rattle.rx_steps.proofs.Clock.{turn_stops}
 use Rattle.rx_steps.proofs.ClockElsewhere.{call_stops}
-use Rattle.rx_steps.proofs.Updates.{turn_keeps}
 use Rattle.rx_steps.proofs.takings.exchange_laws.Goals as goal
-
-pub returns-clause-no_lost_update : goal.returns-clause-no_lost_update
-returns-clause-no_lost_update c = turn_keeps
 
 pub returns-clause-clock : goal.returns-clause-clock
 returns-clause-clock c = turn_stops
