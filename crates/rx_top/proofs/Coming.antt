@@ -3,8 +3,9 @@ use Rattle.std.proofs.Common.{◌≡◌, ◌∙◌, refl, sym, ap, ℕ, ◌+◌,
 use Rattle.std.proofs.lemmas.Bool.Decides.{eqb_tells}
 use Rattle.rx_top.specs.declared.reader.Next.{Next}
 use Rattle.rx_top.specs.declared.early_end.ReadFault.{ReadFault}
+use Rattle.rx_top.specs.declared.early_end.ReadFault.TheVariants as fault
 use Rattle.rx_script.specs.Line.{max_line_bytes}
-use Rattle.rx_top.specs.Reader.{Reading, Advances, Comes, TakesKept, StopsWithin, Took, kept_front, rest_of}
+use Rattle.rx_top.specs.Reader.{Reading, Advances, Comes, TakesKept, StopsBy, Took, kept_front, rest_of}
 use Rattle.rx_top.specs.declared.reader.Next.TheVariants.{Line, Last}
 use Rattle.rx_top.proofs.Ends.{kept_kept, within-append}
 
@@ -69,20 +70,23 @@ comes_last line s left new come held f none = (
   ),
 )
 
-pub stops : (line s left left' : List ℕ) → Comes line s left → left' ≡ left → StopsWithin s left'
-stops line s left left' come e = (come.0, come.1 ∙ ap (λ v. come.0 ++ v) (sym e), come.2)
-
-pub stops_long : (line s left left' : List ℕ) → Comes line s left → (b : ℕ) × (left ≡ b ∷ left')
-    → (b : ℕ) × StopsWithin s (b ∷ left')
-stops_long line s left left' come long = (
-  long.0,
-  (
-    come.0,
-    come.1
-        ∙ ap (λ v. come.0 ++ v) long.1,
-    come.2,
-  ),
+-- none ended in it, whatever the reading stopped by
+pub stops_by : (line s left left' : List ℕ) → Comes line s left → (why : ReadFault)
+    → ((why ≡ fault.TooLong → ⊥) → left' ≡ left)
+    → (why ≡ fault.TooLong → (b : ℕ) × (left ≡ b ∷ left')) → StopsBy why s left'
+stops_by line s left left' come fault.Failed keeps long =
+    (come.0, come.1 ∙ ap (λ v. come.0 ++ v) (sym (keeps (λ e. cc))), come.2)
+stops_by line s left left' come fault.TooLong keeps long =
+    let byte = long refl in
+    (byte.0, (come.0, come.1 ∙ ap (λ v. come.0 ++ v) byte.1, come.2))
+stops_by line s left left' come fault.Memory keeps long = (
+  [],
+  omega arith,
+  (come.0, come.1 ∙ ap (λ v. come.0 ++ v) (sym (keeps (λ e. cc))), come.2),
 )
+
+pub fault_of : (a b : ReadFault) → IsErrOf {T = Bool} (Err a) b → a ≡ b
+fault_of a b is = cc
 
 -- bytes more were given
 pub took_more : (given g g' : ℕ) (l0 l1 l2 u : List ℕ) → Took given l0 l1 (λ n. n ≡ g)

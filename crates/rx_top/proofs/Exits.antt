@@ -18,8 +18,8 @@ use Rattle.rx_sync.specs.Remote.{Heard}
 use Rattle.rx_top.specs.Chunks.{Keeps, all_of, in_groups}
 use Rattle.rx_top.specs.Hears.{HearsAll, HearsLines, IsShownAt}
 use Rattle.rx_top.specs.Lines.{is_blank, lines}
-use Rattle.rx_top.specs.Reader.{Takes, TakesKept, StopsWithin, Took, max_input_bytes}
-use Rattle.rx_top.specs.Run.{KeepsFrom, Plays, Reads, Writes, due_then, stop_of}
+use Rattle.rx_top.specs.Reader.{Takes, TakesKept, StopsBy, StopsWithin, Took, max_input_bytes}
+use Rattle.rx_top.specs.Run.{IsReadPromptly, KeepsFrom, Plays, Reads, Writes, due_then, stop_of}
 use Rattle.rx_top.specs.Script.{line_effect}
 use Rattle.rx_top.specs.Story.{EachLine, Effect, chunks, next_chunk, replies, state_after}
 use Rattle.rx_top.specs.Work.{HasAll, work_of}
@@ -34,6 +34,7 @@ use Rattle.rx_top.proofs.Chunks.{CountsNow, Kept, OnlyNow, all_of-push, keeps_al
 use Rattle.rx_top.proofs.Due.{due_full, due_grows}
 use Rattle.rx_top.proofs.Hears.{hears_push, nothing_last, then_shown}
 use Rattle.rx_top.proofs.Kept.{kept_effect, kept_shown, kept_turn, kept_unharmed}
+use Rattle.rx_top.proofs.Promptly.{prompt_ahead, prompt_more}
 use Rattle.rx_top.proofs.Story.{SoFar, none_yet, line_more, lines_more, rest_lines, lines_last, lines_next, begun, refused_more, replies-push, chunks-push, each-push, state_after-push}
 
 -- ---- what was given
@@ -236,16 +237,16 @@ too_long_stopped done input rest left n r s0 s lines so stop took =
 
 reader_reads : (why : ReadFault) (done input rest left : List ℕ) (n : ℕ) (r : Bool)
     (s0 s : Standing) (lines : List (List ℕ)) → SoFar line_effect done input rest n r s0 s
-    → (IsErrOf {T = Next} (Err why) fault.Failed → StopsWithin rest left)
-    → (IsErrOf {T = Next} (Err why) fault.TooLong → (b : ℕ) × StopsWithin rest (b ∷ left))
+    → StopsBy why rest left
     → (IsErrOf {T = Next} (Err why) fault.TooLong
     → Took 0 input left (λ k. k ≡ max_input_bytes + 1))
     → Reads line_effect (Err (Read why)) input left (cut done).whole lines s0
-reader_reads fault.Failed done input rest left n r s0 s lines so stops long took =
-    reading_stopped done input rest left n r s0 s lines so (stops refl)
-reader_reads fault.Memory done input rest left n r s0 s lines so stops long took = tt
-reader_reads fault.TooLong done input rest left n r s0 s lines so stops long took =
-    too_long_stopped done input rest left n r s0 s lines so (long refl) (took refl)
+reader_reads fault.Failed done input rest left n r s0 s lines so stops took =
+    reading_stopped done input rest left n r s0 s lines so stops
+reader_reads fault.Memory done input rest left n r s0 s lines so stops took =
+    prompt_ahead done rest input so.whole so.split left stops
+reader_reads fault.TooLong done input rest left n r s0 s lines so stops took =
+    too_long_stopped done input rest left n r s0 s lines so stops (took refl)
 
 module _
     (s0 s1 : Standing) {D : Type 0} (d : Ghosts D) (k_tells wires : Type 0) (d0 d1 : D)
@@ -284,17 +285,15 @@ module _
     }
 
     pub reader_stopped : s1.heard ≡ [] → (why : ReadFault) (left : List ℕ)
-        → (IsErrOf {T = Next} (Err why) fault.Failed → StopsWithin rest left)
-        → (IsErrOf {T = Next} (Err why) fault.TooLong → (b : ℕ) × StopsWithin rest (b ∷ left))
+        → StopsBy why rest left
         → (IsErrOf {T = Next} (Err why) fault.TooLong
         → Took 0 input left (λ k. k ≡ max_input_bytes + 1))
         → (d.tells → OnlyNow d d1) → Ends d1 n1 w1 left (Err (Read why))
-    reader_stopped none why left stops long took only_now =
+    reader_stopped none why left stops took only_now =
         ends s0 d d0 d1 k_tells wires n0 n1 w0 w1 first ls (lines rest) input left
         (Err (Read why)) refl
         to_come a.each (hears_none (Err (Read why)) (lines rest) none)
-        (reader_reads why a.bytes input rest left n r s0 s1 (lines rest) a.so stops
-        long took)
+        (reader_reads why a.bytes input rest left n r s0 s1 (lines rest) a.so stops took)
         a.told a.kept only_now
 
     -- nothing is to come
@@ -441,13 +440,15 @@ module _
             (only_now t))
 
         -- the sink failed
-        line_sunk : (left : List ℕ) → (k_tells → WritesFront w1 w2 m.reply) → IsKeptTurn
+        line_sunk : (left : List ℕ) → IsReadPromptly input left ls
+            → (k_tells → WritesFront w1 w2 m.reply) → IsKeptTurn
             → HearsAll wires s0 n0 n2 (Err Sink) (ls ++ l ∷ []) stands.0
             → KeptAt d2 (ls ++ l ∷ []) → (d.tells → OnlyNow d d2) → Ends d2 n2 w2 left (Err Sink)
-        line_sunk left front turn hears kept only_now =
+        line_sunk left prompt front turn hears kept only_now =
             ends s0 d d0 d2 k_tells wires n0 n2 w0 w2 first (ls ++ l ∷ []) stands.0 input left
             (Err Sink)
-            refl (whole_with stands.0 stands.1) (each_line turn) hears tt
+            refl (whole_with stands.0 stands.1) (each_line turn) hears
+            (prompt_more input left ls (l ∷ []) prompt)
             (front_on front) kept only_now
 
         due : m.bodies ≡ next_chunk line_effect (length ls + 1) (l ∷ stands.0)
@@ -458,17 +459,18 @@ module _
             ∙ ap (λ (k : ℕ). (line_effect k l (state_after line_effect 1 ls s0)).bodies) e
 
         -- the work stopped
-        line_stopped : (why : Stop) (left : List ℕ) → (k_tells → w2 ≡ w1)
+        line_stopped : (why : Stop) (left : List ℕ) → IsReadPromptly input left ls
+            → (k_tells → w2 ≡ w1)
             → (why ≢ Memory → IsKeptShown s1.heard ⊥)
             → (why ≢ Memory → is_blank line ≡ false → IsUnharmedBy line s1)
             → IsSafe (Err (Work why)) → (d.tells → CountsNow d d2)
             → Ends d2 n2 w2 left (Err (Work why))
-        line_stopped why left unsaid shown unharmed safe counts_now = record {
+        line_stopped why left prompt unsaid shown unharmed safe counts_now = record {
           done = ls;
           rest = l ∷ stands.0;
           whole = stands.1;
           each = a.each;
-          reads = tt;
+          reads = prompt;
           writes = λ k. unsaid k ∙ a.told k;
           shown = record {
             between = n1;
@@ -509,7 +511,7 @@ module _
             → why ≡ Memory
         same_stop why same = cc
 
-        pub line_failed : (why : EarlyEnd) (left : List ℕ)
+        pub line_failed : (why : EarlyEnd) (left : List ℕ) → IsReadPromptly input left ls
             → ((f : ReadFault) → IsErrOf {T = Engine × Bool} (Err why) (Read f) → ⊥)
             → (k_tells → IsErrOf {T = Engine × Bool} (Err why) Sink → WritesFront w1 w2 m.reply)
             → (k_tells → (st : Stop) → IsErrOf {T = Engine × Bool} (Err why) (Work st) → w2 ≡ w1)
@@ -521,20 +523,20 @@ module _
             → IsUnharmedBy line s1)
             → IsSafe (Err why) → (d.tells → OnlyNow d d2) → (d.tells → CountsNow d d2)
             → Ends d2 n2 w2 left (Err why)
-        line_failed
-            (Read f) left unread front unsaid turn heard is later shown unharmed safe only counts =
-            absurd (unread f refl)
-        line_failed (Work why) left unread front unsaid turn heard is later shown unharmed safe
+        line_failed (Read f) left prompt unread front unsaid turn heard is later shown unharmed safe
             only counts =
-            line_stopped why left (λ k. unsaid k why refl)
+            absurd (unread f refl)
+        line_failed (Work why) left prompt unread front unsaid turn heard is later shown unharmed
+            safe only counts =
+            line_stopped why left prompt (λ k. unsaid k why refl)
             (λ other. subst (λ (hs : List Heard). IsKeptShown hs ⊥) (sym is)
             (then_shown wires line n1 n2 heard (λ none. absurd none) s1
             (shown (λ same. other (same_stop why same)))))
             (λ other. unharmed (λ same. other (same_stop why same)))
             safe counts
-        line_failed Sink left unread front unsaid turn heard is later shown unharmed safe only
-            counts =
-            line_sunk left (λ k. front k refl) turn
+        line_failed Sink left prompt unread front unsaid turn heard is later shown unharmed safe
+            only counts =
+            line_sunk left prompt (λ k. front k refl) turn
             (hears_last (Err Sink) stands.0 heard
             (then_shown wires line n1 n2 heard (λ all. refl) s1 (shown (λ same. cc)))
             (is ∙ sym (append-nil heard) ∙ ap (λ (hs : List Heard). heard ++ hs) (sym later)) later)

@@ -239,18 +239,15 @@ module _ (kinds : Kinds) (line : List ℕ) (g : Group) where
             ∙ ap (λ v. g.refused || v) ((plays.answers heard).refused
             ∙ ap (λ (x : Effect Standing). x.refused) (does heard));
         turn = λ heard _. record {
-          quiet = λ t is. absurd (no_turn t is);
-          bounded = record {
-            lowered = λ t is. absurd (no_turn t is);
-            twice = λ t is. absurd (no_turn t is);
-            in_time = λ t is. absurd (no_turn t is);
-          };
-          unharmed = λ c is. absurd (no_call c is);
-          level = λ d is. absurd (no_delivery d is);
-          waits = λ d is. absurd (no_delivery d is);
-          swept = record {
-            equal = λ root batch budget asks v is. absurd (no_sweep v is);
-            in_time = λ root batch budget asks v is. absurd (no_sweep v is);
+          meant = plays.meant heard;
+          in_order = plays.in_order;
+          kept = record {
+            quiet = λ t is. absurd (no_turn t is);
+            level = λ d is. absurd (no_delivery d is);
+            swept = record {
+              equal = λ root batch budget asks v is. absurd (no_sweep v is);
+              in_time = λ root batch budget asks v is. absurd (no_sweep v is);
+            };
           };
         };
         here = λ heard _ c is. no_call c is;

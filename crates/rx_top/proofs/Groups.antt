@@ -20,7 +20,7 @@ use Rattle.rx_top.specs.Group.{CallsNobody, TakesLines, WorksGroup}
 use Rattle.rx_top.specs.Hears.{HearsAll, HearsLines}
 use Rattle.rx_top.specs.Lines.{lines}
 use Rattle.rx_top.specs.Reader.{Reading}
-use Rattle.rx_top.specs.Run.{KeepsFrom, Plays, due_then}
+use Rattle.rx_top.specs.Run.{IsReadPromptly, KeepsFrom, Plays, due_then}
 use Rattle.rx_top.specs.Script.{line_effect}
 use Rattle.rx_top.specs.Story.{EachLine, any_refused, chunks, replies, state_after}
 use Rattle.rx_top.specs.Turns.{HoldsOfTurn}
@@ -33,6 +33,7 @@ use Rattle.rx_top.specs.declared.reader.Next.{Next}
 use Rattle.rx_top.proofs.Chunks.{CountsNow, Kept, OnlyNow, all_of-append, keeps_stopped, kept_group}
 use Rattle.rx_top.proofs.Exits.{Along, ends, fits_all, images_at, leaves_all}
 use Rattle.rx_top.proofs.Hears.{heard_in, heard_kept, hears-append, hears_nobody, nothing_last}
+use Rattle.rx_top.proofs.Promptly.{prompt_more}
 use Rattle.rx_top.proofs.Story.{chunks-append, cut-append, each-append, joined, lines_on, refused-append, replies-append, rest_lines, state_after-append}
 
 module _
@@ -210,11 +211,11 @@ module _
           (HearsAll wires s0 n0 n1 ended) (KeepsFrom in_groups s0 d d0 d2 first ended)
 
       -- the sink failed: all lines of the group are on the disk
-      pub group_sunk : (left : List ℕ) → s1.heard ≡ []
+      pub group_sunk : (left : List ℕ) → IsReadPromptly input left ls → s1.heard ≡ []
           → (state_after line_effect (n + 1) gs s1).heard ≡ []
           → (k_tells → WritesFront w1 w2 (replies line_effect (n + 1) gs s1))
           → IsGroupSafe (Ok None) → (d.tells → OnlyNow d d2) → GroupEnds left (Err Sink)
-      group_sunk left none none_then front safe only_now =
+      group_sunk left prompt none none_then front safe only_now =
           ends s0 d d0 d2 k_tells wires n0 n1 w0 w2 first all (lines mid) input left (Err Sink)
           refl to_come each_all
           (record {
@@ -224,7 +225,7 @@ module _
                 nothing_last wires (Err Sink) (lines mid) (state_after line_effect 1 all s0) n1 n1
                 (ap (λ (x : Standing). x.heard) state_all ∙ none_then, refl);
           })
-          tt
+          (prompt_more input left ls gs prompt)
           (λ t.
           let f = front t in
           let had = replies line_effect 1 ls s0 in (
@@ -236,16 +237,16 @@ module _
           (kept_all None safe only_now) only_now
 
       -- work stopped, and no line of it is done
-      pub group_stopped : (left : List ℕ) (why : Stop)
+      pub group_stopped : (left : List ℕ) (why : Stop) → IsReadPromptly input left ls
           → ((would most : ℕ) → why ≡ Full would most → ⊥) → s1.heard ≡ []
           → (k_tells → w2 ≡ w1) → IsGroupSafe (Err why) → (d.tells → CountsNow d d2)
           → GroupEnds left (Err (Work why))
-      group_stopped left why fits none unsaid safe counts_now = record {
+      group_stopped left why prompt fits none unsaid safe counts_now = record {
         done = ls;
         rest = gs ++ lines mid;
         whole = to_come ∙ append_assoc ls gs (lines mid);
         each = a.each;
-        reads = tt;
+        reads = prompt;
         writes = λ k. unsaid k ∙ a.told k;
         shown = record {
           between = n1;
@@ -321,23 +322,24 @@ module _
     -- it ended there, where nothing is to be heard any more
     pub group_ended : (why : EarlyEnd)
         → (works : WorksGroup d kinds k_tells next n rest left reader engine d1 d2 w1 w2 (Err why))
+        → IsReadPromptly input left (cut a.bytes).whole
         → heard ≡ [] → ((f : ReadFault) → IsErrOf {T = Played} (Err why) (Read f) → ⊥)
         → ((would most : ℕ) → IsErrOf {T = Played} (Err why) (Work (Full would most)) → ⊥)
         → (d.tells → OnlyNow d d2) → (d.tells → CountsNow d d2)
         → Plays line_effect HoldsOfTurn k_tells w0 w2 input left s0 (Err why)
         (HearsAll wires s0 n0 n1 (Err why)) (KeepsFrom in_groups s0 d d0 d2 first (Err why))
-    group_ended (Read f) works none unread fits only counts = absurd (unread f refl)
-    group_ended (Work stop) works none unread fits only counts =
+    group_ended (Read f) works prompt none unread fits only counts = absurd (unread f refl)
+    group_ended (Work stop) works prompt none unread fits only counts =
         group_stopped s0 (standing_of kinds heard engine) d k_tells wires d0 d1 n0 n1 first engine
         w0 w1 input rest n r a works.lines works.mid works.takes (works.turns heard)
-        (works.here heard) d2 w2 left stop
+        (works.here heard) d2 w2 left stop prompt
         (λ would most is. fits would most (ap (λ (x : Stop). Err (Work x)) is))
         (heard_in kinds heard engine ∙ none) (λ k. works.unsaid k stop refl) (works.safe heard)
         counts
-    group_ended Sink works none unread fits only counts =
+    group_ended Sink works prompt none unread fits only counts =
         group_sunk s0 (standing_of kinds heard engine) d k_tells wires d0 d1 n0 n1 first engine w0
         w1 input rest n r a works.lines works.mid works.takes (works.turns heard)
-        (works.here heard) d2 w2 left (heard_in kinds heard engine ∙ none)
+        (works.here heard) d2 w2 left prompt (heard_in kinds heard engine ∙ none)
         (heard_kept (n + 1) works.lines (standing_of kinds heard engine) (works.here heard)
         ∙ heard_in kinds heard engine ∙ none)
         (λ k. works.front heard k refl) (works.safe heard) only

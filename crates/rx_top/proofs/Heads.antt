@@ -30,10 +30,6 @@ use Rattle.rx_top.specs.declared.early_end.ReadFault.TheVariants as fault
 use Rattle.rx_top.proofs.Hears.{unheard}
 use Rattle.rx_top.proofs.Chunks.{CountsNow, OnlyNow, committed_none, keeps_behind, leaves_then, stays_legal}
 
-pub same_open : (why st : Stop) → IsErrOf {T = Bool} (Err (Work why)) (Work st)
-    → IsErrOf {T = Engine} (Err why) st
-same_open why st h = let same : why ≡ st = cc in ap Err same
-
 -- what is said beside the play is said in other words
 pub said_as : {k_tells : Type 0} {w0 w1 input left : List ℕ} {s : Standing}
     {ended : Result Bool EarlyEnd}

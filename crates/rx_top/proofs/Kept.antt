@@ -6,6 +6,7 @@ use Rattle.rx_engine.proofs.Cut.{same_ask_when_cut, same_task_when_cut, same_whe
 use Rattle.rx_engine.specs.Dialled.{DialStanding}
 use Rattle.rx_engine.specs.Engine.{IsUnharmedBy}
 use Rattle.rx_engine.specs.Hearing.{IsShownBy}
+use Rattle.rx_engine.specs.Kept.{IsInOrder, TurnsKeepUpdates}
 use Rattle.rx_engine.specs.Lines.{Task}
 use Rattle.rx_engine.specs.Meaning.{Meaning, meaning}
 use Rattle.rx_engine.specs.Standing.{Standing}
@@ -44,27 +45,35 @@ kept_effect n line s =
     ∙ ap (λ (m : Meaning). cond (is_blank line) (no_effect s) (effect_of m))
     (same_when_cut n line s)
 
--- so it is of a turn
+-- so it is of what holds of it
 pub kept_turn : (n : ℕ) (line : List ℕ) (s next : Standing)
     → HoldsOfTurn n (kept_front line) s next → HoldsOfTurn n line s next
 kept_turn n line s next holds full =
     let had = holds (kept_blank line ∙ full) in
     let same = same_task_when_cut line s in
     record {
-      quiet = λ t is. had.quiet t (same ∙ is);
-      bounded = record {
-        lowered = λ t is. had.bounded.lowered t (same ∙ is);
-        twice = λ t is. had.bounded.twice t (same ∙ is);
-        in_time = λ t is. had.bounded.in_time t (same ∙ is);
+      meant = record {
+        updates = subst (λ (t : Task). TurnsKeepUpdates t s) same had.meant.updates;
+        unharmed = λ c is. had.meant.unharmed c (same ∙ is);
+        bounded = record {
+          lowered = λ t is. had.meant.bounded.lowered t (same ∙ is);
+          twice = λ t is. had.meant.bounded.twice t (same ∙ is);
+          in_time = λ t is. had.meant.bounded.in_time t (same ∙ is);
+        };
+        waits = λ d is. had.meant.waits d (same ∙ is);
+        streamed = had.meant.streamed;
       };
-      unharmed = λ c is. had.unharmed c (same ∙ is);
-      level = λ d is. had.level d (same ∙ is);
-      waits = λ d is. had.waits d (same ∙ is);
-      swept = record {
-        equal = λ root batch budget asks v is.
-            had.swept.equal root batch budget (same_ask_when_cut line ∙ asks) v (same ∙ is);
-        in_time = λ root batch budget asks v is.
-            had.swept.in_time root batch budget (same_ask_when_cut line ∙ asks) v (same ∙ is);
+      in_order = subst (λ (t : Task). IsInOrder t s.session) same had.in_order;
+      kept = record {
+        quiet = λ t is. had.kept.quiet t (same ∙ is);
+        level = λ d is. had.kept.level d (same ∙ is);
+        swept = record {
+          equal = λ root batch budget asks v is.
+              had.kept.swept.equal root batch budget (same_ask_when_cut line ∙ asks) v (same ∙ is);
+          in_time = λ root batch budget asks v is.
+              had.kept.swept.in_time root batch budget (same_ask_when_cut line ∙ asks) v
+              (same ∙ is);
+        };
       };
     }
 

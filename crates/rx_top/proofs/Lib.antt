@@ -7,6 +7,7 @@ pub mod Chunks
 pub mod Hears
 pub mod Growth
 pub mod Due
+pub mod Promptly
 pub mod Exits
 pub mod Groups
 pub mod Gathering
@@ -14,12 +15,15 @@ pub mod Settling
 pub mod Work
 pub mod Heads
 pub mod Stopping
+pub mod Joining
+pub mod Causes
 pub mod AtEnd
 pub mod RunEnds
 pub mod Ended
 pub mod GoingOn
 pub mod ServedHeads
 pub mod ServeEnds
+mod ServedCauses
 pub mod Filled
 pub mod Tallies
 pub mod Through

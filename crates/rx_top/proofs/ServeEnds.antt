@@ -153,12 +153,12 @@ module _
     -- these commits fit, whatever connections asked for them
     abbrev Fit : Type 0
     Fit =
-        (conns : List ServedConnection) (spare : List ℕ)
-        → new.talks ≡ old.talks ++ talks_of conns → Gives (moments_of conns ++ spare)
+        (conns : List ServedConnection) → new.talks ≡ old.talks ++ talks_of conns
+        → Gives (moments_of conns)
         → end_of (bodies ++ bodies_of name (commits_through (collection_at name w) conns)) ≤ limit
 
     -- those of the connection within which work stopped
-    module _ (conns : List ServedConnection) (talk : Talk) (moments spare : List ℕ) where
+    module _ (conns : List ServedConnection) (talk : Talk) (moments : List ℕ) where
       abbrev before : Commits
       before = commits_through (collection_at name w) conns
 
@@ -171,7 +171,7 @@ module _
       full_within : (after : Held)
           → IsStopped (LeftWithin (Some (Full would most))) (connection_of talk moments then after)
           → Fit → new.talks ≡ old.talks ++ (talks_of conns ++ talk ∷ [])
-          → Gives (moments_of conns ++ (moments ++ spare)) → ⊥
+          → Gives (moments_of conns ++ moments) → ⊥
       full_within after s fits talks given =
           let last = first_requests talk moments s.begun in
           let all = conns ++ last ∷ [] in
@@ -180,13 +180,12 @@ module _
           let room = s.holds.full would most refl in
           let full = room.1 in
           let due = bodies_of name s.more in
-          let fit = fits all spare
+          let fit = fits all
           (talks ∙ ap (λ (ts : List Talk). old.talks ++ ts)
           (sym (map-append (λ (x : ServedConnection). x.talk) conns (last ∷ []))))
-          (subst Gives (sym (ap (λ (ms : List ℕ). ms ++ spare)
-          (flat_map-append (λ (x : ServedConnection). x.moments) conns (last ∷ []))
-          ∙ ap (λ (ms : List ℕ). (moments_of conns ++ ms) ++ spare) (append-nil moments)
-          ∙ append_assoc (moments_of conns) moments spare)) given) in
+          (subst Gives
+          (sym (flat_map-append (λ (x : ServedConnection). x.moments) conns (last ∷ [])
+          ∙ ap (λ (ms : List ℕ). moments_of conns ++ ms) (append-nil moments))) given) in
           let same : commits_through (collection_at name w) all ≡ sure ++ s.more =
           commits_then (collection_at name w) conns last
           ∙ ap (λ (cs : Commits). before ++ cs) s.due
@@ -203,12 +202,13 @@ module _
 
       broke_within : BreaksOff (Full would most) then talk moments LeftWithin → Fit
           → (new.talks ≡ old.talks ++ (talks_of conns ++ talk ∷ []))
-          → Gives (moments_of conns ++ (moments ++ spare)) → ⊥
+          → Gives (moments_of conns ++ moments) → ⊥
       broke_within (inl (ended, memory, served, left)) fits talks given = cc
       broke_within (inr (stop, inr memory, after, s)) fits talks given = cc
       broke_within (inr (stop, inl is, after, s)) fits talks given =
           full_within after
-          (subst (λ (o : Option Stop). IsStopped (LeftWithin o) (connection_of talk moments then after))
+          (subst
+          (λ (o : Option Stop). IsStopped (LeftWithin o) (connection_of talk moments then after))
           is s) fits talks given
 
     no_memory : {A : Type 0} → Full would most ≡ Memory → A
@@ -223,7 +223,7 @@ module _
         none_full d disk disk' bodies name limit would most
         (subst (λ (s : Stop). KeepsSo (Some s) [] []) same left)
     past_room told fits (inr (held, h)) =
-        broke_within h.conns h.last.talk h.last.moments h.last.spare (h.last.breaks told) fits
+        broke_within h.conns h.last.talk h.last.moments (h.last.breaks told) fits
         (⊎_elim (λ is. is ∙ ap (λ (ts : List Talk). (ts ++ talks_of h.conns) ++ h.last.talk ∷ [])
         (begun_talks (fault.Stopped (Full would most)) port h.conns old h.begun h.opened)
         ∙ append_assoc old.talks (talks_of h.conns) (h.last.talk ∷ []))
@@ -317,7 +317,7 @@ module _
             past_room wires k.tells r.name r.port r.connections w (told_by l k r.door r.out)
             (record (told_by l k r.door' r.out') { written = has.before }) given d r.disk r.disk'
             bodies r.limit would most told
-            (λ conns spare talks moments. fits conns spare talks moments) has.served
+            (λ conns talks moments. fits conns talks moments) has.served
 
         pub has_room : wires → AllFit k d l wires c r bodies w
             → AreAllServed k d l wires c r ⊎ (r.status ≡ 6)

@@ -92,7 +92,6 @@ module _ (L M : Left)
     within_as why h = record {
       talk = h.talk;
       moments = h.moments;
-      spare = h.spare;
       breaks = λ told. breaks_as why c h.talk h.moments (h.breaks told);
       opened = h.opened;
       accepted = h.accepted;

@@ -4,7 +4,7 @@ use Rattle.rx_outside.proofs.Counts.{rises_later}
 use Rattle.std.proofs.lemmas.Bool.Decides.{leb_tells}
 use Rattle.rx_outside.specs.Failed.{Rises}
 use Rattle.rx_outside.specs.Sink.{WritesFront}
-use Rattle.rx_top.specs.Stops.{EndsWith, Stops}
+use Rattle.rx_top.specs.Stops.{Appends, EndsWith, Stops}
 
 stopped : (f0 f1 f2 : ℕ) (mid mid' new line : List ℕ) → f0 ≤ f1 → mid ≡ mid'
     → (new ≡ mid ++ line) ⊎ (WritesFront mid new line × Rises f1 f2)
@@ -34,6 +34,17 @@ pub ends_later : (tells : Type 0) (f0 f1 f2 : ℕ) (old new line : List ℕ) →
     → EndsWith tells f1 f2 old new line → EndsWith tells f0 f2 old new line
 ends_later tells f0 f1 f2 old new line h ends =
     λ t. stopped f0 f1 f2 old old new line h refl (ends t)
+
+-- ---- bytes that joined
+
+pub none_joined : (old : List ℕ) → Appends old old
+none_joined old = ([], sym (append-nil old))
+
+pub joined_on : (old mid new : List ℕ) → Appends old mid → Appends mid new → Appends old new
+joined_on old mid new a b =
+    (a.0 ++ b.0, b.1 ∙ ap (λ v. v ++ b.0) a.1 ∙ append_assoc old a.0 b.0)
+
+-- ---- the last line
 
 -- a call that writes the line, or the front of it that the sink takes
 pub ended_with : {T E : Type 0} (tells : Type 0) (f0 f1 : ℕ) (old new line : List ℕ)

@@ -1,6 +1,6 @@
 -- The story of a run, line after line.
 use Rattle.rx_serve.specs.Lines.{Cut, byte_before, cut, is_within}
-use Rattle.std.proofs.Common.{◌≡◌, ◌∙◌, refl, sym, ap, subst, ℕ, ◌+◌, suc, Bool, true, false, not, cond, ◌&&◌, ◌||◌, ◌==◌, List, [], ◌∷◌, ◌++◌, length, arith, append_assoc, append-nil, length-append}
+use Rattle.std.proofs.Common.{◌≡◌, ◌∙◌, refl, sym, ap, subst, ℕ, ◌+◌, ◌≤◌, suc, Bool, true, false, not, cond, ◌&&◌, ◌||◌, ◌==◌, List, [], ◌∷◌, ◌++◌, length, arith, append_assoc, append-nil, length-append}
 use Rattle.std.proofs.Math.Bool.{or_assoc, or-false}
 use Rattle.rx_top.specs.Lines.{last_line, lines}
 use Rattle.rx_top.specs.Story.{EachLine, Step, any_refused, chunks, replies, state_after}
@@ -271,6 +271,17 @@ pub lines_last : (l : List ℕ) → is_within l ≡ true → (l ≡ [] → ⊥) 
 lines_last l within some =
     ap (λ (x : Cut). x.whole ++ last_line x.rest) (cut-within l within)
     ∙ last_line-some l some
+
+last_line-few : (l : List ℕ) → length (last_line l) ≤ 1
+last_line-few [] = omega arith
+last_line-few (b ∷ bs) = omega arith
+
+-- there is one line in what has no end, at most
+pub within_line : (bs : List ℕ) → is_within bs ≡ true → length (lines bs) ≤ 1
+within_line bs within =
+    let is : lines bs ≡ last_line bs =
+    ap (λ (x : Cut). x.whole ++ last_line x.rest) (cut-within bs within) in
+    omega (arith, last_line-few bs, ap length is)
 
 -- a line that has begun is not whole
 pub begun : (done front : List ℕ) → (cut done).rest ≡ [] → is_within front ≡ true

@@ -2,19 +2,19 @@
 use Rattle.std.proofs.Common.{◌≡◌, ◌∙◌, refl, sym, ap, subst, ℕ, Bool, true, false, true≢false, cond, List, [], ◌++◌, append-nil, string_bytes, Option, None, Some, Result, Ok, Err, IsErrOf, inl}
 use Rattle.rx_disk.specs.declared.disk.Disk.{Ghosts}
 use Rattle.rx_engine.specs.Dialled.{DialStanding}
-use Rattle.rx_engine.specs.Engine.{Answers, IsAt, IsBounded, IsUnharmedBy, IsWellSwept, LevelIsEqual, QuietIsLevel, WaitsForPushes, limit_of, session_of, standing_of}
+use Rattle.rx_engine.specs.Engine.{Answers, IsAt, limit_of, session_of, standing_of}
 use Rattle.rx_engine.specs.Hearing.{PlaysLine}
+use Rattle.rx_engine.specs.Kept.{IsInOrder, IsLineKept, IsWellMeant}
+use Rattle.rx_engine.specs.Lines.{task}
 use Rattle.rx_engine.specs.Meaning.{meaning}
 use Rattle.rx_engine.specs.declared.engine.Engine.{Engine}
 use Rattle.rx_engine.specs.declared.output.Output.{Output}
 use Rattle.rx_outside.specs.Sink.{WritesFront}
 use Rattle.rx_outside.specs.declared.stop.Stop.{Stop}
-use Rattle.rx_outside.specs.declared.stop.Stop.TheVariants.{Memory}
 use Rattle.rx_engine.specs.Standing.{Standing}
 use Rattle.rx_handler.specs.Handlers.{Kinds}
 use Rattle.rx_sync.specs.Remote.{Heard}
 use Rattle.rx_store.specs.Safe.{IsCrashSafe}
-use Rattle.rx_sync.specs.Laws.{IsLevel}
 use Rattle.rx_top.specs.Lines.{is_blank}
 use Rattle.rx_top.specs.Script.{effect_of, line_effect, no_effect}
 use Rattle.rx_top.specs.Story.{Effect}
@@ -60,26 +60,17 @@ module _ (s : Standing) {D : Type 0} (d : Ghosts D) (e : Engine) (n : ℕ) (line
   does full =
       ap (λ b. cond b (no_effect s) (effect_of (meaning n line s))) (sym full)
 
-  -- what holds of a turn that was made
+  -- what holds of a line that was played
   pub turn_done : (kinds : Kinds) (later : List Heard) (pair : Engine × Output)
       → is_blank line ≡ false → Answers kinds later (meaning n line s) pair.0 pair.1
-      → QuietIsLevel line s pair.0 → IsBounded line s → IsUnharmedBy line s
-      → LevelIsEqual line s pair.0 → WaitsForPushes line s
-      → IsWellSwept line s (session_of pair.0).world
-      → HoldsOfTurn n line s effect.next
+      → IsWellMeant line s → IsInOrder (task s.kinds line s.session) s.session
+      → IsLineKept line s (session_of pair.0).world → HoldsOfTurn n line s effect.next
   unfolding standing_of
-  turn_done kinds later pair full answers quiet bounded unharmed level waits swept _ = record {
-    quiet = λ t is ended.
-        subst (λ (x : Standing). IsLevel x.session.world t.name)
-        (answers.next ∙ ap (λ (m : Effect Standing). m.next) (does full)) (quiet t is ended);
-    bounded = bounded;
-    unharmed = unharmed;
-    level = λ d is equal.
-        subst (λ (x : Standing). IsLevel x.session.world d.name)
-        (answers.next ∙ ap (λ (m : Effect Standing). m.next) (does full)) (level d is equal);
-    waits = waits;
-    swept = subst (λ (x : Standing). IsWellSwept line s x.session.world)
-        (answers.next ∙ ap (λ (m : Effect Standing). m.next) (does full)) swept;
+  turn_done kinds later pair full answers meant in_order kept _ = record {
+    meant = meant;
+    in_order = in_order;
+    kept = subst (λ (x : Standing). IsLineKept line s x.session.world)
+        (answers.next ∙ ap (λ (m : Effect Standing). m.next) (does full)) kept;
   }
 
   -- a blank line makes none
@@ -185,11 +176,10 @@ module _ (kinds : Kinds) (wires k_tells : Type 0) {D : Type 0} (d : Ghosts D) (e
     -- the engine stopped
     pub stop_works : (w : List ℕ) (stop : Stop)
         → PlaysLine d wires kinds n line old new dial dial' e (Err stop)
-        → ((IsErrOf {T = Engine × Output} (Err stop) Memory → ⊥) → (heard : List Heard)
-        → IsUnharmedBy line (standing heard))
+        → ((heard : List Heard) → IsWellMeant line (standing heard))
         → WorksLine d kinds wires k_tells n line e old new dial dial' w w (Err (Work stop))
     unfolding standing_of
-    stop_works w stop plays unharmed = record {
+    stop_works w stop plays meant = record {
       heard = plays.heard;
       next = λ later. tt;
       refused = λ later. tt;
@@ -199,7 +189,7 @@ module _ (kinds : Kinds) (wires k_tells : Type 0) {D : Type 0} (d : Ghosts D) (e
           stop_safe (standing (plays.heard ++ later)) d e n line old new bodies stop full
           (plays.safe later told bodies at);
       turn = λ later. tt;
-      unharmed = λ later other full. unharmed (λ is. other (same_work is)) (plays.heard ++ later);
+      unharmed = λ later other full. (meant (plays.heard ++ later)).unharmed;
       later_so = λ later. tt;
       shown = λ later other. shown_in wires line kinds e dial dial' plays.heard (λ none. none)
           (plays.heard ++ later) full (plays.shown (λ is. other (same_work is)));
@@ -211,30 +201,26 @@ module _ (kinds : Kinds) (wires k_tells : Type 0) {D : Type 0} (d : Ghosts D) (e
 
     module _ (w w' : List ℕ) (pair : Engine × Output)
         (plays : PlaysLine d wires kinds n line old new dial dial' e (Ok pair))
-        (quiet : QuietIsLevel line (standing []) pair.0) (bounded : IsBounded line (standing []))
-        (unharmed : (heard : List Heard) → IsUnharmedBy line (standing heard))
-        (level : LevelIsEqual line (standing []) pair.0) (waits : WaitsForPushes line (standing []))
-        (swept : IsWellSwept line (standing []) (session_of pair.0).world)
+        (meant : (heard : List Heard) → IsWellMeant line (standing heard))
+        (in_order : IsInOrder (task kinds line (session_of e)) (session_of e))
+        (kept : IsLineKept line (standing []) (session_of pair.0).world)
       where
-        -- how long a turn takes doesn't depend on what is to be heard
-        bounded_so : (heard : List Heard) → IsBounded line (standing heard)
+        -- what it leaves doesn't depend on what is to be heard later
+        kept_so : (heard : List Heard) → IsLineKept line (standing heard) (session_of pair.0).world
         unfolding standing_of
-        bounded_so heard =
-            record { lowered = bounded.lowered; twice = bounded.twice; in_time = bounded.in_time }
-
-        -- nor does a sweep
-        swept_so : (heard : List Heard)
-            → IsWellSwept line (standing heard) (session_of pair.0).world
-        unfolding standing_of
-        swept_so heard = record { equal = swept.equal; in_time = swept.in_time }
+        kept_so heard = record {
+          quiet = kept.quiet;
+          level = kept.level;
+          swept = record { equal = kept.swept.equal; in_time = kept.swept.in_time };
+        }
 
         turn_so : (later : List Heard) → HoldsOfTurn n line (standing (plays.heard ++ later))
             (does_for (plays.heard ++ later)).next
         unfolding standing_of
         turn_so later =
             turn_done (standing (plays.heard ++ later)) d e n line kinds later pair full
-            (plays.answers later) quiet (bounded_so (plays.heard ++ later))
-            (unharmed (plays.heard ++ later)) level waits (swept_so (plays.heard ++ later))
+            (plays.answers later) (meant (plays.heard ++ later)) in_order
+            (kept_so (plays.heard ++ later))
 
         left_so : (later : List Heard) → (does_for (plays.heard ++ later)).next.heard ≡ later
         unfolding standing_of
@@ -269,7 +255,7 @@ module _ (kinds : Kinds) (wires k_tells : Type 0) {D : Type 0} (d : Ghosts D) (e
               done_safe (standing (plays.heard ++ later)) d e n line old new bodies pair
               pair.1.refused full (plays.safe later told bodies at);
           turn = turn_so;
-          unharmed = λ later other _. unharmed (plays.heard ++ later);
+          unharmed = λ later other _. (meant (plays.heard ++ later)).unharmed;
           later_so = left_so;
           shown = λ later other. shown_in wires line kinds e dial dial' plays.heard (λ all. all)
               (plays.heard ++ later) full (plays.shown (λ is. cc));
@@ -290,7 +276,7 @@ module _ (kinds : Kinds) (wires k_tells : Type 0) {D : Type 0} (d : Ghosts D) (e
               sunk_safe (standing (plays.heard ++ later)) d e n line old new bodies pair full
               (plays.safe later told bodies at);
           turn = turn_so;
-          unharmed = λ later other _. unharmed (plays.heard ++ later);
+          unharmed = λ later other _. (meant (plays.heard ++ later)).unharmed;
           later_so = left_so;
           shown = λ later other. shown_in wires line kinds e dial dial' plays.heard (λ all. all)
               (plays.heard ++ later) full (plays.shown (λ is. cc));

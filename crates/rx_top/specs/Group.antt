@@ -1,6 +1,6 @@
 -- Lines that are played together: what they come to before one commit, and after it.
 use Rattle.rx_serve.specs.Lines.{cut}
-use Rattle.std.specs.Prelude.{◌≡◌, ◌||◌, ℕ, ◌+◌, List, [], ◌++◌, length, Bool, true, false, Option, None, Some, Result, Ok, Err, IfOk, OnOk, IsErrOf, string_bytes}
+use Rattle.std.specs.Prelude.{◌≡◌, ◌||◌, ℕ, ◌+◌, ◌≤◌, List, [], ◌++◌, length, Bool, true, false, Option, None, Some, Result, Ok, Err, IfOk, OnOk, IsErrOf, string_bytes}
 use Rattle.rx_disk.specs.declared.disk.Disk.{Ghosts}
 use Rattle.rx_engine.specs.Ahead.{AddsTo, IsAhead, IsLeft}
 use Rattle.rx_engine.specs.Calling.{WantedCall}
@@ -25,6 +25,7 @@ use Rattle.rx_top.specs.declared.early_end.EarlyEnd.TheVariants.{Read, Sink, Wor
 use Rattle.rx_top.specs.declared.group.Group.{Group}
 use Rattle.rx_top.specs.declared.group.Played.{Played}
 use Rattle.rx_top.specs.declared.reader.Next.{Next}
+use Rattle.rx_top.specs.declared.reader.Next.TheVariants.{Line}
 
 -- the most lines of a group
 abbrev pub max_group_lines : ℕ
@@ -108,6 +109,23 @@ pub record TakesLines (old : List ℕ) (lines : List (List ℕ)) (mid : List ℕ
 abbrev pub StandsBehind : Next → Reading → List ℕ → List ℕ → Bool → Type 0
 StandsBehind next reader mid left true = mid ≡ reader.unread ++ left
 StandsBehind next reader mid left false = TakesKept next reader.line mid (reader.unread ++ left)
+
+-- how far a group leads a reader and the number of lines, from number n on
+pub record LeadsOn
+    (next : Next)
+    (n : ℕ)
+    (old new : Reading)
+    (number : ℕ)
+    (played : Bool) : Type 0 where
+  pub bounded : number ≤ n + max_group_lines
+  -- nothing was read, and each line but the first takes a byte at least of what was
+  pub given : new.given ≡ old.given
+  pub shorter : length new.unread ≤ length old.unread
+  pub count : number + length new.unread ≤ n + length old.unread + 1
+  pub count_alone : played ≡ false → number + length new.unread ≤ n + length old.unread
+  -- a line without an end is played alone
+  pub ended : played ≡ true → next ≡ Line
+  pub last : (next ≡ Line → ⊥) → number ≡ n
 
 -- some lines of what was to come are a group
 pub record Gathers

@@ -6,6 +6,7 @@ pub mod Turns
 pub mod TurnLines
 pub mod Hears
 pub mod Stops
+pub mod Causes
 pub mod Chunks
 pub mod Start
 pub mod Run
@@ -26,3 +27,4 @@ pub mod CopiesJournal
 pub mod CompactEnds
 pub mod Alike
 pub mod Program
+pub mod Known

@@ -15,7 +15,7 @@ use Rattle.rx_top.specs.Hears.{stands}
 use Rattle.rx_top.specs.Reader.{Took, max_input_bytes}
 use Rattle.rx_top.specs.Run.{HasRun, HasRunSomewhere, KeepsRun, NeedsJournal}
 use Rattle.rx_top.specs.Start.{FromStart, StaysLegal}
-use Rattle.rx_top.specs.Stops.{Stops, status_of, stop_line}
+use Rattle.rx_top.specs.Stops.{Stops, last_words, status_of, stop_line}
 use Rattle.rx_top.specs.declared.early_end.EarlyEnd.{EarlyEnd}
 use Rattle.rx_top.specs.declared.early_end.EarlyEnd.TheVariants.{Read, Sink, Work}
 use Rattle.rx_top.specs.declared.early_end.ReadFault.TheVariants as fault
@@ -74,10 +74,15 @@ pub record PlaysScript
   -- how it ended, which its status tells
   pub ended : Result Bool EarlyEnd
   pub is_status : status ≡ status_of ended
+  -- Whatever the source and the disk tell: behind what it had the sink took some bytes, and then
+  -- the last line of that end, or a front of it where it failed.
+  pub line : k.tells → (told : List ℕ) × Stops k.tells (k.faults out) (k.faults out')
+      (k.written out) (k.written out') told (last_words ended)
   -- Some lines are done, and their replies are written, or a front of them where the sink failed,
-  -- and then the stop line. The dial shows what was heard in each line. At each moment of the call
-  -- each image of the disk is a legal file of the old records and a front of those that are due,
-  -- and at its end it has all those of the lines done.
+  -- and then the stop line. Where it ended before the input did, no more of that was taken than the
+  -- lines done, one line more, and a piece behind it. The dial shows what was heard in each line.
+  -- At each moment of the call each image of the disk is a legal file of the old records and a
+  -- front of those that are due, and at its end it has all those of the lines done.
   pub headline : s.tells → FromStart d disk (λ bodies w.
       HasRun host heard wires (stands n dial) (stands n dial') k.tells (k.faults out)
       (k.faults out') (k.written out) (k.written out') w (s.left source) (s.left source') ended

@@ -2,12 +2,18 @@
 use Rattle.rx_serve.specs.Lines.{is_within}
 use Rattle.std.specs.Prelude.{◌≡◌, ◌≢◌, ℕ, ◌+◌, ◌≤◌, List, [], ◌∷◌, ◌++◌, take, length, Bool, true, false, ◌==◌, if◌then◌else◌}
 use Rattle.rx_script.specs.Line.{max_line_bytes}
+use Rattle.rx_top.specs.declared.early_end.ReadFault.{ReadFault}
+use Rattle.rx_top.specs.declared.early_end.ReadFault.TheVariants as fault
 use Rattle.rx_top.specs.declared.reader.Next.{Next}
 use Rattle.rx_top.specs.declared.reader.Next.TheVariants.{Line, Last, End}
 
 -- the most bytes that an input may have, 4 GiB
 abbrev pub max_input_bytes : ℕ
 max_input_bytes = 4294967296
+
+-- the most bytes that are asked for at once
+abbrev pub max_piece_bytes : ℕ
+max_piece_bytes = 65536
 
 -- what is kept of a line: enough to tell that it is too long
 abbrev pub kept_front : List ℕ → List ℕ
@@ -22,6 +28,7 @@ pub record Reading : Type 0 where
 
 pub record IsInBounds (at piece line given : ℕ) : Type 0 where
   pub at_within : at ≤ piece
+  pub piece_within : piece ≤ max_piece_bytes
   pub line_kept : line ≤ max_line_bytes + 1
   pub given_within : given ≤ max_input_bytes
 
@@ -42,6 +49,18 @@ TakesKept next line old new = (l : List ℕ) × (line ≡ kept_front l) × Takes
 -- no line ended in what was taken
 abbrev pub StopsWithin : List ℕ → List ℕ → Type 0
 StopsWithin old new = (front : List ℕ) × (old ≡ front ++ new) × (is_within front ≡ true)
+
+-- no line ended in what was taken, but one may in what was read ahead, which is a piece at most
+abbrev pub StopsAhead : List ℕ → List ℕ → Type 0
+StopsAhead old new =
+    (ahead : List ℕ) × (length ahead ≤ max_piece_bytes) × StopsWithin old (ahead ++ new)
+
+-- what was taken where the next line can't be had: no line ended in it; and one byte more was given
+-- than an input may have; or memory is wanting
+abbrev pub StopsBy : ReadFault → List ℕ → List ℕ → Type 0
+StopsBy fault.Failed old new = StopsWithin old new
+StopsBy fault.TooLong old new = (b : ℕ) × StopsWithin old (b ∷ new)
+StopsBy fault.Memory old new = StopsAhead old new
 
 -- a front of what was to come went to the line
 abbrev pub Comes : List ℕ → List ℕ → List ℕ → Type 0

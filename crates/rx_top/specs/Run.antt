@@ -1,6 +1,6 @@
 -- What a run over a journal wrote and left, wherever it ended.
 use Rattle.rx_serve.specs.Lines.{cut}
-use Rattle.std.specs.Prelude.{◌≡◌, ◌≤◌, ◌⊎◌, ⊤, ℕ, ◌+◌, List, [], ◌∷◌, ◌++◌, length, take, Bool, Option, None, Some, Result, Ok, Err}
+use Rattle.std.specs.Prelude.{◌≡◌, ◌≤◌, ◌⊎◌, ⊤, ℕ, ◌+◌, List, [], ◌∷◌, ◌++◌, length, take, Bool, Option, None, Some, Result, Ok, Err, OnOk}
 use Rattle.rx_disk.specs.declared.disk.Disk.{Ghosts}
 use Rattle.rx_engine.specs.Dialled.{DialStanding}
 use Rattle.rx_engine.specs.Engine.{IsAt, limit_of}
@@ -11,13 +11,14 @@ use Rattle.rx_engine.specs.Standing.{Standing}
 use Rattle.rx_sync.specs.Remote.{Heard}
 use Rattle.rx_store.specs.Safe.{IsFull}
 use Rattle.rx_outside.specs.Sink.{WritesFront}
+use Rattle.rx_outside.specs.declared.source.Source.{Ghosts as SourceGhosts}
 use Rattle.rx_outside.specs.declared.stop.Stop.{Stop}
 use Rattle.rx_outside.specs.declared.stop.Stop.TheVariants.{Disk, NotJournal, Full, Memory}
 use Rattle.rx_world.specs.World.{World}
 use Rattle.rx_top.specs.Chunks.{Grouping, Keeps, all_of, in_groups, singly}
 use Rattle.rx_top.specs.Hears.{HearsAll}
 use Rattle.rx_top.specs.Lines.{lines}
-use Rattle.rx_top.specs.Reader.{max_input_bytes}
+use Rattle.rx_top.specs.Reader.{Took, max_input_bytes, max_piece_bytes}
 use Rattle.rx_top.specs.Script.{line_effect, transcript}
 use Rattle.rx_top.specs.Stops.{EndsWith, Stops, last_words}
 use Rattle.rx_top.specs.Story.{EachLine, Step, any_refused, chunks, next_chunk, replies, state_after}
@@ -25,6 +26,29 @@ use Rattle.rx_top.specs.Turns.{HoldsOfTurn}
 use Rattle.rx_top.specs.declared.early_end.EarlyEnd.{EarlyEnd}
 use Rattle.rx_top.specs.declared.early_end.EarlyEnd.TheVariants.{Read, Sink, Work}
 use Rattle.rx_top.specs.declared.early_end.ReadFault.TheVariants as fault
+
+-- ---- what the source gave
+
+-- No more was given than the lines done, one line more, and a piece behind it: each line is played
+-- before another piece is asked for. The lines that are played together with that one lie in the
+-- piece.
+pub record IsReadPromptly (input left : List ℕ) (done : List (List ℕ)) : Type 0 where
+  pub front : List ℕ
+  pub ahead : List ℕ
+  pub given : input ≡ front ++ (ahead ++ left)
+  pub few : length (lines front) ≤ length done + 1
+  pub piece : length ahead ≤ max_piece_bytes
+
+-- all was taken where the input was played to its end, and no more than an input may have, unless
+-- that is why it ended
+pub record TakesInput
+    {S : Type 0}
+    (s : SourceGhosts S)
+    (source source' : S)
+    (ended : Result Bool EarlyEnd) : Type 0 where
+  pub whole : s.tells → OnOk ended (s.left source' ≡ [])
+  pub within : s.tells → (ended ≡ Err (Read fault.TooLong) → ⊥)
+      → Took 0 (s.left source) (s.left source') (λ given. given ≤ max_input_bytes)
 
 -- ---- what the sink got
 
@@ -43,10 +67,10 @@ Reads step (Err (Read fault.TooLong)) input left done rest s =
     (given : List ℕ) × (input ≡ given ++ left) × (length given ≡ max_input_bytes + 1)
     × (done ≡ (cut (take max_input_bytes given)).whole)
 -- those before the one that stopped
-Reads step (Err (Read fault.Memory)) input left done rest s = Unit
-Reads step (Err (Work stop)) input left done rest s = Unit
+Reads step (Err (Read fault.Memory)) input left done rest s = IsReadPromptly input left done
+Reads step (Err (Work stop)) input left done rest s = IsReadPromptly input left done
 -- those before the one whose reply the sink failed to take, and that one
-Reads step (Err Sink) input left done rest s = Unit
+Reads step (Err Sink) input left done rest s = IsReadPromptly input left done
 
 -- the replies are written, or a front of them where the sink failed
 abbrev pub Writes : Result Bool EarlyEnd → List ℕ → List ℕ → List ℕ → Type 0

@@ -77,10 +77,8 @@ module _
     -- moments that the clock gave, and however many of their requests were answered.
     abbrev pub AllFit : List (List ℕ) → World → Type 0
     AllFit bodies w =
-        (conns : List ServedConnection) (spare : List ℕ)
-        → l.talks r.door' ≡ l.talks r.door ++ talks_of conns
-        → (c.tells
-        → GivesMoments (c.given r.clock) (c.given r.clock') (moments_of conns ++ spare))
+        (conns : List ServedConnection) → l.talks r.door' ≡ l.talks r.door ++ talks_of conns
+        → (c.tells → GivesMoments (c.given r.clock) (c.given r.clock') (moments_of conns))
         → end_of (bodies ++ bodies_of r.name (commits_through (collection_at r.name w) conns))
         ≤ r.limit
 

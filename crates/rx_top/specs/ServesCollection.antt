@@ -1,6 +1,7 @@
 -- The command `serve`: what it promises, wherever it ends.
-use Rattle.std.specs.Prelude.{◌≡◌, ◌≤◌, ◌⊎◌, ⊤, ℕ, List, [], ◌∷◌, ◌++◌, false, Result, Ok, Err}
+use Rattle.std.specs.Prelude.{◌≡◌, ◌⊎◌, ⊤, ℕ, List, [], ◌∷◌, ◌++◌, false, Result, Ok, Err}
 use Rattle.rx_disk.specs.declared.disk.Disk.{Ghosts}
+use Rattle.rx_host.specs.Causes.{AreNoLess, failed_calls}
 use Rattle.rx_host.specs.Keeping.{Keeps}
 use Rattle.rx_host.specs.Moments.{GivesMoments}
 use Rattle.rx_host.specs.Outside.{HasGivenUp, told_by}
@@ -101,5 +102,4 @@ pub record ServesCollection
   -- failed or memory was wanting before that was known.
   pub not_served : FromStart d disk (λ bodies w. is_served name w ≡ false → IsEarly ended)
   -- the counts of calls that failed don't fall
-  pub counts : (k.faults out ≤ k.faults out') × (d.faults disk ≤ d.faults disk')
-      × (l.faults door ≤ l.faults door')
+  pub counts : AreNoLess (failed_calls l d k door disk out) (failed_calls l d k door' disk' out')

@@ -51,6 +51,10 @@ last_words (Err (Read fault.Memory)) = stop_line (codes "memory")
 last_words (Err (Read fault.TooLong)) = stop_line (codes "too_long")
 last_words (Err Sink) = []
 
+-- bytes joined those that were there
+abbrev pub Appends : List ℕ → List ℕ → Type 0
+Appends old new = (told : List ℕ) × (new ≡ old ++ told)
+
 -- After what it had the sink took the line, or a front of it where it failed.
 abbrev pub EndsWith : Type 0 → ℕ → ℕ → List ℕ → List ℕ → List ℕ → Type 0
 EndsWith tells faults faults' old new line =

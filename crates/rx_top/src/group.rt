@@ -1,15 +1,13 @@
 // Lines that are played together: their records are put on the disk by one commit, and then their
 // replies are written in one piece.
-ghost use Rattle.std.specs.Prelude.{◌≡◌, ◌≤◌, ◌<◌, ◌+◌, ◌-◌, ◌++◌, ◌^◌, ℕ, List, length, string_bytes, true, false, IfOk, OnOk, IsErrOf};
+ghost use Rattle.std.specs.Prelude.{◌≡◌, ◌≤◌, ◌<◌, ◌+◌, ◌-◌, ◌++◌, ◌^◌, ℕ, List, length, string_bytes, true, false, IfOk};
 ghost use Rattle.rx_engine.specs.Ahead.{AddsTo, IsAhead, staged_len};
 ghost use Rattle.rx_engine.specs.Engine.{IsAt, limit_of};
 ghost use Rattle.rx_handler.specs.Shown.{kinds_of};
-ghost use Rattle.rx_outside.specs.Failed.{Rises};
-ghost use Rattle.rx_outside.specs.declared.stop.Stop.TheVariants as stop;
-ghost use Rattle.rx_store.specs.Safe.{IsCrashSafe};
-ghost use Rattle.rx_top.specs.Group.{AddsLine, Gathers, GrowsByGroup, SettlesGroup, WorksGroup, max_group_bytes, max_group_lines};
+ghost use Rattle.rx_top.specs.Causes.{HasCause, by_disk, by_disk_or_memory, never_read};
+ghost use Rattle.rx_top.specs.Group.{AddsLine, Gathers, GrowsByGroup, LeadsOn, SettlesGroup, WorksGroup, max_group_bytes, max_group_lines};
 ghost use Rattle.rx_top.specs.Reader.{TakesKept};
-ghost use Rattle.rx_top.specs.declared.early_end.EarlyEnd.TheVariants as early;
+ghost use Rattle.rx_top.specs.Stops.{Appends};
 ghost use Rattle.rx_top.specs.declared.reader.Next.TheVariants as next_is;
 
 use crate::blank::is_blank;
@@ -73,23 +71,10 @@ pub(crate) fn play_group<K: Sink, D: Disk>(
     ensures grows { D.tells → (bodies : List (List ℕ)) → IsAt D.Disk disk.old engine bodies
         → GrowsByGroup D.Disk engine disk.old disk.new bodies result }
     ensures limit { IfOk result (λ p. limit_of p.engine ≡ limit_of engine) }
-    ensures bounded { IfOk result (λ p. p.number ≤ number + max_group_lines) }
-    ensures given { OnOk result (reader.new.given ≡ reader.old.given) }
-    ensures shorter { OnOk result (length reader.new.unread ≤ length reader.old.unread) }
-    ensures count { IfOk result (λ p. p.number + length reader.new.unread
-        ≤ number + length reader.old.unread + 1) }
-    ensures count_alone { IfOk result (λ p. p.whole ≡ false
-        → p.number + length reader.new.unread ≤ number + length reader.old.unread) }
-    ensures ended { IfOk result (λ p. p.whole ≡ true → next ≡ next_is.Line) }
-    ensures last { (next ≡ next_is.Line → ⊥) → IfOk result (λ p. p.number ≡ number) }
-    ensures no_read { (f : _) → IsErrOf result (early.Read f) → ⊥ }
-    ensures no_full { (would most : _) → IsErrOf result (early.Work (stop.Full would most)) → ⊥ }
-    ensures sink { IsErrOf result early.Sink → Rises (K.faults out.old) (K.faults out.new) }
-    ensures disk_only { IsErrOf result (early.Work stop.Disk)
-        → Rises (D.faults disk.old) (D.faults disk.new) }
-    ensures not_journal { IsErrOf result (early.Work stop.NotJournal) → ⊥ }
-    ensures sink_faults { K.faults out.old ≤ K.faults out.new }
-    ensures disk_faults { D.faults disk.old ≤ D.faults disk.new }
+    ensures told { K.tells → Appends (K.written out.old) (K.written out.new) }
+    ensures leads { IfOk result (λ p. LeadsOn next number reader.old reader.new p.number p.whole) }
+    ensures cause { HasCause K.Sink D.Disk never_read by_disk_or_memory out.old out.new
+        disk.old disk.new result }
 {
     let (group, whole) = match gather(alloc, engine, reader, next, number, handlers, hooks) {
         Ok(gathered) => gathered,
@@ -125,15 +110,7 @@ fn gather(
         → IfOk result (λ p. Gathers (kinds_of handlers.now) next number old left reader.new engine
         p.0 p.1) }
     ensures adds { IfOk result (λ p. (more : List (List ℕ)) × AddsTo engine p.0.engine more) }
-    ensures bounded { IfOk result (λ p. p.0.number ≤ number + max_group_lines) }
-    ensures given { OnOk result (reader.new.given ≡ reader.old.given) }
-    ensures shorter { OnOk result (length reader.new.unread ≤ length reader.old.unread) }
-    ensures count { IfOk result (λ p. p.0.number + length reader.new.unread
-        ≤ number + length reader.old.unread + 1) }
-    ensures count_alone { IfOk result (λ p. p.1 ≡ false
-        → p.0.number + length reader.new.unread ≤ number + length reader.old.unread) }
-    ensures ended { IfOk result (λ p. p.1 ≡ true → next ≡ next_is.Line) }
-    ensures last { (next ≡ next_is.Line → ⊥) → IfOk result (λ p. p.0.number ≡ number) }
+    ensures leads { IfOk result (λ p. LeadsOn next number reader.old reader.new p.0.number p.1) }
 {
     let mut group = Group {
         engine,
@@ -228,13 +205,8 @@ impl Group {
             × IsAhead D.Disk disk.old self.engine bodies more }
         ensures settles { SettlesGroup D.Disk K.tells self disk.old disk.new (K.written out.old)
             (K.written out.new) result }
-        ensures no_read { (f : _) → IsErrOf result (early.Read f) → ⊥ }
-        ensures only_disk { (s : _) → IsErrOf result (early.Work s) → s ≡ stop.Disk }
-        ensures sink { IsErrOf result early.Sink → Rises (K.faults out.old) (K.faults out.new) }
-        ensures disk_only { IsErrOf result (early.Work stop.Disk)
-            → Rises (D.faults disk.old) (D.faults disk.new) }
-        ensures sink_faults { K.faults out.old ≤ K.faults out.new }
-        ensures disk_faults { D.faults disk.old ≤ D.faults disk.new }
+        ensures cause { HasCause K.Sink D.Disk never_read by_disk out.old out.new
+            disk.old disk.new result }
     {
         let Group { engine, text, .. } = self;
         let engine = match engine.commit(disk) {

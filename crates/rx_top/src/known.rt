@@ -1,7 +1,13 @@
 // The program but for the system: a command with the handlers and hooks that lines may name.
-ghost use Rattle.std.specs.Prelude.{◌≡◌, IfOk};
+ghost use Rattle.std.specs.Prelude.{◌≡◌, IfOk, OnErr, codes};
+ghost use Rattle.rx_engine.specs.Opening.{host_with};
 ghost use Rattle.rx_handler.specs.Resolve.{resolve};
+ghost use Rattle.rx_handler.specs.Shown.{kinds_of};
 ghost use Rattle.rx_update.specs.Hooked.{hooked as becomes};
+ghost use Rattle.rx_words.specs.Words.{command_of};
+ghost use Rattle.rx_top.specs.Known.{known, known_hooks};
+ghost use Rattle.rx_top.specs.Program.{Plays, reach};
+ghost use Rattle.rx_top.specs.Stops.{EndsWith, stop_line};
 
 use crate::top::rx;
 use rx_disk::Disk;
@@ -39,7 +45,13 @@ pub fn program<S: Source, K: Sink, D: Disk, L: Listen, N: Dial, C: Clock, E: Dis
     dial: &mut N,
     clock: &mut C,
     copy: &mut E,
-) -> u8 {
+) -> u8
+    ensures { Plays S.Source K.Sink D.Disk L.Listen L.W.tells N.Dial N.W.tells C.Clock E.Disk
+        known result out.old out.new
+        (reach source.old disk.old door.old dial.old clock.old copy.old)
+        (reach source.new disk.new door.new dial.new clock.new copy.new)
+        (command_of words.now.words.items) }
+{
     match with_handlers(alloc, words, source, out, disk, door, dial, clock, copy) {
         Ok(status) => status,
         // The names differ, so want of memory alone is left.
@@ -48,7 +60,11 @@ pub fn program<S: Source, K: Sink, D: Disk, L: Listen, N: Dial, C: Clock, E: Dis
 }
 
 // Writes that memory is wanting, and answers its status.
-fn write_memory<K: Sink>(out: &mut K) -> u8 {
+fn write_memory<K: Sink>(out: &mut K) -> u8
+    ensures status { result ≡ 6 }
+    ensures line { EndsWith K.tells (K.faults out.old) (K.faults out.new) (K.written out.old)
+        (K.written out.new) (stop_line (codes "memory")) }
+{
     let _ = write_all(out, b"{\"stop\":\"memory\"}\n");
     6
 }
@@ -65,7 +81,18 @@ fn with_handlers<S: Source, K: Sink, D: Disk, L: Listen, N: Dial, C: Clock, E: D
     dial: &mut N,
     clock: &mut C,
     copy: &mut E,
-) -> Result<u8, HandlerFault> {
+) -> Result<u8, HandlerFault>
+    ensures ok { IfOk result (λ status.
+        Plays S.Source K.Sink D.Disk L.Listen L.W.tells N.Dial N.W.tells C.Clock E.Disk
+        known status out.old out.new
+        (reach source.old disk.old door.old dial.old clock.old copy.old)
+        (reach source.new disk.new door.new dial.new clock.new copy.new)
+        (command_of words.now.words.items)) }
+    ensures silent { OnErr result (out.new ≡ out.old) }
+    ensures untouched { OnErr result
+        (reach source.new disk.new door.new dial.new clock.new copy.new
+        ≡ reach source.old disk.old door.old dial.old clock.old copy.old) }
+{
     let mut handlers = Handlers::new(alloc);
     for (name, kind) in HANDLERS {
         let call = Box::new(
@@ -99,7 +126,18 @@ fn with_hooks<S: Source, K: Sink, D: Disk, L: Listen, N: Dial, C: Clock, E: Disk
     clock: &mut C,
     handlers: &Handlers,
     copy: &mut E,
-) -> Result<u8, HookFault> {
+) -> Result<u8, HookFault>
+    ensures ok { IfOk result (λ status.
+        Plays S.Source K.Sink D.Disk L.Listen L.W.tells N.Dial N.W.tells C.Clock E.Disk
+        (host_with (kinds_of handlers.now) known_hooks) status out.old out.new
+        (reach source.old disk.old door.old dial.old clock.old copy.old)
+        (reach source.new disk.new door.new dial.new clock.new copy.new)
+        (command_of words.now.words.items)) }
+    ensures silent { OnErr result (out.new ≡ out.old) }
+    ensures untouched { OnErr result
+        (reach source.new disk.new door.new dial.new clock.new copy.new
+        ≡ reach source.old disk.old door.old dial.old clock.old copy.old) }
+{
     let mut hooks = Hooks::new(alloc);
     for (name, kind) in HOOKS {
         let call = Box::new(

@@ -2,7 +2,7 @@
 //! status, and the play of a script from its bytes to its answers.
 //!
 //! `program` is the call that the program makes: `rx` with the handlers and hooks that lines may
-//! name. What `rx` promises stands in specs/Program, and of each command in a record: `PlaysScript`
+//! name. What both promise stands in specs/Program, and of each command in a record: `PlaysScript`
 //! of `run`, `ServesCollection` of `serve`, `ReportsJournal` of `check`, `TriesScript` of `trial`
 //! and `CopiesJournal` of `compact`. What the end of a command tells besides is a law (`run_ends`,
 //! `trial_ends`, `serve_ends`, `check_ends`, `compact_ends`). It knows nothing of what a line

@@ -1,20 +1,17 @@
 // Plays a script from its source to its sink, over an open journal.
-ghost use Rattle.std.specs.Prelude.{◌≡◌, ◌≤◌, ◌++◌, ℕ, List, [], IfOk, OnOk, IsErrOf};
+ghost use Rattle.std.specs.Prelude.{◌≡◌, ◌≤◌, ℕ, List, [], IfOk, OnOk, IsErrOf};
 ghost use Rattle.rx_engine.specs.Engine.{IsAt, limit_of, standing_of};
 ghost use Rattle.rx_handler.specs.Shown.{kinds_of};
-ghost use Rattle.rx_outside.specs.Failed.{Rises};
-ghost use Rattle.rx_outside.specs.Sink.{WritesFront};
 ghost use Rattle.rx_outside.specs.declared.stop.Stop.{Stop};
-ghost use Rattle.rx_outside.specs.declared.stop.Stop.TheVariants as stop;
-ghost use Rattle.rx_store.specs.Safe.{IsCrashSafe};
-ghost use Rattle.rx_top.specs.declared.early_end.ReadFault.{ReadFault};
 ghost use Rattle.rx_top.specs.declared.early_end.ReadFault.TheVariants as fault;
+ghost use Rattle.rx_top.specs.Causes.{HasCause, by_any, never_read, source_failed};
 ghost use Rattle.rx_top.specs.Hears.{HearsAll, stands};
 ghost use Rattle.rx_top.specs.Reader.{Took, max_input_bytes};
 ghost use Rattle.rx_top.specs.Chunks.{in_groups};
 ghost use Rattle.rx_top.specs.Run.{KeepsFrom, Plays};
 ghost use Rattle.rx_top.specs.Script.{line_effect};
 ghost use Rattle.rx_top.specs.Start.{StaysLegal};
+ghost use Rattle.rx_top.specs.Stops.{Appends};
 ghost use Rattle.rx_top.specs.Turns.{HoldsOfTurn};
 ghost use Rattle.rx_sync.specs.Remote.{Heard};
 ghost use Rattle.rx_top.specs.Work.{WorksLine};
@@ -55,18 +52,13 @@ pub(crate) fn play<S: Source, K: Sink, D: Disk, N: Dial>(
         disk.new first result)) }
     ensures legal { D.tells → (bodies : List (List ℕ)) → IsAt D.Disk disk.old first bodies
         → StaysLegal D.Disk disk.old disk.new bodies }
+    ensures told { K.tells → Appends (K.written out.old) (K.written out.new) }
     ensures whole { S.tells → OnOk result (S.left source.new ≡ []) }
     ensures within { S.tells → (IsErrOf result (EarlyEnd.Read fault.TooLong) → ⊥)
         → Took 0 (S.left source.old) (S.left source.new) (λ n. n ≤ max_input_bytes) }
-    ensures read { IsErrOf result (EarlyEnd.Read fault.Failed)
-        → Rises (S.faults source.old) (S.faults source.new) }
-    ensures sink { IsErrOf result EarlyEnd.Sink → Rises (K.faults out.old) (K.faults out.new) }
-    ensures disk_only { IsErrOf result (EarlyEnd.Work stop.Disk)
-        → Rises (D.faults disk.old) (D.faults disk.new) }
-    ensures not_journal { D.tells → IsErrOf result (EarlyEnd.Work stop.NotJournal) → ⊥ }
+    ensures cause { HasCause K.Sink D.Disk (source_failed S.Source source.old source.new)
+        (by_any (D.tells → ⊥)) out.old out.new disk.old disk.new result }
     ensures source_faults { S.faults source.old ≤ S.faults source.new }
-    ensures sink_faults { K.faults out.old ≤ K.faults out.new }
-    ensures disk_faults { D.faults disk.old ≤ D.faults disk.new }
     ensures dial_faults { N.faults dial.old ≤ N.faults dial.new }
 {
     let mut engine = first;
@@ -130,14 +122,9 @@ fn play_line<K: Sink, D: Disk, N: Dial>(
         result }
     ensures unsaid { K.tells → (s : Stop) → IsErrOf result (EarlyEnd.Work s)
         → K.written out.new ≡ K.written out.old }
-    ensures no_read { (f : ReadFault) → IsErrOf result (EarlyEnd.Read f) → ⊥ }
     ensures limit { IfOk result (λ p. limit_of p.0 ≡ limit_of engine) }
-    ensures sink { IsErrOf result EarlyEnd.Sink → Rises (K.faults out.old) (K.faults out.new) }
-    ensures disk_only { IsErrOf result (EarlyEnd.Work stop.Disk)
-        → Rises (D.faults disk.old) (D.faults disk.new) }
-    ensures not_journal { D.tells → IsErrOf result (EarlyEnd.Work stop.NotJournal) → ⊥ }
-    ensures sink_faults { K.faults out.old ≤ K.faults out.new }
-    ensures disk_faults { D.faults disk.old ≤ D.faults disk.new }
+    ensures cause { HasCause K.Sink D.Disk never_read (by_any (D.tells → ⊥)) out.old out.new
+        disk.old disk.new result }
     ensures dial_faults { N.faults dial.old ≤ N.faults dial.new }
 {
     if is_blank(line) {

@@ -1,9 +1,10 @@
 // The lines of a source, which is read in pieces.
 ghost use Rattle.rx_serve.specs.Lines.{is_within};
-ghost use Rattle.std.specs.Prelude.{◌≡◌, ◌<◌, ◌≤◌, ◌+◌, ◌-◌, ◌++◌, ◌∷◌, ◌⊎◌, ℕ, List, [], true, false, take, drop, length, IfOk, OnOk, OnErr, IfSome, IfNone, IsErrOf, min};
-ghost use Rattle.rx_outside.specs.Failed.{Rises};
+ghost use Rattle.std.specs.Prelude.{◌≡◌, ◌<◌, ◌≤◌, ◌+◌, ◌-◌, ◌++◌, ◌∷◌, ◌⊎◌, ℕ, [], true, false, take, drop, length, IfOk, OnOk, OnErr, IfSome, IfNone, IsErrOf};
 ghost use Rattle.rx_script.specs.Line.{max_line_bytes};
-ghost use Rattle.rx_top.specs.Reader.{kept_front, max_input_bytes, TakesKept, TakesRead, StopsWithin};
+ghost use Rattle.rx_top.specs.Causes.{HasReadCause};
+ghost use Rattle.rx_top.specs.Reader.{kept_front, max_input_bytes, max_piece_bytes, TakesKept, TakesRead, StopsBy};
+ghost use Rattle.rx_top.specs.declared.early_end.ReadFault.{ReadFault};
 
 use crate::early_end::ReadFault;
 use memchr::memchr;
@@ -82,22 +83,19 @@ impl Reader {
             (Took self.old.given (S.left source.old) (S.left source.new)
             (λ n. n ≡ self.new.given)) }
         ensures bounded { OnOk result (self.new.given ≤ max_input_bytes) }
+        ensures piece { OnOk result (length self.new.unread ≤ max_piece_bytes) }
         ensures smaller { IfOk result (λ next. next ≡ Next.Line
             → length self.new.unread + self.old.given < length self.old.unread + self.new.given) }
         // No line ended in what was read and not taken.
-        ensures stops { S.tells → IsErrOf result ReadFault.Failed
-            → StopsWithin (self.old.unread ++ S.left source.old) (S.left source.new) }
-        ensures stops_long { S.tells → IsErrOf result ReadFault.TooLong
-            → (b : ℕ) × StopsWithin (self.old.unread ++ S.left source.old) (b ∷ S.left source.new) }
+        ensures stops { S.tells → (why : ReadFault) → IsErrOf result why
+            → StopsBy why (self.old.unread ++ S.left source.old) (S.left source.new) }
         ensures within { S.tells → OnErr result ((IsErrOf result ReadFault.TooLong → ⊥)
             → Took self.old.given (S.left source.old) (S.left source.new)
             (λ n. n ≤ max_input_bytes)) }
         ensures too_long { S.tells → IsErrOf result ReadFault.TooLong
             → Took self.old.given (S.left source.old) (S.left source.new)
             (λ n. n ≡ max_input_bytes + 1) }
-        ensures faults { S.faults source.old ≤ S.faults source.new }
-        ensures read { IsErrOf result ReadFault.Failed
-            → Rises (S.faults source.old) (S.faults source.new) }
+        ensures cause { HasReadCause (S.faults source.old) (S.faults source.new) result }
     {
         self.line.clear();
         'pieces: loop {
@@ -170,15 +168,14 @@ impl Reader {
         ensures end { S.tells → IfOk result (λ some. some ≡ false → S.left source.old ≡ []) }
         ensures given { OnOk result (self.new.given ≡ self.old.given + length self.new.unread) }
         ensures bounded { OnOk result (self.new.given ≤ max_input_bytes) }
+        ensures piece { OnOk result (length self.new.unread ≤ max_piece_bytes) }
         ensures grows { IfOk result (λ some. some ≡ true → 0 < length self.new.unread) }
         ensures keeps { S.tells → OnErr result ((IsErrOf result ReadFault.TooLong → ⊥)
             → S.left source.new ≡ S.left source.old) }
-        ensures full { IsErrOf result ReadFault.TooLong → self.old.given ≡ max_input_bytes }
-        ensures too_long { S.tells → IsErrOf result ReadFault.TooLong
-            → (b : ℕ) × (S.left source.old ≡ b ∷ S.left source.new) }
-        ensures faults { S.faults source.old ≤ S.faults source.new }
-        ensures read { IsErrOf result ReadFault.Failed
-            → Rises (S.faults source.old) (S.faults source.new) }
+        // As much was given as an input may have, and one byte more.
+        ensures too_long { IsErrOf result ReadFault.TooLong → (self.old.given ≡ max_input_bytes)
+            × (S.tells → (b : ℕ) × (S.left source.old ≡ b ∷ S.left source.new)) }
+        ensures cause { HasReadCause (S.faults source.old) (S.faults source.new) result }
     {
         let room = MAX_INPUT_BYTES - self.given;
         self.at = 0;
@@ -220,13 +217,12 @@ fn keep(line: &mut Vec<u8>, bytes: &[u8]) -> Result<(), AllocError>
 fn read_piece<S: Source>(piece: &mut Vec<u8>, most: u64, source: &mut S) -> Result<usize, ReadFault>
     requires { 0 < most }
     ensures count { IfOk result (λ n. (n ≡ length piece.new.items) × (n ≤ most)) }
+    ensures piece { length piece.new.items ≤ max_piece_bytes }
     ensures stream { S.tells
         → OnOk result (S.left source.old ≡ piece.new.items ++ S.left source.new) }
     ensures end { S.tells → IfOk result (λ n. n ≡ 0 → S.left source.old ≡ []) }
     ensures keeps { S.tells → OnErr result (S.left source.new ≡ S.left source.old) }
-    ensures faults { S.faults source.old ≤ S.faults source.new }
-    ensures read { IsErrOf result ReadFault.Failed
-        → Rises (S.faults source.old) (S.faults source.new) }
+    ensures cause { HasReadCause (S.faults source.old) (S.faults source.new) result }
     ensures others { OnErr result (IsErrOf result ReadFault.Failed
         ⊎ IsErrOf result ReadFault.Memory) }
 {

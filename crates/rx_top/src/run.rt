@@ -1,21 +1,19 @@
 // The command `run`: a script is played over a journal.
-ghost use Rattle.std.specs.Prelude.{◌≡◌, ⊤, List, ◌<◌, ◌≤◌, ◌^◌, [], OnOk, IsErrOf};
+ghost use Rattle.std.specs.Prelude.{⊤, List, ◌<◌, ◌≤◌, ◌^◌};
 ghost use Rattle.rx_engine.specs.Opening.{host_of, opened};
 ghost use Rattle.rx_journal.specs.Reading.{IsUntouched};
-ghost use Rattle.rx_outside.specs.Failed.{Rises};
-ghost use Rattle.rx_outside.specs.declared.stop.Stop.TheVariants as stop;
 ghost use Rattle.rx_sync.specs.Remote.{Heard};
 ghost use Rattle.rx_store.specs.Holds.{IsIllegalFile, IsJournalOfSome};
 ghost use Rattle.rx_world.specs.World.{World};
+ghost use Rattle.rx_top.specs.Causes.{HasCause, IsUnopened, by_any, source_failed};
 ghost use Rattle.rx_top.specs.Hears.{HearsAll, stands};
 ghost use Rattle.rx_top.specs.PlaysScript.{PlaysScript};
-ghost use Rattle.rx_top.specs.Reader.{Took, max_input_bytes};
 ghost use Rattle.rx_top.specs.Chunks.{in_groups};
-ghost use Rattle.rx_top.specs.Run.{KeepsRun, NeedsJournal, Plays};
+ghost use Rattle.rx_top.specs.Run.{KeepsRun, NeedsJournal, Plays, TakesInput};
 ghost use Rattle.rx_top.specs.Script.{line_effect};
 ghost use Rattle.rx_top.specs.Start.{FromStart, StaysLegal};
+ghost use Rattle.rx_top.specs.Stops.{Appends};
 ghost use Rattle.rx_top.specs.Turns.{HoldsOfTurn};
-ghost use Rattle.rx_top.specs.declared.early_end.ReadFault.TheVariants as fault;
 
 use crate::early_end::{EarlyEnd, ReadFault};
 use crate::play::play;
@@ -87,25 +85,15 @@ fn open_and_play<S: Source, K: Sink, D: Disk, N: Dial>(
         StaysLegal D.Disk disk.old disk.new bodies) }
     ensures illegal { D.tells → IsIllegalFile (D.content disk.old)
         → IsUntouched D.Disk disk.old disk.new }
-    ensures whole { S.tells → OnOk result (S.left source.new ≡ []) }
-    ensures within { S.tells → (IsErrOf result (EarlyEnd.Read fault.TooLong) → ⊥)
-        → Took 0 (S.left source.old) (S.left source.new) (λ n. n ≤ max_input_bytes) }
+    ensures takes { TakesInput S.Source source.old source.new result }
+    ensures told { K.tells → Appends (K.written out.old) (K.written out.new) }
     ensures stood { D.tells → NeedsJournal result → IsJournalOfSome (D.content disk.old) }
-    ensures read { IsErrOf result (EarlyEnd.Read fault.Failed)
-        → Rises (S.faults source.old) (S.faults source.new) }
-    ensures sink { IsErrOf result EarlyEnd.Sink → Rises (K.faults out.old) (K.faults out.new) }
-    ensures disk_only { IsErrOf result (EarlyEnd.Work stop.Disk)
-        → Rises (D.faults disk.old) (D.faults disk.new) }
-    ensures not_journal { D.tells → IsErrOf result (EarlyEnd.Work stop.NotJournal)
-        → IsIllegalFile (D.content disk.old) }
-    ensures not_journal_unread { D.tells → IsErrOf result (EarlyEnd.Work stop.NotJournal)
-        → source.new ≡ source.old }
-    ensures not_journal_unsaid { D.tells → K.tells → IsErrOf result (EarlyEnd.Work stop.NotJournal)
-        → K.written out.new ≡ K.written out.old }
-    ensures source_faults { S.faults source.old ≤ S.faults source.new }
-    ensures sink_faults { K.faults out.old ≤ K.faults out.new }
-    ensures disk_faults { D.faults disk.old ≤ D.faults disk.new }
-    ensures dial_faults { N.faults dial.old ≤ N.faults dial.new }
+    ensures cause { HasCause K.Sink D.Disk (source_failed S.Source source.old source.new)
+        (by_any (D.tells
+        → IsUnopened K.Sink D.Disk source.old source.new out.old out.new disk.old))
+        out.old out.new disk.old disk.new result }
+    ensures counts { (S.faults source.old ≤ S.faults source.new)
+        × (N.faults dial.old ≤ N.faults dial.new) }
 {
     let mut reader = match Reader::new(alloc) {
         Ok(reader) => reader,

@@ -1,8 +1,9 @@
 // The command `serve`: a collection is offered as a master, to one connection after another.
-ghost use Rattle.std.specs.Prelude.{◌≡◌, ◌≤◌, ◌<◌, ◌^◌, ◌++◌, ◌⊎◌, ⊤, ℕ, List, OnOk, OnErr, IsErrOf};
+ghost use Rattle.std.specs.Prelude.{◌≡◌, ◌≤◌, ◌<◌, ◌^◌, ◌++◌, ⊤, ℕ, OnOk, OnErr, IsErrOf};
+ghost use Rattle.rx_host.specs.Causes.{AreNoLess, failed_calls};
 ghost use Rattle.rx_host.specs.Keeping.{Keeps};
 ghost use Rattle.rx_host.specs.Moments.{GivesMoments};
-ghost use Rattle.rx_host.specs.Outside.{HasGivenUp, told_by};
+ghost use Rattle.rx_host.specs.Outside.{told_by};
 ghost use Rattle.rx_host.specs.Records.{bodies_of};
 ghost use Rattle.rx_host.specs.declared.connections.ServeFault.TheVariants as fault;
 ghost use Rattle.rx_journal.specs.Reading.{IsUntouched};
@@ -14,7 +15,7 @@ ghost use Rattle.rx_store.specs.Holds.{IsIllegalFile, IsJournalOfSome};
 ghost use Rattle.rx_store.specs.Safe.{IsFull};
 ghost use Rattle.rx_world.specs.World.{World};
 ghost use Rattle.rx_top.specs.Serve.{IsOpened, ServesTo, served_status, served_words};
-ghost use Rattle.rx_top.specs.ServesCollection.{ServesCollection};
+ghost use Rattle.rx_top.specs.ServesCollection.{HasServeCause, ServesCollection};
 ghost use Rattle.rx_top.specs.Start.{FromStart, StaysLegal};
 
 use crate::stop::{stop_status, write_stop};
@@ -100,23 +101,11 @@ fn open_and_serve<K: Sink, D: Disk, L: Listen, C: Clock>(
         × (most ≡ limit)
         × IsFull D.Disk disk.new (bodies ++ bodies_of offer.now.collection.now sure)
         (bodies_of offer.now.collection.now more) would limit) }
-    ensures door { IsErrOf result (Halt.Fault fault.Door)
-        → Rises (L.faults door.old) (L.faults door.new) }
-    ensures given_up { IsErrOf result (Halt.Fault fault.Door)
-        → (clock.new ≡ clock.old) ⊎ HasGivenUp (L.faults door.old) (L.faults door.new) }
-    ensures sink { IsErrOf result (Halt.Fault fault.Sink)
-        → Rises (K.faults out.old) (K.faults out.new) }
-    ensures disk_only { IsErrOf result (Halt.Fault (fault.Stopped stop.Disk))
-        → Rises (D.faults disk.old) (D.faults disk.new) }
-    ensures not_journal { D.tells → IsErrOf result (Halt.Fault (fault.Stopped stop.NotJournal))
-        → IsIllegalFile (D.content disk.old) }
-    ensures not_journal_unopened { IsErrOf result (Halt.Fault (fault.Stopped stop.NotJournal))
-        → (door.new ≡ door.old) × (clock.new ≡ clock.old) }
-    ensures no_collection_unopened { IsErrOf result Halt.NoCollection
-        → (door.new ≡ door.old) × (clock.new ≡ clock.old) }
-    ensures sink_faults { K.faults out.old ≤ K.faults out.new }
-    ensures disk_faults { D.faults disk.old ≤ D.faults disk.new }
-    ensures door_faults { L.faults door.old ≤ L.faults door.new }
+    ensures cause { HasServeCause K.Sink D.Disk L.Listen out.old out.new disk.old disk.new
+        door.old door.new clock.old clock.new result }
+    ensures counts { AreNoLess
+        (failed_calls L.Listen D.Disk K.Sink door.old disk.old out.old)
+        (failed_calls L.Listen D.Disk K.Sink door.new disk.new out.new) }
 {
     match MasterEngine::open(alloc, disk, limit, offer.collection) {
         Ok(Some(engine)) => {

@@ -1,4 +1,4 @@
-use Rattle.std.proofs.Common.{◌≡◌, ◌+◌, List, ℕ, [], ◌∷◌, length, true, refl, sym, ap, subst, length-append, rules, arith}
+use Rattle.std.proofs.Common.{◌≡◌, ◌∙◌, ◌+◌, List, ℕ, [], ◌∷◌, length, true, refl, sym, ap, subst, length-append, rules, arith}
 use Rattle.rx_engine.specs.Engine.{session_of}
 use Rattle.rx_handler.specs.Shown.{kinds_of}
 use Rattle.rx_store.proofs.Staged.{adds_none}
@@ -17,6 +17,17 @@ returns-in_default-clause-gathers g c old left takes =
 pub returns-in_default-clause-adds : goal.returns-in_default-clause-adds
 returns-in_default-clause-adds g c =
     ([], adds_none c.args.engine.journal (session_of c.args.engine).world)
+
+pub returns-in_default-clause-leads : goal.returns-in_default-clause-leads
+returns-in_default-clause-leads g c = record {
+  bounded = omega arith;
+  given = refl;
+  shorter = omega arith;
+  count = omega arith;
+  count_alone = λ is. omega arith;
+  ended = λ is. cc;
+  last = λ some. refl;
+}
 
 pub lines-init : goal.lines-init
 lines-init g c = record {
@@ -45,23 +56,20 @@ returns-then-not-played-clause-adds g c =
     adds_left c.args.engine c.lines.group c.in_ok-added.added c.lines.invariant.adds
     (rw c.if-not-played.true at c.in_ok-added.ensures)
 
-pub returns-then-not-played-clause-bounded : goal.returns-then-not-played-clause-bounded
-returns-then-not-played-clause-bounded g c =
+pub returns-then-not-played-clause-leads : goal.returns-then-not-played-clause-leads
+returns-then-not-played-clause-leads g c =
+    let inv = c.lines.invariant in
     let stays : StaysGroup c.lines.group c.in_ok-added.added =
     rw c.if-not-played.true at c.in_ok-added.ensures in
-    omega (arith, stays.number, c.lines.invariant.few)
-
-pub returns-then-not-played-clause-count : goal.returns-then-not-played-clause-count
-returns-then-not-played-clause-count g c =
-    let stays : StaysGroup c.lines.group c.in_ok-added.added =
-    rw c.if-not-played.true at c.in_ok-added.ensures in
-    omega (arith, stays.number, c.lines.invariant.count)
-
-pub returns-then-not-played-clause-count_alone : goal.returns-then-not-played-clause-count_alone
-returns-then-not-played-clause-count_alone g c =
-    let stays : StaysGroup c.lines.group c.in_ok-added.added =
-    rw c.if-not-played.true at c.in_ok-added.ensures in
-    λ _. omega (arith, stays.number, c.lines.invariant.count)
+    record {
+      bounded = omega (arith, stays.number, inv.few);
+      given = inv.given;
+      shorter = inv.shorter;
+      count = omega (arith, stays.number, inv.count);
+      count_alone = λ _. omega (arith, stays.number, inv.count);
+      ended = λ is. c.in-Line.is;
+      last = λ some. absurd (some c.in-Line.is);
+    }
 
 -- ---- the last line of a group that is full
 
@@ -80,17 +88,20 @@ returns-then-is_full-clause-adds g c =
     adds_line c.args.engine c.lines.group c.in_ok-added.added c.lines.invariant.adds kinds
     c.line.result.now (rw c.if-not-played.false at c.in_ok-added.ensures)
 
-pub returns-then-is_full-clause-bounded : goal.returns-then-is_full-clause-bounded
-returns-then-is_full-clause-bounded g c =
+pub returns-then-is_full-clause-leads : goal.returns-then-is_full-clause-leads
+returns-then-is_full-clause-leads g c =
+    let inv = c.lines.invariant in
     let adds : AddsOne (kinds_of c.args.handlers.now) c.line.result.now c.lines.group
     c.in_ok-added.added = rw c.if-not-played.false at c.in_ok-added.ensures in
-    omega (arith, adds.number, c.lines.invariant.few)
-
-pub returns-then-is_full-clause-count : goal.returns-then-is_full-clause-count
-returns-then-is_full-clause-count g c =
-    let adds : AddsOne (kinds_of c.args.handlers.now) c.line.result.now c.lines.group
-    c.in_ok-added.added = rw c.if-not-played.false at c.in_ok-added.ensures in
-    omega (arith, adds.number, c.lines.invariant.count)
+    record {
+      bounded = omega (arith, adds.number, inv.few);
+      given = inv.given;
+      shorter = inv.shorter;
+      count = omega (arith, adds.number, inv.count);
+      count_alone = λ is. cc;
+      ended = λ is. c.in-Line.is;
+      last = λ some. absurd (some c.in-Line.is);
+    }
 
 -- ---- the last line that was read whole
 
@@ -113,25 +124,22 @@ returns-then-not-branch-clause-adds g c =
     adds_line c.args.engine c.lines.group c.in_ok-added.added c.lines.invariant.adds kinds
     c.line.result.now (rw c.if-not-played.false at c.in_ok-added.ensures)
 
-pub returns-then-not-branch-clause-bounded : goal.returns-then-not-branch-clause-bounded
-returns-then-not-branch-clause-bounded g c =
-    let adds : AddsOne (kinds_of c.args.handlers.now) c.line.result.now c.lines.group
-    c.in_ok-added.added = rw c.if-not-played.false at c.in_ok-added.ensures in
-    omega (arith, adds.number, c.lines.invariant.few)
-
-pub returns-then-not-branch-clause-shorter : goal.returns-then-not-branch-clause-shorter
-returns-then-not-branch-clause-shorter g c =
-    let same = ap (λ (r : Reading). length r.unread)
-    (c.in_ok-take_read.ensures.none c.if-not-branch.true) in
-    omega (arith, same, c.lines.invariant.shorter)
-
-pub returns-then-not-branch-clause-count : goal.returns-then-not-branch-clause-count
-returns-then-not-branch-clause-count g c =
+pub returns-then-not-branch-clause-leads : goal.returns-then-not-branch-clause-leads
+returns-then-not-branch-clause-leads g c =
+    let inv = c.lines.invariant in
     let adds : AddsOne (kinds_of c.args.handlers.now) c.line.result.now c.lines.group
     c.in_ok-added.added = rw c.if-not-played.false at c.in_ok-added.ensures in
     let same = ap (λ (r : Reading). length r.unread)
     (c.in_ok-take_read.ensures.none c.if-not-branch.true) in
-    omega (arith, adds.number, same, c.lines.invariant.count)
+    record {
+      bounded = omega (arith, adds.number, inv.few);
+      given = c.in_ok-take_read.ensures.given ∙ inv.given;
+      shorter = omega (arith, same, inv.shorter);
+      count = omega (arith, adds.number, same, inv.count);
+      count_alone = λ is. cc;
+      ended = λ is. c.in-Line.is;
+      last = λ some. absurd (some c.in-Line.is);
+    }
 
 -- ---- there is another
 

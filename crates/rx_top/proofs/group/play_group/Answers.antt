@@ -1,10 +1,13 @@
-use Rattle.std.proofs.Common.{◌≡◌, ◌∙◌, [], Ok, Err, ap, refl}
+use Rattle.std.proofs.Common.{◌∙◌, [], Ok, Err, refl, arith}
 use Rattle.rx_engine.specs.Engine.{session_of}
 use Rattle.rx_handler.specs.Shown.{kinds_of}
-use Rattle.rx_outside.specs.declared.stop.Stop.TheVariants.{Disk, Full, NotJournal}
+use Rattle.rx_outside.specs.declared.stop.Stop.TheVariants.{Memory}
 use Rattle.rx_store.proofs.Staged.{more_due, none_due}
-use Rattle.rx_top.specs.declared.early_end.EarlyEnd.TheVariants.{Work}
+use Rattle.rx_top.specs.Causes.{by_disk, by_disk_or_memory, never_read}
+use Rattle.rx_top.proofs.Causes.{later_cause, ok_cause, or_memory, same_cause, stop_cause}
 use Rattle.rx_top.proofs.Gathering.{group_failed, group_works, grown_by, none_grown_by, none_works}
+use Rattle.rx_top.proofs.Joining.{group_joined}
+use Rattle.rx_top.proofs.Stopping.{none_joined}
 use Rattle.rx_top.proofs.group.play_group.Goals as goal
 
 pub settle-requires : goal.settle-requires
@@ -53,7 +56,7 @@ returns-in-Err-settle-clause-works g c old left takes =
     old left c.gather.new.reader c.args.engine c.args.disk.now c.settle.new.disk
     (g.K.Sink.written c.args.out.now) (g.K.Sink.written c.settle.new.out) c.in-Ok.gathered.0
     c.in-Ok.gathered.1 (c.in-Ok.ensures.gathers old left takes) c.in-Err-settle.cause
-    c.in-Err-settle.ensures.settles c.in-Err-settle.ensures.no_read
+    c.in-Err-settle.ensures.settles c.in-Err-settle.ensures.cause.read
 
 pub returns-in-Err-settle-clause-grows : goal.returns-in-Err-settle-clause-grows
 returns-in-Err-settle-clause-grows g c t bodies at =
@@ -66,17 +69,44 @@ pub returns-in-Ok-settle-clause-limit : goal.returns-in-Ok-settle-clause-limit
 returns-in-Ok-settle-clause-limit g c =
     c.in-Ok-settle.ensures.settles.limit ∙ c.in-Ok.ensures.adds.1.same_limit
 
--- work on a group stops for its disk alone
-pub returns-in-Err-settle-clause-no_full : goal.returns-in-Err-settle-clause-no_full
-returns-in-Err-settle-clause-no_full g c would most is =
-    let same : c.in-Err-settle.cause ≡ Work (Full would most) = cc in
-    let disk : Full would most ≡ Disk =
-    c.in-Err-settle.ensures.only_disk (Full would most) (ap Err same) in
-    cc
+pub returns-in-Ok-settle-clause-leads : goal.returns-in-Ok-settle-clause-leads
+returns-in-Ok-settle-clause-leads g c = c.in-Ok.ensures.leads
 
-pub returns-in-Err-settle-clause-not_journal : goal.returns-in-Err-settle-clause-not_journal
-returns-in-Err-settle-clause-not_journal g c is =
-    let same : c.in-Err-settle.cause ≡ Work NotJournal = cc in
-    let disk : NotJournal ≡ Disk =
-    c.in-Err-settle.ensures.only_disk NotJournal (ap Err same) in
-    cc
+-- ---- why it ended
+
+pub returns-in-Err-clause-cause : goal.returns-in-Err-clause-cause
+returns-in-Err-clause-cause g c =
+    stop_cause g.K.Sink g.D.Disk never_read by_disk_or_memory c.args.out.now c.args.out.now
+    c.args.disk.now c.args.disk.now (omega arith) (omega arith) Memory tt (λ is. cc)
+
+pub returns-in-Ok-settle-clause-cause : goal.returns-in-Ok-settle-clause-cause
+returns-in-Ok-settle-clause-cause g c =
+    ok_cause g.K.Sink g.D.Disk never_read by_disk_or_memory c.args.out.now c.settle.new.out
+    c.args.disk.now c.settle.new.disk c.in-Ok-settle.ensures.cause.sink_faults
+    c.in-Ok-settle.ensures.cause.disk_faults _
+
+pub returns-in-Err-settle-clause-cause : goal.returns-in-Err-settle-clause-cause
+returns-in-Err-settle-clause-cause g c =
+    later_cause g.K.Sink g.D.Disk never_read never_read by_disk by_disk_or_memory c.args.out.now
+    c.args.out.now c.settle.new.out c.args.disk.now c.args.disk.now c.settle.new.disk
+    (Err c.in-Err-settle.cause) (omega arith) (omega arith) (λ why so. so) or_memory
+    (same_cause g.K.Sink g.D.Disk never_read by_disk c.args.out.now c.settle.new.out
+    c.args.disk.now c.settle.new.disk c.in-Err-settle.cause c.in-Err-settle.ensures.cause)
+
+-- ---- what was told
+
+pub returns-in-Err-clause-told : goal.returns-in-Err-clause-told
+returns-in-Err-clause-told g c told = none_joined (g.K.Sink.written c.args.out.now)
+
+pub returns-in-Ok-settle-clause-told : goal.returns-in-Ok-settle-clause-told
+returns-in-Ok-settle-clause-told g c told =
+    group_joined g.D.Disk g.K.Sink.tells c.in-Ok.gathered.0 c.args.disk.now c.settle.new.disk
+    (g.K.Sink.written c.args.out.now) (g.K.Sink.written c.settle.new.out)
+    (Ok c.in-Ok-settle.engine) c.in-Ok-settle.ensures.settles (λ f is. cc) told
+
+pub returns-in-Err-settle-clause-told : goal.returns-in-Err-settle-clause-told
+returns-in-Err-settle-clause-told g c told =
+    group_joined g.D.Disk g.K.Sink.tells c.in-Ok.gathered.0 c.args.disk.now c.settle.new.disk
+    (g.K.Sink.written c.args.out.now) (g.K.Sink.written c.settle.new.out)
+    (Err c.in-Err-settle.cause) c.in-Err-settle.ensures.settles
+    c.in-Err-settle.ensures.cause.read told

@@ -1,13 +1,19 @@
-use Rattle.std.proofs.Common.{◌≡◌, ◌∙◌, ◌++◌, ◌+◌, ◌≤◌, ◌||◌, ℕ, List, [], Ok, Some, IsErrOf, refl, sym, ap, subst, append_assoc, append-nil, rules, arith}
+use Rattle.std.proofs.Common.{◌≡◌, ◌∙◌, ◌++◌, ◌+◌, ◌≤◌, ◌||◌, ℕ, List, [], Ok, Err, Some, IsErrOf, refl, sym, ap, subst, append_assoc, append-nil, rules, arith}
 use Rattle.rx_engine.specs.Engine.{standing_of}
 use Rattle.rx_handler.specs.Shown.{kinds_of}
 use Rattle.rx_sync.specs.Remote.{Heard}
+use Rattle.rx_outside.specs.declared.stop.Stop.TheVariants.{Full}
+use Rattle.rx_top.specs.Causes.{by_any, by_disk_or_memory, never_read, source_failed}
 use Rattle.rx_top.specs.Hears.{stands}
 use Rattle.rx_top.specs.Reader.{Reading, TakesKept, Took, max_input_bytes}
 use Rattle.rx_top.specs.declared.reader.Next.TheVariants.{Line, Last, End}
+use Rattle.rx_top.proofs.Causes.{later_cause, ok_cause, or_any, read_cause, read_so, same_cause, unread}
 use Rattle.rx_top.proofs.Exits.{Along, begins, took_on, within_on, none_left, only_line, taken_as, reader_stopped, ended, images_at, line_failed, line_kept, last_played, line_played}
 use Rattle.rx_top.proofs.Groups.{after_group, group_ended}
 use Rattle.rx_top.proofs.Hears.{heard_in, then_shown}
+use Rattle.rx_top.proofs.Joining.{line_joined}
+use Rattle.rx_top.proofs.Promptly.{prompt_next}
+use Rattle.rx_top.proofs.Stopping.{joined_on, none_joined}
 use Rattle.rx_top.proofs.Growth.{grown_end, grown_more, grown_now, not_grown}
 use Rattle.rx_top.proofs.play.play.Goals as goal
 
@@ -40,6 +46,7 @@ lines-init g c = record {
   );
   grown = λ t bodies at. not_grown g.D.Disk c.args.disk.now c.args.first bodies
       (λ f. g.met.D.Disk.only_now c.args.disk.now f t) at;
+  told = λ told. none_joined (g.K.Sink.written c.args.out.now);
   took = λ told. ([], refl, sym (ap (λ (r : Reading). r.given) c.requires.fresh));
   source_faults = omega arith;
   sink_faults = omega arith;
@@ -79,7 +86,7 @@ returns-in-Err-clause-exit g c =
           (g.K.Sink.written c.lines.out) input _ _ _
           (a.1 [] told) (heard_in (kinds_of c.args.handlers.now) [] c.lines.engine) c.in-Err.fault
           (g.S.Source.left c.next.new.source)
-          (c.in-Err.ensures.stops told) (c.in-Err.ensures.stops_long told)
+          (c.in-Err.ensures.stops told c.in-Err.fault refl)
           (λ is. took_on c.lines.reader.given input (g.S.Source.left c.lines.source) _
           (λ n. n ≡ max_input_bytes + 1) (c.lines.invariant.took told)
           (c.in-Err.ensures.too_long told is))
@@ -148,18 +155,23 @@ returns-in-Err-play_group-clause-exit g c =
       a.0 ++ [],
       λ told.
           let left = g.S.Source.left c.next.new.source in
+          let so_far = a.1 [] told in
           group_ended (standing_of kinds (a.0 ++ []) c.args.first) g.D.Disk g.K.Sink.tells
           g.N.W.Wire.tells c.args.disk.now c.lines.disk (stands g.N.Dial c.args.dial.now)
           (stands g.N.Dial c.lines.dial) c.args.first c.lines.engine
           (g.K.Sink.written c.args.out.now) (g.K.Sink.written c.lines.out)
           (g.S.Source.left c.args.source.now) _ c.lines.number c.lines.refused kinds
-          [] (a.1 [] told)
+          [] so_far
           c.in-Ok.next left c.play_group.new.reader c.play_group.new.disk
           (g.K.Sink.written c.play_group.new.out) c.in-Err-play_group.cause
           (c.in-Err-play_group.ensures.works
           (c.lines.reader.unread ++ g.S.Source.left c.lines.source) left
           (c.in-Ok.ensures.next told))
-          refl c.in-Err-play_group.ensures.no_read c.in-Err-play_group.ensures.no_full
+          (prompt_next so_far.bytes _ (g.S.Source.left c.args.source.now) so_far.so.whole
+          so_far.so.split c.in-Ok.next c.next.new.self.line c.next.new.self.unread left
+          c.in_default.not-End (c.in-Ok.ensures.next told) c.in-Ok.ensures.piece)
+          refl c.in-Err-play_group.ensures.cause.read
+          (λ would most. c.in-Err-play_group.ensures.cause.stop (Full would most))
           (λ t f. g.met.D.Disk.only_now c.play_group.new.disk f t)
           (λ t s f le now. g.met.D.Disk.counts_now c.play_group.new.disk s f t le now),
     )
@@ -216,7 +228,12 @@ returns-in-Err-play_line-clause-exit g c =
           (stands g.N.Dial c.play_line.new.dial) (g.K.Sink.written c.play_line.new.out)
           c.in-Ok.next c.line-line.result.now (c.play_group.new.reader.unread ++ left)
           c.in_default.not-End (taken_as _ _ _ _ _ (sym c.line-line.ensures) behind)
-          c.in-Err-play_line.cause left c.in-Err-play_line.ensures.no_read
+          c.in-Err-play_line.cause left
+          (prompt_next a.bytes done.mid (g.S.Source.left c.args.source.now) a.so.whole a.so.split
+          c.in-Ok.next c.play_group.new.reader.line c.play_group.new.reader.unread left
+          c.in_default.not-End behind
+          (omega (arith, c.in-Ok.ensures.piece, c.in-Ok-play_group.ensures.leads.shorter)))
+          c.in-Err-play_line.ensures.cause.read
           (works.front []) c.in-Err-play_line.ensures.unsaid (works.turn []) works.heard
           (heard_in kinds later group.engine ∙ append-nil works.heard)
           (works.later_so []) (works.shown []) (works.unharmed []) (works.safe [])
@@ -331,6 +348,103 @@ returns-in-Last-clause-within g c = λ told _.
     (c.lines.invariant.took told) (within_on _ _ _ _ (c.in-Ok.ensures.took told)
     c.in-Ok.ensures.bounded)
 
+-- ---- why it ended
+
+pub returns-in-Err-clause-cause : goal.returns-in-Err-clause-cause
+returns-in-Err-clause-cause g c =
+    read_cause g.K.Sink g.D.Disk
+    (source_failed g.S.Source c.args.source.now c.next.new.source)
+    (by_any (g.D.Disk.tells → ⊥)) c.args.out.now c.lines.out c.args.disk.now c.lines.disk
+    c.lines.invariant.sink_faults c.lines.invariant.disk_faults c.in-Err.fault
+    (read_so g.S.Source c.args.source.now c.lines.source c.next.new.source c.in-Err.fault
+    c.lines.invariant.source_faults c.in-Err.ensures.cause)
+
+pub returns-in-End-clause-cause : goal.returns-in-End-clause-cause
+returns-in-End-clause-cause g c =
+    ok_cause g.K.Sink g.D.Disk (source_failed g.S.Source c.args.source.now c.next.new.source)
+    (by_any (g.D.Disk.tells → ⊥)) c.args.out.now c.lines.out c.args.disk.now c.lines.disk
+    c.lines.invariant.sink_faults c.lines.invariant.disk_faults _
+
+pub returns-in-Err-play_group-clause-cause : goal.returns-in-Err-play_group-clause-cause
+returns-in-Err-play_group-clause-cause g c =
+    let on_read = source_failed g.S.Source c.args.source.now c.next.new.source in
+    later_cause g.K.Sink g.D.Disk never_read on_read by_disk_or_memory
+    (by_any (g.D.Disk.tells → ⊥)) c.args.out.now c.lines.out c.play_group.new.out
+    c.args.disk.now c.lines.disk c.play_group.new.disk (Err c.in-Err-play_group.cause)
+    c.lines.invariant.sink_faults c.lines.invariant.disk_faults (unread on_read)
+    (or_any (g.D.Disk.tells → ⊥))
+    (same_cause g.K.Sink g.D.Disk never_read by_disk_or_memory c.lines.out c.play_group.new.out
+    c.lines.disk c.play_group.new.disk c.in-Err-play_group.cause
+    c.in-Err-play_group.ensures.cause)
+
+pub returns-in-Err-play_line-clause-cause : goal.returns-in-Err-play_line-clause-cause
+returns-in-Err-play_line-clause-cause g c =
+    let on_read = source_failed g.S.Source c.args.source.now c.next.new.source in
+    let group = c.in-Ok-play_group.ensures.cause in
+    later_cause g.K.Sink g.D.Disk never_read on_read (by_any (g.D.Disk.tells → ⊥))
+    (by_any (g.D.Disk.tells → ⊥)) c.args.out.now c.play_group.new.out c.play_line.new.out
+    c.args.disk.now c.play_group.new.disk c.play_line.new.disk (Err c.in-Err-play_line.cause)
+    (omega (arith, c.lines.invariant.sink_faults, group.sink_faults))
+    (omega (arith, c.lines.invariant.disk_faults, group.disk_faults)) (unread on_read)
+    (λ why so. so)
+    (same_cause g.K.Sink g.D.Disk never_read (by_any (g.D.Disk.tells → ⊥))
+    c.play_group.new.out c.play_line.new.out c.play_group.new.disk c.play_line.new.disk
+    c.in-Err-play_line.cause c.in-Err-play_line.ensures.cause)
+
+pub returns-in-Last-clause-cause : goal.returns-in-Last-clause-cause
+returns-in-Last-clause-cause g c =
+    let group = c.in-Ok-play_group.ensures.cause in
+    let line = c.in-Ok-play_line.ensures.cause in
+    ok_cause g.K.Sink g.D.Disk (source_failed g.S.Source c.args.source.now c.next.new.source)
+    (by_any (g.D.Disk.tells → ⊥)) c.args.out.now c.play_line.new.out c.args.disk.now
+    c.play_line.new.disk
+    (omega (arith, c.lines.invariant.sink_faults, group.sink_faults, line.sink_faults))
+    (omega (arith, c.lines.invariant.disk_faults, group.disk_faults, line.disk_faults)) _
+
+-- ---- what was told
+
+pub returns-in-Err-clause-told : goal.returns-in-Err-clause-told
+returns-in-Err-clause-told g c = c.lines.invariant.told
+
+pub returns-in-End-clause-told : goal.returns-in-End-clause-told
+returns-in-End-clause-told g c = c.lines.invariant.told
+
+pub returns-in-Err-play_group-clause-told : goal.returns-in-Err-play_group-clause-told
+returns-in-Err-play_group-clause-told g c told =
+    joined_on (g.K.Sink.written c.args.out.now) (g.K.Sink.written c.lines.out)
+    (g.K.Sink.written c.play_group.new.out) (c.lines.invariant.told told)
+    (c.in-Err-play_group.ensures.told told)
+
+pub returns-in-Err-play_line-clause-told : goal.returns-in-Err-play_line-clause-told
+returns-in-Err-play_line-clause-told g c told =
+    joined_on (g.K.Sink.written c.args.out.now) (g.K.Sink.written c.play_group.new.out)
+    (g.K.Sink.written c.play_line.new.out)
+    (joined_on (g.K.Sink.written c.args.out.now) (g.K.Sink.written c.lines.out)
+    (g.K.Sink.written c.play_group.new.out) (c.lines.invariant.told told)
+    (c.in-Ok-play_group.ensures.told told))
+    (line_joined g.D.Disk (kinds_of c.args.handlers.now) g.N.W.Wire.tells g.K.Sink.tells
+    (c.in-Ok-play_group.group.number + 1) c.line-line.result.now c.in-Ok-play_group.group.engine
+    c.play_group.new.disk c.play_line.new.disk (stands g.N.Dial c.lines.dial)
+    (stands g.N.Dial c.play_line.new.dial) (g.K.Sink.written c.play_group.new.out)
+    (g.K.Sink.written c.play_line.new.out) (Err c.in-Err-play_line.cause)
+    c.in-Err-play_line.ensures.works c.in-Err-play_line.ensures.unsaid
+    c.in-Err-play_line.ensures.cause.read told)
+
+pub returns-in-Last-clause-told : goal.returns-in-Last-clause-told
+returns-in-Last-clause-told g c told =
+    joined_on (g.K.Sink.written c.args.out.now) (g.K.Sink.written c.play_group.new.out)
+    (g.K.Sink.written c.play_line.new.out)
+    (joined_on (g.K.Sink.written c.args.out.now) (g.K.Sink.written c.lines.out)
+    (g.K.Sink.written c.play_group.new.out) (c.lines.invariant.told told)
+    (c.in-Ok-play_group.ensures.told told))
+    (line_joined g.D.Disk (kinds_of c.args.handlers.now) g.N.W.Wire.tells g.K.Sink.tells
+    (c.in-Ok-play_group.group.number + 1) c.line-line.result.now c.in-Ok-play_group.group.engine
+    c.play_group.new.disk c.play_line.new.disk (stands g.N.Dial c.lines.dial)
+    (stands g.N.Dial c.play_line.new.dial) (g.K.Sink.written c.play_group.new.out)
+    (g.K.Sink.written c.play_line.new.out) (Ok c.in-Ok-play_line.played)
+    c.in-Ok-play_line.ensures.works
+    (λ k why is. absurd (no_error _ _ is)) (λ f is. no_error _ _ is) told)
+
 -- ---- the loop goes on
 
 -- behind a group whose last line is the one that was read
@@ -339,7 +453,7 @@ lines-preserved-then-group g c =
     let kinds = kinds_of c.args.handlers.now in
     let along = c.lines.invariant.along in
     let group = c.in-Ok-play_group.group in
-    let line = c.in-Ok-play_group.ensures.ended c.if-group.true in
+    let line = c.in-Ok-play_group.ensures.leads.ended c.if-group.true in
     record {
       along = (
         along.0,
@@ -376,22 +490,35 @@ lines-preserved-then-group g c =
           (images_at g.D.Disk c.lines.disk c.lines.engine (bodies ++ had.more) had.at))
           grew.safe.at in
           now;
+      told = λ told.
+          joined_on (g.K.Sink.written c.args.out.now) (g.K.Sink.written c.lines.out)
+          (g.K.Sink.written c.play_group.new.out) (c.lines.invariant.told told)
+          (c.in-Ok-play_group.ensures.told told);
       took = λ told. subst (λ (k : ℕ). Took 0 (g.S.Source.left c.args.source.now)
-          (g.S.Source.left c.next.new.source) (λ n. n ≡ k)) (sym c.in-Ok-play_group.ensures.given)
+          (g.S.Source.left c.next.new.source) (λ n. n ≡ k))
+          (sym c.in-Ok-play_group.ensures.leads.given)
           (took_on c.lines.reader.given (g.S.Source.left c.args.source.now)
           (g.S.Source.left c.lines.source) _
           (λ n. n ≡ c.next.new.self.given) (c.lines.invariant.took told)
           (c.in-Ok.ensures.took told));
-      source_faults = search rules;
-      sink_faults = search rules;
-      disk_faults = search rules;
+      source_faults = omega (arith, c.lines.invariant.source_faults, c.in-Ok.ensures.cause.later);
+      sink_faults = omega (
+        arith,
+        c.lines.invariant.sink_faults,
+        c.in-Ok-play_group.ensures.cause.sink_faults,
+      );
+      disk_faults = omega (
+        arith,
+        c.lines.invariant.disk_faults,
+        c.in-Ok-play_group.ensures.cause.disk_faults,
+      );
       dial_faults = search rules;
-      within = omega (arith, c.in-Ok.ensures.bounded, c.in-Ok-play_group.ensures.given);
+      within = omega (arith, c.in-Ok.ensures.bounded, c.in-Ok-play_group.ensures.leads.given);
       number = omega (
         arith,
         c.in-Ok.ensures.smaller line,
-        c.in-Ok-play_group.ensures.count,
-        c.in-Ok-play_group.ensures.given,
+        c.in-Ok-play_group.ensures.leads.count,
+        c.in-Ok-play_group.ensures.leads.given,
         c.lines.invariant.number,
       );
     }
@@ -479,22 +606,45 @@ lines-preserved g c =
           (done.moments
           (images_at g.D.Disk c.play_group.new.disk group.engine (bodies ++ now.more) now.at))
           done.at;
+      told = λ told.
+          joined_on (g.K.Sink.written c.args.out.now) (g.K.Sink.written c.play_group.new.out)
+          (g.K.Sink.written c.play_line.new.out)
+          (joined_on (g.K.Sink.written c.args.out.now) (g.K.Sink.written c.lines.out)
+          (g.K.Sink.written c.play_group.new.out) (c.lines.invariant.told told)
+          (c.in-Ok-play_group.ensures.told told))
+          (line_joined g.D.Disk kinds g.N.W.Wire.tells g.K.Sink.tells (group.number + 1)
+          c.line-line.result.now group.engine c.play_group.new.disk c.play_line.new.disk
+          (stands g.N.Dial c.lines.dial) (stands g.N.Dial c.play_line.new.dial)
+          (g.K.Sink.written c.play_group.new.out) (g.K.Sink.written c.play_line.new.out)
+          (Ok c.in-Ok-play_line.played) works
+          (λ k why is. absurd (no_error _ _ is)) (λ f is. no_error _ _ is) told);
       took = λ told. subst (λ (k : ℕ). Took 0 (g.S.Source.left c.args.source.now)
-          (g.S.Source.left c.next.new.source) (λ n. n ≡ k)) (sym c.in-Ok-play_group.ensures.given)
+          (g.S.Source.left c.next.new.source) (λ n. n ≡ k))
+          (sym c.in-Ok-play_group.ensures.leads.given)
           (took_on c.lines.reader.given (g.S.Source.left c.args.source.now)
           (g.S.Source.left c.lines.source) _
           (λ n. n ≡ c.next.new.self.given) (c.lines.invariant.took told)
           (c.in-Ok.ensures.took told));
-      source_faults = search rules;
-      sink_faults = search rules;
-      disk_faults = search rules;
+      source_faults = omega (arith, c.lines.invariant.source_faults, c.in-Ok.ensures.cause.later);
+      sink_faults = omega (
+        arith,
+        c.lines.invariant.sink_faults,
+        c.in-Ok-play_group.ensures.cause.sink_faults,
+        c.in-Ok-play_line.ensures.cause.sink_faults,
+      );
+      disk_faults = omega (
+        arith,
+        c.lines.invariant.disk_faults,
+        c.in-Ok-play_group.ensures.cause.disk_faults,
+        c.in-Ok-play_line.ensures.cause.disk_faults,
+      );
       dial_faults = search rules;
-      within = omega (arith, c.in-Ok.ensures.bounded, c.in-Ok-play_group.ensures.given);
+      within = omega (arith, c.in-Ok.ensures.bounded, c.in-Ok-play_group.ensures.leads.given);
       number = omega (
         arith,
         c.in-Ok.ensures.smaller line,
-        c.in-Ok-play_group.ensures.count_alone c.if-group.false,
-        c.in-Ok-play_group.ensures.given,
+        c.in-Ok-play_group.ensures.leads.count_alone c.if-group.false,
+        c.in-Ok-play_group.ensures.leads.given,
         c.lines.invariant.number,
       );
     }
@@ -506,7 +656,7 @@ lines-smaller g c =
       arith,
       c.in-Ok.ensures.smaller line,
       c.in-Ok.ensures.bounded,
-      c.in-Ok-play_group.ensures.given,
-      c.in-Ok-play_group.ensures.shorter,
+      c.in-Ok-play_group.ensures.leads.given,
+      c.in-Ok-play_group.ensures.leads.shorter,
       c.lines.invariant.within,
     )

@@ -4,6 +4,7 @@ use Rattle.rx_handler.specs.Shown.{kinds_of}
 use Rattle.rx_sync.specs.Remote.{Heard}
 use Rattle.rx_top.specs.Hears.{stands}
 use Rattle.rx_top.specs.Reader.{max_input_bytes, Took}
+use Rattle.rx_top.specs.Stops.{Appends}
 use Rattle.rx_top.proofs.Exits.{Along}
 use Rattle.rx_top.proofs.Growth.{HasGrown}
 use Rattle.rx_top.proofs.play.play.Given as goal
@@ -21,6 +22,7 @@ invariant-lines g l = record {
       l.refused);
   grown : g.D.Disk.tells → (bodies : List (List ℕ)) → IsAt g.D.Disk l.fn.disk l.fn.first bodies
       → HasGrown g.D.Disk l.fn.disk l.disk l.engine bodies;
+  told : g.K.Sink.tells → Appends (g.K.Sink.written l.fn.out) (g.K.Sink.written l.out);
   took : g.S.Source.tells
       → Took 0 (g.S.Source.left l.fn.source) (g.S.Source.left l.source) (λ n. n ≡ l.reader.given);
   source_faults : g.S.Source.faults l.fn.source ≤ g.S.Source.faults l.source;

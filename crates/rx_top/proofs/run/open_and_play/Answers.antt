@@ -1,11 +1,11 @@
-use Rattle.std.proofs.Common.{◌++◌, ◌∷◌, [], ⊎_elim, Err, ap, sym, append-nil, subst}
+use Rattle.std.proofs.Common.{◌++◌, ◌∷◌, [], ⊎_elim, Err, ap, refl, sym, append-nil, subst, arith}
 use Rattle.rx_engine.specs.Engine.{standing_of}
 use Rattle.rx_engine.specs.Opening.{host_of, epoch_body, opened}
-use Rattle.rx_outside.specs.declared.stop.Stop.TheVariants.{NotJournal}
 use Rattle.std.specs.Prelude.{⊤}
 use Rattle.rx_engine.specs.Standing.{Standing}
 use Rattle.rx_handler.specs.Shown.{kinds_of}
 use Rattle.rx_world.specs.World.{empty}
+use Rattle.rx_top.specs.Causes.{IsUnopened, by_any, source_failed}
 use Rattle.rx_top.specs.Hears.{HearsAll, stands}
 use Rattle.rx_top.specs.Lines.{lines}
 use Rattle.rx_top.specs.Chunks.{in_groups}
@@ -14,10 +14,13 @@ use Rattle.rx_top.specs.Script.{line_effect}
 use Rattle.rx_top.specs.Turns.{HoldsOfTurn}
 use Rattle.rx_top.specs.declared.early_end.EarlyEnd.TheVariants.{Read, Work}
 use Rattle.rx_top.specs.declared.early_end.ReadFault.TheVariants as ReadFault
+use Rattle.rx_top.proofs.Causes.{any_so, later_cause, other_journal, read_cause, stop_cause}
 use Rattle.rx_top.proofs.Chunks.{stays_legal}
 use Rattle.rx_top.proofs.Growth.{legal_on}
 use Rattle.rx_top.proofs.Hears.{heard_at_first}
-use Rattle.rx_top.proofs.Heads.{needs_journal, no_reader_keeps, not_both, open_keeps, played_keeps, said_as, same_open, still_legal, unplayed, untouched}
+use Rattle.rx_top.proofs.Heads.{needs_journal, no_reader_keeps, not_both, open_keeps, played_keeps, said_as, still_legal, unplayed, untouched}
+use Rattle.rx_top.proofs.Promptly.{prompt_none}
+use Rattle.rx_top.proofs.Stopping.{none_joined}
 use Rattle.rx_top.proofs.run.open_and_play.Goals as goal
 
 pub returns-in-Err-clause-run : goal.returns-in-Err-clause-run
@@ -31,7 +34,8 @@ returns-in-Err-clause-run g c =
           unplayed g.K.Sink.tells g.N.W.Wire.tells dial _ _ input _ (opened host [] w)
           (Err (Read ReadFault.Memory))
           (KeepsRun in_groups host [] g.D.Disk c.args.disk.now c.args.disk.now bodies w c.args.limit
-          (Err (Read ReadFault.Memory))) (heard_at_first host [] w) tt none
+          (Err (Read ReadFault.Memory))) (heard_at_first host [] w)
+          (prompt_none input) none
           (no_reader_keeps in_groups host [] g.D.Disk bodies w c.args.limit c.args.disk.now
           (lines input) start
           (λ f. g.met.D.Disk.only_now c.args.disk.now f t)
@@ -40,7 +44,7 @@ returns-in-Err-clause-run g c =
         empty,
         unplayed g.K.Sink.tells g.N.W.Wire.tells dial _ _ input _ (opened host [] empty)
             (Err (Read ReadFault.Memory)) (λ done rest. ⊤)
-            (heard_at_first host [] empty) tt none tt,
+            (heard_at_first host [] empty) (prompt_none input) none tt,
       ),
     )
 
@@ -109,7 +113,8 @@ returns-clause-run g c =
           unplayed g.K.Sink.tells g.N.W.Wire.tells dial _ _ input _ (opened host [] w)
           (Err (Work c.in-Err-open.stop))
           (KeepsRun in_groups host [] g.D.Disk c.args.disk.now c.open.new.disk bodies w c.args.limit
-          (Err (Work c.in-Err-open.stop))) (heard_at_first host [] w) tt none
+          (Err (Work c.in-Err-open.stop))) (heard_at_first host [] w)
+          (prompt_none input) none
           (open_keeps in_groups host [] g.D.Disk bodies w c.args.limit c.args.disk.now
           c.open.new.disk c.in-Err-open.stop (lines input)
           ((c.in-Err-open.ensures.safe t bodies w start.legal).moments start.alike)
@@ -120,7 +125,7 @@ returns-clause-run g c =
         empty,
         unplayed g.K.Sink.tells g.N.W.Wire.tells dial _ _ input _ (opened host [] empty)
             (Err (Work c.in-Err-open.stop)) (λ done rest. ⊤)
-            (heard_at_first host [] empty) tt none tt,
+            (heard_at_first host [] empty) (prompt_none input) none tt,
       ),
     )
 
@@ -130,10 +135,43 @@ returns-clause-legal g c = λ t bodies w start.
     ((c.in-Err-open.ensures.safe t bodies w start.legal).moments start.alike)
     (λ s f le now. g.met.D.Disk.counts_now c.open.new.disk s f t le now)
 
-pub returns-clause-not_journal : goal.returns-clause-not_journal
-returns-clause-not_journal g c = λ t is bodies w legal.
-    (c.in-Err-open.ensures.safe t bodies w legal).not_journal
-    (same_open c.in-Err-open.stop NotJournal is)
+-- ---- why it ended
+
+pub returns-in-Err-clause-cause : goal.returns-in-Err-clause-cause
+returns-in-Err-clause-cause g c =
+    read_cause g.K.Sink g.D.Disk
+    (source_failed g.S.Source c.args.source.now c.args.source.now)
+    (by_any (g.D.Disk.tells → IsUnopened g.K.Sink g.D.Disk c.args.source.now c.args.source.now
+    c.args.out.now c.args.out.now c.args.disk.now)) c.args.out.now c.args.out.now c.args.disk.now
+    c.args.disk.now (omega arith) (omega arith) ReadFault.Memory tt
+
+pub returns-in-Ok-open-clause-cause : goal.returns-in-Ok-open-clause-cause
+returns-in-Ok-open-clause-cause g c =
+    let on_read = source_failed g.S.Source c.args.source.now c.play.new.source in
+    let Unopened : Type 0 = g.D.Disk.tells → IsUnopened g.K.Sink g.D.Disk c.args.source.now
+    c.play.new.source c.args.out.now c.play.new.out c.args.disk.now in
+    later_cause g.K.Sink g.D.Disk on_read on_read (by_any (g.D.Disk.tells → ⊥))
+    (by_any Unopened) c.args.out.now c.args.out.now c.play.new.out c.args.disk.now
+    c.open.new.disk c.play.new.disk c.play.result (omega arith) c.in-Ok-open.ensures.cause.later
+    (λ why so. so)
+    (other_journal (g.D.Disk.tells → ⊥) Unopened (λ none t. absurd (none t)))
+    c.play.ensures.cause
+
+pub returns-clause-cause : goal.returns-clause-cause
+returns-clause-cause g c =
+    let Unopened : Type 0 = g.D.Disk.tells → IsUnopened g.K.Sink g.D.Disk c.args.source.now
+    c.args.source.now c.args.out.now c.args.out.now c.args.disk.now in
+    stop_cause g.K.Sink g.D.Disk (source_failed g.S.Source c.args.source.now c.args.source.now)
+    (by_any Unopened) c.args.out.now c.args.out.now c.args.disk.now c.open.new.disk (omega arith)
+    c.in-Err-open.ensures.cause.later c.in-Err-open.stop
+    (any_so Unopened c.in-Err-open.stop
+    (λ is t. record {
+      illegal = λ bodies w legal.
+          (c.in-Err-open.ensures.safe t bodies w legal).not_journal (ap Err is);
+      unread = refl;
+      unsaid = λ k. refl;
+    }))
+    (λ is. c.in-Err-open.ensures.cause.failed (ap Err is))
 
 -- ---- files that aren't legal
 
@@ -155,3 +193,32 @@ pub returns-clause-stood : goal.returns-clause-stood
 returns-clause-stood g c = λ t needs.
     let full = needs_journal c.in-Err-open.stop needs in
     c.in-Err-open.ensures.full_stood t full.0 full.1 (ap Err full.2)
+
+-- ---- what was taken and told
+
+pub returns-in-Err-clause-takes : goal.returns-in-Err-clause-takes
+returns-in-Err-clause-takes g c = record {
+  whole = λ told. tt;
+  within = λ told short. ([], refl, omega arith);
+}
+
+pub returns-in-Ok-open-clause-takes : goal.returns-in-Ok-open-clause-takes
+returns-in-Ok-open-clause-takes g c = record {
+  whole = c.play.ensures.whole;
+  within = c.play.ensures.within;
+}
+
+pub returns-clause-takes : goal.returns-clause-takes
+returns-clause-takes g c = record {
+  whole = λ told. tt;
+  within = λ told short. ([], refl, omega arith);
+}
+
+pub returns-in-Err-clause-told : goal.returns-in-Err-clause-told
+returns-in-Err-clause-told g c told = none_joined (g.K.Sink.written c.args.out.now)
+
+pub returns-in-Ok-open-clause-told : goal.returns-in-Ok-open-clause-told
+returns-in-Ok-open-clause-told g c = c.play.ensures.told
+
+pub returns-clause-told : goal.returns-clause-told
+returns-clause-told g c told = none_joined (g.K.Sink.written c.args.out.now)

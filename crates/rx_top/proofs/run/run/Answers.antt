@@ -1,4 +1,4 @@
-use Rattle.std.proofs.Common.{◌≡◌, refl, ◌∙◌, Bool, Result, Ok, Err, OnOk, [], sym, subst, append-nil, arith}
+use Rattle.std.proofs.Common.{◌≡◌, refl, ◌∙◌, Bool, Result, Ok, Err, OnOk, ℕ, List, [], sym, subst, append-nil, arith}
 use Rattle.std.specs.Prelude.{codes}
 use Rattle.rx_outside.specs.declared.stop.Stop.TheVariants.{Disk, NotJournal, Full, Memory}
 use Rattle.rx_top.specs.PlaysScript.{HasRunCause}
@@ -18,6 +18,13 @@ returns g c =
         record {
           ended = step.result;
           is_status = c.status_of.ensures;
+          line = λ told.
+              let had = step.ensures.told told in (
+                had.0,
+                subst (λ (bs : List ℕ). EndsWith g.K.Sink.tells (g.K.Sink.faults c.args.out.now)
+                    (g.K.Sink.faults c.write_end.new.out) bs
+                    (g.K.Sink.written c.write_end.new.out) (last_words step.result)) had.1 line,
+              );
           headline = λ told t bodies w start. record {
             before = g.K.Sink.written step.new.out;
             run = step.ensures.run.1 told t bodies w start;
@@ -36,12 +43,12 @@ returns g c =
           illegal = step.ensures.illegal;
           cause = cause_of step.result refl;
           stood = step.ensures.stood;
-          within = step.ensures.within;
+          within = step.ensures.takes.within;
           counts = (
-            step.ensures.source_faults,
-            omega (arith, step.ensures.sink_faults, c.write_end.ensures.count),
-            step.ensures.disk_faults,
-            step.ensures.dial_faults,
+            step.ensures.counts.0,
+            omega (arith, step.ensures.cause.sink_faults, c.write_end.ensures.count),
+            step.ensures.cause.disk_faults,
+            step.ensures.counts.1,
           );
         },
       );
@@ -54,7 +61,7 @@ returns g c =
         ends_later g.K.Sink.tells (g.K.Sink.faults c.args.out.now)
         (g.K.Sink.faults c.open_and_play-ended.new.out) (g.K.Sink.faults c.write_end.new.out) _ _
         (last_words c.open_and_play-ended.result)
-        c.open_and_play-ended.ensures.sink_faults
+        c.open_and_play-ended.ensures.cause.sink_faults
         (ended_with g.K.Sink.tells _ _ _ _ (last_words c.open_and_play-ended.result)
         c.write_end.result c.write_end.ensures.ok c.write_end.ensures.err
         c.write_end.ensures.failed)
@@ -66,29 +73,33 @@ returns g c =
     cause_of (Ok refused) is = λ told.
         subst (λ (e : Result Bool EarlyEnd).
         OnOk e (g.S.Source.left c.open_and_play-ended.new.source ≡ [])) is
-        (c.open_and_play-ended.ensures.whole told)
-    cause_of (Err (Read fault.Failed)) is = c.open_and_play-ended.ensures.read is
+        (c.open_and_play-ended.ensures.takes.whole told)
+    cause_of (Err (Read fault.Failed)) is =
+        c.open_and_play-ended.ensures.cause.read fault.Failed is
     cause_of (Err (Read fault.TooLong)) is = tt
     cause_of (Err (Read fault.Memory)) is = tt
     cause_of (Err Sink) is =
         rises_still (g.K.Sink.faults c.args.out.now) (g.K.Sink.faults c.open_and_play-ended.new.out)
-        (g.K.Sink.faults c.write_end.new.out) c.open_and_play-ended.ensures.sink_faults
-        c.write_end.ensures.count (c.open_and_play-ended.ensures.sink is)
-    cause_of (Err (Work Disk)) is = c.open_and_play-ended.ensures.disk_only is
-    cause_of (Err (Work NotJournal)) is = λ t. record {
-      illegal = c.open_and_play-ended.ensures.not_journal t is;
-      unread = c.open_and_play-ended.ensures.not_journal_unread t is;
-      line = stops_told g.K.Sink.tells (g.K.Sink.faults c.args.out.now)
-          (g.K.Sink.faults c.args.out.now) (g.K.Sink.faults c.write_end.new.out)
-          (g.K.Sink.written c.args.out.now)
-          (g.K.Sink.written c.open_and_play-ended.new.out) (g.K.Sink.written c.write_end.new.out)
-          [] (stop_line (codes "not_journal")) (omega arith)
-          (λ k. c.open_and_play-ended.ensures.not_journal_unsaid t k is
-          ∙ sym (append-nil (g.K.Sink.written c.args.out.now)))
-          (subst (λ (e : Result Bool EarlyEnd). EndsWith g.K.Sink.tells
-          (g.K.Sink.faults c.args.out.now) (g.K.Sink.faults c.write_end.new.out)
-          (g.K.Sink.written c.open_and_play-ended.new.out) (g.K.Sink.written c.write_end.new.out)
-          (last_words e)) is line);
-    }
+        (g.K.Sink.faults c.write_end.new.out) c.open_and_play-ended.ensures.cause.sink_faults
+        c.write_end.ensures.count (c.open_and_play-ended.ensures.cause.sink is)
+    cause_of (Err (Work Disk)) is = c.open_and_play-ended.ensures.cause.disk is
+    cause_of (Err (Work NotJournal)) is = λ t.
+        let unopened = c.open_and_play-ended.ensures.cause.stop NotJournal is t in
+        record {
+          illegal = unopened.illegal;
+          unread = unopened.unread;
+          line = stops_told g.K.Sink.tells (g.K.Sink.faults c.args.out.now)
+              (g.K.Sink.faults c.args.out.now) (g.K.Sink.faults c.write_end.new.out)
+              (g.K.Sink.written c.args.out.now)
+              (g.K.Sink.written c.open_and_play-ended.new.out)
+              (g.K.Sink.written c.write_end.new.out)
+              [] (stop_line (codes "not_journal")) (omega arith)
+              (λ k. unopened.unsaid k ∙ sym (append-nil (g.K.Sink.written c.args.out.now)))
+              (subst (λ (e : Result Bool EarlyEnd). EndsWith g.K.Sink.tells
+              (g.K.Sink.faults c.args.out.now) (g.K.Sink.faults c.write_end.new.out)
+              (g.K.Sink.written c.open_and_play-ended.new.out)
+              (g.K.Sink.written c.write_end.new.out)
+              (last_words e)) is line);
+        }
     cause_of (Err (Work (Full would most))) is = tt
     cause_of (Err (Work Memory)) is = tt

@@ -1,4 +1,4 @@
-use Rattle.std.proofs.Common.{◌≡◌, ◌∙◌, sym, refl, ap, subst, List, [], ◌++◌, ℕ, Option, None, Some, IfSome, inl, append-nil, Err}
+use Rattle.std.proofs.Common.{◌≡◌, ◌∙◌, sym, refl, ap, subst, List, [], ◌++◌, ℕ, Option, None, Some, IfSome, inl, append-nil, Err, arith}
 use Rattle.std.specs.Prelude.{⊤}
 use Rattle.rx_host.specs.Engine.{Finds, IsAt, IsAtIfFound, limit_of}
 use Rattle.rx_host.specs.Keeping.{Keeps}
@@ -6,11 +6,13 @@ use Rattle.rx_host.specs.Moments.{GivesMoments}
 use Rattle.rx_host.specs.Outside.{Outside, told_by}
 use Rattle.rx_host.specs.Serving.{HasKept, HasStopped}
 use Rattle.rx_host.specs.declared.engine.MasterEngine.{MasterEngine}
-use Rattle.rx_outside.specs.declared.stop.Stop.TheVariants.{Full, NotJournal}
+use Rattle.rx_outside.specs.declared.stop.Stop.TheVariants.{Full}
 use Rattle.rx_world.specs.World.{empty}
 use Rattle.rx_top.specs.Serve.{ServesTo}
+use Rattle.rx_top.specs.ServesCollection.{HasServeCause}
 use Rattle.rx_top.proofs.Chunks.{stays_legal}
 use Rattle.rx_top.proofs.Heads.{not_both}
+use Rattle.rx_top.proofs.ServedCauses.{given_up_or, halt_cause, unopened_cause}
 use Rattle.rx_top.proofs.ServedHeads.{ended_of, full_to, joined, kept_too, legal_to, none_kept, serves_to}
 use Rattle.rx_top.proofs.ServeEnds.{Ended}
 use Rattle.rx_top.proofs.serve.open_and_serve.Goals as goal
@@ -146,6 +148,36 @@ returns-after-served-clause-full g c = λ would most full t bodies w start.
     full_to g.D.Disk c.args.disk.now disk1 bodies name c.args.limit grows disk2 m t at found.2 limit
     r would most (sym same ∙ full) c.serve_connections-served.ensures.left
 
+pub returns-after-served-clause-cause : goal.returns-after-served-clause-cause
+returns-after-served-clause-cause g c =
+    let r = c.serve_connections-served.result in
+    let disk0 = c.args.disk.now in
+    let disk2 = c.serve_connections-served.new.disk in
+    let door = c.args.door.now in
+    let door' = c.serve_connections-served.new.door in
+    let clock = c.args.clock.now in
+    let clock' = c.serve_connections-served.new.clock in
+    let out = c.args.out.now in
+    let out' = c.serve_connections-served.new.out in
+    let same : c.match-served.result ≡ ended_of r = elim c.match-served.branch [
+      | in-Ok w ↦ w.result-is ∙ sym (ap ended_of w.in-Ok.is)
+      | in-Err-served w ↦ w.result-is ∙ sym (ap ended_of w.in-Err-served.is)
+    ] in
+    subst (HasServeCause g.K.Sink g.D.Disk g.L.Listen out out' disk0 disk2 door door' clock clock')
+    (sym same)
+    (halt_cause g.K.Sink g.D.Disk g.L.Listen disk0 disk2 door door' clock clock' c.open.new.disk
+    c.open.ensures.cause.later out out' r c.serve_connections-served.ensures.cause
+    (λ is. given_up_or _ _ _ (c.serve_connections-served.ensures.given_up is)))
+
+pub returns-after-served-clause-counts : goal.returns-after-served-clause-counts
+returns-after-served-clause-counts g c =
+    let later = c.serve_connections-served.ensures.counts in
+    record {
+      door = later.door;
+      disk = omega (arith, c.open.ensures.cause.later, later.disk);
+      sink = later.sink;
+    }
+
 -- ---- it holds no such collection, or that is a fork
 
 pub returns-in-Ok-None-clause-serves : goal.returns-in-Ok-None-clause-serves
@@ -217,7 +249,8 @@ returns-in-Err-clause-over_any_disk g c = (
   ),
 )
 
-pub returns-in-Err-clause-not_journal : goal.returns-in-Err-clause-not_journal
-returns-in-Err-clause-not_journal g c = λ t is bodies w legal.
-    let same : c.in-Err.stop ≡ NotJournal = cc in
-    (c.in-Err.ensures.safe t bodies w legal).not_journal (ap Err same)
+pub returns-in-Err-clause-cause : goal.returns-in-Err-clause-cause
+returns-in-Err-clause-cause g c =
+    unopened_cause g.K.Sink g.D.Disk g.L.Listen c.args.disk.now c.open.new.disk c.args.door.now
+    c.args.clock.now c.args.out.now c.in-Err.stop c.in-Err.ensures.cause
+    (λ t is bodies w legal. (c.in-Err.ensures.safe t bodies w legal).not_journal (ap Err is))

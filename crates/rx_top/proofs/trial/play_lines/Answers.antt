@@ -123,7 +123,7 @@ returns-in-Err-line-clause-plays g c =
           (shown_in g.N.W.Wire.tells text kinds c.script.engine n1 n2 plays.heard
           (λ none. absurd none)
           later filled (plays.shown (λ is. other (search rules)))))
-          (λ other. c.in-Err-line.ensures.unharmed (λ is. other (search rules)) later)
+          (λ other. (c.in-Err-line.ensures.meant later).unharmed)
           (plays.safe [])
           (λ t s f le now. g.met.D.Disk.counts_now c.line.new.disk s f t le now),
       tt,
@@ -222,7 +222,7 @@ script-preserved g c =
       among = refused_among c.in-Some.tally
           (meanings 1 (now []).done (standing_of kinds (heard ++ []) c.args.first)) (now []).tally;
       disk_faults = omega (arith, c.script.invariant.disk_faults, c.in-Ok.ensures.cause.later);
-      dial_faults = omega (arith, c.script.invariant.dial_faults, c.line.ensures.dial_count);
+      dial_faults = omega (arith, c.script.invariant.dial_faults, c.line.ensures.dials.count);
     }
 
 pub returns-in-Err-line-clause-not_journal : goal.returns-in-Err-line-clause-not_journal

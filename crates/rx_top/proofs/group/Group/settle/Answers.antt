@@ -1,5 +1,7 @@
-use Rattle.std.proofs.Common.{◌∙◌, List, ℕ, ◌++◌, ap, subst}
+use Rattle.std.proofs.Common.{◌∙◌, List, ℕ, ◌++◌, Err, ap, refl, subst, arith}
 use Rattle.rx_outside.specs.Sink.{WritesFront}
+use Rattle.rx_top.specs.Causes.{by_disk, never_read}
+use Rattle.rx_top.proofs.Causes.{disk_so, ok_cause, stop_cause, sunk_cause}
 use Rattle.rx_top.proofs.Settling.{commit_stopped, group_settled, group_sunk}
 use Rattle.rx_top.proofs.group.Group.settle.Goals as goal
 
@@ -24,3 +26,23 @@ returns-clause-settles g c =
     (λ k. subst (λ (bs : List ℕ). WritesFront (g.K.Sink.written c.args.out.now)
     (g.K.Sink.written c.write_all.new.sink) bs) c.as_bytes.ensures.value
     (c.in-Err-write_all.ensures.err k))
+
+-- ---- why it ended
+
+pub returns-in-Err-clause-cause : goal.returns-in-Err-clause-cause
+returns-in-Err-clause-cause g c =
+    stop_cause g.K.Sink g.D.Disk never_read by_disk c.args.out.now c.args.out.now c.args.disk.now
+    c.commit.new.disk (omega arith) c.in-Err.ensures.cause.later c.in-Err.stop
+    (disk_so c.in-Err.stop (c.in-Err.ensures.only_disk c.in-Err.stop refl))
+    (λ is. c.in-Err.ensures.cause.failed (ap Err is))
+
+pub returns-in-Ok-write_all-clause-cause : goal.returns-in-Ok-write_all-clause-cause
+returns-in-Ok-write_all-clause-cause g c =
+    ok_cause g.K.Sink g.D.Disk never_read by_disk c.args.out.now c.write_all.new.sink
+    c.args.disk.now c.commit.new.disk c.in-Ok-write_all.ensures.count c.in-Ok.ensures.cause.later _
+
+pub returns-clause-cause : goal.returns-clause-cause
+returns-clause-cause g c =
+    sunk_cause g.K.Sink g.D.Disk never_read by_disk c.args.out.now c.write_all.new.sink
+    c.args.disk.now c.commit.new.disk c.in-Err-write_all.ensures.count c.in-Ok.ensures.cause.later
+    c.in-Err-write_all.ensures.failed

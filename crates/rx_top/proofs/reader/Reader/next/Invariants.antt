@@ -1,5 +1,5 @@
 use Rattle.std.proofs.Common.{◌≡◌, ◌++◌, ◌+◌, ◌-◌, ◌≤◌, length}
-use Rattle.rx_top.specs.Reader.{max_input_bytes, Comes, Took}
+use Rattle.rx_top.specs.Reader.{max_input_bytes, max_piece_bytes, Comes, Took}
 use Rattle.rx_top.proofs.reader.Reader.next.Given as goal
 
 -- a front of what was to come went to the line
@@ -12,6 +12,7 @@ invariant-pieces g l = record {
       ≡ l.self.given);
   count : g.S.Source.faults l.fn.source ≤ g.S.Source.faults l.source;
   given : length l.self.unread + l.fn.self.given ≤ length l.fn.self.unread + l.self.given;
+  piece : length l.self.unread ≤ max_piece_bytes;
   within : l.self.given ≤ max_input_bytes;
 }
 
