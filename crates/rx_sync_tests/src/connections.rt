@@ -274,7 +274,7 @@ fn open_again(alloc: Global, disk: &mut MemoryDisk) -> Result<(), Fail> {
 fn answer_of(alloc: Global, call: &Call, disk: &mut MemoryDisk) -> Result<String, Fail> {
     let wires = wires_of(alloc, call.peers.as_slice())?;
     let mut door = MemoryDoor::new(alloc, wires, calls_from(alloc, call.door, call.times)?);
-    let mut out = MemorySink::new(alloc, one_call(alloc, call.sink)?);
+    let mut out = MemorySink::new(alloc, calls_from(alloc, call.sink, 1)?);
     let answer = serve_at(alloc, call, disk, &mut door, &mut out)?;
     compare_written(call, &out)?;
     compare_sent(call, &door)?;
@@ -288,7 +288,7 @@ fn serve_at(
     door: &mut MemoryDoor,
     out: &mut MemorySink,
 ) -> Result<String, Fail> {
-    let mut clock = MemoryClock::new(one_call(alloc, call.clock)?);
+    let mut clock = MemoryClock::new(calls_from(alloc, call.clock, 1)?);
     let size = disk.bytes().len() as u64;
     let limit = size.saturating_add(call.room).min(LIMIT).max(9);
     let Ok(Some(master)) = MasterEngine::open(alloc, disk, limit, "c") else {
@@ -329,15 +329,10 @@ fn wires_of(alloc: Global, peers: &[Peer]) -> Result<Vec<MemoryWire>, AllocError
     let mut wires = Vec::new(alloc);
     for peer in peers {
         let bytes = Vec::from_slice(alloc, peer.input.as_str().as_bytes())?;
-        let fails = one_call(alloc, peer.fails)?;
+        let fails = calls_from(alloc, peer.fails, 1)?;
         wires.push(MemoryWire::new(alloc, bytes, 65_536, fails))?;
     }
     Ok(wires)
-}
-
-// A list of one number, or of none where it is 0.
-fn one_call(alloc: Global, number: u64) -> Result<Vec<u64>, AllocError> {
-    calls_from(alloc, number, 1)
 }
 
 // A list of so many numbers from one on, or of none where that is 0.

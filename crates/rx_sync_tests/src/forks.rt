@@ -15,6 +15,7 @@ ghost use Rattle.rx_record.specs.Shown.{content};
 ghost use Rattle.rx_record.specs.Writable.{IsOrdered};
 ghost use Rattle.rx_fork.specs.Asked.{HasRowsApart};
 
+use crate::compared::compare;
 use rx_collection::{Collection, Plain};
 use rx_document::Place;
 use rx_fork::{AcceptFault, Asked, ExchangePlan, Fork};
@@ -309,13 +310,6 @@ fn compare_request(
         }
     }
     Ok(())
-}
-
-fn compare(line: &str, due: &str, told: &str) -> Result<(), Fail> {
-    if due == told {
-        return Ok(());
-    }
-    Err(Fail::new(format_args!("{line}: told was {told}")))
 }
 
 fn count(fork: &Fork<'_>, collection: &Collection) -> usize

@@ -1,4 +1,5 @@
 // What each kind of handler makes of a conflict, and handlers by their names.
+use crate::compared::compare;
 use crate::forks::{schema, state};
 use rx_handler::{Handler, HandlerFault, HandlerKind, Handlers, resolved};
 use rx_schema::Schema;
@@ -60,10 +61,7 @@ fn resolve(alloc: Global, schema: &Schema, line: &str) -> Result<(), Fail> {
     let new = state(alloc, schema, parts.next().unwrap_or("").trim())?;
     let due = parts.next().unwrap_or("").trim();
     let found = text(alloc, &resolved(alloc, kind, field, &real, &new)?)?;
-    if found.as_str() == due {
-        return Ok(());
-    }
-    Err(Fail::new(format_args!("{line}: found {}", found.as_str())))
+    compare(line, due, found.as_str())
 }
 
 fn kind_of(word: &str) -> HandlerKind {

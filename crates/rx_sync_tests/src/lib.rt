@@ -3,6 +3,8 @@
 #![tactic(auto)]
 
 #[cfg(test)]
+mod compared;
+#[cfg(test)]
 mod connections;
 #[cfg(test)]
 mod forks;

@@ -6,6 +6,7 @@
 //     == another schema                          what the cases are about
 //     > {"ask":"pull",..,"schema":""}            a line
 //     < schema                                   what is told of it
+use crate::compared;
 use rx_schema::Schema;
 use rx_value::RxText;
 use rx_wire::{AskKind, LONGEST_LINE, MOST_STATES, Reply, Request, WireFault};
@@ -260,13 +261,11 @@ enum Kind {
 }
 
 #[test]
-fn a_request_is_read_or_its_first_fault_told(rt: HostRuntime) -> Result<(), Fail> {
-    play_all(rt.alloc(), Kind::Request, REQUESTS)
-}
-
-#[test]
-fn a_reply_is_read_or_its_first_fault_told(rt: HostRuntime) -> Result<(), Fail> {
-    play_all(rt.alloc(), Kind::Reply, REPLIES)
+fn a_message_is_read_or_its_first_fault_told(rt: HostRuntime) -> Result<(), Fail> {
+    for (kind, cases) in [(Kind::Request, REQUESTS), (Kind::Reply, REPLIES)] {
+        play_all(rt.alloc(), kind, cases)?;
+    }
+    Ok(())
 }
 
 // Plays the cases: each line up to the next, with what is told of it.
@@ -300,10 +299,7 @@ fn long(alloc: Global, short: &str) -> Result<String, AllocError> {
 
 fn compare(alloc: Global, schema: &Schema, kind: Kind, line: &str, due: &str) -> Result<(), Fail> {
     let told = told(alloc, schema, kind, line)?;
-    if told.as_str() == due {
-        return Ok(());
-    }
-    Err(Fail::new(format_args!("{line} is told {}, and {due} is due", told.as_str())))
+    compared::compare(line, due, told.as_str())
 }
 
 // What is told of a line.

@@ -1,5 +1,6 @@
 // Bodies of records of migrations and copies, worked out by hand from the format: what each says,
 // or where its first fault stands.
+use crate::compared::compare;
 use rx_migrate::{Step, Steps};
 use rx_record::{At, PartRow, Record, RecordView};
 use rx_value::State;
@@ -59,10 +60,7 @@ fn try_body(alloc: Global, name: &str, bytes: &str, due: &str) -> Result<(), Fai
         Ok(view) => said(alloc, &view.own(alloc)?, body.as_slice())?,
         Err(At(place)) => format!(in alloc; "at {place}")?,
     };
-    if found.as_str() == due {
-        return Ok(());
-    }
-    Err(Fail::new(format_args!("{name}: found {found}")))
+    compare(name, due, found.as_str())
 }
 
 fn said(alloc: Global, record: &Record, body: &[u8]) -> Result<String, AllocError> {

@@ -63,7 +63,7 @@ fn play(alloc: Global, case: &str) -> Result<(), Fail> {
     let due = report_due(alloc, case, bytes.len().saturating_add(1))?;
     // Any byte but 1 is a closed gate, and what stands behind it counts for nothing.
     bytes.extend_from_slice(b"\xffRXJOURN1")?;
-    compare(alloc, bytes.as_slice(), due.as_str())
+    compare(alloc, bytes.as_slice(), &[], due.as_str())
 }
 
 // A journal of the records that a case says, without a closed gate.
@@ -89,40 +89,27 @@ fn report_due(alloc: Global, case: &str, length: usize) -> Result<String, AllocE
     due.as_str().replace(alloc, "END", length.as_str())
 }
 
-#[test]
-fn a_file_that_is_no_journal_is_not_reported_of(rt: HostRuntime) -> Result<(), Fail> {
-    let alloc = rt.alloc();
-    let bytes = Vec::from_slice(alloc, b"hello world")?;
-    let mut disk = MemoryDisk::new(alloc, bytes, Vec::new(alloc));
-    let is_refused = matches!(check(alloc, &mut disk), Err(Stop::NotJournal));
-    if is_refused && disk.bytes() == b"hello world".as_slice() {
-        return Ok(());
-    }
-    Err(Fail::new("a report of no journal, or another file"))
-}
+// Bytes, the calls of the disk that fail, and the report or why there is none: what isn't there is a
+// journal without records.
+const OTHERS: [(&[u8], &[u64], &str); 3] = [
+    (b"hello world", &[], "no journal"),
+    (b"", &[], "{\"end\":9,\"epoch\":0,\"records\":0}\n"),
+    (b"", &[1], "disk"),
+];
 
 #[test]
-fn a_file_that_is_not_there_is_a_journal_without_records(rt: HostRuntime) -> Result<(), Fail> {
-    compare(rt.alloc(), &[], "{\"end\":9,\"epoch\":0,\"records\":0}\n")
-}
-
-#[test]
-fn a_disk_that_fails_gives_no_report(rt: HostRuntime) -> Result<(), Fail> {
-    let alloc = rt.alloc();
-    let fails = Vec::from_slice(alloc, &[1])?;
-    let mut disk = MemoryDisk::new(alloc, Vec::new(alloc), fails);
-    match check(alloc, &mut disk) {
-        Err(Stop::Disk) => Ok(()),
-        _ => Err(Fail::new("a disk that failed unseen")),
+fn what_is_no_journal_or_fails_gives_no_report(rt: HostRuntime) -> Result<(), Fail> {
+    for (bytes, fails, due) in OTHERS {
+        compare(rt.alloc(), bytes, fails, due)?;
     }
+    Ok(())
 }
 
 // The report of these bytes is this one, and they stay as they are.
-fn compare(alloc: Global, bytes: &[u8], due: &str) -> Result<(), Fail> {
-    let mut disk = MemoryDisk::new(alloc, Vec::from_slice(alloc, bytes)?, Vec::new(alloc));
-    let Ok(report) = check(alloc, &mut disk) else {
-        return Err(Fail::new("a stop"));
-    };
+fn compare(alloc: Global, bytes: &[u8], fails: &[u64], due: &str) -> Result<(), Fail> {
+    let fails = Vec::from_slice(alloc, fails)?;
+    let mut disk = MemoryDisk::new(alloc, Vec::from_slice(alloc, bytes)?, fails);
+    let report = reported(alloc, &mut disk)?;
     if report.as_str() != due {
         return Err(Fail::new(format_args!("it reports {report}, and {due} is due")));
     }
@@ -130,4 +117,14 @@ fn compare(alloc: Global, bytes: &[u8], due: &str) -> Result<(), Fail> {
         return Err(Fail::new("the journal is changed"));
     }
     Ok(())
+}
+
+// The report, or why there is none.
+fn reported(alloc: Global, disk: &mut MemoryDisk) -> Result<String, AllocError> {
+    match check(alloc, disk) {
+        Ok(report) => String::from_str(alloc, report.as_str()),
+        Err(Stop::NotJournal) => String::from_str(alloc, "no journal"),
+        Err(Stop::Disk) => String::from_str(alloc, "disk"),
+        Err(_) => String::from_str(alloc, "another stop"),
+    }
 }

@@ -10,6 +10,7 @@
 //     < {"docs":[],..}                   a line that is due
 ghost use Rattle.std.specs.Prelude.{◌<◌};
 
+use crate::compared::compare;
 use rx_disk::MemoryDisk;
 use rx_host::MasterEngine;
 use rx_outside::{MemoryClock, MemoryWire};
@@ -75,13 +76,10 @@ const CASES: &str = r#"
 < {"docs":[{"_deleted":false,"id":"a","n":2}],"epoch":1,"n":3,"place":{"id":"a","lwt":2}}
 "#;
 
+// A wire that gives byte by byte changes nothing.
 #[test]
 fn connections_are_served_as_is_due(rt: HostRuntime) -> Result<(), Fail> {
-    play_all(rt.alloc(), 65_536)
-}
-
-#[test]
-fn a_wire_that_gives_byte_by_byte_changes_nothing(rt: HostRuntime) -> Result<(), Fail> {
+    play_all(rt.alloc(), 65_536)?;
     play_all(rt.alloc(), 1)
 }
 
@@ -245,10 +243,7 @@ fn connect(alloc: Global, disk: &mut MemoryDisk, piece: usize, connection: &str)
 
 fn compare_end(alloc: Global, ended: &Ended, due: &str) -> Result<(), Fail> {
     let shown = shown(alloc, ended)?;
-    if shown.as_str() == due {
-        return Ok(());
-    }
-    Err(Fail::new(format_args!("it ends by {shown}, and {due} is due")))
+    compare("it ends by", due, shown.as_str())
 }
 
 // What the peer of a connection sends, and what it is due to be sent.

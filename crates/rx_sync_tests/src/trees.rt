@@ -2,6 +2,7 @@
 ghost use Rattle.std.specs.Prelude.{◌<◌};
 ghost use Rattle.rx_tree.specs.Table.{most_collections};
 
+use crate::compared::compare;
 use rx_tree::{Tree, TreeFault};
 use std::alloc::{AllocError, Global};
 use std::test::Fail;
@@ -38,13 +39,6 @@ fn a_fork_is_added_unless_it_is_one_or_closes_a_ring(rt: HostRuntime) -> Result<
     }
     assert_eq!(&rt; trees, 14);
     Ok(())
-}
-
-fn compare(line: &str, due: &str, found: &str) -> Result<(), Fail> {
-    if found == due {
-        return Ok(());
-    }
-    Err(Fail::new(format_args!("{line}: found{found}")))
 }
 
 fn grown(alloc: Global, forks: &str) -> Result<Tree, Fail> {

@@ -1,13 +1,5 @@
 // Scripts in pieces of any size, of long lines, deep ones, and bytes that no text of cases holds.
-use crate::case::play_all;
-use std::test::Fail;
-
-#[test]
-fn scripts_are_read_by_their_bytes(rt: HostRuntime) -> Result<(), Fail> {
-    play_all(rt.alloc(), CASES)
-}
-
-const CASES: &str = r#"
+pub const CASES: &str = r#"
 == a script is played alike in pieces of any size
 : ¤1
 . C(c) {"do":"observe","name":"q","in":"c","query":{"selector":{"n":1}}}

@@ -33,13 +33,13 @@ use std::alloc::{AllocError, Global};
 use std::mem;
 use std::test::Fail;
 
-/// Plays each case of a text.
-pub fn play_all(alloc: Global, text: &str) -> Result<(), Fail> {
+/// Plays each case of a text that shows this.
+pub fn play_all(alloc: Global, what: &str, text: &str) -> Result<(), Fail> {
     let cases = long_text(alloc, text)?;
-    play_cases(alloc, cases.as_str())
+    play_cases(alloc, what, cases.as_str())
 }
 
-fn play_cases(alloc: Global, cases: &str) -> Result<(), Fail> {
+fn play_cases(alloc: Global, what: &str, cases: &str) -> Result<(), Fail> {
     let mut played = 0u64;
     for case in cases.split("\n== ") {
         if let Some((name, facts)) = case.split_once('\n') {
@@ -48,7 +48,7 @@ fn play_cases(alloc: Global, cases: &str) -> Result<(), Fail> {
         }
     }
     if played == 0 {
-        return Err(Fail::new("a text without cases"));
+        return Err(Fail::new(format_args!("{what}: a text without cases")));
     }
     Ok(())
 }

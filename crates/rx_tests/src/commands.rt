@@ -1,13 +1,5 @@
 // The command `serve`: what its peers are sent, what it writes, and the journal that it leaves.
-use crate::case::play_all;
-use std::test::Fail;
-
-#[test]
-fn a_collection_is_served(rt: HostRuntime) -> Result<(), Fail> {
-    play_all(rt.alloc(), CASES)
-}
-
-const CASES: &str = r#"
+pub const CASES: &str = r#"
 == an empty collection, and a line in another spelling
 . C(c)
 $ serve journal c 4001 1

@@ -1,14 +1,6 @@
 // Journals that begin with a copy: the second version of the format. What a compaction makes, what
 // a run takes and goes on from, and what it refuses and leaves alone.
-use crate::case::play_all;
-use std::test::Fail;
-
-#[test]
-fn journals_that_begin_with_a_copy(rt: HostRuntime) -> Result<(), Fail> {
-    play_all(rt.alloc(), CASES)
-}
-
-const CASES: &str = r#"// A journal is compacted.
+pub const CASES: &str = r#"// A journal is compacted.
 == a journal without records
 $ compact journal copy
 < {"bytes":23,"from":9,"records":1}

@@ -1,14 +1,9 @@
 // Counts: by hand, and of random queries over random documents, which are the same by each index.
-use crate::case::{compare_lines, play_all};
+use crate::case::compare_lines;
 use crate::random::Random;
 use crate::run::{Ran, run_made};
 use std::alloc::{AllocError, Global};
 use std::test::Fail;
-
-#[test]
-fn counts_by_hand_are_the_same_by_each_index(rt: HostRuntime) -> Result<(), Fail> {
-    play_all(rt.alloc(), CASES)
-}
 
 // The indexes of each schema.
 const INDEXES: &str =
@@ -238,7 +233,7 @@ const COLLECTION: &str =
     r#"{"do":"collection","name":"c","schema":{"version":0,"primaryKey":"id","type":"object","properties":{"id":{"type":"string","maxLength":20},"b":{"type":"boolean"},"n":{"type":"integer","minimum":-1000,"maximum":1000,"multipleOf":1},"s":{"type":"string","maxLength":5}},"indexes":INDEXES}}"#;
 
 // Each field is missing somewhere, the text is empty once, and one document is taken out.
-const CASES: &str = r#"
+pub const CASES: &str = r#"
 == counts by hand are the same by each index
 . {"do":"collection","name":"c","schema":{"version":0,"primaryKey":"id","type":"object","properties":{"id":{"type":"string","maxLength":20},"b":{"type":"boolean"},"n":{"type":"integer","minimum":-1000,"maximum":1000,"multipleOf":1},"s":{"type":"string","maxLength":5}},"indexes":¤1}}
 > {"do":"bulk","in":"c","docs":[{"b":true,"id":"a","n":1,"s":"x"},{"b":true,"id":"b","n":1},{"b":false,"id":"d","n":2,"s":""},{"b":true,"id":"e","s":"x"},{"id":"f","n":1,"s":"y"},{"b":false,"id":"g","n":2,"s":"x"},{"b":true,"id":"h","n":-3,"s":"y"}]}

@@ -1,13 +1,5 @@
 // Turns whose master is elsewhere: what goes over their wires, and why an exchange is lost.
-use crate::case::play_all;
-use std::test::Fail;
-
-#[test]
-fn turns_go_over_wires(rt: HostRuntime) -> Result<(), Fail> {
-    play_all(rt.alloc(), CASES)
-}
-
-const CASES: &str = r#"// An exchange is lost by what was heard.
+pub const CASES: &str = r#"// An exchange is lost by what was heard.
 == a master that has nothing
 . C(f) {"do":"replicate","name":"r","fork":"f","port":4001,"handler":"master_wins"}
 > {"do":"turn","name":"r"}

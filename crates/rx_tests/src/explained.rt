@@ -1,13 +1,5 @@
 // Observed queries that are forgotten, explained and opened again.
-use crate::case::play_all;
-use std::test::Fail;
-
-#[test]
-fn observed_queries_are_explained_forgotten_and_opened_again(rt: HostRuntime) -> Result<(), Fail> {
-    play_all(rt.alloc(), CASES)
-}
-
-const CASES: &str = r#"
+pub const CASES: &str = r#"
 == no query has that name
 > {"do":"unobserve","name":"q"}
 < {"code":17,"line":L,"refused":"no_query"}

@@ -1,13 +1,5 @@
 // Hooks that stand before the writes of a collection.
-use crate::case::play_all;
-use std::test::Fail;
-
-#[test]
-fn hooks_stand_before_writes(rt: HostRuntime) -> Result<(), Fail> {
-    play_all(rt.alloc(), CASES)
-}
-
-const CASES: &str = r#"
+pub const CASES: &str = r#"
 == a number from the beginning, and a counter of edits
 . C(c) {"do":"hook","in":"c","when":"insert","hook":"zero","field":"n"}
 . {"do":"insert","in":"c","doc":{"id":"a"}}

@@ -9,9 +9,10 @@ use std::test::Fail;
 
 #[test]
 fn a_turn_goes_on_after_any_reply(rt: HostRuntime) -> Result<(), Fail> {
-    play_all(rt.alloc(), FIRST)?;
-    play_all(rt.alloc(), PULLED)?;
-    play_all(rt.alloc(), PUSHED)
+    for text in [FIRST, PULLED, PUSHED] {
+        play_all(rt.alloc(), "any reply", text)?;
+    }
+    Ok(())
 }
 
 #[test]
@@ -32,7 +33,7 @@ fn play_random(alloc: Global, template: &str) -> Result<(), Fail> {
     for _ in 0..16 {
         add_random_row(&mut random, &mut text)?;
     }
-    play_all(alloc, text.as_str())
+    play_all(alloc, "bytes at random", text.as_str())
 }
 
 // Any bytes but those that end a line.

@@ -1,14 +1,6 @@
 // Indexes: results are the same by each of them, and a run looks at no more than stands between
 // its plan's bounds.
-use crate::case::play_all;
-use std::test::Fail;
-
-#[test]
-fn results_are_the_same_by_each_index(rt: HostRuntime) -> Result<(), Fail> {
-    play_all(rt.alloc(), CASES)
-}
-
-const CASES: &str = r#"
+pub const CASES: &str = r#"
 == results are the same by each index
 . {"do":"collection","name":"c","schema":{"version":0,"primaryKey":"id","type":"object","properties":{"id":{"type":"string","maxLength":20},"b":{"type":"boolean"},"n":{"type":"integer","minimum":-200,"maximum":200,"multipleOf":1},"s":{"type":"string","maxLength":5}},"indexes":¤1}}
 . {"do":"observe","name":"q","in":"c","query":{"selector":{"b":true},"sort":[{"n":"asc"}],"limit":2}}

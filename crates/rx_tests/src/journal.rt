@@ -1,13 +1,5 @@
 // The bytes of journals: what a run writes, what it takes, and what it refuses and leaves alone.
-use crate::case::play_all;
-use std::test::Fail;
-
-#[test]
-fn journals_have_these_bytes_and_are_taken_or_left_alone(rt: HostRuntime) -> Result<(), Fail> {
-    play_all(rt.alloc(), CASES)
-}
-
-const CASES: &str = r#"// What records are.
+pub const CASES: &str = r#"// What records are.
 == an empty run makes a journal with its epoch
 = 52584a4f55524e31 01 00000009 05 0000000000000001 00
 

@@ -88,6 +88,8 @@ mod streamed;
 #[cfg(test)]
 mod swept;
 #[cfg(test)]
+mod texts;
+#[cfg(test)]
 mod turned;
 #[cfg(test)]
 mod updates;

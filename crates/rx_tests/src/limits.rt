@@ -1,13 +1,5 @@
 // How many collections and observed queries there may be.
-use crate::case::play_all;
-use std::test::Fail;
-
-#[test]
-fn there_are_64_collections_and_256_queries_at_most(rt: HostRuntime) -> Result<(), Fail> {
-    play_all(rt.alloc(), CASES)
-}
-
-const CASES: &str = r#"
+pub const CASES: &str = r#"
 == as many as may be
 ‹0..64|
 |. C(c#)›

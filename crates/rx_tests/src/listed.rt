@@ -1,14 +1,6 @@
 // The changes of a collection, a page at a time, and its digest. Each digest was taken by another
 // program, of a text written by hand.
-use crate::case::play_all;
-use std::test::Fail;
-
-#[test]
-fn changes_and_digests_tell_of_all_states(rt: HostRuntime) -> Result<(), Fail> {
-    play_all(rt.alloc(), CASES)
-}
-
-const CASES: &str = r#"
+pub const CASES: &str = r#"
 == changes come a page at a time
 . C(c)
 > {"do":"bulk","in":"c","docs":[{"id":"a"},{"id":"b"},{"id":"d"},{"id":"e"},{"id":"g"}]}

@@ -1,13 +1,5 @@
 // Many documents: put in by bulk lines, and read back in the same run and in the next.
-use crate::case::play_all;
-use std::test::Fail;
-
-#[test]
-fn two_hundred_thousand_documents_are_stored_and_read_back(rt: HostRuntime) -> Result<(), Fail> {
-    play_all(rt.alloc(), CASES)
-}
-
-const CASES: &str = r#"
+pub const CASES: &str = r#"
 == two hundred thousand documents
 : 65536
 . C(c)

@@ -1,13 +1,5 @@
 // The line that takes a collection, and all that follows it here, to the next version of a schema.
-use crate::case::play_all;
-use std::test::Fail;
-
-#[test]
-fn a_group_goes_to_the_next_version_or_is_refused(rt: HostRuntime) -> Result<(), Fail> {
-    play_all(rt.alloc(), CASES)
-}
-
-const CASES: &str = r#"// A group goes to the next version.
+pub const CASES: &str = r#"// A group goes to the next version.
 == a number gets another name and grows tenfold, and a flag is set
 FORKED
 . I(m,a,1)

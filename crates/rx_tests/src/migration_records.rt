@@ -3,15 +3,7 @@
 //
 // A row has a name, the length of the record, and the steps with their count or the collection with
 // its schema; and where it is taken, the n of the document after it.
-use crate::case::play_all;
-use std::test::Fail;
-
-#[test]
-fn records_on_the_disk_are_taken_or_left_alone(rt: HostRuntime) -> Result<(), Fail> {
-    play_all(rt.alloc(), CASES)
-}
-
-const CASES: &str = r#"
+pub const CASES: &str = r#"
 == steps that are taken
 ^ BASE 01 0000003e 02 00000001 'c' 0000000000000001 00000001 0000000000000001 00000001 'a' 00 00000002 00000002 'id' 02 00000001 'a' 00000001 'n' 01 0000000000000001
 ^ 01 ¤2 06 00000001 'c' 0000009a '{"indexes":[],"primaryKey":"id","properties":{"id":{"maxLength":20,"type":"string"},"n":{"type":"integer"}},"required":["id"],"type":"object","version":1}' ¤3 00

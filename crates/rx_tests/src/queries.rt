@@ -1,13 +1,5 @@
 // Queries: their orders and windows, and the first fault of a wrong one.
-use crate::case::play_all;
-use std::test::Fail;
-
-#[test]
-fn queries_order_documents_and_cut_them_or_are_refused(rt: HostRuntime) -> Result<(), Fail> {
-    play_all(rt.alloc(), CASES)
-}
-
-const CASES: &str = r#"
+pub const CASES: &str = r#"
 == rows stand in the order of the sort, and then by the key
 . {"do":"collection","name":"c","schema":{"version":0,"primaryKey":"id","type":"object","properties":{"id":{"type":"string","maxLength":20},"b":{"type":"boolean"},"n":{"type":"integer"},"s":{"type":"string"}}}}
 > {"do":"bulk","in":"c","docs":[{"b":true,"id":"a","n":1,"s":"x"},{"b":true,"id":"b","n":1,"s":"y"},{"b":false,"id":"d","n":2,"s":"x"},{"b":true,"id":"e","s":"x"},{"id":"f","n":1},{"b":false,"id":"g","n":2,"s":"x"},{"b":true,"id":"h","n":-3,"s":"y"}]}

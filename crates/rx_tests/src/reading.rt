@@ -1,13 +1,5 @@
 // Lines that are refused whatever is stored, and which of two faults is told.
-use crate::case::play_all;
-use std::test::Fail;
-
-#[test]
-fn a_line_is_read_or_its_first_fault_told(rt: HostRuntime) -> Result<(), Fail> {
-    play_all(rt.alloc(), CASES)
-}
-
-const CASES: &str = r#"
+pub const CASES: &str = r#"
 == what is no JSON
 > {
 < {"code":2,"line":L,"refused":"not_json"}

@@ -1,14 +1,6 @@
 // Replications and their turns: what their lines are refused for, and which of two faults is told;
 // and what goes over the link.
-use crate::case::play_all;
-use std::test::Fail;
-
-#[test]
-fn a_turn_brings_a_fork_and_its_master_together_or_is_refused(rt: HostRuntime) -> Result<(), Fail> {
-    play_all(rt.alloc(), CASES)
-}
-
-const CASES: &str = r#"// A replication or a turn is refused by its members.
+pub const CASES: &str = r#"// A replication or a turn is refused by its members.
 == a replication without a member
 > {"do":"replicate"}
 < {"code":5,"line":L,"name":"name","refused":"missing"}

@@ -1,13 +1,7 @@
 // The commands that write one text: the report on a journal, and the trial.
-use crate::case::play_all;
 use crate::run::{Ran, Setting, run};
 use std::alloc::{AllocError, Global};
 use std::test::Fail;
-
-#[test]
-fn journals_are_reported_and_generated_scripts_played(rt: HostRuntime) -> Result<(), Fail> {
-    play_all(rt.alloc(), CASES)
-}
 
 #[test]
 fn a_large_trial_comes_to_the_same_twice(rt: HostRuntime) -> Result<(), Fail> {
@@ -27,7 +21,7 @@ fn compare_second(alloc: Global, first: &Ran) -> Result<(), Fail> {
     Err(Fail::new(format_args!("status {}: {line}", first.status)))
 }
 
-const CASES: &str = r#"// A journal is reported.
+pub const CASES: &str = r#"// A journal is reported.
 == a file that isn't there
 $ check journal
 < {"end":9,"epoch":0,"records":0}

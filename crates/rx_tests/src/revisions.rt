@@ -1,13 +1,5 @@
 // What writes store: revisions, write times, and fields.
-use crate::case::play_all;
-use std::test::Fail;
-
-#[test]
-fn writes_store_documents_with_revisions_and_times(rt: HostRuntime) -> Result<(), Fail> {
-    play_all(rt.alloc(), CASES)
-}
-
-const CASES: &str = r#"
+pub const CASES: &str = r#"
 == heights go on over a tombstone
 . C(c) I(c,a,1)
 > {"do":"remove","in":"c","key":"a"}

@@ -1,13 +1,5 @@
 // Schemas: the fault of each wrong one and which of two comes first, and which fields are valid.
-use crate::case::play_all;
-use std::test::Fail;
-
-#[test]
-fn schemas_and_fields_are_valid_or_their_first_fault_told(rt: HostRuntime) -> Result<(), Fail> {
-    play_all(rt.alloc(), CASES)
-}
-
-const CASES: &str = r#"// Schemas are read.
+pub const CASES: &str = r#"// Schemas are read.
 == a schema is an object with its members
 > {"do":"collection","name":"c","schema":[]}
 < {"cause":"not_object","code":11,"line":L,"refused":"schema"}

@@ -1,13 +1,5 @@
 // Selectors: what each operator holds of, and the first fault of a wrong one.
-use crate::case::play_all;
-use std::test::Fail;
-
-#[test]
-fn operators_hold_or_are_refused(rt: HostRuntime) -> Result<(), Fail> {
-    play_all(rt.alloc(), CASES)
-}
-
-const CASES: &str = r#"
+pub const CASES: &str = r#"
 == a missing field is not equal, and no field is greater than a value of another kind
 . C(c) {"do":"insert","in":"c","doc":{"id":"a"}} I(c,b,1)
 > {"do":"find","in":"c","query":{"selector":{"n":{"$ne":1}}}}

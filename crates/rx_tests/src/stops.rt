@@ -342,15 +342,14 @@ fn try_case(alloc: Global, case: &str, piece: usize) -> Result<(), Fail> {
     lines.try_steps(alloc, next)
 }
 
+// Each record stands or none of it; and of lines that are read together all records or none, and
+// none is answered before.
 #[test]
-fn an_append_stands_whole_or_not_at_all(rt: HostRuntime) -> Result<(), Fail> {
-    try_steps(rt.alloc(), APPENDS, 1)
-}
-
-// All their records stand or none, and none is answered before.
-#[test]
-fn lines_read_together_stand_whole_or_not_at_all(rt: HostRuntime) -> Result<(), Fail> {
-    try_steps(rt.alloc(), GROUPS, Setting::PLAIN.piece)
+fn what_is_written_together_stands_whole_or_not_at_all(rt: HostRuntime) -> Result<(), Fail> {
+    for (text, piece) in [(APPENDS, 1), (GROUPS, Setting::PLAIN.piece)] {
+        try_steps(rt.alloc(), text, piece)?;
+    }
+    Ok(())
 }
 
 #[test]

@@ -1,14 +1,6 @@
 // What a fork hears of its master's commits without asking: a stream, and what becomes of each
 // event that is delivered.
-use crate::case::play_all;
-use std::test::Fail;
-
-#[test]
-fn events_are_taken_where_they_follow_what_the_fork_has(rt: HostRuntime) -> Result<(), Fail> {
-    play_all(rt.alloc(), CASES)
-}
-
-const CASES: &str = r#"// Events are taken where they follow what the fork has.
+pub const CASES: &str = r#"// Events are taken where they follow what the fork has.
 == an event that is lost leaves a gap, which a turn closes
 FORKED
 > {"do":"turn","name":"r"}

@@ -1,13 +1,5 @@
 // Sweeps over trees of forks: in which order the turns come, how they end, and what they leave.
-use crate::case::play_all;
-use std::test::Fail;
-
-#[test]
-fn a_sweep_goes_up_and_down_or_is_refused(rt: HostRuntime) -> Result<(), Fail> {
-    play_all(rt.alloc(), CASES)
-}
-
-const CASES: &str = r#"// Up and down.
+pub const CASES: &str = r#"// Up and down.
 == a document of the last fork comes up, and nothing is left for the way down
 . C(m) C(f) C(g) {"do":"replicate","name":"r","fork":"f","master":"m","handler":"master_wins"}
 . {"do":"replicate","name":"s","fork":"g","master":"f","handler":"master_wins"} I(g,a,1)

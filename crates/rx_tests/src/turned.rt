@@ -10,24 +10,20 @@ use std::test::Fail;
 // Of each script.
 const LINES: u64 = 4_000;
 
-#[test]
-fn turns_with_master_wins_lose_no_write(rt: HostRuntime) -> Result<(), Fail> {
-    try_handler(rt.alloc(), 7_919, r#""master_wins""#)
-}
+// A seed and a handler.
+const HANDLERS: [(u64, &str); 4] = [
+    (7_919, r#""master_wins""#),
+    (7_927, r#""fork_wins""#),
+    (7_933, r#""greater","field":"n""#),
+    (7_937, r#""join""#),
+];
 
 #[test]
-fn turns_with_fork_wins_lose_no_write(rt: HostRuntime) -> Result<(), Fail> {
-    try_handler(rt.alloc(), 7_927, r#""fork_wins""#)
-}
-
-#[test]
-fn turns_with_greater_lose_no_write(rt: HostRuntime) -> Result<(), Fail> {
-    try_handler(rt.alloc(), 7_933, r#""greater","field":"n""#)
-}
-
-#[test]
-fn turns_with_join_lose_no_write(rt: HostRuntime) -> Result<(), Fail> {
-    try_handler(rt.alloc(), 7_937, r#""join""#)
+fn turns_lose_no_write(rt: HostRuntime) -> Result<(), Fail> {
+    for (seed, handler) in HANDLERS {
+        try_handler(rt.alloc(), seed, handler)?;
+    }
+    Ok(())
 }
 
 fn try_handler(alloc: Global, seed: u64, handler: &str) -> Result<(), Fail> {

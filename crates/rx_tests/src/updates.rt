@@ -1,13 +1,5 @@
 // Documents that are changed by operators.
-use crate::case::play_all;
-use std::test::Fail;
-
-#[test]
-fn an_update_changes_a_document_or_is_refused(rt: HostRuntime) -> Result<(), Fail> {
-    play_all(rt.alloc(), CASES)
-}
-
-const CASES: &str = r#"
+pub const CASES: &str = r#"
 == each operator makes of a field what it says
 . {"do":"collection","name":"c","schema":S2} {"do":"insert","in":"c","doc":{"id":"a","n":1,"t":"m"}}
 > {"do":"update","in":"c","key":"a","update":{"$inc":{"n":5},"$max":{"t":"z"}}}

@@ -1,5 +1,4 @@
 // Journals that are read window by window, beside the plain reading of the whole file.
-use crate::case::play_all;
 use rx_disk::MemoryDisk;
 use rx_frame::{CLOSED_GATE, Frames, HEADER, OPEN_GATE};
 use rx_journal::{Journal, OpenFault, Windows};
@@ -227,12 +226,7 @@ fn none_comes_twice(windows: &mut Windows, disk: &mut MemoryDisk) -> Result<bool
     Ok(windows.next(disk)?.is_none() && windows.next(disk)?.is_none())
 }
 
-#[test]
-fn a_long_text_is_there_in_the_next_run(rt: HostRuntime) -> Result<(), Fail> {
-    play_all(rt.alloc(), CASES)
-}
-
-const CASES: &str = r#"
+pub const CASES: &str = r#"
 == a long text is there in the next run
 . {"do":"collection","name":"c","schema":{"version":0,"primaryKey":"id","type":"object","properties":{"id":{"type":"string","maxLength":20},"t":{"type":"string","maxLength":100000}},"required":["id"]}}
 . {"do":"insert","in":"c","doc":{"id":"a","t":"‹0..1000||xxxxxxxxxxxxxxxxxxxxxxxxxxxxxxxxxxxxxxxxxxxxxxxxxxxxxxxxxxxxxxxxxxxxxxxxxxxxxxxxxxxxxxxxxxxxxxxxxxxx›"}}

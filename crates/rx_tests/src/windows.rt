@@ -1,14 +1,6 @@
 // Observed queries: what is emitted after each kind of write, and what windows show as documents
 // come, change and go.
-use crate::case::play_all;
-use std::test::Fail;
-
-#[test]
-fn observed_queries_show_what_changes(rt: HostRuntime) -> Result<(), Fail> {
-    play_all(rt.alloc(), CASES)
-}
-
-const CASES: &str = r#"// A result is emitted where a line changes it.
+pub const CASES: &str = r#"// A result is emitted where a line changes it.
 == observing emits at once, an empty result too
 . C(c) {"do":"observe","name":"q","in":"c","query":{}}
 < {"emit":"q","rows":[]}

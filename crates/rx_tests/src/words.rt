@@ -1,13 +1,5 @@
 // The words of a command. `''` is a word without a byte.
-use crate::case::play_all;
-use std::test::Fail;
-
-#[test]
-fn a_command_is_exactly_its_words(rt: HostRuntime) -> Result<(), Fail> {
-    play_all(rt.alloc(), CASES)
-}
-
-const CASES: &str = r#"
+pub const CASES: &str = r#"
 == no word at all
 $
 < {"stop":"usage"}

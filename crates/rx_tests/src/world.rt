@@ -1,13 +1,5 @@
 // Lines that are refused by what is stored, and which of two faults is told.
-use crate::case::play_all;
-use std::test::Fail;
-
-#[test]
-fn a_line_is_refused_by_what_is_stored(rt: HostRuntime) -> Result<(), Fail> {
-    play_all(rt.alloc(), CASES)
-}
-
-const CASES: &str = r#"
+pub const CASES: &str = r#"
 == a second insert is a conflict
 . C(c) {"do":"observe","name":"q","in":"c","query":{"selector":{"n":1}}}
 < {"emit":"q","rows":[]}
