@@ -779,7 +779,7 @@ def seeds(folder, seed, how, most=600):
     numbers, model, parts = random.Random(seed), turns.Noting(), []
     for _ in range(4):
         model.open()
-        script = turns.script(numbers, how, model, min(len(parts), 1))
+        script = turns.script(numbers, how, model, min(len(parts), 1), most)
         parts.append(lines_of(model, script, most))
     parts.append([*turns.at_the_end_of_time(*numbers.choice(["mf", "fm"])), *turns.all_sides(),
                   {"do": "sweep", "name": "m"}, *turns.all_sides(), *turns.events_at_the_end_of_time()])

@@ -2,12 +2,12 @@
 """Random turns, sweeps and deliveries of forks and their masters over the built program, beside a model of
 docs/SCRIPT.md.
 
-For each of eight seeds a script of 4,000 lines, and for each of 300 more one of 1,000, over a master, its fork and a fork of that: writes on all
-sides with hooks before some, now and then more at once than a stream keeps, the moment, restarts,
-migrations of all, of which some are refused, turns of any batch and budget over a link that loses, repeats
-and delays, sweeps over each side, and streams that are opened and closed, whose events a link loses, repeats
-and puts off; in four runs, one after another on the same journal. The seeds take the handlers in turn. Four
-things are tried of what the program answers:
+For each of eight seeds a script of 4,000 lines, and for each of 300 more one of 1,000, over a master, its
+fork and a fork of that: writes on all sides with hooks before some, now and then more at once than a stream
+keeps, the moment, restarts, migrations of all, of which some are refused, turns of any batch and budget over
+a link that loses, repeats and delays, sweeps over each side, and streams that are opened and closed, whose
+events a link loses, repeats and puts off; in four runs, one after another on the same journal. The seeds
+take the handlers in turn. Four things are tried of what the program answers:
 
 - it is the model's answer, byte for byte: replies, exchanges, events, emissions, and after each turn, each
   sweep, each delivery and each migration all states of all sides in the order of their places;
