@@ -103,6 +103,7 @@ module _ (line : List ℕ) (s : Standing) (good : HasSoundWorld (with_asks s.ses
   module _ (streamed : AreStreamed w s.session.streams) where
     pub well_meant : IsWellMeant line s
     well_meant = record {
+      ready = λ u is. (may_turn u is).ready;
       updates = updates_by comes_to refl;
       unharmed = unharmed;
       bounded = record {

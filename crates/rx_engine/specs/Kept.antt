@@ -1,17 +1,18 @@
 -- What holds of a line in a sound session: of its meaning, and of the world that it leaves.
-use Rattle.std.specs.Prelude.{◌≤◌, ℕ, List}
+use Rattle.std.specs.Prelude.{◌≡◌, ◌≤◌, ℕ, List}
 use Rattle.rx_session.specs.Doing.{MayDo}
 use Rattle.rx_session.specs.Session.{Session, queued_in}
 use Rattle.rx_session.specs.Streams.{AreStreamed}
 use Rattle.rx_sync.specs.Asks.{asks_of}
 use Rattle.rx_sync.specs.Delivery.{MayDeliver}
+use Rattle.rx_sync.specs.Laws.{IsReady}
 use Rattle.rx_sync.specs.Updates.{EachKeepsUpdates, EachSweptKeepsUpdates}
 use Rattle.rx_world.specs.World.{World}
 use Rattle.rx_engine.specs.Engine.{IsBounded, IsUnharmedBy, IsWellSwept, LevelIsEqual, QuietIsLevel, WaitsForPushes}
 use Rattle.rx_engine.specs.Lines.{Task, answered, turns, calls, sweeps, delivers, task}
 use Rattle.rx_engine.specs.Standing.{Standing}
 use Rattle.rx_engine.specs.Sweeping.{sweep_by}
-use Rattle.rx_engine.specs.Turning.{terms}
+use Rattle.rx_engine.specs.Turning.{WantedTurn, terms}
 
 -- ---- its meaning
 
@@ -23,8 +24,16 @@ TurnsKeepUpdates (turns t) s =
 TurnsKeepUpdates (sweeps v) s = EachSweptKeepsUpdates (sweep_by v s) v.steps s.session.world s.asks
 TurnsKeepUpdates other s = Unit {0}
 
+-- the turn that a line makes within the journal may be made
+abbrev pub TurnsAreReady : List ℕ → Standing → Type 0
+TurnsAreReady line s =
+    (t : WantedTurn) → task s.kinds line s.session ≡ turns t
+    → IsReady s.session.world t.name s.kinds
+
 -- what may be asked of the meaning of a line
 pub record IsWellMeant (line : List ℕ) (s : Standing) : Type 0 where
+  -- a turn that it makes may be made: its world is sound, and its handler is there
+  pub ready : TurnsAreReady line s
   -- no exchange of its turns loses an update
   pub updates : TurnsKeepUpdates (task s.kinds line s.session) s
   -- no master elsewhere, whatever it sends, harms a fork, nor loses an update of it
