@@ -7,7 +7,8 @@ use Rattle.rx_top.specs.declared.early_end.ReadFault.TheVariants as fault
 use Rattle.rx_script.specs.Line.{max_line_bytes}
 use Rattle.rx_top.specs.Reader.{Reading, Advances, Comes, TakesKept, StopsBy, Took, kept_front, rest_of}
 use Rattle.rx_top.specs.declared.reader.Next.TheVariants.{Line, Last}
-use Rattle.rx_top.proofs.Ends.{kept_kept, within-append}
+use Rattle.rx_serve.proofs.Feeds.{within-append}
+use Rattle.rx_top.proofs.Ends.{kept_kept}
 
 -- the line's end is there
 pub comes_line : (old new : Reading) (s left : List ℕ) → Comes old.line s (old.unread ++ left)

@@ -53,6 +53,7 @@ kept_turn n line s next holds full =
     let same = same_task_when_cut line s in
     record {
       meant = record {
+        ready = λ t is. had.meant.ready t (same ∙ is);
         updates = subst (λ (t : Task). TurnsKeepUpdates t s) same had.meant.updates;
         unharmed = λ c is. had.meant.unharmed c (same ∙ is);
         bounded = record {

@@ -33,3 +33,4 @@ pub mod TrialEnds
 pub mod CheckEnds
 pub mod CompactEnds
 pub mod TurnLines
+pub mod RunTurns

@@ -1,13 +1,20 @@
 -- Lines that make turns of one replication, one after another, and what else stands between them.
-use Rattle.std.specs.Prelude.{◌≡◌, ◌⊎◌, ℕ, ◌+◌, ◌≤◌, List, [], ◌∷◌, length, false, Option, Some, None, if◌then◌else◌}
+use Rattle.std.specs.Prelude.{◌≡◌, ◌⊎◌, ℕ, ◌+◌, ◌≤◌, List, [], ◌∷◌, ◌++◌, length, false, Option, Some, None, if◌then◌else◌}
+use Rattle.rx_disk.specs.declared.disk.Disk.{Ghosts}
+use Rattle.rx_outside.specs.declared.dial.Dial.{Ghosts as DialGhosts}
+use Rattle.rx_outside.specs.declared.sink.Sink.{Ghosts as SinkGhosts}
+use Rattle.rx_outside.specs.declared.source.Source.{Ghosts as SourceGhosts}
 use Rattle.rx_engine.specs.Lines.{Task, turns, task}
 use Rattle.rx_engine.specs.Standing.{Standing}
 use Rattle.rx_engine.specs.Turning.{WantedTurn, turned}
-use Rattle.rx_sync.specs.Bound.{AreOk, ForLink, enough, is_done}
+use Rattle.rx_sync.specs.Bound.{AreOk, ForLink, enough, is_done, link_in}
 use Rattle.rx_sync.specs.Laws.{IsReady}
 use Rattle.rx_sync.specs.Turn.{Turned}
 use Rattle.rx_top.specs.Lines.{is_blank}
+use Rattle.rx_top.specs.RunEnds.{IsPlayedWhole, Ran, first, input}
 use Rattle.rx_top.specs.Script.{line_effect}
+use Rattle.rx_top.specs.Start.{FromStart}
+use Rattle.rx_top.specs.Story.{state_after}
 
 -- the turn that a task is, where it is one
 abbrev pub turn_made : Task → Standing → Option Turned
@@ -55,3 +62,18 @@ TurnLinesEndInTime =
     (name : List ℕ) (n : ℕ) (lines : List (List ℕ)) (s : Standing)
     → IsReady s.session.world name s.kinds → AreTurnsOf name n lines s
     → ForLink s.session.world name (λ l. exchanges_by n lines s ≤ enough l)
+
+-- So do those of a run that was played whole, wherever in its input they stand: that the first of
+-- them may be made follows from what the run keeps.
+abbrev pub RunTurnsEndInTime
+    : {S K D N W : Type 0} → SourceGhosts S → SinkGhosts K → Ghosts D → DialGhosts N W → Type 0
+    → Type 0
+RunTurnsEndInTime s k d n wires =
+    (r : Ran s k d n wires) → s.tells → FromStart d r.disk (λ bodies w.
+    IsPlayedWhole s k d n wires r bodies w
+    → (before these after : List (List ℕ))
+    → input s k d n wires r bodies w ≡ before ++ (these ++ after) → (name : List ℕ)
+    → let at = state_after line_effect 1 before (first s k d n wires r bodies w) in
+    AreTurnsOf name (1 + length before) these at
+    → (l : _) → link_in at.session.world name ≡ Some l
+    → exchanges_by (1 + length before) these at ≤ enough l)

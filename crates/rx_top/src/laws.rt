@@ -5,7 +5,7 @@ ghost use Rattle.rx_top.specs.RunEnds.{RunsAreComplete, RunsEndSo};
 ghost use Rattle.rx_top.specs.ServeEnds.{ServingEndsSo, ServingHasRoom, ServingIsComplete};
 ghost use Rattle.rx_top.specs.Start.{GoesOn, StartsEmpty};
 ghost use Rattle.rx_top.specs.TrialEnds.{TrialsAreComplete, TrialsEndSo};
-ghost use Rattle.rx_top.specs.TurnLines.{TurnLinesEndInTime};
+ghost use Rattle.rx_top.specs.TurnLines.{RunTurnsEndInTime, TurnLinesEndInTime};
 
 use rx_disk::Disk;
 use rx_outside::{Clock, Dial, Listen, Sink, Source};
@@ -70,6 +70,9 @@ pub fn play_alike<S: Source, K: Sink, D: Disk, E: Disk, N: Dial>()
 /// Turns of one replication that follow each other in a script, and whose links do nothing, make no
 /// more exchanges than are enough before the first of them, up to and with the first that is quiet
 /// or finds no write time. Lines that write nothing may stand between them.
-pub fn turn_lines_end_in_time()
-    ensures { TurnLinesEndInTime }
+pub fn turn_lines_end_in_time<S: Source, K: Sink, D: Disk, N: Dial>()
+    // Where the first of them may be made.
+    ensures lines { TurnLinesEndInTime }
+    // It may, in a run that is played whole.
+    ensures run { RunTurnsEndInTime S.Source K.Sink D.Disk N.Dial N.W.tells }
 {}

@@ -1,4 +1,4 @@
-use Rattle.rx_top.proofs.Ends.{none_within, some_within}
+use Rattle.rx_serve.proofs.Feeds.{none_within, some_within}
 use Rattle.rx_top.proofs.reader.line_end.Goals as goal
 
 pub returns-clause-none : goal.returns-clause-none
