@@ -8,6 +8,7 @@ use Rattle.rx_sync.proofs.Deliveries.{delivery_again, delivery_sound}
 use Rattle.rx_sync.proofs.Staying.{soundly_in_turn}
 use Rattle.rx_world.specs.World.{World}
 use Rattle.rx_world.specs.Touch.{IsNoExchange}
+use Rattle.rx_engine.specs.Kept.{IsInOrder}
 use Rattle.rx_engine.specs.Lines.{Task, answered, turns, calls, sweeps, delivers, task}
 use Rattle.rx_engine.specs.Meaning.{asks_kept, meaning, task_meaning}
 use Rattle.rx_engine.specs.Remembered.{AreRemembered}
@@ -24,7 +25,7 @@ use Rattle.rx_engine.proofs.Keeping as keeping
 use Rattle.rx_engine.proofs.Plays.{written-world}
 use Rattle.rx_engine.proofs.Remembering.{remembered_after, remembered_doing}
 use Rattle.rx_steps.specs.History.{Lasting}
-use Rattle.rx_steps.specs.Scripts.{AreInOrder, IsInOrderFor, IsSoundStanding, LinesKeepSound, MayBePlayedInTurn, SoundScriptsAreHistories}
+use Rattle.rx_steps.specs.Scripts.{AreInOrder, IsSoundStanding, LinesKeepSound, MayBePlayedInTurn, SoundScriptsAreHistories}
 use Rattle.rx_steps.specs.History as history
 use Rattle.rx_steps.proofs.Outcomes.{IsOfLine, TaskWrites, WritesSo, line_writes}
 use Rattle.rx_steps.proofs.Scripts.{scripts_are_histories}
@@ -58,45 +59,45 @@ kept_remembered (restart number) s asks may all = tt
 
 -- ---- a line
 
-module _ (l : Lasting) (line : List ℕ) (s : Standing) (good : IsSoundStanding s) where
+module _ (line : List ℕ) (s : Standing) (good : IsSoundStanding s) where
   abbrev w : World
   w = s.session.world
 
-  by_task : (n : ℕ) (t : Task) → task s.kinds line s.session ≡ t → IsInOrderFor l t s
+  by_task : (n : ℕ) (t : Task) → task s.kinds line s.session ≡ t → IsInOrder t s.session
       → TaskWrites t
       → IsGood (task_meaning n t s).next.session.world (task_meaning n t s).next.asks
   by_task n (answered o) is order so = record {
-    made = keeping.made_then o.doing s.session order.0 good.made;
-    sound = keeping.sound_then o.doing s.session order.0 (no_exchange o.doing so) good.made
+    made = keeping.made_then o.doing s.session order good.made;
+    sound = keeping.sound_then o.doing s.session order (no_exchange o.doing so) good.made
         good.sound;
-    remembered = kept_remembered o.doing s.session s.asks order.0 good.remembered;
+    remembered = kept_remembered o.doing s.session s.asks order good.remembered;
   }
   by_task n (turns u) is order so =
       let can = can_turn s.kinds line s.session u is in
       record {
-        made = made_then u s order.0 good.made good.sound can good.remembered;
-        sound = sound_then u s order.0 good.made good.sound can good.remembered;
-        remembered = remembered_then u s order.0 good.made good.sound can good.remembered;
+        made = made_then u s order good.made good.sound can good.remembered;
+        sound = sound_then u s order good.made good.sound can good.remembered;
+        remembered = remembered_then u s order good.made good.sound can good.remembered;
       }
   by_task n (calls c) is order so =
       let can = can_call s.kinds line s.session c is in
       record {
-        made = made_called c s order.0 good.made good.sound can good.remembered;
-        sound = sound_called c s order.0 good.made good.sound can good.remembered;
-        remembered = remembered_called c s order.0 good.made good.sound can good.remembered;
+        made = made_called c s order good.made good.sound can good.remembered;
+        sound = sound_called c s order good.made good.sound can good.remembered;
+        remembered = remembered_called c s order good.made good.sound can good.remembered;
       }
   by_task n (sweeps v) is order so =
       let can = can_sweep s.kinds line s.session v good.made is in
       let t = swept v s in
       subst (λ (z : World). IsGood z t.asks) (sym (written-world t.records s.session))
-      (sweep_good l (sweep_by v s) order.0 v.steps w s.asks
+      (sweep_good (sweep_by v s) order v.steps w s.asks
       (record { made = good.made; sound = good.sound; remembered = good.remembered })
       (ready_all s.kinds s.session v.steps good.made good.sound can))
   by_task n (delivers d) is order so =
       let es = queued_in d.name s.session in
       let cs : List Content = (delivered_by d s.session).records in
-      let come = delivery_sound d.name s.session.moment 1 d.link es w order.0 in
-      let again = delivery_again d.name s.session.moment 1 d.link es w order.0 in
+      let come = delivery_sound d.name s.session.moment 1 d.link es w order in
+      let again = delivery_again d.name s.session.moment 1 d.link es w order in
       subst (λ (z : World). IsGood z s.asks)
       (sym (written-world cs (with_emptied d.name s.session)))
       (record {
@@ -107,8 +108,8 @@ module _ (l : Lasting) (line : List ℕ) (s : Standing) (good : IsSoundStanding 
 
 pub lines_keep_sound : LinesKeepSound
 unfolding meaning
-lines_keep_sound l n line s good order =
-    let next = by_task l line s good n (task s.kinds line s.session) refl order
+lines_keep_sound n line s good order =
+    let next = by_task line s good n (task s.kinds line s.session) refl order
     (line_writes s.kinds line s.session) in
     record { made = next.made; sound = next.sound; remembered = next.remembered }
 
@@ -119,7 +120,7 @@ played : (l : Lasting) (lines : List (List ℕ)) (n : ℕ) (s : Standing) → Is
 played l [] n s good order = tt
 played l (line ∷ lines) n s good order = (
   sound_lines_may_be_played l line s good order.0,
-  played l lines (n + 1) (meaning n line s).next (lines_keep_sound l n line s good order.0)
+  played l lines (n + 1) (meaning n line s).next (lines_keep_sound n line s good order.0.0)
       order.1,
 )
 

@@ -72,7 +72,7 @@ module _ (t : Terms) (batch budget : ℕ) (w : World) (asks : List (List ℕ × 
 
 -- ---- a sweep
 
-module _ (l : Lasting) (v : Sweep) (some : 1 ≤ v.batch) where
+module _ (v : Sweep) (some : 1 ≤ v.batch) where
   abbrev AreReady : World → List SweepStep → Type 0
   AreReady w xs = AllByRecursion (λ (x : SweepStep). IsReady w x.name v.kinds) xs
 
@@ -84,10 +84,10 @@ module _ (l : Lasting) (v : Sweep) (some : 1 ≤ v.batch) where
     ready_then xs w u come all.1,
   )
 
-  sweep_may : (xs : List SweepStep) (w : World) (asks : List (List ℕ × Asks)) → IsGood w asks
-      → AreReady w xs → EachHasNumbers l v xs w asks → MayBeSwept l v xs w asks
-  sweep_may [] w asks good all few = tt
-  sweep_may (x ∷ xs) w asks good all few =
+  sweep_may : (l : Lasting) (xs : List SweepStep) (w : World) (asks : List (List ℕ × Asks))
+      → IsGood w asks → AreReady w xs → EachHasNumbers l v xs w asks → MayBeSwept l v xs w asks
+  sweep_may l [] w asks good all few = tt
+  sweep_may l (x ∷ xs) w asks good all few =
       let t : Terms = terms x.name v.now v.kinds in
       let a : Asks = asks_of x.name asks in
       let u : Turned = turn_in v x.name w asks in
@@ -95,7 +95,7 @@ module _ (l : Lasting) (v : Sweep) (some : 1 ≤ v.batch) where
       let come = turn_sound t v.batch v.budget [] w a some may in
       let again = turn_again t v.batch v.budget [] w a some may in (
         record { some = some; may = may; few = few.0 },
-        (λ is. sweep_may xs (world_after u.records w) (put_named asks x.name u.asks)
+        (λ is. sweep_may l xs (world_after u.records w) (put_named asks x.name u.asks)
             (good_then t v.batch v.budget w asks some good all.0 u come again)
             (ready_then xs w u come all.1) (few.1 is)),
       )
@@ -168,7 +168,7 @@ module _ (l : Lasting) (line : List ℕ) (s : Standing) (good : IsSoundStanding 
       }
   by_task (sweeps v) is order =
       let can = can_sweep s.kinds line s.session v good.made is in
-      sweep_may l (sweep_by v s) order.0 v.steps s.session.world s.asks
+      sweep_may (sweep_by v s) order.0 l v.steps s.session.world s.asks
       (record { made = good.made; sound = good.sound; remembered = good.remembered })
       (ready_all s.kinds s.session v.steps good.made good.sound can) order.1
   by_task (delivers d) is order = record { may = order.0; none = order.1 }

@@ -208,11 +208,11 @@ AreInOrder l n (line ∷ lines) s =
     IsInOrderFor l (task s.kinds line s.session) s
     × AreInOrder l (n + 1) lines (meaning n line s).next
 
--- a line that is in order leaves a sound world
+-- a line that is in order leaves a sound world, whatever replication is looked at
 abbrev pub LinesKeepSound : Type 0
 LinesKeepSound =
-    (l : Lasting) (n : ℕ) (line : List ℕ) (s : Standing) → IsSoundStanding s
-    → IsInOrderFor l (task s.kinds line s.session) s → IsSoundStanding (meaning n line s).next
+    (n : ℕ) (line : List ℕ) (s : Standing) → IsSoundStanding s
+    → IsInOrder (task s.kinds line s.session) s.session → IsSoundStanding (meaning n line s).next
 
 -- so a script that begins in a sound world, and whose lines are in order, is a history
 abbrev pub SoundScriptsAreHistories : Type 0
