@@ -2,7 +2,6 @@
 #![tactic(auto)]
 
 mod block;
-mod bytes;
 mod chunk;
 mod name;
 mod pairs;

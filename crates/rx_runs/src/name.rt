@@ -1,7 +1,7 @@
 ghost use Rattle.std.specs.Prelude.{◌≡◌, ◌≤◌, length, IfOk};
 ghost use Rattle.rx_value.specs.Order.{text_cmp};
 
-use crate::bytes;
+use rx_value::compare;
 use std::alloc::{AllocError, Global};
 use std::cmp::Ordering;
 use std::marker::Model;
@@ -121,6 +121,6 @@ impl Name {
     pub fn compare(&self, other: &[u8]) -> Ordering
         ensures { result ≡ text_cmp self.now other.now }
     {
-        bytes::compare(self.as_bytes(), other)
+        compare(self.as_bytes(), other)
     }
 }

@@ -11,3 +11,4 @@ pub mod Lists
 pub mod Outcomes
 pub mod Bytes
 pub mod Orderings
+pub mod Settling

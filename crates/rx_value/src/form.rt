@@ -2,6 +2,7 @@ ghost use Rattle.std.specs.Prelude.{◌≡◌, ◌≤◌, ◌≤ℤ◌, option_m
 ghost use Rattle.serde_json.specs.View.{view, members_view};
 ghost use Rattle.rx_value.specs.Form.{texts, missing, is_among, unexpected, members_unexpected, text_at, whole_at, whole_within, integer_within};
 
+use crate::comparing::is_same;
 use serde_json::{Map, Value as Json};
 
 /// The first of the needed names that the object lacks.
@@ -48,7 +49,7 @@ fn is_among(names: &[&str], name: &str) -> bool
     ensures { result ≡ is_among (texts names.now) name.now }
 {
     for known in names {
-        if *known == name {
+        if is_same(*known, name) {
             return true;
         }
     }

@@ -2,6 +2,7 @@
 //! JSON object against a form.
 #![tactic(auto)]
 
+mod comparing;
 mod fault;
 mod fields;
 mod form;
@@ -15,6 +16,7 @@ mod state;
 mod value;
 mod writing;
 
+pub use comparing::{compare, is_same};
 pub use fault::ValueFault;
 pub use fields::Fields;
 pub use form::{first_missing, first_unexpected, integer_within, text_at, whole_at, whole_within};

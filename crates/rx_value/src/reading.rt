@@ -5,6 +5,7 @@ ghost use Rattle.rx_value.specs.Fields.{AreFields};
 ghost use Rattle.rx_value.specs.Reading.{fields_of, fields_beside, members_fields, without, value_of, integer_of};
 ghost use Rattle.rx_value.specs.declared.fault.ValueFault.TheVariants.{Memory};
 
+use crate::comparing::is_same;
 use crate::fault::ValueFault;
 use crate::fields::Fields;
 use crate::rx_text::RxText;
@@ -63,7 +64,7 @@ fn read_members_beside(
 {
     let mut pairs = Vec::with_capacity(alloc, members.len())?;
     for (name, member) in members.iter() {
-        if name.as_str() == beside {
+        if is_same(name.as_str(), beside) {
             continue;
         }
         let value = read_value(alloc, name.as_str(), member)?;

@@ -2,8 +2,11 @@ ghost use Rattle.std.specs.Prelude.{◌≡◌, ◌↔◌, ◌≤◌, length, IsT
 ghost use Rattle.std.specs.Cmp.{partial_equiv_from_equiv};
 ghost use Rattle.std.specs.Str.{bytes_eq};
 ghost use Rattle.std.proofs.lemmas.Cmp.{nat_list_eq_equiv};
+ghost use Rattle.rx_value.specs.Order.{text_cmp};
 
+use crate::comparing;
 use std::alloc::{AllocError, Global};
+use std::cmp::Ordering;
 use std::marker::Model;
 use std::rc::Rc;
 use std::{fmt, str};
@@ -137,6 +140,13 @@ impl RxText {
         };
         Ok(RxText { kept })
     }
+
+    /// How the text stands to another one, byte by byte.
+    pub fn compare(&self, other: &str) -> Ordering
+        ensures { result ≡ text_cmp self.now other.now }
+    {
+        comparing::compare(self.as_str().as_bytes(), other.as_bytes())
+    }
 }
 
 impl fmt::Debug for RxText {
@@ -154,7 +164,7 @@ impl PartialEq for RxText {
         ensures value { result ≡ bytes_eq self.now other.now }
         ensures exact { IsTrue result ↔ (self.now ≡ other.now) }
     {
-        self.as_str() == other.as_str()
+        comparing::is_same(self.as_str(), other.as_str())
     }
 }
 

@@ -5,6 +5,7 @@ ghost use Rattle.rx_value.specs.Equality.{equivalence, value_eq-Decides};
 ghost use Rattle.rx_value.specs.Order.{order_of, value_cmp, OrderIsTotal, TiesAreEqual};
 ghost use Rattle.rx_value.specs.Value.{is_number, is_text, text_of};
 
+use crate::comparing::is_same;
 use crate::rx_text::RxText;
 use std::alloc::{AllocError, Global};
 use std::cmp::Ordering;
@@ -66,7 +67,7 @@ pub fn is_text(value: Option<&Value>, text: &str) -> bool
     ensures { result ≡ is_text text.now (option_map (λ v. v.now) value.entry) }
 {
     match value {
-        Some(Value::Text(held)) => held.as_str() == text,
+        Some(Value::Text(held)) => is_same(held.as_str(), text),
         _ => false,
     }
 }
@@ -101,7 +102,7 @@ fn compare(a: &Value, b: &Value) -> Ordering
     match (a, b) {
         (Value::Flag(x), Value::Flag(y)) => x.cmp(y),
         (Value::Int(x), Value::Int(y)) => x.cmp(y),
-        (Value::Text(x), Value::Text(y)) => x.as_str().cmp(&y.as_str()),
+        (Value::Text(x), Value::Text(y)) => x.compare(y.as_str()),
         (Value::Flag(_), _) => Ordering::Less,
         (_, Value::Flag(_)) => Ordering::Greater,
         (Value::Int(_), _) => Ordering::Less,

@@ -1,6 +1,6 @@
 use Rattle.std.proofs.Common.{◌∙◌}
 use Rattle.core.proofs.cmp.Settled.{four_are}
-use Rattle.rx_runs.proofs.bytes.half.Goals as goal
+use Rattle.rx_value.proofs.comparing.half.Goals as goal
 
 pub returns : goal.returns
 returns c = record {

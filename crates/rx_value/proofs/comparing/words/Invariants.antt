@@ -1,6 +1,6 @@
 use Rattle.std.proofs.Common.{◌+◌, ◌-◌, ◌≤◌}
 use Rattle.std.specs.Slice.Scan.{differ, HoldsNowhere}
-use Rattle.rx_runs.proofs.bytes.compare_words.Given as goal
+use Rattle.rx_value.proofs.comparing.words.Given as goal
 
 -- the bytes so far are the same
 abbrev pub invariant-loop-at : goal.invariant-loop-at

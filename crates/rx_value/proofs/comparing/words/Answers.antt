@@ -1,8 +1,6 @@
-use Rattle.std.proofs.Common.{◌+◌, ◌∙◌, ap₂, sym, arith}
-use Rattle.std.specs.Ordering.{ordering_then}
-use Rattle.core.proofs.cmp.Settled.{fewer, word}
-use Rattle.rx_runs.proofs.Settling.{decided}
-use Rattle.rx_runs.proofs.bytes.compare_words.Goals as goal
+use Rattle.std.proofs.Common.{◌+◌, arith}
+use Rattle.core.proofs.cmp.Settled.{at_once, fewer, word}
+use Rattle.rx_value.proofs.comparing.words.Goals as goal
 
 -- the words at the place differ
 pub returns-then-x-y : goal.returns-then-x-y
@@ -12,7 +10,7 @@ returns-then-x-y c =
     let at = c.loop-at.at in
     let read = word xs ys c.type_inv.a c.type_inv.b at 8 _ _ (omega arith) (omega arith)
     c.word-x.ensures c.word-y.ensures c.loop-at.invariant.same in
-    c.cmp.ensures ∙ sym (read.apart c.if-x-y.true)
+    at_once xs ys (at + 8) _ _ _ read c.if-x-y.true
 
 -- or they are the same
 pub loop-at-preserved : goal.loop-at-preserved
@@ -31,7 +29,5 @@ returns c =
     let ys = c.args.b.now in
     let last = c.args.last in
     let before = fewer xs ys last c.loop-at.at (omega arith) c.loop-at.invariant.same in
-    let read = word xs ys c.type_inv.a c.type_inv.b last 8 _ _ (omega arith) (omega arith)
-    c.word-x_last.ensures c.word-y_last.ensures before in
-    c.then.ensures ∙ ap₂ ordering_then c.cmp-2.ensures c.cmp-3.ensures
-    ∙ decided xs ys (last + 8) _ _ c.requires read
+    word xs ys c.type_inv.a c.type_inv.b last 8 _ _ (omega arith) (omega arith)
+    c.word-x_last.ensures c.word-y_last.ensures before

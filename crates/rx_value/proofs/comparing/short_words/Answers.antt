@@ -1,26 +1,6 @@
 use Rattle.std.proofs.Common.{ℕ, ◌+◌, ◌-◌, ◌*◌, ◌/◌, ◌<◌, get_or, arith}
-use Rattle.core.proofs.cmp.Settled.{word, one, fewer, up_to_lem, joined}
-use Rattle.rx_runs.proofs.bytes.short_words.Goals as goal
-
-pub returns-then-n-ge4 : goal.returns-then-n-ge4
-returns-then-n-ge4 c =
-    let xs = c.args.a.now in
-    let ys = c.args.b.now in
-    let n : ℕ = c.args.n in
-    let x = c.half in
-    let z = c.half-then-n-ge4 in
-    let y = c.half-then-n-ge4-2 in
-    let w = c.half-then-n-ge4-3 in
-    let p = z.ensures.bound in
-    let q = w.ensures.bound in
-    let read = word xs ys c.type_inv.a c.type_inv.b in
-    joined xs ys 4 n x.result y.result z.result w.result _ _
-    (read 0 4 _ _ (omega arith) (omega arith) x.ensures.value y.ensures.value
-    (λ k l m. absurd (omega arith)))
-    (λ h. up_to_lem xs ys (n - 4 + 4) n _ _ (omega arith) (read (n - 4) 4 _ _ (omega arith)
-    (omega arith) z.ensures.value w.ensures.value (fewer xs ys (n - 4) 4 (omega arith) h)))
-    (λ l. omega arith) (λ l. omega arith)
-    (λ e. (λ l. omega arith, λ l. omega arith, λ l. omega arith))
+use Rattle.core.proofs.cmp.Settled.{one, fewer, up_to_lem, joined}
+use Rattle.rx_value.proofs.comparing.short_words.Goals as goal
 
 pub returns : goal.returns
 returns c =
