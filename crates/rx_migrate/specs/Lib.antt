@@ -2,3 +2,4 @@ pub mod Fault
 pub mod Step
 pub mod Reading
 pub mod Migrated
+pub mod Sure

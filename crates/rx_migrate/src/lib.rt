@@ -7,6 +7,7 @@ mod migrating;
 mod reading;
 mod step;
 mod steps;
+mod sure;
 
 pub use fault::StepsFault;
 pub use migrating::migrate_laws;

@@ -1,14 +1,14 @@
-ghost use Rattle.std.specs.Prelude.{◌≡◌, true, IfOk, IsTrue};
+ghost use Rattle.std.specs.Prelude.{◌≡◌, true, Some, is_some, IfOk, IsTrue};
 ghost use Rattle.std.specs.List.{AllByRecursion};
 ghost use Rattle.rx_value.specs.Named.{named, without};
 ghost use Rattle.rx_value.specs.Value.{is_value};
 ghost use Rattle.rx_migrate.specs.Migrated.{renamed, filled, product, scaled, made};
-ghost use Rattle.rx_migrate.specs.Migrated.{all_made, EqualStaysEqual, KeepsTheKey, KeepsTheMark};
+ghost use Rattle.rx_migrate.specs.Migrated.{all_made, migrated, EqualStaysEqual, KeepsTheKey, KeepsTheMark};
 ghost use Rattle.rx_migrate.specs.Migrated.{KeepsOtherFields, MigratesToFields};
 ghost use Rattle.rx_migrate.specs.Step.{is_step};
 
 use crate::step::Step;
-use rx_value::{Fields, RxText, Value, is_number};
+use rx_value::{Fields, RxText, State, Value, is_number};
 use std::alloc::{AllocError, Global};
 
 pub(crate) fn make_all(
@@ -105,6 +105,27 @@ fn product(n: i64, by: u16) -> Option<i64>
     } else {
         None
     }
+}
+
+// A state after steps that make something of its fields, in its own memory.
+pub(crate) fn carry(alloc: Global, steps: &[Step], state: State) -> Result<State, AllocError>
+    requires steps { AllByRecursion (λ s. is_step s ≡ true) steps.now }
+    requires made { is_some (all_made steps.now state.fields) ≡ true }
+    ensures { IfOk result (λ s. migrated steps.now state ≡ Some s) }
+{
+    let State {
+        key,
+        fields,
+        deleted,
+    } = state;
+    let Some(fields) = make_all(alloc, steps, fields)? else {
+        unreachable!()
+    };
+    Ok(State {
+        key,
+        fields,
+        deleted,
+    })
 }
 
 /// States what holds of every migration, and does nothing.

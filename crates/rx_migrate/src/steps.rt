@@ -1,7 +1,8 @@
 use crate::fault::StepsFault;
-use crate::migrating::make_all;
+use crate::migrating::{carry, make_all};
 use crate::reading::read_list;
 use crate::step::Step;
+use crate::sure::are_sure;
 use rx_value::State;
 use serde_json::Value as Json;
 use std::alloc::{AllocError, Global};
@@ -31,6 +32,7 @@ impl Model for Steps {
 impl Steps {
     ghost use Rattle.std.specs.Prelude.{◌≡◌, ◌<◌, ◌++◌, ◌∷◌, [], length, slice_get, Some, IfOk};
     ghost use Rattle.std.specs.Prelude.{OnOk, OnErr, IsTrue};
+    ghost use Rattle.std.specs.Option.{unwrap_or};
     ghost use Rattle.serde_json.specs.View.{view};
     ghost use Rattle.rx_value.specs.Due.{Due};
     ghost use Rattle.rx_migrate.specs.Migrated.{migrated};
@@ -109,5 +111,19 @@ impl Steps {
             fields,
             deleted: state.deleted,
         }))
+    }
+
+    /// The state after the steps, where they make one, and else as it is. Where it's sure that
+    /// they do, it is changed in its own memory.
+    pub fn carried(&self, alloc: Global, state: State) -> Result<State, AllocError>
+        ensures { IfOk result (λ s. s ≡ unwrap_or (migrated self.now state) state) }
+    {
+        if are_sure(self.steps.as_slice(), &state.fields) {
+            return carry(alloc, self.steps.as_slice(), state);
+        }
+        match self.migrated(alloc, &state)? {
+            Some(next) => Ok(next),
+            None => Ok(state),
+        }
     }
 }
