@@ -50,6 +50,13 @@ length_set [] s d = refl
 length_set (r ∷ rows) zero d = refl
 length_set (r ∷ rows) (suc s) d = ap suc (length_set rows s d)
 
+-- a row that was put in the place of one put there
+pub set_twice : (rows : List Stored) (s : ℕ) (d e : Stored)
+    → set (set rows s d) s e ≡ set rows s e
+set_twice [] s d e = refl
+set_twice (r ∷ rows) zero d e = refl
+set_twice (r ∷ rows) (suc s) d e = ap (λ ds. r ∷ ds) (set_twice rows s d e)
+
 module _ (steps : List Step) where
   -- the key stays
   pub key_after : (x : State) → (state_after steps x).key ≡ x.key

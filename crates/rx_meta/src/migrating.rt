@@ -1,9 +1,7 @@
 // What a fork knows goes to the next version of its schema.
 ghost use Rattle.std.specs.Prelude.{◌≡◌, IfOk};
-ghost use Rattle.std.specs.Option.{unwrap_or};
 ghost use Rattle.rx_meta.specs.Migrated.{known_after};
 ghost use Rattle.rx_meta.specs.Side.{AreKnownByKey, side_with};
-ghost use Rattle.rx_migrate.specs.Migrated.{migrated};
 ghost use Rattle.rx_value.specs.Named.{by_bytes};
 
 use crate::meta::Meta;
@@ -14,7 +12,7 @@ use std::collections::BTreeMap;
 
 impl Meta {
     /// The same with each known state after the steps, where they make one. Keys and checkpoints
-    /// stay, and one state at a time is copied.
+    /// stay, and at most one state at a time is copied.
     pub fn migrated(self, steps: &Steps) -> Result<Meta, AllocError>
         ensures { IfOk result
             (λ m. m ≡ side_with (known_after steps.now self.known) self.up self.down) }
@@ -47,17 +45,8 @@ fn migrated_states(
     let mut all = BTreeMap::new(alloc);
     for entry in known {
         let (key, state) = entry;
-        let next = migrated_state(alloc, state, steps)?;
+        let next = steps.carried(alloc, state)?;
         all.insert(key, next)?;
     }
     Ok(all)
-}
-
-fn migrated_state(alloc: Global, state: State, steps: &Steps) -> Result<State, AllocError>
-    ensures { IfOk result (λ s. s ≡ unwrap_or (migrated steps.now state) state) }
-{
-    match steps.migrated(alloc, &state)? {
-        Some(next) => Ok(next),
-        None => Ok(state),
-    }
 }
