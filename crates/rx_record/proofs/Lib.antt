@@ -15,5 +15,6 @@ pub mod PartFormats
 pub mod Skipped
 pub mod Contents
 pub mod AtEnd
+pub mod Reread
 pub mod Written
 pub mod WrittenParts

@@ -39,10 +39,16 @@ lent none bytes of bs rest law h =
     }
 
 -- so fields are lent by their bytes
+pub fields_whole : (bs rest : List ℕ) → AreBytes bs → rest_after (fields_of bs) ≡ Ok rest
+    → IsLent [] fields_of bs rest
+fields_whole bs rest small h =
+    lent [] fields_bytes fields_of bs rest (λ ps. fields_are_read bs ps rest small) h
+
+-- whose count was read first
 pub fields_lent : (bs pairs rest : List ℕ) (n : ℕ) → AreBytes bs → number_of w32 bs ≡ Ok (n, pairs)
     → rest_after (pairs_of n None pairs) ≡ Ok rest → IsLent [] fields_of bs rest
 fields_lent bs pairs rest n small count h =
-    lent [] fields_bytes fields_of bs rest (λ ps. fields_are_read bs ps rest small) (rw count h)
+    fields_whole bs rest small (rw count h)
 
 -- and rows
 pub rows_lent : (bs rest : List ℕ) (n : ℕ) → AreBytes bs → rest_after (rows_from n None bs)

@@ -1,5 +1,5 @@
 -- What lent parts show.
-use Rattle.std.specs.Prelude.{ℕ, List, [], Result, option_map}
+use Rattle.std.specs.Prelude.{ℕ, List, [], None, Result}
 use Rattle.rx_value.specs.Fields.{Pair, Pairs}
 use Rattle.rx_value.specs.declared.state.State.{State}
 use Rattle.rx_value.specs.declared.value.Value.{Value}
@@ -9,7 +9,6 @@ use Rattle.rx_migrate.specs.declared.step.Step.TheVariants.{Rename, Set, Unset, 
 use Rattle.rx_record.specs.Reading.{rest_after, read_or}
 use Rattle.rx_record.specs.Fields.{pairs_of, fields_of}
 use Rattle.rx_record.specs.Rows.{states_from, rows_from}
-use Rattle.rx_record.specs.Places.{place_in}
 use Rattle.rx_record.specs.PartRows.{part_rows_from}
 use Rattle.rx_record.specs.Steps.{steps_of}
 use Rattle.rx_record.specs.declared.record.MasterName.{MasterName}
@@ -47,11 +46,11 @@ fields_in bs = read_or [] (fields_of bs)
 
 -- the pairs that are still to come
 abbrev pub pairs_left : PairViews → Pairs
-pairs_left p = read_or [] (pairs_of p.left (option_map (λ t. t.now) p.last) p.bytes.now)
+pairs_left p = read_or [] (pairs_of p.left None p.bytes.now)
 
 -- the bytes behind them
 abbrev pub end_of : PairViews → Result (List ℕ) ℕ
-end_of p = rest_after (pairs_of p.left (option_map (λ t. t.now) p.last) p.bytes.now)
+end_of p = rest_after (pairs_of p.left None p.bytes.now)
 
 -- the state
 abbrev pub state_in : StateView → State
@@ -59,7 +58,7 @@ state_in s = record { key = s.key.now; fields = fields_in s.fields.now; deleted 
 
 -- the states that are still to come
 abbrev pub states_left : StateViews → List State
-states_left s = read_or [] (states_from s.left (option_map (λ t. t.now) s.last) s.bytes.now)
+states_left s = read_or [] (states_from s.left None s.bytes.now)
 
 -- the row
 abbrev pub row_in : RowView → RowOut
@@ -67,7 +66,7 @@ row_in r = record { height = r.height; state = state_in r.state }
 
 -- the rows that are still to come
 abbrev pub rows_left : RowViews → List RowOut
-rows_left r = read_or [] (rows_from r.left (option_map (λ t. t.now) r.last) r.bytes.now)
+rows_left r = read_or [] (rows_from r.left None r.bytes.now)
 
 -- the row of a part
 abbrev pub part_row_in : PartView → PartRow
@@ -75,7 +74,7 @@ part_row_in r = record { lwt = r.lwt; height = r.height; state = state_in r.stat
 
 -- the rows of a part that are still to come
 abbrev pub part_rows_left : PartViews → List PartRow
-part_rows_left r = read_or [] (part_rows_from r.left (option_map place_in r.last) r.bytes.now)
+part_rows_left r = read_or [] (part_rows_from r.left None r.bytes.now)
 
 -- the step
 abbrev pub step_in : StepView → Step

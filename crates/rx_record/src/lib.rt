@@ -50,6 +50,7 @@
 //! does not say.
 #![tactic(auto)]
 
+mod again;
 mod at;
 mod kinds;
 mod known_part;

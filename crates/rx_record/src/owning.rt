@@ -1,13 +1,14 @@
-ghost use Rattle.std.specs.Prelude.{◌≡◌, Ok, IfOk, IsTrue, option_map};
+ghost use Rattle.std.specs.Prelude.{◌≡◌, None, Ok, IfOk, IsTrue, option_map};
 ghost use Rattle.rx_record.specs.Reading.{is_read};
 ghost use Rattle.rx_record.specs.Fields.{fields_of};
-ghost use Rattle.rx_record.specs.Rows.{state_of, row_of, key_of};
+ghost use Rattle.rx_record.specs.Rows.{state_of, row_of};
 ghost use Rattle.rx_record.specs.Places.{place_in};
 ghost use Rattle.rx_record.specs.Views.{rows_left, states_left};
 
+use crate::again::text_again;
 use crate::pair_views::PairViews;
 use crate::place_view::PlaceView;
-use crate::reading::{read_flag, read_long, read_text_above};
+use crate::reading::{read_flag, read_long};
 use crate::record::RowOut;
 use crate::row_views::RowViews;
 use crate::state_views::StateViews;
@@ -35,16 +36,12 @@ pub(crate) fn own_fields(alloc: Global, bytes: &[u8]) -> Owned<'_, Fields>
     Ok((Fields::from_rising(owned), pairs.bytes))
 }
 
-// The state at the front of bytes, its key lent too, and the bytes behind it.
-fn own_state<'a>(alloc: Global, last: Option<&str>, bytes: &'a [u8]) -> Owned<'a, (State, &'a str)>
-    requires { IsTrue (is_read (state_of (option_map (λ t. t.now) last) bytes.now)) }
-    ensures state { IfOk result (λ p. state_of (option_map (λ t. t.now) last.entry) bytes.now
-        ≡ Ok (p.0.0, p.1.now)) }
-    ensures key { IfOk result (λ p. p.0.0.key ≡ p.0.1.now) }
+// The state at the front of bytes, and the bytes behind it.
+fn own_state(alloc: Global, bytes: &[u8]) -> Owned<'_, State>
+    requires { IsTrue (is_read (state_of None bytes.now)) }
+    ensures { IfOk result (λ p. state_of None bytes.now ≡ Ok (p.0, p.1.now)) }
 {
-    let Ok((key, rest)) = read_text_above(last, bytes) else {
-        unreachable!()
-    };
+    let (key, rest) = text_again(bytes);
     let Ok((deleted, rest)) = read_flag(rest) else {
         unreachable!()
     };
@@ -54,21 +51,19 @@ fn own_state<'a>(alloc: Global, last: Option<&str>, bytes: &'a [u8]) -> Owned<'a
         fields,
         deleted,
     };
-    Ok(((state, key), rest))
+    Ok((state, rest))
 }
 
 // The same of a row.
-fn own_row<'a>(alloc: Global, last: Option<&str>, bytes: &'a [u8]) -> Owned<'a, (RowOut, &'a str)>
-    requires { IsTrue (is_read (row_of (option_map (λ t. t.now) last) bytes.now)) }
-    ensures row { IfOk result (λ p. row_of (option_map (λ t. t.now) last.entry) bytes.now
-        ≡ Ok (p.0.0, p.1.now)) }
-    ensures key { IfOk result (λ p. key_of p.0.0 ≡ p.0.1.now) }
+fn own_row(alloc: Global, bytes: &[u8]) -> Owned<'_, RowOut>
+    requires { IsTrue (is_read (row_of None bytes.now)) }
+    ensures { IfOk result (λ p. row_of None bytes.now ≡ Ok (p.0, p.1.now)) }
 {
     let Ok((height, rest)) = read_long(bytes) else {
         unreachable!()
     };
-    let ((state, key), rest) = own_state(alloc, last, rest)?;
-    Ok(((RowOut { height, state }, key), rest))
+    let (state, rest) = own_state(alloc, rest)?;
+    Ok((RowOut { height, state }, rest))
 }
 
 pub(crate) fn own_rows(alloc: Global, rows: &RowViews<'_>) -> Result<Vec<RowOut>, AllocError>
@@ -76,13 +71,11 @@ pub(crate) fn own_rows(alloc: Global, rows: &RowViews<'_>) -> Result<Vec<RowOut>
 {
     let mut owned = Vec::with_capacity(alloc, rows.left as usize)?;
     let mut left = rows.left;
-    let mut last = rows.last;
     let mut rest = rows.bytes;
     while left > 0 {
-        let ((row, key), behind) = own_row(alloc, last, rest)?;
+        let (row, behind) = own_row(alloc, rest)?;
         owned.push(row)?;
         left -= 1;
-        last = Some(key);
         rest = behind;
     }
     Ok(owned)
@@ -93,13 +86,11 @@ pub(crate) fn own_states(alloc: Global, known: &StateViews<'_>) -> Result<Vec<St
 {
     let mut owned = Vec::with_capacity(alloc, known.left as usize)?;
     let mut left = known.left;
-    let mut last = known.last;
     let mut rest = known.bytes;
     while left > 0 {
-        let ((state, key), behind) = own_state(alloc, last, rest)?;
+        let (state, behind) = own_state(alloc, rest)?;
         owned.push(state)?;
         left -= 1;
-        last = Some(key);
         rest = behind;
     }
     Ok(owned)

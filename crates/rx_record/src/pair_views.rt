@@ -1,18 +1,17 @@
-ghost use Rattle.std.specs.Prelude.{◌≡◌, ◌∷◌, [], Ok, IsTrue, IfSome, IfNone, option_map};
+ghost use Rattle.std.specs.Prelude.{◌≡◌, ◌∷◌, [], None, Ok, IsTrue, IfSome, IfNone};
 ghost use Rattle.rx_record.specs.Reading.{rest_after, is_read};
 ghost use Rattle.rx_record.specs.Fields.{pairs_of, fields_of};
 
+use crate::again::pair_again;
 use crate::pair_view::PairView;
-use crate::pairs::read_pair;
 use crate::reading::read_count;
 
 /// The fields that are still to come, by rising name.
 #[derive(Clone, Copy, Debug)]
 pub struct PairViews<'a> {
     pub(crate) left: u32,
-    pub(crate) last: Option<&'a str>,
     pub(crate) bytes: &'a [u8],
-    ghost read: { IsTrue (is_read (pairs_of left (option_map (λ t. t.now) last) bytes.now)) },
+    ghost read: { IsTrue (is_read (pairs_of left None bytes.now)) },
 }
 
 impl<'a> PairViews<'a> {
@@ -26,11 +25,7 @@ impl<'a> PairViews<'a> {
         let Ok((left, bytes)) = read_count(fields) else {
             unreachable!()
         };
-        PairViews {
-            left,
-            last: None,
-            bytes,
-        }
+        PairViews { left, bytes }
     }
 
     /// The next field; none after the last.
@@ -44,10 +39,9 @@ impl<'a> PairViews<'a> {
         if self.left == 0 {
             return None;
         }
-        let (pair, rest) = read_pair(self.last, self.bytes).ok()?;
+        let (pair, rest) = pair_again(self.bytes);
         *self = PairViews {
             left: self.left - 1,
-            last: Some(pair.name),
             bytes: rest,
         };
         Some(pair)

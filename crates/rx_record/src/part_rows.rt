@@ -30,10 +30,7 @@ fn read_any_part_row(bytes: &[u8]) -> Read<'_, PartView<'_>>
 }
 
 // One whose place is above that of the one before.
-pub(crate) fn read_part_row<'a>(
-    last: &Option<PlaceView<'_>>,
-    bytes: &'a [u8],
-) -> Read<'a, PartView<'a>>
+fn read_part_row<'a>(last: &Option<PlaceView<'_>>, bytes: &'a [u8]) -> Read<'a, PartView<'a>>
     ensures { Reads part_row_in result (part_row_of (option_map place_in last.now) bytes.now) }
 {
     let (row, rest) = read_any_part_row(bytes)?;
@@ -84,7 +81,6 @@ pub(crate) fn read_part_rows(bytes: &[u8]) -> Read<'_, PartViews<'_>>
     let rest = skip_part_rows(count, rows)?;
     let lent = PartViews {
         left: count,
-        last: None,
         bytes: &rows[..rows.len() - rest.len()],
     };
     Ok((lent, rest))

@@ -1,19 +1,16 @@
-ghost use Rattle.std.specs.Prelude.{◌≡◌, ◌∷◌, [], IsTrue, IfSome, IfNone, option_map};
+ghost use Rattle.std.specs.Prelude.{◌≡◌, ◌∷◌, [], None, IsTrue, IfSome, IfNone};
 ghost use Rattle.rx_record.specs.Reading.{is_whole};
 ghost use Rattle.rx_record.specs.PartRows.{part_rows_from};
-ghost use Rattle.rx_record.specs.Places.{place_in};
 
-use crate::part_rows::read_part_row;
+use crate::again::part_row_again;
 use crate::part_view::PartView;
-use crate::place_view::PlaceView;
 
 /// The documents of a part that are still to come, by rising place.
 #[derive(Clone, Copy, Debug)]
 pub struct PartViews<'a> {
     pub(crate) left: u32,
-    pub(crate) last: Option<PlaceView<'a>>,
     pub(crate) bytes: &'a [u8],
-    ghost whole: { IsTrue (is_whole (part_rows_from left (option_map place_in last) bytes.now)) },
+    ghost whole: { IsTrue (is_whole (part_rows_from left None bytes.now)) },
 }
 
 impl<'a> PartViews<'a> {
@@ -28,13 +25,9 @@ impl<'a> PartViews<'a> {
         if self.left == 0 {
             return None;
         }
-        let (row, rest) = read_part_row(&self.last, self.bytes).ok()?;
+        let (row, rest) = part_row_again(self.bytes);
         *self = PartViews {
             left: self.left - 1,
-            last: Some(PlaceView {
-                lwt: row.lwt,
-                id: row.state.key,
-            }),
             bytes: rest,
         };
         Some(row)

@@ -1,17 +1,16 @@
-ghost use Rattle.std.specs.Prelude.{◌≡◌, ◌∷◌, [], IsTrue, IfSome, IfNone, option_map};
+ghost use Rattle.std.specs.Prelude.{◌≡◌, ◌∷◌, [], None, IsTrue, IfSome, IfNone};
 ghost use Rattle.rx_record.specs.Reading.{is_whole};
 ghost use Rattle.rx_record.specs.Rows.{rows_from};
 
+use crate::again::row_again;
 use crate::row_view::RowView;
-use crate::rows::read_row;
 
 /// The rows of a record that are still to come, by rising key.
 #[derive(Clone, Copy, Debug)]
 pub struct RowViews<'a> {
     pub(crate) left: u32,
-    pub(crate) last: Option<&'a str>,
     pub(crate) bytes: &'a [u8],
-    ghost whole: { IsTrue (is_whole (rows_from left (option_map (λ t. t.now) last) bytes.now)) },
+    ghost whole: { IsTrue (is_whole (rows_from left None bytes.now)) },
 }
 
 impl<'a> RowViews<'a> {
@@ -25,10 +24,9 @@ impl<'a> RowViews<'a> {
         if self.left == 0 {
             return None;
         }
-        let (row, rest) = read_row(self.last, self.bytes).ok()?;
+        let (row, rest) = row_again(self.bytes);
         *self = RowViews {
             left: self.left - 1,
-            last: Some(row.state.key),
             bytes: rest,
         };
         Some(row)

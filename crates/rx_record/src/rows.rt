@@ -47,7 +47,6 @@ pub(crate) fn read_states(bytes: &[u8]) -> Read<'_, StateViews<'_>>
     let rest = skip_states(count, states)?;
     let lent = StateViews {
         left: count,
-        last: None,
         bytes: &states[..states.len() - rest.len()],
     };
     Ok((lent, rest))
@@ -84,7 +83,6 @@ pub(crate) fn read_rows(bytes: &[u8]) -> Read<'_, RowViews<'_>>
     let rest = skip_rows(count, rows)?;
     let lent = RowViews {
         left: count,
-        last: None,
         bytes: &rows[..rows.len() - rest.len()],
     };
     Ok((lent, rest))

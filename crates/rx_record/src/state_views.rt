@@ -1,17 +1,16 @@
-ghost use Rattle.std.specs.Prelude.{◌≡◌, ◌∷◌, [], IsTrue, IfSome, IfNone, option_map};
+ghost use Rattle.std.specs.Prelude.{◌≡◌, ◌∷◌, [], None, IsTrue, IfSome, IfNone};
 ghost use Rattle.rx_record.specs.Reading.{is_whole};
 ghost use Rattle.rx_record.specs.Rows.{states_from};
 
-use crate::rows::read_state;
+use crate::again::state_again;
 use crate::state_view::StateView;
 
 /// The known states of a record that are still to come, by rising key.
 #[derive(Clone, Copy, Debug)]
 pub struct StateViews<'a> {
     pub(crate) left: u32,
-    pub(crate) last: Option<&'a str>,
     pub(crate) bytes: &'a [u8],
-    ghost whole: { IsTrue (is_whole (states_from left (option_map (λ t. t.now) last) bytes.now)) },
+    ghost whole: { IsTrue (is_whole (states_from left None bytes.now)) },
 }
 
 impl<'a> StateViews<'a> {
@@ -26,10 +25,9 @@ impl<'a> StateViews<'a> {
         if self.left == 0 {
             return None;
         }
-        let (state, rest) = read_state(self.last, self.bytes).ok()?;
+        let (state, rest) = state_again(self.bytes);
         *self = StateViews {
             left: self.left - 1,
-            last: Some(state.key),
             bytes: rest,
         };
         Some(state)
