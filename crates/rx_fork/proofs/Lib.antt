@@ -3,3 +3,4 @@ pub mod Walk
 pub mod Pushes
 pub mod Validity
 pub mod Accepted
+pub mod Ordered

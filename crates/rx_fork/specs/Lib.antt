@@ -1,4 +1,5 @@
 pub mod BadReply
+pub mod Conflicts
 pub mod Asked
 pub mod Accept
 pub mod Valid

@@ -1,14 +1,14 @@
-ghost use Rattle.std.specs.Prelude.{◌≡◌, [], map, take, IfOk, option_map};
-ghost use Rattle.rx_replication.specs.Known.{pending, NonePendingBelow};
+ghost use Rattle.std.specs.Prelude.{◌≡◌, [], true, false, map, take, IfOk, IfSome, IfNone, option_map};
+ghost use Rattle.rx_replication.specs.Known.{is_pending, pending, NonePendingBelow};
 ghost use Rattle.rx_replication.specs.Request.{push_row, push_or_pull};
 ghost use Rattle.rx_fork.specs.Asked.{asked_of, HasRowsApart};
 
-use crate::fork::{Fork, is_pending};
+use crate::fork::{Fork, is_state};
 use crate::lists::copy_of_place;
 use rx_collection::Collection;
 use rx_document::{Place, Stored};
 use rx_meta::Meta;
-use rx_value::RxList;
+use rx_value::{RxList, State};
 use rx_wire::{AskKind, PushRow, Request};
 use std::alloc::{AllocError, Global};
 
@@ -98,8 +98,8 @@ impl Fork<'_> {
             if left == 0 {
                 break;
             }
-            if is_pending(&self.meta, held) {
-                rows.push(push_row(alloc, &self.meta, held)?)?;
+            if let Some(row) = pending_row(alloc, &self.meta, held)? {
+                rows.push(row)?;
                 left -= 1;
             }
         }
@@ -126,11 +126,28 @@ fn push_or_pull(
     })
 }
 
-// The document as a row of a push: its known state is the assumed one.
-fn push_row(alloc: Global, meta: &Meta, held: &Stored) -> Result<PushRow, AllocError>
-    ensures { IfOk result (λ row. row ≡ push_row meta.now.known held.now) }
+// The document as a row of a push, where it is to be pushed. What is known of it is looked up once.
+fn pending_row(alloc: Global, meta: &Meta, held: &Stored) -> Result<Option<PushRow>, AllocError>
+    ensures some { IfOk result (λ row. IfSome row
+        (λ r. (is_pending meta.now.known held.now ≡ true)
+        × (r ≡ push_row meta.now.known held.now))) }
+    ensures none { IfOk result
+        (λ row. IfNone row (is_pending meta.now.known held.now ≡ false)) }
 {
-    let assumed = match meta.known(held.state.key.as_str()) {
+    let known = meta.known(held.state.key.as_str());
+    if is_state(known, &held.state) {
+        return Ok(None);
+    }
+    Ok(Some(push_row(alloc, known, held)?))
+}
+
+// The document as a row of a push: its known state is the assumed one.
+fn push_row(alloc: Global, known: Option<&State>, held: &Stored) -> Result<PushRow, AllocError>
+    ensures assumed { IfOk result
+        (λ row. row.assumed ≡ option_map (λ s. s.now) known.entry) }
+    ensures new { IfOk result (λ row. row.new ≡ held.now.state) }
+{
+    let assumed = match known {
         Some(known) => Some(known.copy(alloc)?),
         None => None,
     };

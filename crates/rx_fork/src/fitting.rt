@@ -1,5 +1,6 @@
-ghost use Rattle.std.specs.Prelude.{◌≡◌, option_map};
+ghost use Rattle.std.specs.Prelude.{◌≡◌, true, None, option_map};
 ghost use Rattle.rx_fork.specs.BadReply.{has_row, first_foreign, place_fits, is_fit};
+ghost use Rattle.rx_fork.specs.Conflicts.{conflicts_left};
 
 use rx_document::Place;
 use rx_value::{RxText, State};
@@ -9,7 +10,32 @@ use rx_wire::PushRow;
 pub(crate) fn first_foreign(rows: &[PushRow], conflicts: &[State]) -> Option<usize>
     ensures { result ≡ first_foreign rows.now conflicts.now }
 {
+    // A master answers in the order of the rows.
+    if are_in_order(rows, conflicts) {
+        return None;
+    }
     conflicts.iter().position(|s| !has_row(rows, &s.key))
+}
+
+// Whether each conflict has a row, and they come in the order of these.
+fn are_in_order(rows: &[PushRow], conflicts: &[State]) -> bool
+    ensures { result ≡ true → first_foreign rows.now conflicts.now ≡ None }
+{
+    let mut left = conflicts;
+    for row in rows {
+        left = conflicts_left(left, row);
+    }
+    left.is_empty()
+}
+
+// The conflicts that are left for the rows behind this one.
+pub(crate) fn conflicts_left<'a>(conflicts: &'a [State], row: &PushRow) -> &'a [State]
+    ensures { result.now ≡ conflicts_left conflicts.now row.now }
+{
+    match conflicts.split_first() {
+        Some((first, rest)) if first.key == row.new.key => rest,
+        _ => conflicts,
+    }
 }
 
 fn has_row(rows: &[PushRow], key: &RxText) -> bool

@@ -32,14 +32,14 @@ fn count_pending(meta: &Meta, page: Page<'_>) -> usize
     page.filter(|held| is_pending(meta, held)).count()
 }
 
-pub(crate) fn is_pending(meta: &Meta, held: &Stored) -> bool
+fn is_pending(meta: &Meta, held: &Stored) -> bool
     ensures { result ≡ is_pending meta.now.known held.now }
 {
     !is_state(meta.known(held.state.key.as_str()), &held.state)
 }
 
 // Whether there is that state.
-fn is_state(held: Option<&State>, state: &State) -> bool
+pub(crate) fn is_state(held: Option<&State>, state: &State) -> bool
     ensures { result ≡ is_state (option_map (λ s. s.now) held.entry) state.now }
 {
     match held {

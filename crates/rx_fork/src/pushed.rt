@@ -11,7 +11,7 @@ ghost use Rattle.rx_fork.specs.declared.fault.AcceptFault.TheVariants.{Memory};
 
 use crate::accept::ExchangePlan;
 use crate::fault::AcceptFault;
-use crate::fitting::first_foreign;
+use crate::fitting::{conflicts_left, first_foreign};
 use crate::fork::Fork;
 use crate::lists::{copy_of_place, in_order};
 use rx_collection::Collection;
@@ -48,7 +48,8 @@ impl Fork<'_> {
     }
 }
 
-// The handler's answers, one for each row whose real state is another.
+// The handler's answers, one for each row whose real state is another. Conflicts come in the order
+// of their rows, so that the first one left is looked at first.
 fn resolutions(
     alloc: Global,
     handler: &Handler,
@@ -56,15 +57,18 @@ fn resolutions(
     conflicts: &[State],
     rows: &[PushRow],
 ) -> Result<RxList<State>, AllocError>
+    requires { IsDistinct bytes_eq (map (λ row. row.new.key) rows.now) }
     ensures { IfOk result (λ list. list
         ≡ resolutions (resolve handler.now.kind field.now) conflicts.now rows.now) }
 {
     let mut list = RxList::new(alloc);
+    let mut left = conflicts;
     for row in rows {
-        let real = real_state(conflicts, row);
+        let real = real_state(left, row);
         if *real != row.new {
             list.push(handler.resolve(alloc, field, real, &row.new)?)?;
         }
+        left = conflicts_left(left, row);
     }
     Ok(list)
 }
@@ -75,11 +79,14 @@ fn real_states(
     conflicts: &[State],
     rows: &[PushRow],
 ) -> Result<Vec<State>, AllocError>
+    requires { IsDistinct bytes_eq (map (λ row. row.new.key) rows.now) }
     ensures { IfOk result (λ states. states.items ≡ map (real_state conflicts.now) rows.now) }
 {
     let mut states = Vec::with_capacity(alloc, rows.len())?;
+    let mut left = conflicts;
     for row in rows {
-        states.push(real_state(conflicts, row).copy(alloc)?)?;
+        states.push(real_state(left, row).copy(alloc)?)?;
+        left = conflicts_left(left, row);
     }
     Ok(states)
 }

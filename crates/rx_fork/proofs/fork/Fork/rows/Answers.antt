@@ -1,4 +1,6 @@
-use Rattle.std.proofs.Common.{◌∙◌, ◌++◌, ◌∷◌, [], ap, sym, map, take, filter, length, option_map}
+use Rattle.std.proofs.Common.{◌≡◌, true, ◌∙◌, ◌++◌, ◌∷◌, [], ap, subst, map, take, filter, length, Option, option_map}
+use Rattle.std.specs.Prelude.{IfSome}
+use Rattle.rx_wire.specs.declared.message.PushRow.{PushRow}
 use Rattle.rx_collection.specs.Since.{since}
 use Rattle.rx_replication.specs.Known.{is_pending}
 use Rattle.rx_replication.specs.Request.{push_row}
@@ -6,16 +8,22 @@ use Rattle.rx_fork.proofs.Walk.{pending_above, pending_step, pending_ended, pend
 use Rattle.rx_fork.proofs.fork.Fork.rows.Goals as goal
 use Rattle.rx_fork.proofs.fork.Fork.rows.Goals.{in-None, in-Some+then-left-eq0}
 
-pub loop-held-preserved-then-is_pending : goal.loop-held-preserved-then-is_pending
-loop-held-preserved-then-is_pending c = (
-  pending_step c.args.self.now.meta.now.known c.loop-held.left c.in-Some.held.now
-      c.loop-held.held-iterator c.next.new.self c.loop-held.rows c.push.new.self _
-      c.in-Some.ensures.steps (sym c.if-is_pending.ensures) c.if-left-eq0.false
-      (c.in_ok-push.ensures.ok ∙ ap (λ row. c.loop-held.rows ++ row ∷ []) c.in_ok-push_row.ensures)
-      c.loop-held.invariant.0,
-  tt,
-  tt,
-)
+pub loop-held-preserved-in-Some-2 : goal.loop-held-preserved-in-Some-2
+loop-held-preserved-in-Some-2 c =
+    let known = c.args.self.now.meta.now.known in
+    let held = c.in-Some.held.now in
+    let found =
+    subst (λ (o : Option PushRow). IfSome o
+    (λ row. (is_pending known held ≡ true) × (row ≡ push_row known held)))
+    c.in-Some-2.is c.in_ok-row.ensures.some in (
+      pending_step known c.loop-held.left held c.loop-held.held-iterator c.next.new.self
+          c.loop-held.rows c.push.new.self _ c.in-Some.ensures.steps found.0
+          c.if-left-eq0.false
+          (c.in_ok-push.ensures.ok ∙ ap (λ row. c.loop-held.rows ++ row ∷ []) found.1)
+          c.loop-held.invariant.0,
+      tt,
+      tt,
+    )
 
 pub returns : goal.returns
 returns c =
