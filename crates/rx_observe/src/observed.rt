@@ -1,4 +1,5 @@
 ghost use Rattle.std.specs.Prelude.{◌≡◌, ◌≢◌, Some, None, IfSome, IfOk, OnOk, OnErr, is_none, option_map};
+ghost use Rattle.std.specs.Option.{ForSome};
 ghost use Rattle.rx_document.specs.declared.change.Before.TheVariants.{Unknown};
 ghost use Rattle.rx_diagram.specs.Asked.{asked_of};
 ghost use Rattle.rx_table.specs.Counts.{is_full};
@@ -7,9 +8,11 @@ ghost use Rattle.rx_table.specs.declared.action.Action.TheVariants.{RunFullQuery
 ghost use Rattle.rx_query.specs.After.{after, AreThere};
 ghost use Rattle.rx_query.specs.QuerySpec.{asked};
 ghost use Rattle.rx_query.specs.Result.{fresh_rows};
+ghost use Rattle.rx_states.specs.Edges.{AreEdges};
 ghost use Rattle.rx_states.specs.Matches.{TellMatches};
 ghost use Rattle.rx_observe.specs.Front.{IsFront};
 ghost use Rattle.rx_observe.specs.Indexes.{AreIndexesOf};
+ghost use Rattle.rx_observe.specs.Inside.{HaveEdges};
 ghost use Rattle.rx_observe.specs.Applied.{answer_for, changes_rows};
 ghost use Rattle.rx_observe.specs.Rows.{unseen, emitted};
 ghost use Rattle.rx_observe.specs.Observing.{cooled};
@@ -26,7 +29,7 @@ use rx_diagram::{Decided, Diagram};
 use rx_document::Change;
 use rx_index::Index;
 use rx_query::{Query, Results};
-use rx_states::Matches;
+use rx_states::{Edges, Matches};
 use rx_table::{Action, Counts};
 use std::alloc::{AllocError, Global};
 use std::marker::Model;
@@ -47,6 +50,8 @@ pub struct Observed {
     alloc: Global,
     query: Query,
     rows: Option<Results>,
+    /// Those of the rows, unless memory was wanting.
+    edges: Option<Edges>,
     emitted: Option<SharedRows>,
     /// Whether the rows may differ from those emitted last.
     touched: bool,
@@ -61,11 +66,11 @@ impl Model for Observed {
 
     ghost coded = { watched_code };
 
-    ghost use Rattle.rx_observe.specs.Inside.{watched_in, IsTouched};
+    ghost use Rattle.rx_observe.specs.Inside.{watched_in, IsKept};
 
     ghost view = { watched_in };
 
-    ghost invariant = { IsTouched };
+    ghost invariant = { IsKept };
 }
 
 impl Observed {
@@ -76,6 +81,7 @@ impl Observed {
             alloc,
             query,
             rows: None,
+            edges: None,
             emitted: None,
             touched: false,
             counts: Counts::new(),
@@ -107,6 +113,7 @@ impl Observed {
         requires { self.old.rows ≡ None }
         ensures { self.new ≡ record self.old { rows = Some rows } }
     {
+        self.edges = edges_of(self.alloc, &self.query, &rows);
         self.rows = Some(rows);
         self.touched = true;
     }
@@ -124,7 +131,7 @@ impl Observed {
         ensures err { OnErr result (self.new ≡ self.old) }
     {
         let matches = Matches::of(&self.query, change);
-        self.hear(diagram, change, matches, &mut Memo::new())
+        self.hear(diagram, change, matches, &mut Memo::new(change))
     }
 
     /// The same where it is known already what the selector says, and what was told of the change.
@@ -133,8 +140,9 @@ impl Observed {
         diagram: &Diagram,
         change: &Change,
         matches: Matches,
-        memo: &mut Memo,
+        memo: &mut Memo<'_>,
     ) -> Result<Applied, AllocError>
+        requires memo { memo.old.sides ≡ change.now }
         requires matches { TellMatches self.old.query change.now matches }
         requires cold { self.old.rows ≡ None → change.now.before ≡ Unknown }
         requires ready { IfSome self.old.rows (IsReady self.old.query change.now) }
@@ -144,6 +152,7 @@ impl Observed {
         ensures fresh { OnOk result
             (StaysFresh self.old.query change.now self.old.rows self.new.rows) }
         ensures err { OnErr result (self.new ≡ self.old) }
+        ensures memo { memo.new.sides ≡ memo.old.sides }
     {
         let decided = self.decide(diagram, change, matches, memo);
         self.follow(decided.action, decided.asked.count_ones(), change)
@@ -167,7 +176,14 @@ impl Observed {
             return Ok(Applied::NeedsFull);
         }
         self.touched |= changes_rows(action);
-        patch(self.alloc, action, &self.query, change, &mut self.rows)?;
+        patch(
+            self.alloc,
+            action,
+            &self.query,
+            change,
+            &mut self.rows,
+            &mut self.edges,
+        )?;
         self.counts.count(action, asked);
         Ok(Applied::Patched)
     }
@@ -177,19 +193,24 @@ impl Observed {
         diagram: &Diagram,
         change: &Change,
         matches: Matches,
-        memo: &mut Memo,
+        memo: &mut Memo<'_>,
     ) -> Decided
+        requires memo { memo.old.sides ≡ change.now }
         requires matches { TellMatches self.now.query change.now matches }
         requires cold { self.now.rows ≡ None → change.now.before ≡ Unknown }
         requires ready { IfSome self.now.rows (IsReady self.now.query change.now) }
         ensures action { result.action ≡ action_at self.now.query change.now self.now.rows }
         ensures asked { result.asked ≡ asked_of (bits_at self.now.query change.now self.now.rows) }
+        ensures memo { memo.new.sides ≡ memo.old.sides }
     {
         match &self.rows {
-            Some(rows) => decide(diagram, &self.query, change, rows, matches, memo),
+            Some(rows) => {
+                let edges = self.edges.as_ref();
+                decide(diagram, &self.query, change, rows, edges, matches, memo)
+            }
             None => {
                 let none = Results::new(self.alloc);
-                decide(diagram, &self.query, change, &none, matches, memo)
+                decide(diagram, &self.query, change, &none, None, matches, memo)
             }
         }
     }
@@ -269,22 +290,42 @@ fn changes_rows(action: Action) -> bool
     !matches!(action, Action::DoNothing)
 }
 
-// Does to the rows, if there are any, what another action says than to run in full.
+// The edges of rows, unless memory is wanting.
+fn edges_of(alloc: Global, query: &Query, rows: &Results) -> Option<Edges>
+    ensures { ForSome result (AreEdges (asked query.now).sorts rows.now) }
+{
+    match Edges::of(alloc, query, rows) {
+        Ok(edges) => Some(edges),
+        Err(_) => None,
+    }
+}
+
+// Does to the rows, if there are any, what another action says than to run in full, and keeps their
+// edges.
 fn patch(
     alloc: Global,
     action: Action,
     query: &Query,
     change: &Change,
     rows: &mut Option<Results>,
+    edges: &mut Option<Edges>,
 ) -> Result<(), AllocError>
     requires known { action ≢ RunFullQueryAgain }
     requires there { IfSome rows.old (AreThere action change.now) }
+    requires edges { HaveEdges (asked query.now).sorts rows.old edges.old }
     ensures ok { OnOk result
         (rows.new ≡ option_map (after action (asked query.now) change.now) rows.old) }
     ensures err { OnErr result (rows.new ≡ rows.old) }
+    ensures edges { HaveEdges (asked query.now).sorts rows.new edges.new }
 {
-    match rows {
-        Some(rows) => act(alloc, action, query, change, rows),
-        None => Ok(()),
+    if !changes_rows(action) {
+        return Ok(());
     }
+    *edges = None;
+    let Some(rows) = rows else {
+        return Ok(());
+    };
+    act(alloc, action, query, change, rows)?;
+    *edges = edges_of(alloc, query, rows);
+    Ok(())
 }

@@ -130,7 +130,7 @@ fn step_all(
         ≡ each (stepped collection.now.documents change.now) queries.old.items) }
     ensures fronts { OnOk result (AreFronts collection.now queries.new.items fronts.new.items) }
 {
-    let mut memo = Memo::new();
+    let mut memo = Memo::new(change);
     for i in 0..queries.len() {
         let query = &mut queries[i];
         let front = &mut fronts[i];
@@ -157,17 +157,19 @@ fn step(
     collection: &Collection,
     indexes: &[Index],
     change: &Change,
-    memo: &mut Memo,
+    memo: &mut Memo<'_>,
 ) -> Result<(), AllocError>
+    requires memo { memo.old.sides ≡ change.now }
     requires follows { Follows change.now observed.old front.old collection.now }
     requires indexed { AreIndexesOf collection.now indexes.now }
     ensures observed { OnOk result
         (observed.new ≡ stepped collection.now.documents change.now observed.old) }
     ensures front { OnOk result
         (IsFront observed.old.query collection.now.documents front.new) }
+    ensures memo { memo.new.sides ≡ memo.old.sides }
 {
     let query = observed.query();
-    let matches = Matches::of(query, change);
+    let matches = Matches::by_sides(query, change, &mut memo.sides);
     front.follow(alloc, query, change, matches)?;
     match apply(alloc, diagram, observed, change, matches, memo)? {
         Applied::Patched => Ok(()),
@@ -186,13 +188,15 @@ fn apply(
     observed: &mut Observed,
     change: &Change,
     matches: Matches,
-    memo: &mut Memo,
+    memo: &mut Memo<'_>,
 ) -> Result<Applied, AllocError>
+    requires memo { memo.old.sides ≡ change.now }
     requires matches { TellMatches observed.old.query change.now matches }
     requires ready { IfSome observed.old.rows (IsReady observed.old.query change.now) }
     ensures answer { IfOk result (λ a. a
         ≡ answer_for (action_at observed.old.query change.now observed.old.rows)) }
     ensures value { OnOk result (observed.new ≡ applied change.now observed.old) }
+    ensures memo { memo.new.sides ≡ memo.old.sides }
 {
     if observed.rows().is_none() {
         return observed.apply(diagram, &unknown(alloc, change)?);

@@ -1,28 +1,22 @@
 -- What the answers of a change beside a query go by.
-use Rattle.std.proofs.Common.{◌≡◌, ℕ, zero, suc, ◌+◌, Bool, true, false, not, cond, ◌||◌, List, [], ◌∷◌, Option, Some, None, option_map, slice_get, is_some, drop, refl, sym, ap, ◌∙◌}
+use Rattle.std.proofs.Common.{◌≡◌, ℕ, zero, suc, Bool, true, false, not, cond, ◌||◌, List, [], ◌∷◌, Option, Some, None, IfSome, Bor, option_map, slice_get, is_some, refl, sym, ap, ◌∙◌, subst}
 use Rattle.std.proofs.lemmas.Bool.{false≢true}
-use Rattle.std.proofs.lemmas.Cmp.{nat_list_eq_equiv}
-use Rattle.std.proofs.lemmas.Slice.Eq.{bytes_eq-Decides}
-use Rattle.std.specs.List.{AllByRecursion, list_any}
-use Rattle.std.specs.List.Sorted.{IsStrictlySortedBy}
-use Rattle.std.specs.Map.{keys_of}
+use Rattle.std.specs.List.{list_any}
 use Rattle.std.specs.Ordering.{ordering_then, ordering_reverse, is_eq, is_ne, is_lt, is_gt}
-use Rattle.std.specs.Str.{bytes_eq}
 use Rattle.std.specs.declared.cmp.Ordering.{Ordering}
 use Rattle.std.specs.declared.cmp.Ordering.TheVariants.{Less, Equal, Greater}
-use Rattle.rx_value.proofs.Lists.{drop_at}
-use Rattle.rx_value.specs.Fields.{Pairs, AreFields}
-use Rattle.rx_value.specs.Named.{named, AreRising}
-use Rattle.rx_value.specs.Order.{order_of, text_cmp}
+use Rattle.rx_value.specs.Fields.{Pairs}
+use Rattle.rx_value.specs.Named.{named}
+use Rattle.rx_value.specs.Order.{order_of}
 use Rattle.rx_value.specs.declared.value.Value.{Value}
 use Rattle.rx_document.specs.declared.change.Change.{Change}
-use Rattle.rx_query.proofs.Rows.{other_key}
 use Rattle.rx_query.specs.Lists.{some_passes, first_passes}
 use Rattle.rx_query.specs.Order.{field_cmp, sort_cmp, sorts_cmp}
 use Rattle.rx_query.specs.QuerySpec.{QuerySpec, Sorts}
 use Rattle.rx_query.specs.States.{is_changed, precedes, ties}
 use Rattle.rx_query.specs.declared.results.Row.{Row}
-use Rattle.rx_states.specs.Forms.{leading}
+use Rattle.rx_states.specs.Forms.{leading, leading_in, fields_in, IsForm, IsFormOf}
+use Rattle.rx_states.specs.declared.forms.Form.{Form}
 use Rattle.rx_states.proofs.Steps.{ties_not}
 
 -- ---- rows of which none is the document's
@@ -129,42 +123,18 @@ module _ (x y : Pairs) where
         by_ties [] h = absurd (false≢true h)
         by_ties (s ∷ ss) h = ties_not (s ∷ ss) 0 s refl x y h
 
--- ---- values by their places
+-- ---- the forms that are compared
 
-module _ (ps : Pairs) (name : List ℕ) (i : ℕ) (e : List ℕ × Value) (at : slice_get ps i ≡ Some e)
-  where
-    -- another name leaves it to those after it
-    pub named_next : bytes_eq name e.0 ≡ false
-        → named (drop i ps) name ≡ named (drop (i + 1) ps) name
-    named_next other = rw (drop_at ps i e at, other) refl
-
--- what is below all names is below that at a place
-key_at : (k : List ℕ) (ps : Pairs) (i : ℕ) (e : List ℕ × Value)
-    → AllByRecursion (λ l. text_cmp k l ≡ Less) (keys_of ps) → slice_get ps i ≡ Some e
-    → text_cmp k e.0 ≡ Less
-key_at k [] zero e below at = absurd (cc)
-key_at k [] (suc i) e below at = absurd (cc)
-key_at k (p ∷ ps) zero e below at =
-    let same : p ≡ e = cc in ap (λ x. text_cmp k x.0) (sym same) ∙ below.0
-key_at k (p ∷ ps) (suc i) e below at = key_at k ps i e below.1 at
-
-there : (ps : Pairs) (name : List ℕ) (i : ℕ) (e : List ℕ × Value) → AreRising ps
-    → slice_get ps i ≡ Some e → bytes_eq name e.0 ≡ true → named ps name ≡ Some e.1
-unfolding IsStrictlySortedBy
-there [] name zero e up at is = absurd (cc)
-there [] name (suc i) e up at is = absurd (cc)
-there (p ∷ ps) name zero e up at is =
-    let same : p ≡ e = cc in
-    ap (λ b. cond b (Some p.1) (named ps name)) (ap (λ x. bytes_eq name x.0) same ∙ is)
-    ∙ ap (λ x. Some x.1) same
-there (p ∷ ps) name (suc i) e up at is =
-    let here : name ≡ e.0 = (bytes_eq-Decides name e.0).0 is in
-    let below : text_cmp p.0 name ≡ Less = ap (text_cmp p.0) here ∙ key_at p.0 ps i e up.0 at in
-    ap (λ b. cond b (Some p.1) (named ps name))
-    (nat_list_eq_equiv.symm name p.0 ∙ other_key p.0 name below)
-    ∙ there ps name i e up.1 at is
-
--- a name at a place names the value there, since names rise
-pub named_there : (ps : Pairs) (name : List ℕ) (i : ℕ) (e : List ℕ × Value) → AreFields ps
-    → slice_get ps i ≡ Some e → bytes_eq name e.0 ≡ true → named ps name ≡ Some e.1
-named_there ps name i e lawful at is = there ps name i e lawful.rising at is
+module _ (sorts : Sorts) (fields : Option Pairs) (v : Option (Bor Value))
+    (tells : option_map (λ v. v.now) v ≡ leading_in sorts fields) where
+  -- fields with what they hold there
+  pub form_tells : (form : Option Form) → fields_in form ≡ fields
+      → IfSome form (λ f. f.leading ≡ v) → IsFormOf sorts fields form
+  form_tells None is same = record { fields = is; leading = λ f at. absurd (cc) }
+  form_tells (Some g) is same = record {
+    fields = is;
+    leading = λ f at.
+        let one : g ≡ f = cc in
+        subst (IsForm sorts) one
+        (ap (option_map (λ v. v.now)) same ∙ tells ∙ ap (leading_in sorts) (sym is));
+  }

@@ -2,12 +2,15 @@ ghost use Rattle.std.specs.Prelude.{◌≡◌, ◌<◌, ◌≤◌, None, true, f
 ghost use Rattle.rx_query.specs.QuerySpec.{asked};
 ghost use Rattle.rx_query.specs.Lists.{some_passes};
 ghost use Rattle.rx_query.specs.States.{bits_of, OnlyMatchingInside, live_before, is_match};
+ghost use Rattle.rx_states.specs.Edges.{AreEdges};
 
 use crate::answers::{
-    first, has_limit, has_skip, is_delete, is_empty, is_find_one, is_insert, is_limit_reached,
-    is_unknown, is_update, last, live_before,
+    has_limit, has_skip, is_delete, is_empty, is_find_one, is_insert, is_limit_reached, is_unknown,
+    is_update,
 };
-use crate::forms::{form_of, form_of_row, is_before, is_moved};
+use crate::edges::Edges;
+use crate::forms::{Forms, forms_of, is_before, is_moved};
+use crate::sides::Sides;
 use rx_document::Change;
 use rx_query::{Query, Results};
 use rx_table::{Ask, StateName};
@@ -28,18 +31,29 @@ pub struct Beside {
 impl Beside {
     ghost use Rattle.rx_states.specs.Beside.{bits_in};
 
-    /// `near` is where the field that the sort begins with stood last.
-    pub fn new(query: &Query, change: &Change, results: &Results, near: &mut usize) -> Beside
+    /// `edges` are those of the rows, and `sides` are of the change.
+    pub fn new(
+        query: &Query,
+        change: &Change,
+        results: &Results,
+        edges: &Edges,
+        sides: &mut Sides<'_>,
+    ) -> Beside
+        requires sides { sides.old ≡ change.now }
+        requires edges { AreEdges (asked query.now).sorts results.now edges.now }
         requires inside { OnlyMatchingInside (asked query.now) change.now results.now }
         requires was { some_passes (is_match (asked query.now)) (live_before change.now.before)
             ≡ false }
         requires now { some_passes (is_match (asked query.now)) change.now.after ≡ false }
-        ensures { bits_in result ≡ bits_of (asked query.now) change.now results.now }
+        ensures bits { bits_in result ≡ bits_of (asked query.now) change.now results.now }
+        ensures sides { sides.new ≡ sides.old }
     {
-        let before = form_of(query, live_before(change), near);
-        let after = form_of(query, change.after.as_ref(), near);
-        let first = form_of_row(query, first(results), near);
-        let last = form_of_row(query, last(results), near);
+        let Forms {
+            before,
+            after,
+            first,
+            last,
+        } = forms_of(query, change, results, edges, sides);
         Beside {
             answers: [
                 is_insert(change),

@@ -1,14 +1,16 @@
-ghost use Rattle.std.specs.Prelude.{◌≡◌, ◌<◌, ◌+◌, true, not, length, drop, Some, IfSome, is_none, option_map};
+ghost use Rattle.std.specs.Prelude.{◌≡◌, ◌-◌, not, length, slice_get, IfSome, option_map};
 ghost use Rattle.std.specs.Option.{ForSome, option_copied};
-ghost use Rattle.rx_value.specs.Fields.{AreFields};
-ghost use Rattle.rx_value.specs.Named.{named};
 ghost use Rattle.rx_query.specs.QuerySpec.{asked};
 ghost use Rattle.rx_query.specs.Lists.{some_passes, first_passes};
-ghost use Rattle.rx_query.specs.States.{precedes, ties};
-ghost use Rattle.rx_states.specs.Forms.{leading, IsForm, fields_in};
+ghost use Rattle.rx_query.specs.States.{live_before, precedes, ties};
+ghost use Rattle.rx_states.specs.Edges.{AreEdges};
+ghost use Rattle.rx_states.specs.Forms.{leading_in, IsForm, IsFormOf, fields_in};
 
-use crate::answers::differs;
-use rx_query::{Query, Row};
+use crate::answers::{differs, first, last, live_before};
+use crate::edges::Edges;
+use crate::sides::{Both, Sides};
+use rx_document::Change;
+use rx_query::{Query, Results, Row};
 use rx_value::{Fields, Value, order};
 
 /// Fields, with their value of the field that the sort begins with.
@@ -18,86 +20,80 @@ pub(crate) struct Form<'a> {
     leading: Option<&'a Value>,
 }
 
-// `near` is where the value mostly stands.
-fn with_leading<'a>(query: &Query, fields: &'a Fields, near: &mut usize) -> Form<'a>
-    ensures fields { result.fields.now ≡ fields.now }
-    ensures leading { IsForm (asked query.now).sorts result }
+/// The document before a change and after it, and the first and the last row.
+#[derive(Clone, Copy)]
+pub(crate) struct Forms<'a> {
+    pub before: Option<Form<'a>>,
+    pub after: Option<Form<'a>>,
+    pub first: Option<Form<'a>>,
+    pub last: Option<Form<'a>>,
+}
+
+pub(crate) fn forms_of<'a, 'b: 'a>(
+    query: &Query,
+    change: &'a Change,
+    results: &'a Results,
+    edges: &'a Edges,
+    sides: &mut Sides<'b>,
+) -> Forms<'a>
+    requires sides { sides.old ≡ change.now }
+    requires edges { AreEdges (asked query.now).sorts results.now edges.now }
+    ensures sides { sides.new ≡ sides.old }
+    ensures before { IsFormOf (asked query.now).sorts (live_before change.now.before)
+        result.before }
+    ensures after { IsFormOf (asked query.now).sorts change.now.after result.after }
+    ensures first { IsFormOf (asked query.now).sorts
+        (option_map (λ r. r.fields) (slice_get results.now 0)) result.first }
+    ensures last { IsFormOf (asked query.now).sorts
+        (option_map (λ r. r.fields) (slice_get results.now (length results.now - 1)))
+        result.last }
 {
-    Form {
-        fields,
-        leading: leading(query, fields, near),
+    let both = leading(query, sides);
+    Forms {
+        before: with_value(live_before(change), both.before),
+        after: with_value(change.after.as_ref(), both.after),
+        first: form_of_row(first(results), edges.first.as_ref()),
+        last: form_of_row(last(results), edges.last.as_ref()),
     }
 }
 
-fn leading<'a>(query: &Query, fields: &'a Fields, near: &mut usize) -> Option<&'a Value>
-    ensures { option_map (λ v. v.now) result ≡ leading (asked query.now).sorts fields.now }
+// What the field that the sort begins with holds before a change and after it.
+fn leading<'a>(query: &Query, sides: &mut Sides<'a>) -> Both<'a>
+    ensures sides { sides.new ≡ sides.old }
+    ensures before { option_map (λ v. v.now) result.before
+        ≡ leading_in (asked query.now).sorts (live_before sides.old.before) }
+    ensures after { option_map (λ v. v.now) result.after
+        ≡ leading_in (asked query.now).sorts sides.old.after }
 {
     if query.sorts() == 0 {
-        return None;
+        return Both {
+            before: None,
+            after: None,
+        };
     }
-    value_near(fields, query.sort(0).0.as_str(), near)
+    sides.sorted(query.sort(0).0.as_str())
 }
 
-// The value of a name. It is looked for first where the last one stood, since most documents have
-// the same names.
-fn value_near<'a>(fields: &'a Fields, name: &str, near: &mut usize) -> Option<&'a Value>
-    ensures { option_map (λ v. v.now) result ≡ named fields.now name.now }
-{
-    if *near < fields.len() {
-        if let Some(value) = value_at(fields, name, *near) {
-            return Some(value);
-        }
-    }
-    for i in 0..fields.len() {
-        if let Some(value) = value_at(fields, name, i) {
-            *near = i;
-            return Some(value);
-        }
-    }
-    None
-}
-
-// The value at a place, if it has that name.
-fn value_at<'a>(fields: &'a Fields, name: &str, i: usize) -> Option<&'a Value>
-    requires within { i < length fields.now }
-    requires lawful { AreFields fields.now }
-    ensures found { IfSome result (λ v. named fields.now name.now ≡ Some v.now) }
-    ensures other { is_none result ≡ true
-        → named (drop i fields.now) name.now ≡ named (drop (i + 1) fields.now) name.now }
-{
-    let (found, value) = fields.at(i);
-    if name == found.as_str() {
-        Some(value)
-    } else {
-        None
-    }
-}
-
-pub(crate) fn form_of<'a>(
-    query: &Query,
-    fields: Option<&'a Fields>,
-    near: &mut usize,
-) -> Option<Form<'a>>
+fn with_value<'a>(fields: Option<&'a Fields>, leading: Option<&'a Value>) -> Option<Form<'a>>
     ensures fields { fields_in result ≡ option_copied fields.entry }
-    ensures leading { ForSome result (IsForm (asked query.now).sorts) }
+    ensures leading { IfSome result (λ form. form.leading ≡ leading.entry) }
 {
     match fields {
-        Some(fields) => Some(with_leading(query, fields, near)),
+        Some(fields) => Some(Form { fields, leading }),
         None => None,
     }
 }
 
-pub(crate) fn form_of_row<'a>(
-    query: &Query,
-    row: Option<&'a Row>,
-    near: &mut usize,
-) -> Option<Form<'a>>
+fn form_of_row<'a>(row: Option<&'a Row>, leading: Option<&'a Value>) -> Option<Form<'a>>
     ensures fields { fields_in result
         ≡ option_map (λ r. r.fields) (option_copied row.entry) }
-    ensures leading { ForSome result (IsForm (asked query.now).sorts) }
+    ensures leading { IfSome result (λ form. form.leading ≡ leading.entry) }
 {
     match row {
-        Some(row) => Some(with_leading(query, &row.fields, near)),
+        Some(row) => Some(Form {
+            fields: &row.fields,
+            leading,
+        }),
         None => None,
     }
 }

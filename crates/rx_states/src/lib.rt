@@ -3,10 +3,14 @@
 
 mod answers;
 mod beside;
+mod edges;
 mod facts;
 mod forms;
 mod matches;
+mod sides;
 
 pub use beside::{Beside, SPOTS};
+pub use edges::Edges;
 pub use facts::Facts;
 pub use matches::Matches;
+pub use sides::Sides;

@@ -13,8 +13,8 @@ follow-requires-clause-few c =
 
 pub apply-requires-clause-matches : goal.apply-requires-clause-matches
 apply-requires-clause-matches c =
-    subst (λ q. TellMatches q c.args.change.now c.of-matches.result) c.query-query.ensures
-    c.of-matches.ensures
+    subst (λ q. TellMatches q c.args.change.now c.by_sides-matches.result) c.query-query.ensures
+    c.by_sides-matches.ensures.told
 
 pub apply-requires-clause-ready : goal.apply-requires-clause-ready
 apply-requires-clause-ready c =

@@ -31,6 +31,7 @@ step-requires-clause-follows c =
 pub loop-i-init : goal.loop-i-init
 loop-i-init c = record {
   stepped = refl;
+  sides = c.new-memo.ensures;
   following = record {
     old = c.requires.follow.old;
     becomes = c.requires.follow.becomes;
@@ -59,6 +60,7 @@ loop-i-preserved c =
           ap (λ o. set c.loop-i.queries.items i (x.0, o)) c.in_ok-step.ensures.observed
           ∙ step-done f i before c.loop-i.queries.items c.loop-i.invariant.stepped x
           c.index_mut-query.ensures.value (omega arith);
+      sides = c.step.ensures.memo ∙ c.loop-i.invariant.sides;
       following = record {
         old = inv.old;
         becomes = inv.becomes;

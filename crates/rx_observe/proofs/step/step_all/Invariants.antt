@@ -9,5 +9,6 @@ abbrev pub invariant-loop-i : goal.invariant-loop-i
 invariant-loop-i l = record {
   stepped : l.queries.items
       ≡ done (λ q. (q.0, stepped l.collection.documents l.change q.1)) l.i l.fn.queries.items;
+  sides : l.memo.sides ≡ l.change;
   following : Following l.change l.i l.fn.queries.items l.fronts.items l.collection;
 }

@@ -8,6 +8,11 @@ use Rattle.rx_table.specs.Rows.{table_of}
 use Rattle.rx_observe.specs.Watched.{Watched, unknown, bits_at}
 use Rattle.rx_observe.proofs.observed.Observed.decide.Goals as goal
 
+-- the edges that are kept are those of the rows
+pub decide-requires-clause-edges : goal.decide-requires-clause-edges
+decide-requires-clause-edges c = λ e at.
+    c.self.invariant.edges c.in-Some.rows c.in-Some.is e (sym c.as_ref-edges.ensures.value ∙ at)
+
 pub returns-in-Some-clause-action : goal.returns-in-Some-clause-action
 returns-in-Some-clause-action c =
     let q = asked c.self.inside.query in

@@ -10,7 +10,7 @@ invariant_of-self c =
     let w = watched_in c.self.inside in
     let is = rows_unseen w.rows w.emitted c.args.copy
     (ap (λ (o : Watched). unseen o.rows o.emitted) c.self.view_is ∙ c.requires) in
-    λ _ rows same. sym is ∙ same
+    record { touched = λ _ rows same. sym is ∙ same; edges = c.self.invariant.edges }
 
 pub returns : goal.returns
 returns c =

@@ -23,9 +23,14 @@ patch-requires-clause-known c = not_full c.args.action (sym c.is_full.ensures âˆ
 pub invariant_of-self-2 : goal.invariant_of-self-2
 invariant_of-self-2 c =
     let i = c.self.inside in
-    untouched i.touched c.changes_rows.result c.args.action
-    (watched_in i).query c.args.change.now i.rows
-    c.patch.new.rows i.emitted c.changes_rows.ensures c.in_ok-patch.ensures.ok c.self.invariant
+    record {
+      touched =
+          untouched i.touched c.changes_rows.result c.args.action
+          (watched_in i).query c.args.change.now i.rows
+          c.patch.new.rows i.emitted c.changes_rows.ensures c.in_ok-patch.ensures.ok
+          c.self.invariant.touched;
+      edges = c.patch.ensures.edges;
+    }
 
 pub patch-requires-clause-there : goal.patch-requires-clause-there
 patch-requires-clause-there c =

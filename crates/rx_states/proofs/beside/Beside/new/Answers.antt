@@ -25,24 +25,20 @@ module _ (c : goal.After-is_before-4) where
       outside (asked c.args.query.now) c.args.change.now c.args.results.now c.requires.inside
       c.requires.was
 
-  old : fields_in c.form_of-before.result ≡ live_before c.args.change.now.before
-  old = c.form_of-before.ensures.fields ∙ c.live_before.ensures
+  old : fields_in c.forms_of.result.before ≡ live_before c.args.change.now.before
+  old = c.forms_of.ensures.before.fields
 
-  new : fields_in c.form_of-after.result ≡ c.args.change.now.after
-  new = search rules
+  new : fields_in c.forms_of.result.after ≡ c.args.change.now.after
+  new = c.forms_of.ensures.after.fields
 
-  first : fields_in c.form_of_row-first.result
+  first : fields_in c.forms_of.result.first
       ≡ option_map (λ (r : Row). r.fields) (slice_get c.args.results.now 0)
-  first =
-      c.form_of_row-first.ensures.fields
-      ∙ ap (option_map (λ (r : Row). r.fields)) c.first.ensures
+  first = c.forms_of.ensures.first.fields
 
-  last : fields_in c.form_of_row-last.result
+  last : fields_in c.forms_of.result.last
       ≡ option_map (λ (r : Row). r.fields)
       (slice_get c.args.results.now (length c.args.results.now - 1))
-  last =
-      c.form_of_row-last.ensures.fields
-      ∙ ap (option_map (λ (r : Row). r.fields)) c.last.ensures
+  last = c.forms_of.ensures.last.fields
 
   each : (s : StateName) → get_or answers (index_of s) false
       ≡ state_of (asked c.args.query.now) c.args.change.now c.args.results.now s
@@ -58,8 +54,8 @@ module _ (c : goal.After-is_before-4) where
   each SortParamsChanged =
       c.is_moved.ensures
       ∙ moved_is (asked c.args.query.now) c.args.change.now c.args.results.now
-      (fields_in c.form_of-before.result) (live_before c.args.change.now.before)
-      (fields_in c.form_of-after.result) c.args.change.now.after old new
+      (fields_in c.forms_of.result.before) (live_before c.args.change.now.before)
+      (fields_in c.forms_of.result.after) c.args.change.now.after old new
   each WasInResult = sym out
   each WasFirst = sym (none_at (is_changed c.args.change.now) c.args.results.now 0 out)
   each WasLast =
@@ -68,26 +64,26 @@ module _ (c : goal.After-is_before-4) where
   each WasSortedBeforeFirst =
       c.is_before.ensures
       ∙ before_is (asked c.args.query.now) c.args.change.now c.args.results.now out
-      (fields_in c.form_of-before.result) (live_before c.args.change.now.before)
-      (fields_in c.form_of_row-first.result) old first
+      (fields_in c.forms_of.result.before) (live_before c.args.change.now.before)
+      (fields_in c.forms_of.result.first) old first
   each WasSortedAfterLast =
       c.is_before-2.ensures
       ∙ after_is (asked c.args.query.now) c.args.change.now c.args.results.now out
-      (fields_in c.form_of-before.result) (live_before c.args.change.now.before)
-      (fields_in c.form_of_row-last.result) old last
+      (fields_in c.forms_of.result.before) (live_before c.args.change.now.before)
+      (fields_in c.forms_of.result.last) old last
   each IsSortedBeforeFirst =
       c.is_before-3.ensures
       ∙ before_is (asked c.args.query.now) c.args.change.now c.args.results.now out
-      (fields_in c.form_of-after.result) c.args.change.now.after
-      (fields_in c.form_of_row-first.result) new first
+      (fields_in c.forms_of.result.after) c.args.change.now.after
+      (fields_in c.forms_of.result.first) new first
   each IsSortedAfterLast =
       c.is_before-4.ensures
       ∙ after_is (asked c.args.query.now) c.args.change.now c.args.results.now out
-      (fields_in c.form_of-after.result) c.args.change.now.after
-      (fields_in c.form_of_row-last.result) new last
+      (fields_in c.forms_of.result.after) c.args.change.now.after
+      (fields_in c.forms_of.result.last) new last
   each WasMatching = sym c.requires.was
   each DoesMatchNow = sym c.requires.now
 
-pub returns : goal.returns
-returns c =
+pub returns-clause-bits : goal.returns-clause-bits
+returns-clause-bits c =
     as_number (asked c.args.query.now) c.args.change.now c.args.results.now (answers c) (each c)
