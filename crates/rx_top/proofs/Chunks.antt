@@ -161,7 +161,7 @@ module _ {D : Type 0} (by : Grouping) (d : Ghosts D) where
       )
 
   -- chunks more that were committed together
-  kept_on : (d0 d1 d2 : D) (bodies : List (List ℕ)) (cs more : List (List (List ℕ)))
+  pub kept_on : (d0 d1 d2 : D) (bodies : List (List ℕ)) (cs more : List (List (List ℕ)))
       (limit : ℕ) → (so_far : Kept by d d0 d1 bodies cs limit)
       → AreCommitted by (cs ++ more) (so_far.groups ++ all_of more ∷ [])
       → GrowsLegally d d1 d2 (bodies ++ all_of cs) (all_of more)
@@ -190,22 +190,6 @@ module _ {D : Type 0} (by : Grouping) (d : Ghosts D) where
         sure = subst (λ (bs : List (List ℕ)). Leaves d d2 bs []) same leaves;
         fits = subst (λ (bs : List (List ℕ)). end_of bs ≤ limit) same fits;
       }
-
-  -- a chunk more, by itself
-  pub kept_more : (d0 d1 d2 : D) (bodies : List (List ℕ)) (cs : List (List (List ℕ)))
-      (c : List (List ℕ)) (limit : ℕ) → Kept by d d0 d1 bodies cs limit
-      → GrowsLegally d d1 d2 (bodies ++ all_of cs) c
-      → Leaves d d2 ((bodies ++ all_of cs) ++ c) []
-      → end_of ((bodies ++ all_of cs) ++ c) ≤ limit → OnlyNow d d2
-      → Kept by d d0 d2 bodies (cs ++ c ∷ []) limit
-  kept_more d0 d1 d2 bodies cs c limit so_far grows leaves fits only_now =
-      let one : c ≡ all_of (c ∷ []) = sym (append-nil c) in
-      let before = bodies ++ all_of cs in
-      kept_on d0 d1 d2 bodies cs (c ∷ []) limit so_far
-      (committed-push by cs so_far.groups c so_far.committed)
-      (subst (λ (bs : List (List ℕ)). GrowsLegally d d1 d2 before bs) one grows)
-      (subst (λ (bs : List (List ℕ)). Leaves d d2 (before ++ bs) []) one leaves)
-      (subst (λ (bs : List (List ℕ)). end_of (before ++ bs) ≤ limit) one fits) only_now
 
   -- no work stopped, so nothing is ahead of the chunks
   pub keeps_all : (d0 d1 : D) (bodies : List (List ℕ)) (cs : List (List (List ℕ)))
@@ -275,14 +259,3 @@ module _ {D : Type 0} (by : Grouping) (d : Ghosts D) where
       alone : cs ≡ [] → bodies ++ c ≡ bodies ++ (c ++ all_of cs)
       alone none = ap (λ (bs : List (List ℕ)). bodies ++ bs) (sym (append-nil c))
           ∙ ap (λ (ds : List (List (List ℕ))). bodies ++ (c ++ all_of ds)) (sym none)
-
--- a group of chunks more
-pub kept_group : {D : Type 0} (d : Ghosts D) (d0 d1 d2 : D) (bodies : List (List ℕ))
-    (cs more : List (List (List ℕ))) (limit : ℕ) → Kept in_groups d d0 d1 bodies cs limit
-    → GrowsLegally d d1 d2 (bodies ++ all_of cs) (all_of more)
-    → Leaves d d2 ((bodies ++ all_of cs) ++ all_of more) []
-    → end_of ((bodies ++ all_of cs) ++ all_of more) ≤ limit → OnlyNow d d2
-    → Kept in_groups d d0 d2 bodies (cs ++ more) limit
-kept_group d d0 d1 d2 bodies cs more limit so_far grows leaves fits only_now =
-    kept_on in_groups d d0 d1 d2 bodies cs more limit so_far
-    (grouped-push cs so_far.groups more so_far.committed) grows leaves fits only_now

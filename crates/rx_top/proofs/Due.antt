@@ -7,7 +7,7 @@ use Rattle.rx_outside.specs.declared.stop.Stop.TheVariants.{Disk, NotJournal, Fu
 use Rattle.rx_store.specs.Holds.{GrowsLegally}
 use Rattle.rx_store.specs.Safe.{IsFull}
 use Rattle.rx_store.proofs.Growing.{grows_longer}
-use Rattle.rx_top.specs.Chunks.{all_of, in_groups}
+use Rattle.rx_top.specs.Chunks.{Grouping, all_of, in_groups, singly}
 use Rattle.rx_top.specs.Run.{due_then}
 use Rattle.rx_top.specs.Script.{line_effect}
 use Rattle.rx_top.specs.Story.{Effect, chunks}
@@ -26,18 +26,23 @@ module _
         grows_longer d d1 d2 before does.bodies
         (all_of (chunks line_effect (n + 1) rest does.next)) grows
 
-    pub due_grows : (why : Stop) → GrowsLegally d d1 d2 before does.bodies
-        → GrowsLegally d d1 d2 before (due_then in_groups (Some why) n (l ∷ rest) s)
-    due_grows (Full would most) grows = grows
-    due_grows Disk grows = longer grows
-    due_grows NotJournal grows = longer grows
-    due_grows Memory grows = longer grows
+    pub due_grows : (by : Grouping) (why : Stop) → GrowsLegally d d1 d2 before does.bodies
+        → GrowsLegally d d1 d2 before (due_then by (Some why) n (l ∷ rest) s)
+    due_grows singly why grows = grows
+    due_grows in_groups (Full would most) grows = grows
+    due_grows in_groups Disk grows = longer grows
+    due_grows in_groups NotJournal grows = longer grows
+    due_grows in_groups Memory grows = longer grows
+
+    due_when_full : (by : Grouping) (would most : ℕ) → IsFull d d2 before does.bodies would most
+        → IsFull d d2 before (due_then by (Some (Full would most)) n (l ∷ rest) s) would most
+    due_when_full singly would most full = full
+    due_when_full in_groups would most full = full
 
     -- one of them that didn't fit was due
-    pub due_full : (why : Stop) (would most : ℕ) → why ≡ Full would most
+    pub due_full : (by : Grouping) (why : Stop) (would most : ℕ) → why ≡ Full would most
         → IsFull d d2 before does.bodies would most
-        → IsFull d d2 before (due_then in_groups (Some why) n (l ∷ rest) s) would most
-    due_full why would most is full =
-        subst (λ (x : Stop).
-        IsFull d d2 before (due_then in_groups (Some x) n (l ∷ rest) s) would most)
-        (sym is) full
+        → IsFull d d2 before (due_then by (Some why) n (l ∷ rest) s) would most
+    due_full by why would most is full =
+        subst (λ (x : Stop). IsFull d d2 before (due_then by (Some x) n (l ∷ rest) s) would most)
+        (sym is) (due_when_full by would most full)

@@ -1,12 +1,12 @@
 -- How the play of a script goes on by lines that are played together, and how it ends in them.
 use Rattle.rx_serve.specs.Lines.{Cut, cut}
-use Rattle.std.proofs.Common.{◌≡◌, ◌∙◌, refl, sym, ap, subst, ℕ, ◌+◌, ◌≤◌, Bool, ◌||◌, List, [], ◌++◌, length, Option, None, Some, Result, Ok, Err, IsErrOf, arith, append_assoc, length-append}
+use Rattle.std.proofs.Common.{◌≡◌, ◌∙◌, refl, sym, ap, subst, ℕ, ◌+◌, Bool, ◌||◌, List, [], ◌++◌, length, Option, None, Some, Result, Ok, Err, IsErrOf, arith, append_assoc, length-append}
+use Rattle.std.specs.Prelude.{IfSome}
 use Rattle.rx_disk.specs.declared.disk.Disk.{Ghosts}
 use Rattle.rx_engine.specs.Dialled.{DialStanding}
 use Rattle.rx_engine.specs.Engine.{IsAt, limit_of, standing_of}
 use Rattle.rx_engine.specs.Standing.{Standing}
 use Rattle.rx_engine.specs.declared.engine.Engine.{Engine}
-use Rattle.rx_frame.specs.File.{end_of}
 use Rattle.rx_handler.specs.Handlers.{Kinds}
 use Rattle.rx_outside.specs.Sink.{WritesFront}
 use Rattle.rx_outside.specs.declared.stop.Stop.{Stop}
@@ -17,7 +17,7 @@ use Rattle.rx_store.proofs.Growing.{grows_longer}
 use Rattle.rx_sync.specs.Remote.{Heard}
 use Rattle.rx_top.specs.Chunks.{all_of, in_groups}
 use Rattle.rx_top.specs.Group.{CallsNobody, TakesLines, WorksGroup}
-use Rattle.rx_top.specs.Hears.{HearsAll, HearsLines}
+use Rattle.rx_top.specs.Hears.{HearsAll}
 use Rattle.rx_top.specs.Lines.{lines}
 use Rattle.rx_top.specs.Reader.{Reading}
 use Rattle.rx_top.specs.Run.{IsReadPromptly, KeepsFrom, Plays, due_then}
@@ -30,17 +30,18 @@ use Rattle.rx_top.specs.declared.early_end.EarlyEnd.TheVariants.{Read, Sink, Wor
 use Rattle.rx_top.specs.declared.early_end.ReadFault.{ReadFault}
 use Rattle.rx_top.specs.declared.group.Played.{Played}
 use Rattle.rx_top.specs.declared.reader.Next.{Next}
-use Rattle.rx_top.proofs.Chunks.{CountsNow, Kept, OnlyNow, all_of-append, keeps_stopped, kept_group}
-use Rattle.rx_top.proofs.Exits.{Along, ends, fits_all, images_at, leaves_all}
-use Rattle.rx_top.proofs.Hears.{heard_in, heard_kept, hears-append, hears_nobody, nothing_last}
+use Rattle.rx_top.proofs.Chunks.{CountsNow, OnlyNow, all_of-append, grouped-push, keeps_stopped}
+use Rattle.rx_top.proofs.Done.{HasDone, done_more, heard_all, images_at}
+use Rattle.rx_top.proofs.Exits.{Along, ends}
+use Rattle.rx_top.proofs.Hears.{heard_in, heard_kept, hears_nobody}
 use Rattle.rx_top.proofs.Promptly.{prompt_more}
-use Rattle.rx_top.proofs.Story.{chunks-append, cut-append, each-append, joined, lines_on, refused-append, replies-append, rest_lines, state_after-append}
+use Rattle.rx_top.proofs.Story.{chunks-append, cut-append, each-append, joined, lines_on, refused-append, replies-append, rest_lines}
 
 module _
-    (s0 s1 : Standing) {D : Type 0} (d : Ghosts D) (k_tells wires : Type 0) (d0 d1 : D)
-    (n0 n1 : DialStanding) (first engine : Engine) (w0 w1 input rest : List ℕ) (n : ℕ) (r : Bool)
+    {s0 s1 : Standing} {D : Type 0} {d : Ghosts D} {k_tells wires : Type 0} {d0 d1 : D}
+    {n0 n1 : DialStanding} {first engine : Engine} {w0 w1 input rest : List ℕ} {n : ℕ} {r : Bool}
     (a : Along s0 s1 d k_tells wires d0 d1 n0 n1 first engine w0 w1 input rest n r)
-    (gs : List (List ℕ)) (mid : List ℕ) (takes : TakesLines rest gs mid)
+    {gs : List (List ℕ)} {mid : List ℕ} (takes : TakesLines rest gs mid)
     (turns : EachLine line_effect HoldsOfTurn (n + 1) gs s1)
     (here : EachLine line_effect CallsNobody (n + 1) gs s1)
   where
@@ -54,10 +55,7 @@ module _
     abbrev bytes : List ℕ
     bytes = a.bytes ++ takes.bytes
 
-    -- their chunks so far, and those of the group
-    abbrev cs : List (List (List ℕ))
-    cs = chunks line_effect 1 ls s0
-
+    -- the chunks of the group
     abbrev more : List (List (List ℕ))
     more = chunks line_effect (n + 1) gs s1
 
@@ -73,10 +71,6 @@ module _
     count : n + 1 ≡ 1 + length ls
     count = omega (arith, a.so.number)
 
-    -- what is said of the state so far is said of this one
-    at_state : (P : Standing → Type 0) → P s1 → P (state_after line_effect 1 ls s0)
-    at_state P p = subst P a.so.state p
-
     to_come : lines input ≡ all ++ lines mid
     to_come =
         rest_lines line_effect a.bytes input rest n r s0 s1 a.so
@@ -86,11 +80,6 @@ module _
         behind : lines rest ≡ gs ++ lines mid
         behind = lines_on takes.bytes mid rest takes.split takes.whole
             ∙ ap (λ (v : List (List ℕ)). v ++ lines mid) takes.are
-
-    chunks_all : chunks line_effect 1 all s0 ≡ cs ++ more
-    chunks_all =
-        chunks-append line_effect 1 ls gs s0 (n + 1) count
-        ∙ ap (λ (x : Standing). cs ++ chunks line_effect (n + 1) gs x) (sym a.so.state)
 
     told_all : replies line_effect 1 all s0
         ≡ replies line_effect 1 ls s0 ++ replies line_effect (n + 1) gs s1
@@ -104,18 +93,7 @@ module _
     each_all : EachLine line_effect HoldsOfTurn 1 all s0
     each_all =
         each-append line_effect HoldsOfTurn 1 ls gs s0 (n + 1) count a.each
-        (at_state (λ x. EachLine line_effect HoldsOfTurn (n + 1) gs x) turns)
-
-    hears_all : HearsLines wires 1 all s0 n0 n1
-    hears_all =
-        hears-append wires 1 ls gs s0 (n + 1) n0 n1 n1 count a.hears
-        (at_state (λ x. HearsLines wires (n + 1) gs x n1 n1)
-        (hears_nobody wires (n + 1) gs s1 n1 here))
-
-    state_all : state_after line_effect 1 all s0 ≡ state_after line_effect (n + 1) gs s1
-    state_all =
-        state_after-append line_effect 1 ls gs s0 (n + 1) count
-        ∙ ap (λ (x : Standing). state_after line_effect (n + 1) gs x) (sym a.so.state)
+        (subst (λ (x : Standing). EachLine line_effect HoldsOfTurn (n + 1) gs x) a.so.state turns)
 
     refused_all : (r || any_refused line_effect (n + 1) gs s1) ≡ any_refused line_effect 1 all s0
     refused_all =
@@ -124,222 +102,178 @@ module _
         any_refused line_effect 1 ls s0 || any_refused line_effect (n + 1) gs x) a.so.state
         ∙ sym (refused-append line_effect 1 ls gs s0 (n + 1) count)
 
-    -- ---- the disk
+    -- what the work on the group does to a disk that has the bodies before it
+    abbrev IsGroupSafe : D → Result (Option Engine) Stop → Type 0
+    IsGroupSafe d2 worked =
+        d.tells → (before : List (List ℕ)) → IsAt d d1 engine before
+        → IsCrashSafe d d1 d2 before (all_of more) (limit_of engine) (HasAll d d2) worked
 
-    module _ (d2 : D) (w2 : List ℕ) where
-      -- what the work on the group does to a disk that has the bodies before it
-      abbrev pub IsGroupSafe : Result (Option Engine) Stop → Type 0
-      IsGroupSafe worked =
-          d.tells → (before : List (List ℕ)) → IsAt d d1 engine before
-          → IsCrashSafe d d1 d2 before (all_of more) (limit_of engine) (HasAll d d2) worked
+    has_all : {d2 : D} (x : Option Engine) (s2 : Standing)
+        → IfSome x (λ e. limit_of e ≡ limit_of engine)
+        → s2 ≡ state_after line_effect (n + 1) gs s1 → IsGroupSafe d2 (Ok x)
+        → (d.tells → OnlyNow d d2)
+        → HasDone in_groups d wires s0 s2 d0 d2 n0 n1 first x all
+    has_all x s2 limit after safe only_now =
+        done_more a.has (n + 1) count n1 gs limit after (hears_nobody wires (n + 1) gs s1 n1 here)
+        (λ groups is. grouped-push (chunks line_effect 1 ls s0) groups more is) safe only_now
 
-      kept_all : (x : Option Engine) → IsGroupSafe (Ok x) → (d.tells → OnlyNow d d2) → d.tells
-          → (bodies : List (List ℕ)) → IsAt d d0 first bodies → end_of bodies ≤ limit_of first
-          → Kept in_groups d d0 d2 bodies (chunks line_effect 1 all s0) (limit_of first)
-      kept_all x safe only_now t bodies at le =
-          let so_far = a.kept t bodies at le in
-          let here = a.at t bodies at in
+    -- ---- the run goes on
+
+    pub group_played : {d2 : D} {w2 : List ℕ} (p : Played) (s2 : Standing)
+        → limit_of p.engine ≡ limit_of engine → s2 ≡ state_after line_effect (n + 1) gs s1
+        → p.number ≡ n + length gs → p.refused ≡ any_refused line_effect (n + 1) gs s1
+        → (k_tells → w2 ≡ w1 ++ replies line_effect (n + 1) gs s1)
+        → IsGroupSafe d2 (Ok (Some p.engine)) → (d.tells → OnlyNow d d2)
+        → Along s0 s2 d k_tells wires d0 d2 n0 n1 first p.engine w0 w2 input mid p.number
+        (r || p.refused)
+    group_played {d2} p s2 limit after number is had safe only_now =
+        let has = has_all (Some p.engine) s2 limit after safe only_now in
+        record {
+          bytes = bytes;
+          so = record {
+            whole = ap (λ (x : Cut). x.rest) cut_all ∙ takes.whole;
+            split = a.so.split ∙ ap (λ v. a.bytes ++ v) takes.split
+                ∙ sym (append_assoc a.bytes takes.bytes mid);
+            number = omega (arith, a.so.number, number, ap length ls_all, length-append ls gs);
+            refusals = ap (λ v. r || v) is ∙ refused_all
+                ∙ ap (λ (v : List (List ℕ)). any_refused line_effect 1 v s0) (sym ls_all);
+            state = has.state
+                ∙ ap (λ (v : List (List ℕ)). state_after line_effect 1 v s0) (sym ls_all);
+          };
+          told = λ t.
+              let new = replies line_effect (n + 1) gs s1 in
+              had t ∙ ap (λ v. v ++ new) (a.told t)
+              ∙ append_assoc w0 (replies line_effect 1 ls s0) new
+              ∙ ap (λ v. w0 ++ v) (sym told_all)
+              ∙ ap (λ (v : List (List ℕ)). w0 ++ replies line_effect 1 v s0) (sym ls_all);
+          each = subst (λ (v : List (List ℕ)). EachLine line_effect HoldsOfTurn 1 v s0)
+              (sym ls_all) each_all;
+          has = subst (λ (v : List (List ℕ)).
+              HasDone in_groups d wires s0 s2 d0 d2 n0 n1 first (Some p.engine) v) (sym ls_all) has;
+        }
+
+    -- ---- or it ends, where nothing is to be heard any more
+
+    -- how the play ends, and what the disk keeps then
+    abbrev GroupEnds : D → List ℕ → List ℕ → Result Bool EarlyEnd → Type 0
+    GroupEnds d2 w2 left ended =
+        Plays line_effect HoldsOfTurn k_tells w0 w2 input left s0 ended
+        (HearsAll wires s0 n0 n1 ended) (KeepsFrom in_groups s0 d d0 d2 first ended)
+
+    -- the sink failed: all lines of the group are on the disk
+    pub group_sunk : {d2 : D} {w2 : List ℕ} (left : List ℕ) → IsReadPromptly input left ls
+        → (state_after line_effect (n + 1) gs s1).heard ≡ []
+        → (k_tells → WritesFront w1 w2 (replies line_effect (n + 1) gs s1))
+        → IsGroupSafe d2 (Ok None) → (d.tells → OnlyNow d d2) → GroupEnds d2 w2 left (Err Sink)
+    group_sunk {w2 = w2} left prompt none front safe only_now =
+        ends (has_all None (state_after line_effect (n + 1) gs s1) tt refl safe only_now)
+        (lines mid) k_tells w0 w2 input left (Err Sink) refl none to_come each_all
+        (prompt_more input left ls gs prompt)
+        (λ t.
+        let f = front t in
+        let had = replies line_effect 1 ls s0 in (
+          had ++ f.0,
+          f.1,
+          told_all ∙ ap (λ v. had ++ v) f.2 ∙ sym (append_assoc had f.0 f.1),
+          f.3 ∙ ap (λ v. v ++ f.0) (a.told t) ∙ append_assoc w0 had f.0,
+        ))
+        only_now
+
+    -- work stopped, and no line of it is done
+    pub group_stopped : {d2 : D} {w2 : List ℕ} (left : List ℕ) (why : Stop)
+        → IsReadPromptly input left ls
+        → ((would most : ℕ) → why ≡ Full would most → ⊥) → s1.heard ≡ []
+        → (k_tells → w2 ≡ w1) → IsGroupSafe d2 (Err why) → (d.tells → CountsNow d d2)
+        → GroupEnds d2 w2 left (Err (Work why))
+    group_stopped {d2} left why prompt fits none unsaid safe counts_now = record {
+      done = ls;
+      rest = gs ++ lines mid;
+      whole = to_come ∙ append_assoc ls gs (lines mid);
+      each = a.each;
+      reads = prompt;
+      writes = λ k. unsaid k ∙ a.told k;
+      shown = heard_all a.has (Err (Work why)) (gs ++ lines mid) none;
+      kept = λ t bodies at le.
+          let cs = chunks line_effect 1 ls s0 in
           let before = bodies ++ all_of cs in
-          let done = safe t before here in
-          let within : end_of before ≤ limit_of engine =
-          subst (λ (k : ℕ). end_of before ≤ k) (sym a.limit) so_far.fits in
-          subst (λ (ds : List (List (List ℕ))). Kept in_groups d d0 d2 bodies ds (limit_of first))
-          (sym chunks_all)
-          (kept_group d d0 d1 d2 bodies cs more (limit_of first) so_far
-          (done.moments (images_at d d1 engine before here))
-          (leaves_all d d2 x (before ++ all_of more) done.at)
-          (subst (λ (k : ℕ). end_of (before ++ all_of more) ≤ k) a.limit
-          (fits_all before (all_of more) (limit_of engine) done.fits within))
-          (only_now t))
+          let at_now : IsAt d d1 engine before = a.has.at t bodies at in
+          let stopped = safe t before at_now in
+          keeps_stopped in_groups d d0 d1 d2 bodies cs _ (limit_of first) why
+          (a.has.kept t bodies at le)
+          (due why fits before (stopped.moments (images_at d d1 engine before at_now)))
+          (counts_now t) (λ would most is. absurd (fits would most is));
+    }
+      where
+        left_chunks : all_of (chunks line_effect (length ls + 1) (gs ++ lines mid)
+            (state_after line_effect 1 ls s0))
+            ≡ all_of more ++ all_of (chunks line_effect ((n + 1) + length gs) (lines mid)
+            (state_after line_effect (n + 1) gs s1))
+        left_chunks =
+            let e : length ls + 1 ≡ n + 1 = omega (arith, count) in
+            ap (λ (k : ℕ). all_of (chunks line_effect k (gs ++ lines mid)
+            (state_after line_effect 1 ls s0))) e
+            ∙ ap (λ (x : Standing). all_of (chunks line_effect (n + 1) (gs ++ lines mid) x))
+            (sym a.so.state)
+            ∙ ap all_of (chunks-append line_effect (n + 1) gs (lines mid) s1
+            ((n + 1) + length gs) refl)
+            ∙ all_of-append more _
 
-      -- ---- the run goes on
+        grown : (before : List (List ℕ)) → GrowsLegally d d1 d2 before (all_of more)
+            → GrowsLegally d d1 d2 before
+            (all_of (chunks line_effect (length ls + 1) (gs ++ lines mid)
+            (state_after line_effect 1 ls s0)))
+        grown before grows =
+            subst (λ (bs : List (List ℕ)). GrowsLegally d d1 d2 before bs) (sym left_chunks)
+            (grows_longer d d1 d2 before (all_of more) _ grows)
 
-      pub group_played : (engine' : Engine) (s2 : Standing) (n' : ℕ) (now : Bool)
-          → limit_of engine' ≡ limit_of engine
-          → s2 ≡ state_after line_effect (n + 1) gs s1 → n' ≡ n + length gs
-          → now ≡ any_refused line_effect (n + 1) gs s1
-          → (k_tells → w2 ≡ w1 ++ replies line_effect (n + 1) gs s1)
-          → IsGroupSafe (Ok (Some engine')) → (d.tells → OnlyNow d d2)
-          → Along s0 s2 d k_tells wires d0 d2 n0 n1 first engine' w0 w2 input mid n' (r || now)
-      group_played engine' s2 n' now same_limit after number is had safe only_now = record {
-        limit = same_limit ∙ a.limit;
-        bytes = bytes;
-        so = record {
-          whole = ap (λ (x : Cut). x.rest) cut_all ∙ takes.whole;
-          split = a.so.split ∙ ap (λ v. a.bytes ++ v) takes.split
-              ∙ sym (append_assoc a.bytes takes.bytes mid);
-          number = omega (arith, a.so.number, number, ap length ls_all, length-append ls gs);
-          refusals = ap (λ v. r || v) is ∙ refused_all
-              ∙ ap (λ (v : List (List ℕ)). any_refused line_effect 1 v s0) (sym ls_all);
-          state = after ∙ sym state_all
-              ∙ ap (λ (v : List (List ℕ)). state_after line_effect 1 v s0) (sym ls_all);
-        };
-        told = λ t.
-            let new = replies line_effect (n + 1) gs s1 in
-            had t ∙ ap (λ v. v ++ new) (a.told t)
-            ∙ append_assoc w0 (replies line_effect 1 ls s0) new
-            ∙ ap (λ v. w0 ++ v) (sym told_all)
-            ∙ ap (λ (v : List (List ℕ)). w0 ++ replies line_effect 1 v s0) (sym ls_all);
-        each = subst (λ (v : List (List ℕ)). EachLine line_effect HoldsOfTurn 1 v s0) (sym ls_all)
-            each_all;
-        hears = subst (λ (v : List (List ℕ)). HearsLines wires 1 v s0 n0 n1) (sym ls_all)
-            hears_all;
-        at = λ t bodies at.
-            subst (λ (v : List (List ℕ)).
-            IsAt d d2 engine' (bodies ++ all_of (chunks line_effect 1 v s0))) (sym ls_all)
-            (subst (λ (bs : List (List ℕ)). IsAt d d2 engine' bs) (together bodies)
-            (safe t (bodies ++ all_of cs) (a.at t bodies at)).at);
-        kept = λ t bodies at le.
-            subst (λ (v : List (List ℕ)).
-            Kept in_groups d d0 d2 bodies (chunks line_effect 1 v s0) (limit_of first)) (sym ls_all)
-            (kept_all (Some engine') safe only_now t bodies at le);
-      }
-        where
-          together : (bodies : List (List ℕ)) → (bodies ++ all_of cs) ++ all_of more
-              ≡ bodies ++ all_of (chunks line_effect 1 all s0)
-          together bodies =
-              append_assoc bodies (all_of cs) (all_of more)
-              ∙ ap (λ (bs : List (List ℕ)). bodies ++ bs) (sym (all_of-append cs more))
-              ∙ ap (λ (ds : List (List (List ℕ))). bodies ++ all_of ds) (sym chunks_all)
-
-      -- ---- or it ends, where nothing is to be heard any more
-
-      -- how the play ends, and what the disk keeps then
-      abbrev GroupEnds : List ℕ → Result Bool EarlyEnd → Type 0
-      GroupEnds left ended =
-          Plays line_effect HoldsOfTurn k_tells w0 w2 input left s0 ended
-          (HearsAll wires s0 n0 n1 ended) (KeepsFrom in_groups s0 d d0 d2 first ended)
-
-      -- the sink failed: all lines of the group are on the disk
-      pub group_sunk : (left : List ℕ) → IsReadPromptly input left ls → s1.heard ≡ []
-          → (state_after line_effect (n + 1) gs s1).heard ≡ []
-          → (k_tells → WritesFront w1 w2 (replies line_effect (n + 1) gs s1))
-          → IsGroupSafe (Ok None) → (d.tells → OnlyNow d d2) → GroupEnds left (Err Sink)
-      group_sunk left prompt none none_then front safe only_now =
-          ends s0 d d0 d2 k_tells wires n0 n1 w0 w2 first all (lines mid) input left (Err Sink)
-          refl to_come each_all
-          (record {
-            between = n1;
-            lines = hears_all;
-            last =
-                nothing_last wires (Err Sink) (lines mid) (state_after line_effect 1 all s0) n1 n1
-                (ap (λ (x : Standing). x.heard) state_all ∙ none_then, refl);
-          })
-          (prompt_more input left ls gs prompt)
-          (λ t.
-          let f = front t in
-          let had = replies line_effect 1 ls s0 in (
-            had ++ f.0,
-            f.1,
-            told_all ∙ ap (λ v. had ++ v) f.2 ∙ sym (append_assoc had f.0 f.1),
-            f.3 ∙ ap (λ v. v ++ f.0) (a.told t) ∙ append_assoc w0 had f.0,
-          ))
-          (kept_all None safe only_now) only_now
-
-      -- work stopped, and no line of it is done
-      pub group_stopped : (left : List ℕ) (why : Stop) → IsReadPromptly input left ls
-          → ((would most : ℕ) → why ≡ Full would most → ⊥) → s1.heard ≡ []
-          → (k_tells → w2 ≡ w1) → IsGroupSafe (Err why) → (d.tells → CountsNow d d2)
-          → GroupEnds left (Err (Work why))
-      group_stopped left why prompt fits none unsaid safe counts_now = record {
-        done = ls;
-        rest = gs ++ lines mid;
-        whole = to_come ∙ append_assoc ls gs (lines mid);
-        each = a.each;
-        reads = prompt;
-        writes = λ k. unsaid k ∙ a.told k;
-        shown = record {
-          between = n1;
-          lines = a.hears;
-          last = nothing_last wires (Err (Work why)) (gs ++ lines mid) _ n1 n1
-              (ap (λ (x : Standing). x.heard) (sym a.so.state) ∙ none, refl);
-        };
-        kept = λ t bodies at le.
-            let before = bodies ++ all_of cs in
-            let here = a.at t bodies at in
-            let stopped = safe t before here in
-            keeps_stopped in_groups d d0 d1 d2 bodies cs _ (limit_of first) why
-            (a.kept t bodies at le)
-            (due why fits before (stopped.moments (images_at d d1 engine before here)))
-            (counts_now t) (λ would most is. absurd (fits would most is));
-      }
-        where
-          left_chunks : all_of (chunks line_effect (length ls + 1) (gs ++ lines mid)
-              (state_after line_effect 1 ls s0))
-              ≡ all_of more ++ all_of (chunks line_effect ((n + 1) + length gs) (lines mid)
-              (state_after line_effect (n + 1) gs s1))
-          left_chunks =
-              let e : length ls + 1 ≡ n + 1 = omega (arith, count) in
-              ap (λ (k : ℕ). all_of (chunks line_effect k (gs ++ lines mid)
-              (state_after line_effect 1 ls s0))) e
-              ∙ ap (λ (x : Standing). all_of (chunks line_effect (n + 1) (gs ++ lines mid) x))
-              (sym a.so.state)
-              ∙ ap all_of (chunks-append line_effect (n + 1) gs (lines mid) s1
-              ((n + 1) + length gs) refl)
-              ∙ all_of-append more _
-
-          grown : (before : List (List ℕ)) → GrowsLegally d d1 d2 before (all_of more)
-              → GrowsLegally d d1 d2 before
-              (all_of (chunks line_effect (length ls + 1) (gs ++ lines mid)
-              (state_after line_effect 1 ls s0)))
-          grown before grows =
-              subst (λ (bs : List (List ℕ)). GrowsLegally d d1 d2 before bs) (sym left_chunks)
-              (grows_longer d d1 d2 before (all_of more) _ grows)
-
-          due : (stop : Stop) → ((would most : ℕ) → stop ≡ Full would most → ⊥)
-              → (before : List (List ℕ)) → GrowsLegally d d1 d2 before (all_of more)
-              → GrowsLegally d d1 d2 before
-              (due_then in_groups (Some stop) (length ls + 1) (gs ++ lines mid)
-              (state_after line_effect 1 ls s0))
-          due (Full would most) fits before grows = absurd (fits would most refl)
-          due Disk fits before grows = grown before grows
-          due NotJournal fits before grows = grown before grows
-          due Memory fits before grows = grown before grows
+        due : (stop : Stop) → ((would most : ℕ) → stop ≡ Full would most → ⊥)
+            → (before : List (List ℕ)) → GrowsLegally d d1 d2 before (all_of more)
+            → GrowsLegally d d1 d2 before
+            (due_then in_groups (Some stop) (length ls + 1) (gs ++ lines mid)
+            (state_after line_effect 1 ls s0))
+        due (Full would most) fits before grows = absurd (fits would most refl)
+        due Disk fits before grows = grown before grows
+        due NotJournal fits before grows = grown before grows
+        due Memory fits before grows = grown before grows
 
 -- ---- as the play of a group tells it
 
 module _
-    (s0 : Standing) {D : Type 0} (d : Ghosts D) (k_tells wires : Type 0) (d0 d1 : D)
-    (n0 n1 : DialStanding) (first engine : Engine) (w0 w1 input rest : List ℕ) (n : ℕ) (r : Bool)
-    (kinds : Kinds) (heard : List Heard)
+    {s0 : Standing} {D : Type 0} {d : Ghosts D} {k_tells wires : Type 0} {d0 d1 d2 : D}
+    {n0 n1 : DialStanding} {first engine : Engine} {w0 w1 w2 input rest : List ℕ} {n : ℕ}
+    {r : Bool} {kinds : Kinds} {next : Next} {left : List ℕ} {reader : Reading}
+    (heard : List Heard)
     (a : Along s0 (standing_of kinds heard engine) d k_tells wires d0 d1 n0 n1 first engine w0 w1
     input rest n r)
-    (next : Next) (left : List ℕ) (reader : Reading) (d2 : D) (w2 : List ℕ)
   where
     -- it was played, and the run goes on
-    pub after_group : (p : Played)
-        → (works : WorksGroup d kinds k_tells next n rest left reader engine d1 d2 w1 w2 (Ok p))
+    pub after_group : {p : Played}
+        (works : WorksGroup d kinds k_tells next n rest left reader engine d1 d2 w1 w2 (Ok p))
         → limit_of p.engine ≡ limit_of engine → (d.tells → OnlyNow d d2)
         → Along s0 (standing_of kinds heard p.engine) d k_tells wires d0 d2 n0 n1 first p.engine w0
         w2 input works.mid p.number (r || p.refused)
-    after_group p works same_limit only_now =
-        group_played s0 (standing_of kinds heard engine) d k_tells wires d0 d1 n0 n1 first engine w0
-        w1 input rest n r a works.lines works.mid works.takes (works.turns heard)
-        (works.here heard) d2 w2 p.engine (standing_of kinds heard p.engine) p.number p.refused
-        same_limit (works.next_so heard) works.number (works.refused heard) (works.told heard)
-        (works.safe heard) only_now
+    after_group {p} works limit only_now =
+        group_played a works.takes (works.turns heard) (works.here heard) p
+        (standing_of kinds heard p.engine) limit (works.next_so heard) works.number
+        (works.refused heard) (works.told heard) (works.safe heard) only_now
 
     -- it ended there, where nothing is to be heard any more
     pub group_ended : (why : EarlyEnd)
-        → (works : WorksGroup d kinds k_tells next n rest left reader engine d1 d2 w1 w2 (Err why))
-        → IsReadPromptly input left (cut a.bytes).whole
-        → heard ≡ [] → ((f : ReadFault) → IsErrOf {T = Played} (Err why) (Read f) → ⊥)
+        (works : WorksGroup d kinds k_tells next n rest left reader engine d1 d2 w1 w2 (Err why))
+        → IsReadPromptly input left (cut a.bytes).whole → heard ≡ []
+        → ((f : ReadFault) → IsErrOf {T = Played} (Err why) (Read f) → ⊥)
         → ((would most : ℕ) → IsErrOf {T = Played} (Err why) (Work (Full would most)) → ⊥)
         → (d.tells → OnlyNow d d2) → (d.tells → CountsNow d d2)
         → Plays line_effect HoldsOfTurn k_tells w0 w2 input left s0 (Err why)
         (HearsAll wires s0 n0 n1 (Err why)) (KeepsFrom in_groups s0 d d0 d2 first (Err why))
     group_ended (Read f) works prompt none unread fits only counts = absurd (unread f refl)
     group_ended (Work stop) works prompt none unread fits only counts =
-        group_stopped s0 (standing_of kinds heard engine) d k_tells wires d0 d1 n0 n1 first engine
-        w0 w1 input rest n r a works.lines works.mid works.takes (works.turns heard)
-        (works.here heard) d2 w2 left stop prompt
+        group_stopped a works.takes (works.turns heard) (works.here heard) left stop prompt
         (λ would most is. fits would most (ap (λ (x : Stop). Err (Work x)) is))
         (heard_in kinds heard engine ∙ none) (λ k. works.unsaid k stop refl) (works.safe heard)
         counts
     group_ended Sink works prompt none unread fits only counts =
-        group_sunk s0 (standing_of kinds heard engine) d k_tells wires d0 d1 n0 n1 first engine w0
-        w1 input rest n r a works.lines works.mid works.takes (works.turns heard)
-        (works.here heard) d2 w2 left prompt (heard_in kinds heard engine ∙ none)
+        group_sunk a works.takes (works.turns heard) (works.here heard) left prompt
         (heard_kept (n + 1) works.lines (standing_of kinds heard engine) (works.here heard)
         ∙ heard_in kinds heard engine ∙ none)
         (λ k. works.front heard k refl) (works.safe heard) only

@@ -72,31 +72,6 @@ shown_in wires line kinds e old new heard as_done hs full shown = (
 
 -- ---- lines that are done
 
--- a line more
-pub hears_push : (wires : Type 0) (n : ℕ) (ls : List (List ℕ)) (l : List ℕ) (s : Standing) (k : ℕ)
-    (old between new : DialStanding) (heard : List Heard) → k ≡ n + length ls
-    → HearsLines wires n ls s old between
-    → IsShownAt wires l (state_after line_effect n ls s) between new heard (Unit {0})
-    → (state_after line_effect n ls s).heard
-    ≡ heard ++ (line_effect k l (state_after line_effect n ls s)).next.heard
-    → HearsLines wires n (ls ++ l ∷ []) s old new
-hears_push wires n [] l s k old between new heard is before shown took =
-    let same : k ≡ n = omega (arith, is) in (
-      heard,
-      new,
-      subst (λ (m : ℕ). s.heard ≡ heard ++ (line_effect m l s).next.heard) same took,
-      subst (λ (x : DialStanding). IsShownAt wires l s x new heard (Unit {0})) before shown,
-      refl,
-    )
-hears_push wires n (y ∷ ys) l s k old between new heard is before shown took = (
-  before.0,
-  before.1,
-  before.2,
-  before.3,
-  hears_push wires (n + 1) ys l (line_effect n y s).next k before.1 between new heard
-      (omega (arith, is)) before.4 shown took,
-)
-
 -- lines more
 pub hears-append : (wires : Type 0) (n : ℕ) (ls ms : List (List ℕ)) (s : Standing) (k : ℕ)
     (old between new : DialStanding) → k ≡ n + length ls → HearsLines wires n ls s old between

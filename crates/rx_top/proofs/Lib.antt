@@ -7,6 +7,7 @@ pub mod Chunks
 pub mod Hears
 pub mod Growth
 pub mod Due
+pub mod Done
 pub mod Promptly
 pub mod Exits
 pub mod Groups
@@ -14,6 +15,7 @@ pub mod Gathering
 pub mod Settling
 pub mod Work
 pub mod Heads
+pub mod Opened
 pub mod Stopping
 pub mod Joining
 pub mod Causes

@@ -1,6 +1,6 @@
 -- What was given of an input before the play of it stopped.
 use Rattle.rx_serve.specs.Lines.{cut}
-use Rattle.std.proofs.Common.{◌≡◌, ◌∙◌, refl, sym, ap, ℕ, ◌+◌, ◌≤◌, List, [], ◌∷◌, ◌++◌, length, arith, append_assoc, append-nil, length-append}
+use Rattle.std.proofs.Common.{◌≡◌, ◌∙◌, refl, sym, ap, ℕ, ◌≤◌, List, [], ◌∷◌, ◌++◌, length, arith, append_assoc, append-nil, length-append}
 use Rattle.rx_top.specs.Lines.{lines}
 use Rattle.rx_top.specs.Reader.{StopsAhead, Takes, TakesKept, max_piece_bytes}
 use Rattle.rx_top.specs.Run.{IsReadPromptly}

@@ -14,7 +14,7 @@ use Rattle.rx_top.specs.Group.{SettlesGroup}
 use Rattle.rx_top.specs.Work.{HasAll}
 use Rattle.rx_top.specs.declared.early_end.EarlyEnd.TheVariants.{Sink, Work}
 use Rattle.rx_top.specs.declared.group.Group.{Group}
-use Rattle.rx_top.proofs.Exits.{leaves_at}
+use Rattle.rx_top.proofs.Done.{leaves_at}
 
 module _
     {D : Type 0} (d : Ghosts D) (k_tells : Type 0) (g : Group) (old new : D) (w : List ℕ)

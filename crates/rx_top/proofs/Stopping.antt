@@ -40,8 +40,9 @@ ends_later tells f0 f1 f2 old new line h ends =
 pub none_joined : (old : List ℕ) → Appends old old
 none_joined old = ([], sym (append-nil old))
 
-pub joined_on : (old mid new : List ℕ) → Appends old mid → Appends mid new → Appends old new
-joined_on old mid new a b =
+pub joined_on : (old : List ℕ) {mid new : List ℕ} → Appends old mid → Appends mid new
+    → Appends old new
+joined_on old a b =
     (a.0 ++ b.0, b.1 ∙ ap (λ v. v ++ b.0) a.1 ∙ append_assoc old a.0 b.0)
 
 -- ---- the last line

@@ -109,48 +109,6 @@ module _ {S : Type 0} (step : Step S) where
       ∙ ap (λ v. replies step n ls s ++ v) (append-nil (step (n + length ls) l after).reply)
       ∙ ap (λ m. replies step n ls s ++ (step m l after).reply) (sym is)
 
-  pub chunks-push : (n : ℕ) (ls : List (List ℕ)) (l : List ℕ) (s : S) (k : ℕ)
-      → k ≡ n + length ls
-      → chunks step n (ls ++ l ∷ []) s
-      ≡ chunks step n ls s ++ (step k l (state_after step n ls s)).bodies ∷ []
-  chunks-push n [] l s k is =
-      let e : n ≡ k = omega (arith, is) in ap (λ m. (step m l s).bodies ∷ []) e
-  chunks-push n (y ∷ ys) l s k is =
-      let now = step n y s in
-      ap (λ (v : List (List (List ℕ))). now.bodies ∷ v)
-      (chunks-push (n + 1) ys l now.next k (omega (arith, is)))
-
-  pub state_after-push : (n : ℕ) (ls : List (List ℕ)) (l : List ℕ) (s : S) (k : ℕ)
-      → k ≡ n + length ls
-      → state_after step n (ls ++ l ∷ []) s ≡ (step k l (state_after step n ls s)).next
-  state_after-push n [] l s k is =
-      let e : n ≡ k = omega (arith, is) in ap (λ m. (step m l s).next) e
-  state_after-push n (y ∷ ys) l s k is =
-      state_after-push (n + 1) ys l (step n y s).next k (omega (arith, is))
-
-  pub refused-push : (n : ℕ) (ls : List (List ℕ)) (l : List ℕ) (s : S) (k : ℕ)
-      → k ≡ n + length ls
-      → any_refused step n (ls ++ l ∷ []) s
-      ≡ (any_refused step n ls s || (step k l (state_after step n ls s)).refused)
-  refused-push n [] l s k is =
-      let e : n ≡ k = omega (arith, is) in
-      or-false (step n l s).refused ∙ ap (λ m. (step m l s).refused) e
-  refused-push n (y ∷ ys) l s k is =
-      let now = step n y s in
-      ap (λ v. now.refused || v) (refused-push (n + 1) ys l now.next k (omega (arith, is)))
-      ∙ sym (or_assoc now.refused (any_refused step (n + 1) ys now.next) _)
-
-  pub each-push : (P : ℕ → List ℕ → S → S → Type 0) (n : ℕ) (ls : List (List ℕ)) (l : List ℕ)
-      (s : S)
-      (k : ℕ) → k ≡ n + length ls → EachLine step P n ls s
-      → P k l (state_after step n ls s) (step k l (state_after step n ls s)).next
-      → EachLine step P n (ls ++ l ∷ []) s
-  each-push P n [] l s k is each this =
-      let e : k ≡ n = omega (arith, is) in
-      (subst (λ m. P m l s (step m l s).next) e this, tt)
-  each-push P n (y ∷ ys) l s k is each this =
-      (each.0, each-push P (n + 1) ys l (step n y s).next k (omega (arith, is)) each.1 this)
-
   -- lines more
 
   pub chunks-append : (n : ℕ) (ls ms : List (List ℕ)) (s : S) (k : ℕ) → k ≡ n + length ls
@@ -187,6 +145,34 @@ module _ {S : Type 0} (step : Step S) where
       let e : k ≡ n = omega (arith, is) in subst (λ m. EachLine step P m ms s) e these
   each-append P n (y ∷ ys) ms s k is each these =
       (each.0, each-append P (n + 1) ys ms (step n y s).next k (omega (arith, is)) each.1 these)
+
+  -- a line more
+
+  pub chunks-push : (n : ℕ) (ls : List (List ℕ)) (l : List ℕ) (s : S) (k : ℕ)
+      → k ≡ n + length ls
+      → chunks step n (ls ++ l ∷ []) s
+      ≡ chunks step n ls s ++ (step k l (state_after step n ls s)).bodies ∷ []
+  chunks-push n ls l s k is = chunks-append n ls (l ∷ []) s k is
+
+  pub state_after-push : (n : ℕ) (ls : List (List ℕ)) (l : List ℕ) (s : S) (k : ℕ)
+      → k ≡ n + length ls
+      → state_after step n (ls ++ l ∷ []) s ≡ (step k l (state_after step n ls s)).next
+  state_after-push n ls l s k is = state_after-append n ls (l ∷ []) s k is
+
+  pub refused-push : (n : ℕ) (ls : List (List ℕ)) (l : List ℕ) (s : S) (k : ℕ)
+      → k ≡ n + length ls
+      → any_refused step n (ls ++ l ∷ []) s
+      ≡ (any_refused step n ls s || (step k l (state_after step n ls s)).refused)
+  refused-push n ls l s k is =
+      refused-append n ls (l ∷ []) s k is
+      ∙ ap (λ v. any_refused step n ls s || v)
+      (or-false (step k l (state_after step n ls s)).refused)
+
+  pub each-push : (P : ℕ → List ℕ → S → S → Type 0) (n : ℕ) (ls : List (List ℕ)) (l : List ℕ)
+      (s : S) (k : ℕ) → k ≡ n + length ls → EachLine step P n ls s
+      → P k l (state_after step n ls s) (step k l (state_after step n ls s)).next
+      → EachLine step P n (ls ++ l ∷ []) s
+  each-push P n ls l s k is each this = each-append P n ls (l ∷ []) s k is each (this, tt)
 
   -- a line more, after n lines
   pub refused_more : (ls : List (List ℕ)) (l : List ℕ) (n : ℕ) (r : Bool) (s0 s : S)

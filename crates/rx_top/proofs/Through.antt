@@ -1,33 +1,35 @@
 -- How the play of lines goes on that are given one by one, and how it ends.
-use Rattle.std.proofs.Common.{◌≡◌, ◌≢◌, ◌∙◌, refl, sym, ap, subst, ℕ, ◌+◌, ◌≤◌, List, [], ◌∷◌, ◌++◌, length, inr, All, Option, None, Some, IfNone, IfSome, Result, Ok, Err, arith, append_assoc, append-nil, length-append}
+use Rattle.std.proofs.Common.{◌≡◌, ◌∙◌, refl, sym, ap, subst, ℕ, ◌+◌, List, [], ◌∷◌, ◌++◌, length, All, Option, None, Some, IfNone, IfSome, Ok, Err, IsErrOf, arith, append_assoc, append-nil}
 use Rattle.rx_disk.specs.declared.disk.Disk.{Ghosts}
 use Rattle.rx_disk.proofs.Moments.{started}
 use Rattle.rx_engine.specs.Dialled.{DialStanding}
-use Rattle.rx_engine.specs.Engine.{Answers, IsAt, IsUnharmedBy, limit_of, standing_of}
-use Rattle.rx_engine.specs.Meaning.{Meaning, bodies_of, meaning}
+use Rattle.rx_engine.specs.Engine.{IsAt, limit_of, standing_of}
+use Rattle.rx_engine.specs.Hearing.{PlaysLine}
+use Rattle.rx_engine.specs.Kept.{IsWellMeant}
+use Rattle.rx_engine.specs.Meaning.{meaning}
 use Rattle.rx_engine.specs.Standing.{Standing}
 use Rattle.rx_engine.specs.declared.engine.Engine.{Engine}
 use Rattle.rx_engine.specs.declared.output.Output.{Output}
-use Rattle.rx_frame.specs.File.{end_of}
 use Rattle.rx_handler.specs.Handlers.{Kinds}
 use Rattle.rx_outside.specs.declared.stop.Stop.{Stop}
 use Rattle.rx_outside.specs.declared.stop.Stop.TheVariants.{Memory}
 use Rattle.rx_sync.specs.Remote.{Heard}
-use Rattle.rx_store.specs.Holds.{GrowsLegally, StandsLegally}
-use Rattle.rx_store.specs.Safe.{IsCrashSafe, IsFull}
+use Rattle.rx_store.specs.Holds.{StandsLegally}
+use Rattle.rx_store.specs.Safe.{IsCrashSafe}
+use Rattle.rx_store.proofs.Crashes.{answered}
 use Rattle.rx_top.specs.Chunks.{all_of, singly}
-use Rattle.rx_top.specs.Hears.{HearsAll, HearsLines, IsShownAt}
+use Rattle.rx_top.specs.Hears.{HearsAll, IsShownAt}
 use Rattle.rx_top.specs.Run.{KeepsFrom}
-use Rattle.rx_top.specs.Script.{effect_of, line_effect}
-use Rattle.rx_top.specs.Story.{Effect, chunks, next_chunk, state_after}
+use Rattle.rx_top.specs.Script.{line_effect}
+use Rattle.rx_top.specs.Story.{Effect, chunks}
 use Rattle.rx_top.specs.Tally.{ComesTo, meanings, tally_of, with_line}
 use Rattle.rx_top.specs.TriesScript.{DoesLines, as_run}
+use Rattle.rx_top.specs.Work.{HasAll}
 use Rattle.rx_top.specs.declared.tally.Tally.{Tally}
-use Rattle.rx_top.proofs.Chunks.{CountsNow, Kept, OnlyNow, all_of-push, keeps_all, keeps_stopped, kept_more, kept_none}
-use Rattle.rx_top.proofs.Exits.{fits_all, images_at, leaves_at}
+use Rattle.rx_top.proofs.Chunks.{CountsNow, OnlyNow, keeps_stopped}
+use Rattle.rx_top.proofs.Done.{HasDone, all_kept, done_line, heard_all, hears_stopped, leaves_at, none_done, stopped_keeps}
 use Rattle.rx_top.proofs.Filled.{IsFilled, all_front, filled_effect, first_filled}
-use Rattle.rx_top.proofs.Hears.{heard_in, hears_push}
-use Rattle.rx_top.proofs.Story.{chunks-push, state_after-push}
+use Rattle.rx_top.proofs.Hears.{heard_in, shown_in}
 use Rattle.rx_top.proofs.Tallies.{comes_to, length-meanings, meanings-push, tally_more}
 
 -- lines were played from an engine to another, and some are left
@@ -43,15 +45,8 @@ pub record Through
     (t : Tally) : Type 0 where
   pub done : List (List ℕ)
   pub whole : lines ≡ done ++ left
-  pub limit : limit_of engine ≡ limit_of first
-  pub state : s1 ≡ state_after line_effect 1 done s0
   pub tally : t ≡ tally_of (meanings 1 done s0)
-  pub hears : HearsLines wires 1 done s0 n0 n1
-  pub at : d.tells → (bodies : List (List ℕ)) → IsAt d d0 first bodies
-      → IsAt d d1 engine (bodies ++ all_of (chunks line_effect 1 done s0))
-  pub kept : d.tells → (bodies : List (List ℕ)) → IsAt d d0 first bodies
-      → end_of bodies ≤ limit_of first
-      → Kept singly d d0 d1 bodies (chunks line_effect 1 done s0) (limit_of first)
+  pub has : HasDone singly d wires s0 s1 d0 d1 n0 n1 first (Some engine) done
 
 pub begins : (s : Standing) {D : Type 0} (d : Ghosts D) (wires : Type 0) (disk : D)
     (dial : DialStanding)
@@ -61,14 +56,8 @@ pub begins : (s : Standing) {D : Type 0} (d : Ghosts D) (wires : Type 0) (disk :
 begins s d wires disk dial first lines only_now = record {
   done = [];
   whole = refl;
-  limit = refl;
-  state = refl;
   tally = refl;
-  hears = refl;
-  at = λ t bodies at. subst (λ (bs : List (List ℕ)). IsAt d disk first bs) (sym (append-nil bodies))
-      at;
-  kept = λ t bodies at le. kept_none singly d disk bodies (limit_of first) (only_now t)
-      (leaves_at d disk first bodies [] at) le;
+  has = none_done singly d wires s disk dial first only_now;
 }
 
 pub none_so : {A : Type 0} (r : Option A) (P : Type 0) → r ≡ None → IfNone r P → P
@@ -93,211 +82,156 @@ does_as P Q f does = record {
   kept = f does.done does.rest does.kept;
 }
 
+-- ---- between two lines
+
 module _
-    (s0 s1 : Standing) {D : Type 0} (d : Ghosts D) (wires : Type 0) (d0 d1 : D)
-    (n0 n1 : DialStanding)
-    (first engine : Engine) (lines left : List (List ℕ)) (t : Tally)
+    {s0 s1 : Standing} {D : Type 0} {d : Ghosts D} {wires : Type 0} {d0 d1 : D}
+    {n0 n1 : DialStanding} {first engine : Engine} {lines left : List (List ℕ)} {t : Tally}
     (a : Through s0 s1 d wires d0 d1 n0 n1 first engine lines left t)
   where
-    abbrev cs : List (List (List ℕ))
-    cs = chunks line_effect 1 a.done s0
-
     -- how the play ends, and what the disk keeps then
-    abbrev Ends : D → DialStanding → Option Stop → Type 0
-    Ends d2 n2 stop =
-        DoesLines lines stop (HearsAll wires s0 n0 n2 (as_run stop))
-        (KeepsFrom singly s0 d d0 d2 first (as_run stop))
+    abbrev Ends : Option Stop → Type 0
+    Ends stop =
+        DoesLines lines stop (HearsAll wires s0 n0 n1 (as_run stop))
+        (KeepsFrom singly s0 d d0 d1 first (as_run stop))
 
-    pub all_done : s1.heard ≡ [] → left ≡ [] → (d.tells → OnlyNow d d1) → Ends d1 n1 None
+    pub all_done : s1.heard ≡ [] → left ≡ [] → (d.tells → OnlyNow d d1) → Ends None
     all_done unheard none only_now = record {
       done = a.done;
       rest = [];
       whole = a.whole ∙ ap (λ (v : List (List ℕ)). a.done ++ v) none;
       all = λ is. refl;
-      shown = record {
-        between = n1;
-        lines = a.hears;
-        last = (ap (λ (x : Standing). x.heard) (sym a.state) ∙ unheard, refl);
-      };
-      kept = λ told bodies at le.
-          keeps_all singly d d0 d1 bodies cs _ (limit_of first) (a.kept told bodies at le)
-          (only_now told);
+      shown = heard_all a.has (as_run None) [] unheard;
+      kept = all_kept a.has (as_run None) [] refl only_now;
     }
 
-    -- between two lines a disk is at rest
-    rests : d.tells → (bodies next : List (List ℕ)) → IsAt d d0 first bodies → OnlyNow d d1
-        → GrowsLegally d d1 d1 (bodies ++ all_of cs) next
-    rests told bodies next at only =
-        let before = bodies ++ all_of cs in
-        started d d1 (StandsLegally before next)
-        (λ c since. leaves_at d d1 engine before next (a.at told bodies at) c (only c since))
-
-    -- memory ran out between two lines
-    pub memory_out : (d.tells → OnlyNow d d1) → (d.tells → CountsNow d d1)
-        → Ends d1 n1 (Some Memory)
+    -- memory ran out
+    pub memory_out : (d.tells → OnlyNow d d1) → (d.tells → CountsNow d d1) → Ends (Some Memory)
     memory_out only_now counts_now = record {
       done = a.done;
       rest = left;
       whole = a.whole;
       all = λ is. cc;
-      shown = record { between = n1; lines = a.hears; last = λ other. absurd (other refl) };
+      shown = record {
+        between = n1;
+        lines = a.has.hears;
+        last = λ other. absurd (other refl);
+      };
       kept = λ told bodies at le.
+          let cs = chunks line_effect 1 a.done s0 in
+          let before = bodies ++ all_of cs in
+          let here : IsAt d d1 engine before = a.has.at told bodies at in
           keeps_stopped singly d d0 d1 d1 bodies cs _ (limit_of first) Memory
-          (a.kept told bodies at le)
-          (rests told bodies _ at (only_now told)) (counts_now told) (λ would most is. cc);
+          (a.has.kept told bodies at le)
+          (started d d1 (StandsLegally before _)
+          (λ c since. leaves_at d d1 engine before _ here c (only_now told c since)))
+          (counts_now told) (λ would most is. cc);
     }
 
-    -- ---- a line is played
-
-    count : t.lines ≡ length a.done
-    count = ap (λ (x : Tally). x.lines) a.tally ∙ length-meanings 1 a.done s0
-
-    -- there are no more lines than there were
-    pub within : (most : ℕ) → length lines ≤ most → t.lines + length left ≤ most
-    within most few = omega (arith, few, count, ap length a.whole, length-append a.done left)
-
-    module _ (l : List ℕ) (left' : List (List ℕ)) (next : left ≡ l ∷ left')
-        (filled : All IsFilled lines) where
-      abbrev m : Meaning
-      m = meaning (t.lines + 1) l s1
-
-      here : lines ≡ a.done ++ l ∷ left'
-      here = a.whole ∙ ap (λ (v : List (List ℕ)). a.done ++ v) next
-
-      number : t.lines + 1 ≡ 1 + length a.done
-      number = omega (arith, count)
-
-      l_filled : IsFilled l
-      l_filled = first_filled lines a.done l left' left a.whole next filled
-
-      does : line_effect (t.lines + 1) l (state_after line_effect 1 a.done s0) ≡ effect_of m
-      does = ap (λ (x : Standing). line_effect (t.lines + 1) l x) (sym a.state)
-          ∙ filled_effect (t.lines + 1) l s1 l_filled
-
-      chunks_line : chunks line_effect 1 (a.done ++ l ∷ []) s0 ≡ cs ++ bodies_of m.records ∷ []
-      chunks_line =
-          chunks-push line_effect 1 a.done l s0 (t.lines + 1) number
-          ∙ ap (λ (x : Effect Standing). cs ++ x.bodies ∷ []) does
-
-      due : bodies_of m.records
-          ≡ next_chunk line_effect (length a.done + 1) (l ∷ left')
-          (state_after line_effect 1 a.done s0)
-      due =
-          let e : t.lines + 1 ≡ length a.done + 1 = omega (arith, count) in
-          ap (λ (x : Effect Standing). x.bodies) (sym does)
-          ∙ ap (λ (k : ℕ). (line_effect k l (state_after line_effect 1 a.done s0)).bodies) e
-
-      -- what the line's work does to a disk that has the bodies before it
-      abbrev IsSafe : D → Result (Engine × Output) Stop → Type 0
-      IsSafe d2 worked =
-          d.tells → (before : List (List ℕ)) → IsAt d d1 engine before
-          → IsCrashSafe d d1 d2 before (bodies_of m.records) (limit_of engine)
-          (λ (p : Engine × Output). IsAt d d2 p.0) worked
-
-      -- its work stopped
-      pub line_stopped : (d2 : D) (n2 : DialStanding) (why : Stop)
-          → (why ≢ Memory → IsShownAt wires l s1 n1 n2 s1.heard ⊥)
-          → (why ≢ Memory → IsUnharmedBy l s1) → IsSafe d2 (Err why)
-          → (d.tells → CountsNow d d2) → Ends d2 n2 (Some why)
-      line_stopped d2 n2 why shown unharmed safe counts_now = record {
-        done = a.done;
-        rest = l ∷ left';
-        whole = here;
-        all = λ is. cc;
-        shown = record {
-          between = n1;
-          lines = a.hears;
-          last = λ other. inr (
-            l,
-            left',
-            refl,
-            subst (λ (x : Standing). IsShownAt wires l x n1 n2 x.heard ⊥) a.state (shown other),
-            λ full. subst (λ (x : Standing). IsUnharmedBy l x) a.state (unharmed other),
-          );
-        };
-        kept = λ told bodies at le.
-            let before = bodies ++ all_of cs in
-            let held = a.at told bodies at in
-            let stopped = safe told before held in
-            keeps_stopped singly d d0 d1 d2 bodies cs _ (limit_of first) why
-            (a.kept told bodies at le)
-            (subst (λ (bs : List (List ℕ)). GrowsLegally d d1 d2 before bs) due
-            (stopped.moments (images_at d d1 engine before held)))
-            (counts_now told)
-            (λ would most is.
-            let found = stopped.full would most (ap (λ (v : Stop). Err v) is) in (
-              found.0 ∙ a.limit,
-              subst (λ (bs : List (List ℕ)). IsFull d d2 before bs would most) due found.1,
-            ));
-      }
-
-      -- it was done
-      pub line_done : (kinds : Kinds) (heard later : List Heard) (d2 : D) (n2 : DialStanding)
-          (engine' : Engine) (o : Output) → limit_of engine' ≡ limit_of engine
-          → Answers kinds later m engine' o → s1.heard ≡ heard ++ later
-          → IsShownAt wires l s1 n1 n2 heard (Unit {0}) → IsSafe d2 (Ok (engine', o))
-          → (d.tells → OnlyNow d d2)
-          → Through s0
-          (standing_of kinds later engine') d wires d0 d2 n0 n2 first engine' lines left'
-          (with_line t o)
-      line_done kinds heard later d2 n2 engine' o limit answers took shown safe only_now = record {
-        done = a.done ++ l ∷ [];
-        whole = here ∙ sym (append_assoc a.done (l ∷ []) left');
-        limit = limit ∙ a.limit;
-        state = answers.next ∙ ap (λ (x : Effect Standing). x.next) (sym does)
-            ∙ sym (state_after-push line_effect 1 a.done l s0 (t.lines + 1) number);
-        tally =
-            let ms = meanings 1 a.done s0 in
-            ap (λ (x : Tally). with_line x o) a.tally
-            ∙ tally_more ms m o answers.emissions answers.refused answers.ended
-            ∙ ap (λ (x : Standing). tally_of (ms ++ meaning (t.lines + 1) l x ∷ [])) a.state
-            ∙ ap tally_of (sym (meanings-push 1 a.done l s0 (t.lines + 1) done_filled number));
-        hears = hears_push wires 1 a.done l s0 (t.lines + 1) n0 n1 n2 heard number a.hears
-            (subst (λ (x : Standing). IsShownAt wires l x n1 n2 heard (Unit {0})) a.state shown)
-            (ap (λ (x : Standing). x.heard) (sym a.state) ∙ took
-            ∙ ap (λ (hs : List Heard). heard ++ hs)
-            (sym (heard_in kinds later engine') ∙ ap (λ (x : Standing). x.heard) answers.next
-            ∙ ap (λ (x : Effect Standing). x.next.heard) (sym does)));
-        at = λ told bodies at.
-            subst (λ (bs : List (List ℕ)). IsAt d d2 engine' bs) (together bodies)
-            (safe told (bodies ++ all_of cs) (a.at told bodies at)).at;
-        kept = λ told bodies at le.
-            let so_far = a.kept told bodies at le in
-            let before = bodies ++ all_of cs in
-            let held = a.at told bodies at in
-            let done = safe told before held in
-            let fits : end_of before ≤ limit_of engine =
-            subst (λ (k : ℕ). end_of before ≤ k) (sym a.limit) so_far.fits in
-            subst (λ (ds : List (List (List ℕ))). Kept singly d d0 d2 bodies ds (limit_of first))
-            (sym chunks_line)
-            (kept_more singly d d0 d1 d2 bodies cs (bodies_of m.records) (limit_of first) so_far
-            (done.moments (images_at d d1 engine before held))
-            (leaves_at d d2 engine' (before ++ bodies_of m.records) [] done.at)
-            (subst (λ (k : ℕ). end_of (before ++ bodies_of m.records) ≤ k) a.limit
-            (fits_all before (bodies_of m.records) (limit_of engine) done.fits fits))
-            (only_now told));
-      }
-        where
-          done_filled : All IsFilled a.done
-          done_filled = all_front IsFilled a.done left
-              (subst (λ (v : List (List ℕ)). All IsFilled v) a.whole filled)
-
-          together : (bodies : List (List ℕ)) → (bodies ++ all_of cs) ++ bodies_of m.records
-              ≡ bodies ++ all_of (chunks line_effect 1 (a.done ++ l ∷ []) s0)
-          together bodies =
-              append_assoc bodies (all_of cs) (bodies_of m.records)
-              ∙ ap (λ (bs : List (List ℕ)). bodies ++ bs)
-              (sym (all_of-push cs (bodies_of m.records)))
-              ∙ ap (λ (ds : List (List (List ℕ))). bodies ++ all_of ds) (sym chunks_line)
+    -- the number of the next line
+    number : t.lines + 1 ≡ 1 + length a.done
+    number =
+        let count : t.lines ≡ length a.done =
+        ap (λ (x : Tally). x.lines) a.tally ∙ length-meanings 1 a.done s0 in
+        omega (arith, count)
 
 -- what an engine and a tally come to where no line is left
-pub all_so : (kinds : Kinds) (s0 : Standing) {D : Type 0} (d : Ghosts D) (wires : Type 0)
-    (d0 d1 : D)
-    (n0 n1 : DialStanding) (first engine : Engine) (lines left : List (List ℕ)) (t : Tally)
+pub all_so : (kinds : Kinds) {s0 : Standing} {D : Type 0} {d : Ghosts D} {wires : Type 0}
+    {d0 d1 : D} {n0 n1 : DialStanding} {first engine : Engine} {lines left : List (List ℕ)}
+    {t : Tally}
     → Through s0 (standing_of kinds [] engine) d wires d0 d1 n0 n1 first engine lines left t
     → left ≡ [] → ComesTo lines s0 engine t
-all_so kinds s0 d wires d0 d1 n0 n1 first engine lines left t a none =
+all_so kinds {s0} {engine = engine} {lines = lines} {t = t} a none =
     let whole : a.done ≡ lines =
     sym (a.whole ∙ ap (λ (v : List (List ℕ)). a.done ++ v) none ∙ append-nil a.done) in
     subst (λ (v : List (List ℕ)). ComesTo v s0 engine t) whole
-    (comes_to kinds [] engine t a.done s0 a.tally a.state)
+    (comes_to kinds [] engine t a.done s0 a.tally a.has.state)
+
+-- ---- a line is played
+
+-- what holds of an engine that made an output
+abbrev IsMade : {D : Type 0} → Ghosts D → D → Engine × Output → List (List ℕ) → Type 0
+IsMade d disk p bodies = IsAt d disk p.0 bodies
+
+stop_is : (why other : Stop) → IsErrOf {T = Engine × Output} (Err why) other → why ≡ other
+stop_is why other is = cc
+
+module _
+    {s0 : Standing} {D : Type 0} {d : Ghosts D} {wires : Type 0} {d0 d1 d2 : D}
+    {n0 n1 n2 : DialStanding} {first engine : Engine} {lines left left' : List (List ℕ)}
+    {t : Tally} {kinds : Kinds} {l : List ℕ}
+  where
+    -- its work stopped
+    pub line_stopped : {why : Stop}
+        (plays : PlaysLine d wires kinds (t.lines + 1) l d1 d2 n1 n2 engine (Err why))
+        (a : Through s0 (standing_of kinds (plays.heard ++ []) engine) d wires d0 d1 n0 n1 first
+        engine lines left t)
+        → left ≡ l ∷ left' → All IsFilled lines
+        → ((heard : List Heard) → IsWellMeant l (standing_of kinds heard engine))
+        → (d.tells → CountsNow d d2)
+        → DoesLines lines (Some why) (HearsAll wires s0 n0 n2 (as_run (Some why)))
+        (KeepsFrom singly s0 d d0 d2 first (as_run (Some why)))
+    line_stopped {why} plays a next filled meant counts_now =
+        let heard = plays.heard ++ [] in
+        let s1 = standing_of kinds heard engine in
+        let full = first_filled lines a.done l left' left a.whole next filled in
+        let all : plays.heard ≡ s1.heard =
+        sym (append-nil plays.heard) ∙ sym (heard_in kinds heard engine) in
+        record {
+          done = a.done;
+          rest = l ∷ left';
+          whole = a.whole ∙ ap (λ (v : List (List ℕ)). a.done ++ v) next;
+          all = λ is. cc;
+          shown = hears_stopped a.has (t.lines + 1) (number a) l left' why
+              (λ other. subst (λ (hs : List Heard). IsShownAt wires l s1 n1 n2 hs ⊥) all
+              (shown_in wires l kinds engine n1 n2 plays.heard (λ none. absurd none) heard full
+              (plays.shown (λ is. other (stop_is why Memory is)))))
+              (λ other some. (meant heard).unharmed);
+          kept = stopped_keeps a.has (t.lines + 1) (number a) l left' why (IsMade d d2)
+              (λ told before at. subst (λ (e : Effect Standing).
+              IsCrashSafe d d1 d2 before e.bodies (limit_of engine) (IsMade d d2) (Err why))
+              (sym (filled_effect (t.lines + 1) l s1 full)) (plays.safe [] told before at))
+              counts_now;
+        }
+
+    -- it was done
+    pub line_done : {p : Engine × Output}
+        (plays : PlaysLine d wires kinds (t.lines + 1) l d1 d2 n1 n2 engine (Ok p))
+        (later : List Heard)
+        (a : Through s0 (standing_of kinds (plays.heard ++ later) engine) d wires d0 d1 n0 n1 first
+        engine lines left t) → left ≡ l ∷ left' → All IsFilled lines
+        → limit_of p.0 ≡ limit_of engine → (d.tells → OnlyNow d d2)
+        → Through s0 (standing_of kinds later p.0) d wires d0 d2 n0 n2 first p.0 lines left'
+        (with_line t p.1)
+    line_done {p} plays later a next filled limit only_now =
+        let heard = plays.heard ++ later in
+        let s1 = standing_of kinds heard engine in
+        let m = meaning (t.lines + 1) l s1 in
+        let ms = meanings 1 a.done s0 in
+        let full = first_filled lines a.done l left' left a.whole next filled in
+        let does = sym (filled_effect (t.lines + 1) l s1 full) in
+        let answers = plays.answers later in
+        let after = answers.next ∙ ap (λ (e : Effect Standing). e.next) does in
+        record {
+          done = a.done ++ l ∷ [];
+          whole = a.whole ∙ ap (λ (v : List (List ℕ)). a.done ++ v) next
+              ∙ sym (append_assoc a.done (l ∷ []) left');
+          tally = ap (λ (x : Tally). with_line x p.1) a.tally
+              ∙ tally_more ms m p.1 answers.emissions answers.refused answers.ended
+              ∙ ap (λ (x : Standing). tally_of (ms ++ meaning (t.lines + 1) l x ∷ [])) a.has.state
+              ∙ ap tally_of (sym (meanings-push 1 a.done l s0 (t.lines + 1)
+              (all_front IsFilled a.done left
+              (subst (λ (v : List (List ℕ)). All IsFilled v) a.whole filled)) (number a)));
+          has = done_line a.has (t.lines + 1) (number a) l plays.heard limit after
+              (shown_in wires l kinds engine n1 n2 plays.heard (λ all. refl) heard full
+              (plays.shown (λ is. cc)))
+              (heard_in kinds heard engine
+              ∙ ap (λ (hs : List Heard). plays.heard ++ hs)
+              (sym (heard_in kinds later p.0) ∙ ap (λ (x : Standing). x.heard) after))
+              (λ told before at. subst (λ (e : Effect Standing).
+              IsCrashSafe d d1 d2 before e.bodies (limit_of engine) (HasAll d d2) (Ok (Some p.0)))
+              does
+              (answered d d1 d2 before _ (limit_of engine) (IsMade d d2) (HasAll d d2) p (Some p.0)
+              (plays.safe later told before at) (λ held. held)))
+              only_now;
+        }

@@ -27,10 +27,6 @@ abbrev pub text_in : Result (String Global) Stop → List ℕ
 text_in (Ok t) = string_bytes t
 text_in (Err why) = []
 
-pub own_text : (r : Result (String Global) Stop) → IfOk r (λ t. string_bytes t ≡ text_in r)
-own_text (Ok t) = refl
-own_text (Err why) = tt
-
 -- what holds of the text of a result holds of one that is the same
 pub of_text : (r : Result (String Global) Stop) (P : List ℕ → Type 0) (text : List ℕ)
     → result_err r ≡ None → IfOk r (λ t. string_bytes t ≡ text) → P (text_in r) → P text

@@ -1,5 +1,5 @@
 -- What the work on one line leaves, by what the engine says of it.
-use Rattle.std.proofs.Common.{◌≡◌, ◌∙◌, refl, sym, ap, subst, ℕ, Bool, true, false, true≢false, cond, List, [], ◌++◌, append-nil, string_bytes, Option, None, Some, Result, Ok, Err, IsErrOf, inl}
+use Rattle.std.proofs.Common.{◌≡◌, ◌∙◌, refl, sym, ap, subst, ℕ, Bool, true, false, true≢false, cond, List, [], ◌++◌, append-nil, string_bytes, Option, None, Some, Result, Ok, Err, IsErrOf}
 use Rattle.rx_disk.specs.declared.disk.Disk.{Ghosts}
 use Rattle.rx_engine.specs.Dialled.{DialStanding}
 use Rattle.rx_engine.specs.Engine.{Answers, IsAt, limit_of, session_of, standing_of}
@@ -15,6 +15,7 @@ use Rattle.rx_engine.specs.Standing.{Standing}
 use Rattle.rx_handler.specs.Handlers.{Kinds}
 use Rattle.rx_sync.specs.Remote.{Heard}
 use Rattle.rx_store.specs.Safe.{IsCrashSafe}
+use Rattle.rx_store.proofs.Crashes.{answered, idle, same_stop}
 use Rattle.rx_top.specs.Lines.{is_blank}
 use Rattle.rx_top.specs.Script.{effect_of, line_effect, no_effect}
 use Rattle.rx_top.specs.Story.{Effect}
@@ -23,7 +24,7 @@ use Rattle.rx_top.specs.Work.{HasAll, WorksLine, work_of}
 use Rattle.rx_top.specs.declared.early_end.EarlyEnd.{EarlyEnd}
 use Rattle.rx_top.specs.declared.early_end.EarlyEnd.TheVariants.{Sink, Work}
 use Rattle.rx_top.proofs.Chunks.{OnlyNow, still}
-use Rattle.rx_top.proofs.Exits.{leaves_at}
+use Rattle.rx_top.proofs.Done.{leaves_at}
 use Rattle.rx_top.proofs.Hears.{shown_in}
 
 module _ (s : Standing) {D : Type 0} (d : Ghosts D) (e : Engine) (n : ℕ) (line : List ℕ) where
@@ -48,13 +49,8 @@ module _ (s : Standing) {D : Type 0} (d : Ghosts D) (e : Engine) (n : ℕ) (line
       subst (λ (more : List (List ℕ)).
       IsCrashSafe d disk disk bodies more (limit_of e) (HasAll d disk) (Ok (Some e)))
       (nothing_to_do blank)
-      (record {
-        moments = λ images. still d disk bodies only (leaves_at d disk e bodies [] at);
-        at = subst (λ (bs : List (List ℕ)). IsAt d disk e bs) (sym (append-nil bodies)) at;
-        fits = inl refl;
-        full = λ would most is. cc;
-        not_journal = λ is. cc;
-      })
+      (idle d disk bodies (limit_of e) (HasAll d disk) (Some e)
+      (λ images. still d disk bodies only (leaves_at d disk e bodies [] at)) at)
 
   does : is_blank line ≡ false → effect_of (meaning n line s) ≡ effect
   does full =
@@ -77,59 +73,50 @@ module _ (s : Standing) {D : Type 0} (d : Ghosts D) (e : Engine) (n : ℕ) (line
   pub turn_blank : is_blank line ≡ true → HoldsOfTurn n line s effect.next
   turn_blank blank = λ full. absurd (cc)
 
+  -- what holds of an engine that made an output
+  abbrev IsMade : D → Engine × Output → List (List ℕ) → Type 0
+  IsMade new p bodies = IsAt d new p.0 bodies
+
   -- what the engine did to the disk
   abbrev IsDone : D → D → List (List ℕ) → Result (Engine × Output) Stop → Type 0
   IsDone old new bodies result =
-      IsCrashSafe d old new bodies (effect_of (meaning n line s)).bodies (limit_of e)
-      (λ (p : Engine × Output). IsAt d new p.0) result
+      IsCrashSafe d old new bodies (effect_of (meaning n line s)).bodies (limit_of e) (IsMade new)
+      result
+
+  -- it is what was done to it by the line
+  as_work : (old new : D) (bodies : List (List ℕ)) (done : Result (Option Engine) Stop)
+      → is_blank line ≡ false
+      → IsCrashSafe d old new bodies (effect_of (meaning n line s)).bodies (limit_of e)
+      (HasAll d new) done
+      → IsCrashSafe d old new bodies effect.bodies (limit_of e) (HasAll d new) done
+  as_work old new bodies done full safe =
+      subst (λ (m : Effect Standing).
+      IsCrashSafe d old new bodies m.bodies (limit_of e) (HasAll d new) done) (does full) safe
 
   -- the engine stopped
   pub stop_safe : (old new : D) (bodies : List (List ℕ)) (stop : Stop) → is_blank line ≡ false
       → IsDone old new bodies (Err stop) → IsSafe old new bodies (Err (Work stop))
   stop_safe old new bodies stop full safe =
-      subst (λ (m : Effect Standing).
-      IsCrashSafe d old new bodies m.bodies (limit_of e) (HasAll d new) (Err stop)) (does full)
-      (record {
-        moments = safe.moments;
-        at = tt;
-        fits = tt;
-        full = λ would most is. safe.full would most (same_stop is);
-        not_journal = λ is. safe.not_journal (same_stop is);
-      })
-    where
-      same_stop : {st : Stop} → IsErrOf {T = Option Engine} (Err stop) st
-          → IsErrOf {T = Engine × Output} (Err stop) st
-      same_stop {st} h = let same : stop ≡ st = cc in ap Err same
+      as_work old new bodies (Err stop) full
+      (same_stop d old new bodies _ (limit_of e) (IsMade new) (HasAll d new) stop (Err stop) refl
+      safe)
 
   -- the engine did all, and goes on or not
   pub done_safe : (old new : D) (bodies : List (List ℕ)) (pair : Engine × Output) (now : Bool)
       → is_blank line ≡ false → IsDone old new bodies (Ok pair)
       → IsSafe old new bodies (Ok (pair.0, now))
   done_safe old new bodies pair now full safe =
-      subst (λ (m : Effect Standing).
-      IsCrashSafe d old new bodies m.bodies (limit_of e) (HasAll d new) (Ok (Some pair.0)))
-      (does full)
-      (record {
-        moments = safe.moments;
-        at = safe.at;
-        fits = safe.fits;
-        full = λ would most is. cc;
-        not_journal = λ is. cc;
-      })
+      as_work old new bodies (Ok (Some pair.0)) full
+      (answered d old new bodies _ (limit_of e) (IsMade new) (HasAll d new) pair (Some pair.0) safe
+      (λ held. held))
 
   pub sunk_safe : (old new : D) (bodies : List (List ℕ)) (pair : Engine × Output)
       → is_blank line ≡ false → IsDone old new bodies (Ok pair)
       → IsSafe old new bodies (Err Sink)
   sunk_safe old new bodies pair full safe =
-      subst (λ (m : Effect Standing).
-      IsCrashSafe d old new bodies m.bodies (limit_of e) (HasAll d new) (Ok None)) (does full)
-      (record {
-        moments = safe.moments;
-        at = leaves_at d new pair.0 _ [] safe.at;
-        fits = safe.fits;
-        full = λ would most is. cc;
-        not_journal = λ is. cc;
-      })
+      as_work old new bodies (Ok None) full
+      (answered d old new bodies _ (limit_of e) (IsMade new) (HasAll d new) pair None safe
+      (λ held. leaves_at d new pair.0 _ [] held))
 
 -- ---- the work on a line, by what was heard in it
 

@@ -20,6 +20,7 @@ use Rattle.rx_top.specs.Hears.{HearsAll}
 use Rattle.rx_top.specs.Lines.{lines}
 use Rattle.rx_top.specs.Reader.{Took, max_input_bytes, max_piece_bytes}
 use Rattle.rx_top.specs.Script.{line_effect, transcript}
+use Rattle.rx_top.specs.Start.{FromStart}
 use Rattle.rx_top.specs.Stops.{EndsWith, Stops, last_words}
 use Rattle.rx_top.specs.Story.{EachLine, Step, any_refused, chunks, next_chunk, replies, state_after}
 use Rattle.rx_top.specs.Turns.{HoldsOfTurn}
@@ -193,6 +194,22 @@ KeepsRun by host heard d old new bodies w limit ended done rest =
     × Keeps by d old new bodies [] (epoch_body w ∷ []) limit (stop_of ended))
     ⊎ Keeps by d old new bodies (run_chunks host heard w done)
     (due_at by host heard w (stop_of ended) done rest) limit (stop_of ended)
+
+-- What is said of a play that an opening began, by how things stood then and what the disk keeps:
+-- over a journal as it was found, and, where nothing is known of the disk, from some world.
+pub record FromOpening
+    {D : Type 0}
+    (by : Grouping)
+    (host : Host)
+    (heard : List Heard)
+    (d : Ghosts D)
+    (old new : D)
+    (limit : ℕ)
+    (ended : Result Bool EarlyEnd)
+    (Says : Standing → (List (List ℕ) → List (List ℕ) → Type 0) → Type 0) : Type 0 where
+  pub found : FromStart d old (λ bodies w.
+      Says (opened host heard w) (KeepsRun by host heard d old new bodies w limit ended))
+  pub somewhere : (w : World) × Says (opened host heard w) (λ done rest. ⊤)
 
 -- ---- both, and the end
 

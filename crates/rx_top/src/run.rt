@@ -1,15 +1,14 @@
 // The command `run`: a script is played over a journal.
-ghost use Rattle.std.specs.Prelude.{⊤, List, ◌<◌, ◌≤◌, ◌^◌};
-ghost use Rattle.rx_engine.specs.Opening.{host_of, opened};
+ghost use Rattle.std.specs.Prelude.{List, ◌<◌, ◌≤◌, ◌^◌};
+ghost use Rattle.rx_engine.specs.Opening.{host_of};
 ghost use Rattle.rx_journal.specs.Reading.{IsUntouched};
 ghost use Rattle.rx_sync.specs.Remote.{Heard};
 ghost use Rattle.rx_store.specs.Holds.{IsIllegalFile, IsJournalOfSome};
-ghost use Rattle.rx_world.specs.World.{World};
 ghost use Rattle.rx_top.specs.Causes.{HasCause, IsUnopened, by_any, source_failed};
 ghost use Rattle.rx_top.specs.Hears.{HearsAll, stands};
 ghost use Rattle.rx_top.specs.PlaysScript.{PlaysScript};
 ghost use Rattle.rx_top.specs.Chunks.{in_groups};
-ghost use Rattle.rx_top.specs.Run.{KeepsRun, NeedsJournal, Plays, TakesInput};
+ghost use Rattle.rx_top.specs.Run.{NeedsJournal, FromOpening, Plays, TakesInput};
 ghost use Rattle.rx_top.specs.Script.{line_effect};
 ghost use Rattle.rx_top.specs.Start.{FromStart, StaysLegal};
 ghost use Rattle.rx_top.specs.Stops.{Appends};
@@ -65,22 +64,12 @@ fn open_and_play<S: Source, K: Sink, D: Disk, N: Dial>(
 ) -> Result<bool, EarlyEnd>
     requires low { 9 ≤ limit }
     requires high { limit < 2 ^ 32 }
-    // By what was heard of masters elsewhere in all lines, as the dial shows, over a disk that
-    // tells its content and over any other.
-    ensures run { (heard : List Heard) × (S.tells → FromStart D.Disk disk.old (λ bodies w.
-        Plays line_effect HoldsOfTurn K.tells (K.written out.old) (K.written out.new)
-        (S.left source.old) (S.left source.new)
-        (opened (host_of handlers.now hooks.now) heard w) result
-        (HearsAll N.W.tells (opened (host_of handlers.now hooks.now) heard w)
-        (stands N.Dial dial.old) (stands N.Dial dial.new) result)
-        (KeepsRun in_groups (host_of handlers.now hooks.now) heard D.Disk disk.old disk.new
-        bodies w limit result)))
-        × (S.tells → (w : World) × Plays line_effect HoldsOfTurn K.tells (K.written out.old)
-        (K.written out.new) (S.left source.old) (S.left source.new)
-        (opened (host_of handlers.now hooks.now) heard w) result
-        (HearsAll N.W.tells (opened (host_of handlers.now hooks.now) heard w)
-        (stands N.Dial dial.old) (stands N.Dial dial.new) result)
-        (λ done rest. ⊤)) }
+    // By what was heard of masters elsewhere in all lines, as the dial shows.
+    ensures run { (heard : List Heard) × (S.tells → FromOpening in_groups
+        (host_of handlers.now hooks.now) heard D.Disk disk.old disk.new limit result
+        (λ s Kept. Plays line_effect HoldsOfTurn K.tells (K.written out.old) (K.written out.new)
+        (S.left source.old) (S.left source.new) s result
+        (HearsAll N.W.tells s (stands N.Dial dial.old) (stands N.Dial dial.new) result) Kept)) }
     ensures legal { FromStart D.Disk disk.old (λ bodies w.
         StaysLegal D.Disk disk.old disk.new bodies) }
     ensures illegal { D.tells → IsIllegalFile (D.content disk.old)

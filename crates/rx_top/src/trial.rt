@@ -1,8 +1,8 @@
 // The command `trial`: a script that is drawn from a seed is played over a journal, and summed up.
-ghost use Rattle.std.specs.Prelude.{◌≡◌, ⊤, ◌<◌, ◌≤◌, ◌^◌, ℕ, List, All, length, false, IfOk, OnOk, IsErrOf, string_bytes};
+ghost use Rattle.std.specs.Prelude.{◌≡◌, ◌<◌, ◌≤◌, ◌^◌, ℕ, List, All, length, false, IfOk, OnOk, IsErrOf, string_bytes};
 ghost use Rattle.std.specs.Result.{result_err};
 ghost use Rattle.rx_engine.specs.Engine.{IsAt, standing_of};
-ghost use Rattle.rx_engine.specs.Opening.{host_of, opened};
+ghost use Rattle.rx_engine.specs.Opening.{host_of};
 ghost use Rattle.rx_handler.specs.Shown.{kinds_of};
 ghost use Rattle.rx_journal.specs.Reading.{IsUntouched};
 ghost use Rattle.rx_outside.specs.declared.stop.Stop.TheVariants as stop;
@@ -10,12 +10,10 @@ ghost use Rattle.rx_store.specs.Holds.{IsIllegalFile, IsJournalOfSome};
 ghost use Rattle.rx_store.specs.Safe.{HasDiskCause};
 ghost use Rattle.rx_sync.specs.Remote.{Heard};
 ghost use Rattle.rx_trial.specs.Lines.{script};
-ghost use Rattle.rx_world.specs.World.{World};
 ghost use Rattle.rx_top.specs.Hears.{HearsAll, stands};
 ghost use Rattle.rx_top.specs.Lines.{is_blank};
 ghost use Rattle.rx_top.specs.Chunks.{singly};
-ghost use Rattle.rx_top.specs.Run.{KeepsFrom, KeepsRun};
-ghost use Rattle.rx_top.specs.Start.{FromStart};
+ghost use Rattle.rx_top.specs.Run.{KeepsFrom, FromOpening};
 ghost use Rattle.rx_top.specs.Tally.{ComesTo, summary_of};
 ghost use Rattle.rx_top.specs.TriesScript.{DoesLines, TriesScript, as_run};
 
@@ -65,22 +63,12 @@ fn open_and_play<D: Disk, N: Dial>(
 ) -> Result<String, Stop>
     requires low { 9 ≤ limit }
     requires high { limit < 2 ^ 32 }
-    // By what was heard of masters elsewhere in all lines, as the dial shows, over a disk that
-    // tells its content and over any other.
-    ensures plays { (heard : List Heard) × FromStart D.Disk disk.old (λ bodies w.
-        DoesLines (script seed count) (result_err result)
-        (HearsAll N.W.tells (opened (host_of handlers.now hooks.now) heard w)
-        (stands N.Dial dial.old) (stands N.Dial dial.new) (as_run (result_err result)))
-        (KeepsRun singly (host_of handlers.now hooks.now) heard D.Disk disk.old disk.new
-        bodies w limit (as_run (result_err result)))
-        × IfOk result (λ text. string_bytes text
-        ≡ summary_of (script seed count) (opened (host_of handlers.now hooks.now) heard w)))
-        × (w : World) × DoesLines (script seed count) (result_err result)
-        (HearsAll N.W.tells (opened (host_of handlers.now hooks.now) heard w)
-        (stands N.Dial dial.old) (stands N.Dial dial.new) (as_run (result_err result)))
-        (λ done rest. ⊤)
-        × IfOk result (λ text. string_bytes text
-        ≡ summary_of (script seed count) (opened (host_of handlers.now hooks.now) heard w)) }
+    // By what was heard of masters elsewhere in all lines, as the dial shows.
+    ensures plays { (heard : List Heard) × FromOpening singly (host_of handlers.now hooks.now) heard
+        D.Disk disk.old disk.new limit (as_run (result_err result)) (λ s Kept.
+        DoesLines (script seed count) (result_err result) (HearsAll N.W.tells s
+        (stands N.Dial dial.old) (stands N.Dial dial.new) (as_run (result_err result))) Kept
+        × IfOk result (λ text. string_bytes text ≡ summary_of (script seed count) s)) }
     ensures illegal { D.tells → IsIllegalFile (D.content disk.old)
         → IsUntouched D.Disk disk.old disk.new }
     ensures stood { D.tells → OnOk result (IsJournalOfSome (D.content disk.old)) }

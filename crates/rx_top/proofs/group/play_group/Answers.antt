@@ -100,13 +100,9 @@ returns-in-Err-clause-told g c told = none_joined (g.K.Sink.written c.args.out.n
 
 pub returns-in-Ok-settle-clause-told : goal.returns-in-Ok-settle-clause-told
 returns-in-Ok-settle-clause-told g c told =
-    group_joined g.D.Disk g.K.Sink.tells c.in-Ok.gathered.0 c.args.disk.now c.settle.new.disk
-    (g.K.Sink.written c.args.out.now) (g.K.Sink.written c.settle.new.out)
-    (Ok c.in-Ok-settle.engine) c.in-Ok-settle.ensures.settles (λ f is. cc) told
+    group_joined (Ok c.in-Ok-settle.engine) c.in-Ok-settle.ensures.settles (λ f is. cc) told
 
 pub returns-in-Err-settle-clause-told : goal.returns-in-Err-settle-clause-told
 returns-in-Err-settle-clause-told g c told =
-    group_joined g.D.Disk g.K.Sink.tells c.in-Ok.gathered.0 c.args.disk.now c.settle.new.disk
-    (g.K.Sink.written c.args.out.now) (g.K.Sink.written c.settle.new.out)
-    (Err c.in-Err-settle.cause) c.in-Err-settle.ensures.settles
+    group_joined (Err c.in-Err-settle.cause) c.in-Err-settle.ensures.settles
     c.in-Err-settle.ensures.cause.read told

@@ -1,24 +1,17 @@
-use Rattle.std.proofs.Common.{◌++◌, ◌∷◌, [], ⊎_elim, Err, ap, refl, sym, append-nil, subst, arith}
-use Rattle.rx_engine.specs.Engine.{standing_of}
-use Rattle.rx_engine.specs.Opening.{host_of, epoch_body, opened}
-use Rattle.std.specs.Prelude.{⊤}
-use Rattle.rx_engine.specs.Standing.{Standing}
+use Rattle.std.proofs.Common.{◌++◌, ◌∷◌, [], Err, ap, refl, sym, append-nil, arith}
+use Rattle.rx_engine.specs.Opening.{host_of, epoch_body}
 use Rattle.rx_handler.specs.Shown.{kinds_of}
-use Rattle.rx_world.specs.World.{empty}
 use Rattle.rx_top.specs.Causes.{IsUnopened, by_any, source_failed}
-use Rattle.rx_top.specs.Hears.{HearsAll, stands}
-use Rattle.rx_top.specs.Lines.{lines}
 use Rattle.rx_top.specs.Chunks.{in_groups}
-use Rattle.rx_top.specs.Run.{KeepsRun, Plays}
-use Rattle.rx_top.specs.Script.{line_effect}
-use Rattle.rx_top.specs.Turns.{HoldsOfTurn}
+use Rattle.rx_top.specs.Hears.{stands}
+use Rattle.rx_top.specs.Lines.{lines}
 use Rattle.rx_top.specs.declared.early_end.EarlyEnd.TheVariants.{Read, Work}
 use Rattle.rx_top.specs.declared.early_end.ReadFault.TheVariants as ReadFault
 use Rattle.rx_top.proofs.Causes.{any_so, later_cause, other_journal, read_cause, stop_cause}
 use Rattle.rx_top.proofs.Chunks.{stays_legal}
 use Rattle.rx_top.proofs.Growth.{legal_on}
-use Rattle.rx_top.proofs.Hears.{heard_at_first}
-use Rattle.rx_top.proofs.Heads.{needs_journal, no_reader_keeps, not_both, open_keeps, played_keeps, said_as, still_legal, unplayed, untouched}
+use Rattle.rx_top.proofs.Heads.{needs_journal, no_reader_keeps, not_both, open_keeps, said_as, still_legal, unplayed, untouched}
+use Rattle.rx_top.proofs.Opened.{from_opened, from_unopened}
 use Rattle.rx_top.proofs.Promptly.{prompt_none}
 use Rattle.rx_top.proofs.Stopping.{none_joined}
 use Rattle.rx_top.proofs.run.open_and_play.Goals as goal
@@ -27,25 +20,17 @@ pub returns-in-Err-clause-run : goal.returns-in-Err-clause-run
 returns-in-Err-clause-run g c =
     let host = host_of c.args.handlers.now c.args.hooks.now in
     let input = g.S.Source.left c.args.source.now in
-    let dial = stands g.N.Dial c.args.dial.now in
-    let none = λ (k : g.K.Sink.tells). sym (append-nil (g.K.Sink.written c.args.out.now)) in (
+    let dial = stands g.N.Dial c.args.dial.now in (
       [],
-      λ told t bodies w start.
-          unplayed g.K.Sink.tells g.N.W.Wire.tells dial _ _ input _ (opened host [] w)
-          (Err (Read ReadFault.Memory))
-          (KeepsRun in_groups host [] g.D.Disk c.args.disk.now c.args.disk.now bodies w c.args.limit
-          (Err (Read ReadFault.Memory))) (heard_at_first host [] w)
-          (prompt_none input) none
-          (no_reader_keeps in_groups host [] g.D.Disk bodies w c.args.limit c.args.disk.now
-          (lines input) start
-          (λ f. g.met.D.Disk.only_now c.args.disk.now f t)
+      λ told. from_unopened (lines input) refl
+          (λ s Kept none kept.
+          unplayed g.K.Sink.tells g.N.W.Wire.tells dial _ _ input _ s
+          (Err (Read ReadFault.Memory)) Kept none (prompt_none input)
+          (λ k. sym (append-nil (g.K.Sink.written c.args.out.now))) kept)
+          (λ t bodies w start.
+          no_reader_keeps in_groups host [] g.D.Disk bodies w c.args.limit c.args.disk.now
+          (lines input) start (λ f. g.met.D.Disk.only_now c.args.disk.now f t)
           (λ s f le now. g.met.D.Disk.counts_now c.args.disk.now s f t le now)),
-      λ told. (
-        empty,
-        unplayed g.K.Sink.tells g.N.W.Wire.tells dial _ _ input _ (opened host [] empty)
-            (Err (Read ReadFault.Memory)) (λ done rest. ⊤)
-            (heard_at_first host [] empty) (prompt_none input) none tt,
-      ),
     )
 
 pub returns-in-Err-clause-legal : goal.returns-in-Err-clause-legal
@@ -62,38 +47,14 @@ play-requires-clause-at g c = λ t.
 pub returns-in-Ok-open-clause-run : goal.returns-in-Ok-open-clause-run
 returns-in-Ok-open-clause-run g c =
     let kinds = kinds_of c.args.handlers.now in
-    let host = host_of c.args.handlers.now c.args.hooks.now in
-    let exit = c.play.ensures.exit in
-    let heard = exit.0 in
-    let first = standing_of kinds heard c.in-Ok-open.engine in
-    let n0 = stands g.N.Dial c.args.dial.now in
-    let n2 = stands g.N.Dial c.play.new.dial in (
+    let opens = c.in-Ok-open.ensures in
+    let heard = c.play.ensures.exit.0 in (
       heard,
-      λ told t bodies w start.
-          let found = c.in-Ok-open.ensures.opened t bodies w start.legal kinds heard in
-          let safe = c.in-Ok-open.ensures.safe t bodies w start.legal in
-          subst (λ (s : Standing). Plays line_effect HoldsOfTurn g.K.Sink.tells
-          (g.K.Sink.written c.args.out.now) (g.K.Sink.written c.play.new.out)
-          (g.S.Source.left c.args.source.now) (g.S.Source.left c.play.new.source) s c.play.result
-          (HearsAll g.N.W.Wire.tells s n0 n2 c.play.result)
-          (KeepsRun in_groups host heard g.D.Disk c.args.disk.now c.play.new.disk bodies
-          w c.args.limit c.play.result)) found
-          (said_as _ _
-          (λ done rest kept. played_keeps in_groups host heard g.D.Disk bodies w c.args.limit
-          c.args.disk.now c.open.new.disk c.play.new.disk c.in-Ok-open.engine c.play.result done
-          rest (safe.moments start.alike) (⊎_elim (λ none. cc) (λ le. le) safe.fits)
-          c.in-Ok-open.ensures.limit first found safe.at t kept)
-          (exit.1 told)),
-      λ told.
-          let begun = c.in-Ok-open.ensures.begun in (
-            begun.0,
-            subst (λ (s : Standing). Plays line_effect HoldsOfTurn g.K.Sink.tells
-                (g.K.Sink.written c.args.out.now) (g.K.Sink.written c.play.new.out)
-                (g.S.Source.left c.args.source.now) (g.S.Source.left c.play.new.source) s
-                c.play.result (HearsAll g.N.W.Wire.tells s n0 n2 c.play.result) (λ done rest. ⊤))
-                (begun.1 kinds heard)
-                (said_as _ _ (λ done rest kept. tt) (exit.1 told)),
-          ),
+      λ told. from_opened c.open.new.disk c.in-Ok-open.engine
+          (λ s P Q f said. said_as P Q f said)
+          (λ t bodies w legal. opens.opened t bodies w legal kinds heard)
+          (opens.begun.0, opens.begun.1 kinds heard) opens.safe opens.limit
+          (c.play.ensures.exit.1 told),
     )
 
 pub returns-in-Ok-open-clause-legal : goal.returns-in-Ok-open-clause-legal
@@ -106,27 +67,19 @@ pub returns-clause-run : goal.returns-clause-run
 returns-clause-run g c =
     let host = host_of c.args.handlers.now c.args.hooks.now in
     let input = g.S.Source.left c.args.source.now in
-    let dial = stands g.N.Dial c.args.dial.now in
-    let none = λ (k : g.K.Sink.tells). sym (append-nil (g.K.Sink.written c.args.out.now)) in (
+    let dial = stands g.N.Dial c.args.dial.now in (
       [],
-      λ told t bodies w start.
-          unplayed g.K.Sink.tells g.N.W.Wire.tells dial _ _ input _ (opened host [] w)
-          (Err (Work c.in-Err-open.stop))
-          (KeepsRun in_groups host [] g.D.Disk c.args.disk.now c.open.new.disk bodies w c.args.limit
-          (Err (Work c.in-Err-open.stop))) (heard_at_first host [] w)
-          (prompt_none input) none
-          (open_keeps in_groups host [] g.D.Disk bodies w c.args.limit c.args.disk.now
-          c.open.new.disk c.in-Err-open.stop (lines input)
-          ((c.in-Err-open.ensures.safe t bodies w start.legal).moments start.alike)
-          (λ s f le now. g.met.D.Disk.counts_now c.open.new.disk s f t le now)
-          (c.in-Err-open.ensures.safe t bodies w start.legal).full
+      λ told. from_unopened (lines input) refl
+          (λ s Kept none kept.
+          unplayed g.K.Sink.tells g.N.W.Wire.tells dial _ _ input _ s
+          (Err (Work c.in-Err-open.stop)) Kept none (prompt_none input)
+          (λ k. sym (append-nil (g.K.Sink.written c.args.out.now))) kept)
+          (λ t bodies w start.
+          let safe = c.in-Err-open.ensures.safe t bodies w start.legal in
+          open_keeps in_groups host [] g.D.Disk bodies w c.args.limit c.args.disk.now
+          c.open.new.disk c.in-Err-open.stop (lines input) (safe.moments start.alike)
+          (λ s f le now. g.met.D.Disk.counts_now c.open.new.disk s f t le now) safe.full
           (λ f. g.met.D.Disk.only_now c.args.disk.now f t) start),
-      λ told. (
-        empty,
-        unplayed g.K.Sink.tells g.N.W.Wire.tells dial _ _ input _ (opened host [] empty)
-            (Err (Work c.in-Err-open.stop)) (λ done rest. ⊤)
-            (heard_at_first host [] empty) (prompt_none input) none tt,
-      ),
     )
 
 pub returns-clause-legal : goal.returns-clause-legal

@@ -27,11 +27,11 @@ returns g c =
               );
           headline = λ told t bodies w start. record {
             before = g.K.Sink.written step.new.out;
-            run = step.ensures.run.1 told t bodies w start;
+            run = (step.ensures.run.1 told).found t bodies w start;
             line = line;
           };
           over_any_disk = λ told.
-              let somewhere = step.ensures.run.2 told in (
+              let somewhere = (step.ensures.run.1 told).somewhere in (
                 somewhere.0,
                 record {
                   before = g.K.Sink.written step.new.out;

@@ -1,40 +1,38 @@
-use Rattle.std.proofs.Common.{◌≡◌, ◌∙◌, ◌+◌, ◌++◌, ◌∷◌, [], List, ℕ, All, None, Some, length, string_bytes, arith, ap, refl, sym, subst}
-use Rattle.std.specs.Prelude.{⊤}
+use Rattle.std.proofs.Common.{◌≡◌, ◌∙◌, ◌+◌, ◌++◌, ◌∷◌, [], List, ℕ, All, length, string_bytes, arith, ap, refl, sym, subst}
 use Rattle.rx_engine.specs.Engine.{standing_of}
-use Rattle.rx_engine.specs.Opening.{host_of, epoch_body, opened}
-use Rattle.rx_engine.specs.Standing.{Standing}
+use Rattle.rx_engine.specs.Opening.{host_of, epoch_body}
 use Rattle.rx_handler.specs.Shown.{kinds_of}
 use Rattle.rx_outside.specs.declared.stop.Stop.TheVariants.{NotJournal}
 use Rattle.rx_trial.specs.Lines.{script}
 use Rattle.rx_trial.proofs.Braces.{length-script}
-use Rattle.rx_world.specs.World.{empty}
+use Rattle.rx_top.specs.Chunks.{singly}
 use Rattle.rx_top.specs.Hears.{stands}
 use Rattle.rx_top.specs.Tally.{summary_of}
 use Rattle.rx_top.proofs.Filled.{IsFilled, script_filled}
-use Rattle.rx_top.proofs.Heads.{not_both}
-use Rattle.rx_top.proofs.Hears.{heard_at_first}
+use Rattle.rx_top.proofs.Heads.{not_both, open_keeps}
+use Rattle.rx_top.proofs.Opened.{from_opened, from_unopened}
 use Rattle.rx_top.proofs.Tallies.{summed_up}
+use Rattle.rx_top.proofs.Through.{does_as}
 use Rattle.rx_top.proofs.Tried as tried
 use Rattle.rx_top.proofs.trial.open_and_play.Goals as goal
 
 pub returns-in-Err-clause-plays : goal.returns-in-Err-clause-plays
 returns-in-Err-clause-plays g c =
-    let host = host_of c.args.handlers.now c.args.hooks.now in
-    let dial = stands g.N.Dial c.args.dial.now in
     let lines = script c.args.seed c.args.count in (
       [],
-      λ t bodies w start. (
-        tried.unopened host [] g.N.W.Wire.tells g.D.Disk c.args.disk.now c.open.new.disk bodies w
-            c.args.limit dial c.in-Err.stop lines refl start
-            (c.in-Err.ensures.safe t bodies w start.legal)
-            (λ f. g.met.D.Disk.only_now c.args.disk.now f t)
-            (λ s f le now. g.met.D.Disk.counts_now c.open.new.disk s f t le now),
-        tt,
-      ),
-      empty,
-      tried.none_done g.N.W.Wire.tells dial (opened host [] empty) c.in-Err.stop lines
-          (λ done rest. ⊤) (heard_at_first host [] empty) tt,
-      tt,
+      from_unopened lines refl
+          (λ s Kept none kept. (
+            tried.none_done g.N.W.Wire.tells (stands g.N.Dial c.args.dial.now) s c.in-Err.stop lines
+                Kept none kept,
+            tt,
+          ))
+          (λ t bodies w start.
+          let safe = c.in-Err.ensures.safe t bodies w start.legal in
+          open_keeps singly (host_of c.args.handlers.now c.args.hooks.now) [] g.D.Disk bodies w
+          c.args.limit c.args.disk.now c.open.new.disk c.in-Err.stop lines
+          (safe.moments start.alike)
+          (λ s f le now. g.met.D.Disk.counts_now c.open.new.disk s f t le now) safe.full
+          (λ f. g.met.D.Disk.only_now c.args.disk.now f t) start),
     )
 
 pub returns-in-Err-clause-not_journal : goal.returns-in-Err-clause-not_journal
@@ -61,30 +59,20 @@ play_lines-requires-clause-few g c =
 pub returns-in-Ok-summary-clause-plays : goal.returns-in-Ok-summary-clause-plays
 returns-in-Ok-summary-clause-plays g c =
     let kinds = kinds_of c.args.handlers.now in
-    let host = host_of c.args.handlers.now c.args.hooks.now in
-    let n0 = stands g.N.Dial c.args.dial.now in
-    let n1 = stands g.N.Dial c.play_lines.new.dial in
+    let opens = c.in-Ok.ensures in
     let plays = c.in-Ok-play_lines.ensures.plays in
     let heard = plays.0 in
-    let begun = c.in-Ok.ensures.begun in
-    let summed : (s : Standing) → standing_of kinds heard c.in-Ok.engine ≡ s
-    → string_bytes c.in-Ok-summary.text ≡ summary_of (script c.args.seed c.args.count) s =
-    λ s is. summed_up c.in-Ok-play_lines.played.0 c.new-lines.result c.in-Ok-play_lines.played.1
-    (standing_of kinds heard c.in-Ok.engine) s _ is plays.2 c.in-Ok-summary.ensures
-    ∙ ap (λ (v : List (List ℕ)). summary_of v s) c.new-lines.ensures in (
+    let drawn = c.new-lines.ensures in
+    let first = standing_of kinds heard c.in-Ok.engine in
+    let summed : string_bytes c.in-Ok-summary.text ≡ summary_of c.new-lines.result first =
+    summed_up c.in-Ok-play_lines.played.0 c.new-lines.result c.in-Ok-play_lines.played.1 first first
+    _ refl plays.2 c.in-Ok-summary.ensures in (
       heard,
-      λ t bodies w start.
-          let opened_so = c.in-Ok.ensures.opened t bodies w start.legal kinds heard in (
-            tried.from_opened host heard g.N.W.Wire.tells g.D.Disk c.args.disk.now
-                c.play_lines.new.disk bodies w c.args.limit n0 n1 c.open.new.disk c.in-Ok.engine
-                (script c.args.seed c.args.count) c.new-lines.result None c.new-lines.ensures start
-                (c.in-Ok.ensures.safe t bodies w start.legal) c.in-Ok.ensures.limit opened_so t
-                plays.1,
-            summed (opened host heard w) opened_so,
-          ),
-      begun.0,
-      tried.from_begun g.N.W.Wire.tells n0 n1 c.new-lines.ensures (begun.1 kinds heard) plays.1,
-      summed (opened host heard begun.0) (begun.1 kinds heard),
+      from_opened c.open.new.disk c.in-Ok.engine
+          (λ s P Q f said. (does_as P Q f said.0, said.1))
+          (λ t bodies w legal. opens.opened t bodies w legal kinds heard)
+          (opens.begun.0, opens.begun.1 kinds heard) opens.safe opens.limit
+          (rw drawn at plays.1, rw drawn at summed),
     )
 
 pub returns-in-Ok-summary-clause-illegal : goal.returns-in-Ok-summary-clause-illegal
@@ -94,29 +82,16 @@ returns-in-Ok-summary-clause-illegal g c = λ t illegal.
 pub returns-in-Err-summary-clause-plays : goal.returns-in-Err-summary-clause-plays
 returns-in-Err-summary-clause-plays g c =
     let kinds = kinds_of c.args.handlers.now in
-    let host = host_of c.args.handlers.now c.args.hooks.now in
-    let lines = script c.args.seed c.args.count in
-    let n0 = stands g.N.Dial c.args.dial.now in
-    let n1 = stands g.N.Dial c.play_lines.new.dial in
+    let opens = c.in-Ok.ensures in
     let plays = c.in-Ok-play_lines.ensures.plays in
     let heard = plays.0 in
-    let begun = c.in-Ok.ensures.begun in (
+    let drawn = c.new-lines.ensures in (
       heard,
-      λ t bodies w start. (
-        tried.late_memory host heard g.N.W.Wire.tells g.D.Disk c.args.disk.now
-            c.play_lines.new.disk bodies w c.args.limit n0 n1 lines
-            (tried.from_opened host heard g.N.W.Wire.tells g.D.Disk c.args.disk.now
-            c.play_lines.new.disk bodies w c.args.limit n0 n1 c.open.new.disk c.in-Ok.engine
-            lines c.new-lines.result None c.new-lines.ensures start
-            (c.in-Ok.ensures.safe t bodies w start.legal) c.in-Ok.ensures.limit
-            (c.in-Ok.ensures.opened t bodies w start.legal kinds heard) t plays.1),
-        tt,
-      ),
-      begun.0,
-      tried.late g.N.W.Wire.tells n0 n1 (opened host heard begun.0)
-          (tried.from_begun g.N.W.Wire.tells n0 n1 c.new-lines.ensures
-          (begun.1 kinds heard) plays.1) tt,
-      tt,
+      from_opened c.open.new.disk c.in-Ok.engine
+          (λ s P Q f said. (does_as P Q f said.0, said.1))
+          (λ t bodies w legal. opens.opened t bodies w legal kinds heard)
+          (opens.begun.0, opens.begun.1 kinds heard) opens.safe opens.limit
+          (tried.late_memory c.in-Ok.engine (rw drawn at plays.1), tt),
     )
 
 pub returns-in-Err-summary-clause-illegal : goal.returns-in-Err-summary-clause-illegal
@@ -126,25 +101,16 @@ returns-in-Err-summary-clause-illegal g c = λ t illegal.
 pub returns-in-Err-play_lines-clause-plays : goal.returns-in-Err-play_lines-clause-plays
 returns-in-Err-play_lines-clause-plays g c =
     let kinds = kinds_of c.args.handlers.now in
-    let host = host_of c.args.handlers.now c.args.hooks.now in
-    let n0 = stands g.N.Dial c.args.dial.now in
-    let n1 = stands g.N.Dial c.play_lines.new.dial in
+    let opens = c.in-Ok.ensures in
     let plays = c.in-Err-play_lines.ensures.plays in
     let heard = plays.0 in
-    let begun = c.in-Ok.ensures.begun in (
+    let drawn = c.new-lines.ensures in (
       heard,
-      λ t bodies w start. (
-        tried.from_opened host heard g.N.W.Wire.tells g.D.Disk c.args.disk.now
-            c.play_lines.new.disk bodies w c.args.limit n0 n1 c.open.new.disk c.in-Ok.engine
-            (script c.args.seed c.args.count) c.new-lines.result (Some c.in-Err-play_lines.stop)
-            c.new-lines.ensures start (c.in-Ok.ensures.safe t bodies w start.legal)
-            c.in-Ok.ensures.limit
-            (c.in-Ok.ensures.opened t bodies w start.legal kinds heard) t plays.1,
-        tt,
-      ),
-      begun.0,
-      tried.from_begun g.N.W.Wire.tells n0 n1 c.new-lines.ensures (begun.1 kinds heard) plays.1,
-      tt,
+      from_opened c.open.new.disk c.in-Ok.engine
+          (λ s P Q f said. (does_as P Q f said.0, said.1))
+          (λ t bodies w legal. opens.opened t bodies w legal kinds heard)
+          (opens.begun.0, opens.begun.1 kinds heard) opens.safe opens.limit
+          (rw drawn at plays.1, tt),
     )
 
 pub returns-in-Err-play_lines-clause-illegal : goal.returns-in-Err-play_lines-clause-illegal

@@ -1,24 +1,18 @@
-use Rattle.std.proofs.Common.{◌≡◌, ◌∙◌, ◌+◌, ◌++◌, ◌∷◌, [], List, ℕ, Err, length, arith, rules, refl, ap, sym, subst, append_assoc, append-nil}
-use Rattle.std.specs.Prelude.{IsErrOf, Ok}
+use Rattle.std.proofs.Common.{◌≡◌, ◌∙◌, ◌+◌, ◌++◌, ◌∷◌, [], List, ℕ, Err, length, arith, rules, ap, sym, subst, append_assoc}
 use Rattle.rx_engine.specs.Engine.{standing_of}
 use Rattle.rx_handler.specs.Shown.{kinds_of}
 use Rattle.rx_outside.specs.declared.stop.Stop.TheVariants.{NotJournal}
 use Rattle.rx_sync.specs.Remote.{Heard}
 use Rattle.rx_top.specs.Chunks.{all_of}
-use Rattle.rx_top.specs.Hears.{IsShownAt, stands}
+use Rattle.rx_top.specs.Hears.{stands}
 use Rattle.rx_top.specs.Script.{line_effect}
 use Rattle.rx_top.specs.Story.{chunks}
-use Rattle.rx_top.specs.Tally.{meanings, with_line}
+use Rattle.rx_top.specs.Tally.{meanings}
 use Rattle.rx_top.specs.declared.tally.Tally.{Tally}
-use Rattle.rx_top.proofs.Filled.{first_filled}
-use Rattle.rx_top.proofs.Hears.{heard_in, shown_in}
+use Rattle.rx_top.proofs.Hears.{heard_in}
 use Rattle.rx_top.proofs.Tallies.{refused_among}
 use Rattle.rx_top.proofs.Through.{Through, all_done, all_so, begins, line_done, line_stopped, memory_out, none_so, some_so}
 use Rattle.rx_top.proofs.trial.play_lines.Goals as goal
-
--- what was answered is no error
-answered : {T E : Type 0} (x : T) (e : E) → IsErrOf {T = T} {E = E} (Ok x) e → ⊥
-answered x e is = cc
 
 pub script-init : goal.script-init
 script-init g c =
@@ -50,121 +44,61 @@ line-requires g c = λ t.
     let a = through.1 [] in
     let s0 = standing_of (kinds_of c.args.handlers.now) (through.0 ++ []) c.args.first in (
       start.0 ++ all_of (chunks line_effect 1 a.done s0),
-      a.at t start.0 start.1,
+      a.has.at t start.0 start.1,
     )
 
 pub returns-in-Ok-None-clause-plays : goal.returns-in-Ok-None-clause-plays
 returns-in-Ok-None-clause-plays g c =
-    let kinds = kinds_of c.args.handlers.now in
     let through = c.script.invariant.through in
-    let heard = through.0 ++ [] in
-    let s0 = standing_of kinds heard c.args.first in
-    let s1 = standing_of kinds [] c.script.engine in
     let a = through.1 [] in
     let none =
     (none_so c.in-Ok-None.field-0 _ c.in-Ok-None.field-0-is c.in-Ok-None.ensures.end).0 in (
-      heard,
-      all_done s0 s1 g.D.Disk g.N.W.Wire.tells c.args.disk.now c.script.disk
-          (stands g.N.Dial c.args.dial.now) (stands g.N.Dial c.script.dial) c.args.first
-          c.script.engine c.args.lines.now c.script.lines c.script.tally a
-          (heard_in kinds [] c.script.engine) none
+      through.0 ++ [],
+      all_done a (heard_in (kinds_of c.args.handlers.now) [] c.script.engine) none
           (λ t f. g.met.D.Disk.only_now c.script.disk f t),
-      all_so kinds s0 g.D.Disk g.N.W.Wire.tells c.args.disk.now c.script.disk
-          (stands g.N.Dial c.args.dial.now) (stands g.N.Dial c.script.dial) c.args.first
-          c.script.engine c.args.lines.now c.script.lines c.script.tally a none,
+      all_so (kinds_of c.args.handlers.now) a none,
     )
 
 pub returns-in-Err-clause-plays : goal.returns-in-Err-clause-plays
 returns-in-Err-clause-plays g c =
-    let kinds = kinds_of c.args.handlers.now in
     let through = c.script.invariant.through in (
       through.0 ++ [],
-      memory_out (standing_of kinds (through.0 ++ []) c.args.first)
-          (standing_of kinds [] c.script.engine)
-          g.D.Disk g.N.W.Wire.tells c.args.disk.now c.script.disk (stands g.N.Dial c.args.dial.now)
-          (stands g.N.Dial c.script.dial) c.args.first c.script.engine c.args.lines.now
-          c.script.lines
-          c.script.tally (through.1 [])
-          (λ t f. g.met.D.Disk.only_now c.script.disk f t)
+      memory_out (through.1 []) (λ t f. g.met.D.Disk.only_now c.script.disk f t)
           (λ t s f le now. g.met.D.Disk.counts_now c.script.disk s f t le now),
       tt,
     )
 
 pub returns-in-Err-line-clause-plays : goal.returns-in-Err-line-clause-plays
 returns-in-Err-line-clause-plays g c =
-    let kinds = kinds_of c.args.handlers.now in
     let through = c.script.invariant.through in
     let plays = c.in-Err-line.ensures.plays in
-    let text = c.as_bytes-text.result.now in
-    let next : c.script.lines ≡ text ∷ c.next.new.self =
+    let next : c.script.lines ≡ c.as_bytes-text.result.now ∷ c.next.new.self =
     some_so c.in-Ok-Some.field-0 c.in-Ok-Some.line
     (λ (l : List ℕ). c.script.lines ≡ l ∷ c.next.new.self)
     (search rules) c.in-Ok-Some.ensures.line
     ∙ ap (λ (l : List ℕ). l ∷ c.next.new.self)
     (sym (c.as_bytes-text.ensures.value ∙ c.as_str.ensures)) in
-    let later = plays.heard ++ [] in
-    let s0 = standing_of kinds (through.0 ++ later) c.args.first in
-    let s1 = standing_of kinds later c.script.engine in
-    let n1 = stands g.N.Dial c.script.dial in
-    let n2 = stands g.N.Dial c.line.new.dial in
-    let a = through.1 later in
-    let all : plays.heard ≡ s1.heard =
-    sym (append-nil plays.heard) ∙ sym (heard_in kinds later c.script.engine) in
-    let filled =
-    first_filled c.args.lines.now a.done text c.next.new.self c.script.lines a.whole next
-    c.requires.filled in (
+    let later = plays.heard ++ [] in (
       through.0 ++ later,
-      line_stopped s0 s1 g.D.Disk g.N.W.Wire.tells c.args.disk.now c.script.disk
-          (stands g.N.Dial c.args.dial.now) n1 c.args.first c.script.engine c.args.lines.now
-          c.script.lines c.script.tally a text c.next.new.self next c.requires.filled
-          c.line.new.disk n2
-          c.in-Err-line.stop
-          (λ other. subst (λ (hs : List Heard). IsShownAt g.N.W.Wire.tells text s1 n1 n2 hs ⊥) all
-          (shown_in g.N.W.Wire.tells text kinds c.script.engine n1 n2 plays.heard
-          (λ none. absurd none)
-          later filled (plays.shown (λ is. other (search rules)))))
-          (λ other. (c.in-Err-line.ensures.meant later).unharmed)
-          (plays.safe [])
+      line_stopped plays (through.1 later) next c.requires.filled c.in-Err-line.ensures.meant
           (λ t s f le now. g.met.D.Disk.counts_now c.line.new.disk s f t le now),
       tt,
     )
 
 pub returns-in-None-clause-plays : goal.returns-in-None-clause-plays
 returns-in-None-clause-plays g c =
-    let kinds = kinds_of c.args.handlers.now in
     let through = c.script.invariant.through in
     let plays = c.in-Ok.ensures.plays in
-    let text = c.as_bytes-text.result.now in
-    let next : c.script.lines ≡ text ∷ c.next.new.self =
+    let next : c.script.lines ≡ c.as_bytes-text.result.now ∷ c.next.new.self =
     some_so c.in-Ok-Some.field-0 c.in-Ok-Some.line
     (λ (l : List ℕ). c.script.lines ≡ l ∷ c.next.new.self)
     (search rules) c.in-Ok-Some.ensures.line
     ∙ ap (λ (l : List ℕ). l ∷ c.next.new.self)
     (sym (c.as_bytes-text.ensures.value ∙ c.as_str.ensures)) in
-    let later = plays.heard ++ [] in
-    let s0 = standing_of kinds (through.0 ++ later) c.args.first in
-    let s1 = standing_of kinds later c.script.engine in
-    let s2 = standing_of kinds [] c.in-Ok.pair.0 in
-    let n0 = stands g.N.Dial c.args.dial.now in
-    let n1 = stands g.N.Dial c.script.dial in
-    let n2 = stands g.N.Dial c.line.new.dial in
-    let a = through.1 later in
-    let filled =
-    first_filled c.args.lines.now a.done text c.next.new.self c.script.lines a.whole next
-    c.requires.filled in (
+    let later = plays.heard ++ [] in (
       through.0 ++ later,
-      memory_out s0 s2 g.D.Disk g.N.W.Wire.tells c.args.disk.now c.line.new.disk n0 n2 c.args.first
-          c.in-Ok.pair.0 c.args.lines.now c.next.new.self (with_line c.script.tally c.in-Ok.pair.1)
-          (line_done s0 s1 g.D.Disk g.N.W.Wire.tells c.args.disk.now c.script.disk n0 n1
-          c.args.first
-          c.script.engine c.args.lines.now c.script.lines c.script.tally a
-          text c.next.new.self next c.requires.filled kinds plays.heard [] c.line.new.disk n2
-          c.in-Ok.pair.0 c.in-Ok.pair.1 c.in-Ok.ensures.limit (plays.answers [])
-          (heard_in kinds later c.script.engine)
-          (shown_in g.N.W.Wire.tells text kinds c.script.engine n1 n2 plays.heard (λ all. refl)
-          later filled (plays.shown (answered _ _)))
-          (plays.safe [])
-          (λ t f. g.met.D.Disk.only_now c.line.new.disk f t))
+      memory_out (line_done plays [] (through.1 later) next c.requires.filled
+          c.in-Ok.ensures.limit (λ t f. g.met.D.Disk.only_now c.line.new.disk f t))
           (λ t f. g.met.D.Disk.only_now c.line.new.disk f t)
           (λ t s f le now. g.met.D.Disk.counts_now c.line.new.disk s f t le now),
       tt,
@@ -175,15 +109,13 @@ script-preserved g c =
     let kinds = kinds_of c.args.handlers.now in
     let through = c.script.invariant.through in
     let plays = c.in-Ok.ensures.plays in
-    let text = c.as_bytes-text.result.now in
-    let next : c.script.lines ≡ text ∷ c.next.new.self =
+    let next : c.script.lines ≡ c.as_bytes-text.result.now ∷ c.next.new.self =
     some_so c.in-Ok-Some.field-0 c.in-Ok-Some.line
     (λ (l : List ℕ). c.script.lines ≡ l ∷ c.next.new.self)
     (search rules) c.in-Ok-Some.ensures.line
     ∙ ap (λ (l : List ℕ). l ∷ c.next.new.self)
     (sym (c.as_bytes-text.ensures.value ∙ c.as_str.ensures)) in
     let n0 = stands g.N.Dial c.args.dial.now in
-    let n1 = stands g.N.Dial c.script.dial in
     let n2 = stands g.N.Dial c.line.new.dial in
     let heard = through.0 ++ plays.heard in
     let now : (later : List Heard) → Through (standing_of kinds (heard ++ later) c.args.first)
@@ -191,29 +123,18 @@ script-preserved g c =
     c.line.new.disk n0 n2 c.args.first c.in-Ok.pair.0 c.args.lines.now c.next.new.self
     c.in-Some.tally =
     λ later.
-    let s0 = standing_of kinds (through.0 ++ (plays.heard ++ later)) c.args.first in
-    let s1 = standing_of kinds (plays.heard ++ later) c.script.engine in
-    let s2 = standing_of kinds later c.in-Ok.pair.0 in
-    let a = through.1 (plays.heard ++ later) in
-    let filled =
-    first_filled c.args.lines.now a.done text c.next.new.self c.script.lines a.whole next
-    c.requires.filled in
-    subst (λ (hs : List Heard). Through (standing_of kinds hs c.args.first) s2 g.D.Disk
-    g.N.W.Wire.tells c.args.disk.now c.line.new.disk n0 n2 c.args.first c.in-Ok.pair.0
-    c.args.lines.now c.next.new.self c.in-Some.tally)
+    subst (λ (hs : List Heard). Through (standing_of kinds hs c.args.first)
+    (standing_of kinds later c.in-Ok.pair.0) g.D.Disk g.N.W.Wire.tells c.args.disk.now
+    c.line.new.disk n0 n2 c.args.first c.in-Ok.pair.0 c.args.lines.now c.next.new.self
+    c.in-Some.tally)
     (sym (append_assoc through.0 plays.heard later))
-    (subst (λ (t : Tally). Through s0 s2 g.D.Disk g.N.W.Wire.tells c.args.disk.now c.line.new.disk
-    n0 n2 c.args.first c.in-Ok.pair.0 c.args.lines.now c.next.new.self t)
+    (subst (λ (t : Tally). Through
+    (standing_of kinds (through.0 ++ (plays.heard ++ later)) c.args.first)
+    (standing_of kinds later c.in-Ok.pair.0) g.D.Disk g.N.W.Wire.tells c.args.disk.now
+    c.line.new.disk n0 n2 c.args.first c.in-Ok.pair.0 c.args.lines.now c.next.new.self t)
     (sym c.in-Some.ensures.some)
-    (line_done s0 s1 g.D.Disk g.N.W.Wire.tells c.args.disk.now c.script.disk n0 n1 c.args.first
-    c.script.engine c.args.lines.now c.script.lines c.script.tally a
-    text c.next.new.self next c.requires.filled kinds plays.heard later c.line.new.disk n2
-    c.in-Ok.pair.0 c.in-Ok.pair.1 c.in-Ok.ensures.limit (plays.answers later)
-    (heard_in kinds (plays.heard ++ later) c.script.engine)
-    (shown_in g.N.W.Wire.tells text kinds c.script.engine n1 n2 plays.heard (λ all. refl)
-    (plays.heard ++ later) filled (plays.shown (answered _ _)))
-    (plays.safe later)
-    (λ t f. g.met.D.Disk.only_now c.line.new.disk f t))) in
+    (line_done plays later (through.1 (plays.heard ++ later)) next c.requires.filled
+    c.in-Ok.ensures.limit (λ t f. g.met.D.Disk.only_now c.line.new.disk f t))) in
     let lines : c.in-Some.tally.lines ≡ c.script.tally.lines + 1 =
     ap (λ (t : Tally). t.lines) c.in-Some.ensures.some in
     record {
@@ -230,4 +151,5 @@ returns-in-Err-line-clause-not_journal g c = λ t is.
     let start = c.requires.at t in
     let a = c.script.invariant.through.1 [] in
     let same : c.in-Err-line.stop ≡ NotJournal = cc in
-    (c.in-Err-line.ensures.plays.safe [] t _ (a.at t start.0 start.1)).not_journal (ap Err same)
+    (c.in-Err-line.ensures.plays.safe [] t _ (a.has.at t start.0 start.1)).not_journal
+    (ap Err same)

@@ -23,6 +23,7 @@ returns g c =
     let host = host_of c.args.handlers.now c.args.hooks.now in
     let plays = played.ensures.plays in
     let heard = plays.0 in
+    let somewhere = plays.1.somewhere in
     let wires = g.N.W.Wire.tells in
     let n0 = stands g.N.Dial c.args.dial.now in
     let n1 = stands g.N.Dial played.new.dial in
@@ -34,18 +35,19 @@ returns g c =
         record {
           stop = result_err told;
           headline = λ t bodies w start.
-              let does = plays.1 t bodies w start in
+              let does = plays.1.found t bodies w start in
               tried.has_tried wires n0 n1 tells f0 f1 w0 w1 status told lines (opened host heard w)
               (tried.KeepsTrial host heard wires d old new bodies w limit (result_err told)) does.0
               does.1 c.tell.ensures.told;
           over_any_disk = (
-            plays.2,
+            somewhere.0,
             tried.has_tried wires n0 n1 tells f0 f1 w0 w1 status told lines
-                (opened host heard plays.2) (λ done rest. ⊤) plays.3 plays.4 c.tell.ensures.told,
+                (opened host heard somewhere.0) (λ done rest. ⊤) somewhere.1.0 somewhere.1.1
+                c.tell.ensures.told,
           );
           legal = λ t bodies w start.
               tried.stays_legal host heard wires d old new bodies w limit (result_err told) lines
-              (plays.1 t bodies w start).0;
+              (plays.1.found t bodies w start).0;
           illegal = played.ensures.illegal;
           cause = by.cause_of d old new told played.ensures.cause played.ensures.not_journal;
           stood = λ t. by.stood_by told _ (played.ensures.stood t) (played.ensures.full_stood t);
