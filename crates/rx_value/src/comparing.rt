@@ -100,7 +100,8 @@ fn short_words(a: &[u8], b: &[u8], n: usize) -> (u64, u64)
     (x, y)
 }
 
-// The same of at least half a word, and no more than two halves.
+// The same of at least half a word, and no more than two halves, which may overlap. Each is
+// compared for itself, since the compiler reads a half at once, but not both as one number.
 #[inline(always)]
 fn halves(a: &[u8], b: &[u8], n: usize) -> (u64, u64)
     requires { (4 ≤ n) × (n ≤ 8) × (n ≤ length a.now) × (n ≤ length b.now) }
@@ -116,8 +117,7 @@ fn halves(a: &[u8], b: &[u8], n: usize) -> (u64, u64)
     (x_last, y_last)
 }
 
-// The word at that place as a number, its first byte the greatest. Of two halves, since the
-// compiler reads four bytes at once where they make a number, but not eight.
+// The word at that place as a number, its first byte the greatest: its front half and its back one.
 #[inline(always)]
 fn word(bytes: &[u8], i: usize) -> u64
     requires { i + 8 ≤ length bytes.now }
