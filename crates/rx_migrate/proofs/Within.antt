@@ -42,8 +42,11 @@ put_within most [] name v is all = (is, tt)
 put_within most (p ∷ ps) name v is all =
     elim (text_cmp name p.0)
     as (λ o. AllByRecursion (λ q. is_within most q.1 ≡ true)
-    (match_ordering o ((name, v) ∷ p ∷ ps) ((p.0, v) ∷ ps) (p ∷ put_in_order ps name v)))
-    [ Less ↦ (is, all) | Equal ↦ (is, all.1) | Greater ↦ (all.0, put_within most ps name v is all.1) ]
+    (match_ordering o ((name, v) ∷ p ∷ ps) ((p.0, v) ∷ ps) (p ∷ put_in_order ps name v))) [
+      | Less ↦ (is, all)
+      | Equal ↦ (is, all.1)
+      | Greater ↦ (all.0, put_within most ps name v is all.1)
+    ]
 
 left_within : (most : ℕ) (ps : Pairs) (name : List ℕ) → AreWithin most ps
     → AreWithin most (without ps name)
