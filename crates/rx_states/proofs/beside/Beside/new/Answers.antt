@@ -1,4 +1,4 @@
-use Rattle.std.proofs.Common.{◌≡◌, ◌-◌, ◌∷◌, [], Bool, false, List, length, option_map, slice_get, get_or, rules, sym, ap, ◌∙◌}
+use Rattle.std.proofs.Common.{◌≡◌, ◌-◌, ◌∷◌, [], Bool, false, List, length, option_map, slice_get, get_or, sym, ◌∙◌}
 use Rattle.std.specs.List.{list_any}
 use Rattle.rx_query.specs.QuerySpec.{asked}
 use Rattle.rx_query.specs.States.{state_of, live_before, is_changed}
