@@ -10,7 +10,7 @@ use Rattle.rx_value.specs.Named.{named}
 use Rattle.rx_document.specs.declared.stored.Stored.{Stored}
 use Rattle.rx_runs.specs.Rows.{AreApart, AreSlots}
 use Rattle.rx_runs.proofs.InSlots.{named_slot, slot_some}
-use Rattle.rx_collection.specs.Hints.{key_hash, start_of, walk, AreHinted, AreKnown, IsPlaced, LeadsTo}
+use Rattle.rx_collection.specs.Hints.{key_hash, start_of, walk, AreHinted, AreKnown, AreSpread, IsPlaced, LeadOn, LeadsTo}
 use Rattle.rx_collection.specs.declared.hints.Hints.{Hints}
 use Rattle.rx_collection.specs.Log.{AreKeyed, HasKey}
 use Rattle.rx_collection.proofs.Logged.{slot_after, slot_more}
@@ -125,20 +125,50 @@ module _ (places : List (ℕ × ℕ)) (hash j : ℕ)
   free_led p = led_there places p hash j at.0 (λ i lt is.
       true≢false (sym (eq-eqb _ _ is) ∙ at.2 i lt))
 
--- what is placed stays so where a free place is taken
-pub placed_still : (places : List (ℕ × ℕ)) (i : ℕ) (x : ℕ × ℕ) (s : ℕ) (key : List ℕ) → x.0 ≢ 0
-    → ((p : ℕ × ℕ) → slice_get places i ≡ Some p → p.0 ≡ 0) → IsPlaced places s key
-    → IsPlaced (set places i x) s key
+-- what is come to stays so where a free place is taken
+pub led_still : (places : List (ℕ × ℕ)) (i : ℕ) (x e : ℕ × ℕ) → x.0 ≢ 0
+    → ((p : ℕ × ℕ) → slice_get places i ≡ Some p → p.0 ≡ 0) → e.0 ≢ 0
+    → LeadsTo e (walk places e.1) → LeadsTo e (walk (set places i x) e.1)
 unfolding walk
-placed_still places i x s key taken free placed =
-    let h = key_hash key in
-    let e : ℕ × ℕ = (s + 1, h) in
-    subst (λ n. LeadsTo e (take 1024 (drop (start_of n h) (set places i x))))
+led_still places i x e taken free some led =
+    subst (λ n. LeadsTo e (take 1024 (drop (start_of n e.1) (set places i x))))
     (sym (length-set places i x))
-    (led_on e x 1024 (start_of (length places) h) places i
-    (λ no. omega (arith, no)) taken free placed)
+    (led_on e x 1024 (start_of (length places) e.1) places i some taken free led)
+
+-- what is come to stands in a place
+stands : (e : ℕ × ℕ) (k : ℕ) (ps : List (ℕ × ℕ)) → LeadsTo e (take k ps)
+    → (i : ℕ) × (slice_get ps i ≡ Some e)
+stands e zero ps led = absurd led
+stands e (suc k) [] led = absurd led
+stands e (suc k) (p ∷ ps) led = elim led [
+  | inl is ↦ (0, ap (λ q. Some q) is)
+  | inr on ↦ let next = stands e k ps on.1 in (suc next.0, next.1)
+]
+
+stands_on : (e : ℕ × ℕ) (m i : ℕ) (ps : List (ℕ × ℕ)) → slice_get (drop m ps) i ≡ Some e
+    → (j : ℕ) × (slice_get ps j ≡ Some e)
+stands_on e zero i ps at = (i, at)
+stands_on e (suc m) i [] at = (i, at)
+stands_on e (suc m) i (p ∷ ps) at = let next = stands_on e m i ps at in (suc next.0, next.1)
+
+stands_there : (places : List (ℕ × ℕ)) (e : ℕ × ℕ) → LeadsTo e (walk places e.1)
+    → (j : ℕ) × (slice_get places j ≡ Some e)
+unfolding walk
+stands_there places e led =
+    let m = start_of (length places) e.1 in
+    let at = stands e 1024 (drop m places) led in
+    stands_on e m at.0 places at.1
 
 -- ---- documents
+
+below_or : (s n : ℕ) → s < n + 1 → (s < n) ⊎ (s ≡ n)
+below_or zero zero lt = inr refl
+below_or zero (suc n) lt = inl (omega arith)
+below_or (suc s) zero lt = absurd (omega arith)
+below_or (suc s) (suc n) lt = elim (below_or s n (omega arith)) [
+  | inl less ↦ inl (omega arith)
+  | inr is ↦ inr (ap suc is)
+]
 
 -- one more
 pub hinted_more : (places : List (ℕ × ℕ)) (rows : List Stored) (n : ℕ) (d : Stored)
@@ -152,27 +182,36 @@ hinted_more places rows n d hinted at placed s e lt there =
           subst (λ t. IsPlaced places t e.state.key) (sym is)
           (subst (λ (x : Stored). IsPlaced places n x.state.key) same placed)
     ]
-  where
-    below_or : (s n : ℕ) → s < n + 1 → (s < n) ⊎ (s ≡ n)
-    below_or zero zero lt = inr refl
-    below_or zero (suc n) lt = inl (omega arith)
-    below_or (suc s) zero lt = absurd (omega arith)
-    below_or (suc s) (suc n) lt = elim (below_or s n (omega arith)) [
-      | inl less ↦ inl (omega arith)
-      | inr is ↦ inr (ap suc is)
+
+-- what stands in a place more
+pub spread_more : (places before after : List (ℕ × ℕ)) (n : ℕ) (e : ℕ × ℕ)
+    → AreSpread places n before → LeadOn before after → e ≡ get_or places n (0, 0)
+    → (e.0 ≢ 0 → LeadsTo e (walk after e.1)) → AreSpread places (n + 1) after
+spread_more places before after n e spread on is placed i p lt there some =
+    elim (below_or i n lt) [
+      | inl less ↦ on p some (spread i p less there some)
+      | inr same ↦
+          let at : slice_get places n ≡ Some p = ap (slice_get places) (sym same) ∙ there in
+          let equal : e ≡ p = is ∙ get_or_from_slice_get places n p (0, 0) at in
+          subst (λ (q : ℕ × ℕ). LeadsTo q (walk after q.1)) equal
+          (placed (λ none. some (sym (ap (λ (q : ℕ × ℕ). q.0) equal) ∙ none)))
     ]
 
+-- where all that stands in places is spread, all documents are that were hinted
+pub spread_hinted : (places spread : List (ℕ × ℕ)) (rows : List Stored) (n : ℕ)
+    → AreSpread places (length places) spread → AreHinted places rows n → AreHinted spread rows n
+spread_hinted places spread rows n all hinted s d lt there =
+    let e : ℕ × ℕ = (s + 1, key_hash d.state.key) in
+    let at = stands_there places e (hinted s d lt there) in
+    all at.0 e (slice_get_within places at.0 e at.1) at.1 (λ no. omega (arith, no))
+
 -- the document that was taken up
-pub placed_now : (places slice : List (ℕ × ℕ)) (i after hash s : ℕ) (key : List ℕ)
-    → slice ≡ places → after ≡ s + 1 → hash ≡ key_hash key
-    → ((p : ℕ × ℕ) → LeadsTo p (walk (set slice i p) hash))
-    → IsPlaced (set places i (after, hash)) s key
-placed_now places slice i after hash s key same is of led =
+pub placed_now : (places : List (ℕ × ℕ)) (after hash s : ℕ) (key : List ℕ) → after ≡ s + 1
+    → hash ≡ key_hash key → LeadsTo (after, hash) (walk places hash) → IsPlaced places s key
+placed_now places after hash s key is of led =
     let h = key_hash key in
-    let x : ℕ × ℕ = (after, hash) in
-    subst (λ ps. LeadsTo (s + 1, h) (walk (set ps i x) h)) same
-    (subst (λ n. LeadsTo (n, h) (walk (set slice i x) h)) is
-    (subst (λ g. LeadsTo (after, g) (walk (set slice i x) g)) of (led x)))
+    subst (λ n. LeadsTo (n, h) (walk places h)) is
+    (subst (λ g. LeadsTo (after, g) (walk places g)) of led)
 
 -- the document of a key
 pub hinted_key : (places : List (ℕ × ℕ)) (rows : List Stored) (s : ℕ) (key : List ℕ)

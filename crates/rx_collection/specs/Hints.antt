@@ -47,6 +47,16 @@ LeadsTo place (p ∷ ps) = (p ≡ place) ⊎ ((p.0 ≢ 0) × LeadsTo place ps)
 abbrev pub IsPlaced : List (ℕ × ℕ) → ℕ → List ℕ → Type 0
 IsPlaced places slot key = LeadsTo (slot + 1, key_hash key) (walk places (key_hash key))
 
+-- what the walks of a table come to those of another come to too
+abbrev pub LeadOn : List (ℕ × ℕ) → List (ℕ × ℕ) → Type 0
+LeadOn before after =
+    (p : ℕ × ℕ) → p.0 ≢ 0 → LeadsTo p (walk before p.1) → LeadsTo p (walk after p.1)
+
+-- so it is of what stands in one of the first places
+abbrev pub AreSpread : List (ℕ × ℕ) → ℕ → List (ℕ × ℕ) → Type 0
+AreSpread places n spread = (i : ℕ) (p : ℕ × ℕ) → i < n → slice_get places i ≡ Some p → p.0 ≢ 0
+    → LeadsTo p (walk spread p.1)
+
 -- it does for each document in one of the first slots
 abbrev pub AreHinted : List (ℕ × ℕ) → List Stored → ℕ → Type 0
 AreHinted places rows n =

@@ -1,11 +1,12 @@
 // Where the slot of a key is, without a search.
-ghost use Rattle.std.specs.Prelude.{◌≡◌, ◌<◌, ◌==◌, ◌+◌, ◌↔◌, ℕ, List, [], length, set, slice_get, true, Some, IfSome, IfNone, IfOk};
+ghost use Rattle.std.specs.Prelude.{◌≡◌, ◌≢◌, ◌<◌, ◌≤◌, ◌==◌, ◌+◌, ◌↔◌, ℕ, List, [], length, set, slice_get, true, Some, IfSome, IfNone, IfOk};
 ghost use Rattle.std.specs.List.{position};
 ghost use Rattle.rx_collection.specs.Log.{HasKey};
-ghost use Rattle.rx_collection.specs.Hints.{mixed, key_hash, start_of, walk, words_hash, bytes_number, IsPlaced, AreHinted, AreKnown, LeadsTo};
+ghost use Rattle.rx_collection.specs.Hints.{mixed, key_hash, start_of, walk, words_hash, bytes_number, AreHinted, AreKnown, AreSpread, LeadOn, LeadsTo};
 
 use rx_document::Stored;
 use rx_runs::Slots;
+use rx_value::is_same;
 use std::alloc::{AllocError, Global};
 
 // How many places there are at first.
@@ -68,31 +69,72 @@ impl Hints {
         requires known { self.old.whole ≡ true → AreHinted self.old.places.items rows.now slot }
         ensures { AreKnown self.new rows.now }
     {
-        if self.places.len() / 4 * 3 <= rows.len() {
-            if let Ok(hints) = self.doubled(rows) {
-                *self = hints;
-                return;
-            }
-        }
+        self.make_room(rows, slot);
         if !self.add(rows, slot) {
             self.whole = false;
         }
     }
 
-    // The hints of all documents, in twice the places.
-    fn doubled(&self, rows: &Slots<Stored>) -> Result<Hints, AllocError>
-        ensures { IfOk result (λ hints. AreKnown hints rows.now) }
+    // Twice the places where few are free, if there is memory.
+    fn make_room(&mut self, rows: &Slots<Stored>, count: u32)
+        requires { count < length rows.now }
+        ensures { (self.old.whole ≡ true → AreHinted self.old.places.items rows.now count)
+            → self.new.whole ≡ true → AreHinted self.new.places.items rows.now count }
     {
-        let Ok(slots) = u32::try_from(rows.len()) else {
-            return Err(AllocError);
-        };
+        if rows.len() < self.places.len() / 4 * 3 {
+            return;
+        }
+        if let Ok(hints) = self.doubled(rows, count) {
+            *self = hints;
+        }
+    }
+
+    // The hints of the first documents, in twice the places.
+    fn doubled(&self, rows: &Slots<Stored>, count: u32) -> Result<Hints, AllocError>
+        requires { count ≤ length rows.now }
+        ensures { (self.now.whole ≡ true → AreHinted self.now.places.items rows.now count)
+            → IfOk result (λ hints. hints.whole ≡ true
+            → AreHinted hints.places.items rows.now count) }
+    {
+        if self.whole {
+            self.spread()
+        } else {
+            self.gathered(rows, count)
+        }
+    }
+
+    // Twice the places, all free.
+    fn twice(&self) -> Result<Hints, AllocError>
+        ensures { IfOk result (λ hints. AreKnown hints []) }
+    {
         let count = self.places.len().saturating_mul(2).max(FIRST);
-        let mut hints = Hints {
+        Ok(Hints {
             alloc: self.alloc,
             places: vec![in self.alloc; (0, 0); count]?,
             whole: true,
-        };
-        for slot in 0..slots {
+        })
+    }
+
+    // What stands here, in twice the places. A walk starts there as far on as here, or as far
+    // behind the middle, so both tables are gone over as they lie, and no document is looked at.
+    fn spread(&self) -> Result<Hints, AllocError>
+        ensures { IfOk result (λ hints. hints.whole ≡ true
+            → AreSpread self.now.places.items (length self.now.places.items)
+            hints.places.items) }
+    {
+        let mut hints = self.twice()?;
+        hints.keep_all(self.places.as_slice());
+        Ok(hints)
+    }
+
+    // The hints of the first documents by their keys, in twice the places.
+    fn gathered(&self, rows: &Slots<Stored>, count: u32) -> Result<Hints, AllocError>
+        requires { count ≤ length rows.now }
+        ensures { IfOk result (λ hints. hints.whole ≡ true
+            → AreHinted hints.places.items rows.now count) }
+    {
+        let mut hints = self.twice()?;
+        for slot in 0..count {
             if !hints.add(rows, slot) {
                 hints.whole = false;
             }
@@ -104,8 +146,6 @@ impl Hints {
     fn add(&mut self, rows: &Slots<Stored>, slot: u32) -> bool
         requires { slot < length rows.now }
         ensures whole { self.new.whole ≡ self.old.whole }
-        ensures kept { (s : ℕ) (key : List ℕ) → IsPlaced self.old.places.items s key
-            → IsPlaced self.new.places.items s key }
         ensures added { result ≡ true
             → AreHinted self.old.places.items rows.now slot
             → AreHinted self.new.places.items rows.now (slot + 1) }
@@ -114,10 +154,45 @@ impl Hints {
             return false;
         };
         let hash = hash_of(rows.at(slot as usize).state.key.as_str().as_bytes());
-        let Some(free) = free_place(self.places.as_slice(), hash) else {
+        self.put((after, hash))
+    }
+
+    // Keeps what stands in places.
+    fn keep_all(&mut self, places: &[(u32, u32)])
+        ensures { self.new.whole ≡ true
+            → AreSpread places.now (length places.now) self.new.places.items }
+    {
+        for place in places {
+            self.keep(*place);
+        }
+    }
+
+    // Keeps what stands in a place. Where it finds none the table isn't whole.
+    fn keep(&mut self, place: (u32, u32))
+        ensures whole { self.new.whole ≡ true → self.old.whole ≡ true }
+        ensures kept { LeadOn self.old.places.items self.new.places.items }
+        ensures placed { self.new.whole ≡ true → place.0 ≢ 0
+            → LeadsTo place (walk self.new.places.items place.1) }
+    {
+        if place.0 == 0 {
+            return;
+        }
+        if !self.put(place) {
+            self.whole = false;
+        }
+    }
+
+    // Puts a slot and 1 beside its hash, if there is a place for it.
+    fn put(&mut self, place: (u32, u32)) -> bool
+        requires { place.0 ≢ 0 }
+        ensures whole { self.new.whole ≡ self.old.whole }
+        ensures kept { LeadOn self.old.places.items self.new.places.items }
+        ensures placed { result ≡ true → LeadsTo place (walk self.new.places.items place.1) }
+    {
+        let Some(free) = free_place(self.places.as_slice(), place.1) else {
             return false;
         };
-        self.places[free] = (after, hash);
+        self.places[free] = place;
         true
     }
 }
@@ -168,7 +243,7 @@ fn has_key(rows: &Slots<Stored>, slot: u32, key: &str) -> bool
     if slot as usize >= rows.len() {
         return false;
     }
-    rows.at(slot as usize).state.key.as_str() == key
+    is_same(rows.at(slot as usize).state.key.as_str(), key)
 }
 
 // A few multiplications, over eight bytes at a time.

@@ -43,9 +43,9 @@ pub(crate) fn is_up_to(rows: &Slots<Stored>, lwt: u64, slot: u32, place: &Place)
     if slot as usize >= rows.len() {
         return true;
     }
-    let key = rows.at(slot as usize).state.key.as_str();
+    let key = &rows.at(slot as usize).state.key;
     lwt.cmp(&place.lwt)
-        .then(key.cmp(&place.id.as_str()))
+        .then(key.compare(place.id.as_str()))
         .is_le()
 }
 

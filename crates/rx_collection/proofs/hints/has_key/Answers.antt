@@ -10,9 +10,9 @@ returns c =
       λ is. record {
         row = c.at.result.now;
         there = c.at.ensures;
-        keyed = sym c.as_str.ensures ∙ same.0 (sym c.eq.ensures ∙ is);
+        keyed = sym c.as_str.ensures ∙ same.0 (sym c.is_same.ensures ∙ is);
       },
-      λ has. c.eq.ensures ∙ same.1 (c.as_str.ensures
+      λ has. c.is_same.ensures ∙ same.1 (c.as_str.ensures
           ∙ ap (λ (x : Stored). x.state.key) (some_same (sym c.at.ensures ∙ has.there))
           ∙ has.keyed),
     )

@@ -1,21 +1,9 @@
-use Rattle.std.proofs.Common.{◌∙◌, ◌+◌, ap, arith, subst, sym, true≢false}
-use Rattle.rx_collection.specs.Hints.{AreHinted}
-use Rattle.rx_collection.specs.declared.hints.Hints.{Hints}
+use Rattle.std.proofs.lemmas.Result.{IfOk-weaker}
+use Rattle.rx_collection.proofs.Hinted.{spread_hinted}
 use Rattle.rx_collection.proofs.hints.Hints.doubled.Goals as goal
-use Rattle.rx_collection.proofs.hints.Hints.doubled.Goals.{then-not-add, else-not-add}
 
-pub loop-slot-preserved : goal.loop-slot-preserved
-loop-slot-preserved c = λ whole. elim c.if-not-add.branch [
-  | then-not-add w ↦
-      absurd (true≢false (sym whole ∙ ap (λ (h : Hints). h.whole) w.hints-is))
-  | else-not-add w ↦
-      let before = sym c.add.ensures.whole ∙ sym (ap (λ (h : Hints). h.whole) w.hints-is) ∙ whole in
-      subst (λ (h : Hints). AreHinted h.places.items c.args.rows.now (c.loop-slot.slot + 1))
-      (sym w.hints-is) (c.add.ensures.added w.if-not-add.false (c.loop-slot.invariant before))
-]
-
-pub returns : goal.returns
-returns c = record {
-  placed = λ whole s d lt there. c.loop-slot.invariant whole s d
-      (omega (arith, c.in-Ok.ensures, c.len.ensures)) there;
-}
+pub returns-then-self : goal.returns-then-self
+returns-then-self c = λ known.
+    IfOk-weaker c.spread.result _ _ (λ hints all whole.
+    spread_hinted c.args.self.now.places.items hints.places.items c.args.rows.now c.args.count
+    (all whole) (known c.if-self.true)) c.spread.ensures

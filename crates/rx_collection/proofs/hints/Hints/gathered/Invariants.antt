@@ -1,6 +1,6 @@
 use Rattle.std.proofs.Common.{◌≡◌, true}
 use Rattle.rx_collection.specs.Hints.{AreHinted}
-use Rattle.rx_collection.proofs.hints.Hints.doubled.Given as goal
+use Rattle.rx_collection.proofs.hints.Hints.gathered.Given as goal
 
 -- where the table is whole it has the documents so far
 abbrev pub invariant-loop-slot : goal.invariant-loop-slot
