@@ -1,11 +1,10 @@
 -- Known states stay by key when one is learnt.
-use Rattle.std.proofs.Common.{◌≡◌, ℕ, List, [], ◌∷◌, String, Global, refl, ap, ◌∙◌}
+use Rattle.std.proofs.Common.{◌≡◌, ℕ, List, [], ◌∷◌, Option, Result, Ok, Err, OnOk, OnErr, refl, sym, ap, ◌∙◌, subst}
 use Rattle.std.specs.List.{AllByRecursion}
 use Rattle.std.specs.List.Sorted.{IsStrictlySortedBy}
-use Rattle.std.specs.Map.{values_of}
 use Rattle.std.specs.Ordering.{match_ordering}
 use Rattle.std.specs.declared.cmp.Ordering.TheVariants.{Less, Equal, Greater}
-use Rattle.rx_value.specs.Named.{by_bytes, put_in_order}
+use Rattle.rx_value.specs.Named.{put_in_order}
 use Rattle.rx_value.specs.Order.{text_cmp}
 use Rattle.rx_value.specs.declared.state.State.{State}
 use Rattle.rx_value.proofs.Named.{put_in_order-rising}
@@ -38,8 +37,10 @@ learnt es s known = record {
   keyed = keyed_put es s.key s refl known.keyed;
 }
 
--- the states are the same by the bytes of their keys
-pub states-by_bytes : (es : List (String Global × State))
-    → values_of es ≡ values_of (by_bytes es)
-states-by_bytes [] = refl
-states-by_bytes (e ∷ es) = ap (λ xs. e.1 ∷ xs) (states-by_bytes es)
+-- as they were where there was no memory for it
+pub learnt_or_not : (r : Result (Option State) State) (es new : List (List ℕ × State))
+    (key : List ℕ) (s : State) → key ≡ s.key → AreKnownByKey es
+    → OnOk r (new ≡ put_in_order es key s) → OnErr r (new ≡ es) → AreKnownByKey new
+learnt_or_not (Ok _) es new key s is known ok err =
+    subst AreKnownByKey (sym (ok ∙ ap (λ k. put_in_order es k s) is)) (learnt es s known)
+learnt_or_not (Err _) es new key s is known ok err = subst AreKnownByKey (sym err) known

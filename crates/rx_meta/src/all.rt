@@ -6,23 +6,24 @@ ghost use Rattle.rx_value.specs.declared.state.State.{State as SeenState};
 ghost use Rattle.rx_meta.specs.Side.{AreKnownByKey};
 
 use crate::meta::Meta;
+use rx_runs::Pairs;
 use rx_value::State;
-use std::collections::btree_map::Values;
 use std::marker::Model;
 
 /// Every known state, by rising key, lent.
 #[derive(Drop)]
 pub struct Known<'a> {
-    states: Values<'a, String, State>,
+    pairs: Pairs<'a, State>,
 }
 
 impl<'a> Model for Known<'a> {
     ghost use Rattle.std.specs.Prelude.{List};
+    ghost use Rattle.std.specs.Map.{values_of};
     ghost use Rattle.rx_value.specs.declared.state.State.{State};
 
     ghost Value = { List State };
 
-    ghost view = { λ k. k.states };
+    ghost view = { λ k. values_of k.pairs };
 }
 
 impl Meta {
@@ -33,7 +34,7 @@ impl Meta {
         ensures lawful { AreKnownByKey self.now.known }
     {
         Known {
-            states: self.known.values(),
+            pairs: self.known.pairs(),
         }
     }
 }
@@ -46,6 +47,7 @@ impl<'a> Iterator for Known<'a> {
     ghost remaining = { λ s. at_most (length s) };
 
     fn next(&mut self) -> Option<&'a State> {
-        self.states.next()
+        let (_, state) = self.pairs.next()?;
+        Some(state)
     }
 }

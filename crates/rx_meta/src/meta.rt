@@ -3,29 +3,28 @@ ghost use Rattle.rx_value.specs.Named.{named, put_in_order};
 ghost use Rattle.rx_meta.specs.Side.{side_with, is_above_known, AreKnownByKey};
 
 use rx_document::Place;
+use rx_runs::{Name, Run};
 use rx_value::State;
 use std::alloc::{AllocError, Global};
-use std::collections::BTreeMap;
 use std::marker::Model;
 
 /// A fork's knowledge of its master.
 #[derive(Drop)]
 pub struct Meta {
     pub(crate) alloc: Global,
-    pub(crate) known: BTreeMap<String, State>,
+    pub(crate) known: Run<State>,
     pub(crate) up: Option<Place>,
     pub(crate) down: Option<Place>,
 }
 
 impl Model for Meta {
-    ghost use Rattle.rx_value.specs.Named.{by_bytes};
     ghost use Rattle.rx_meta.specs.Side.{Side, side_with, AreKnownByKey};
 
     ghost Value = { Side };
 
-    ghost view = { λ m. side_with (by_bytes m.known.entries) m.up m.down };
+    ghost view = { λ m. side_with m.known m.up m.down };
 
-    ghost invariant = { λ m. AreKnownByKey (by_bytes m.known.entries) };
+    ghost invariant = { λ m. AreKnownByKey m.known };
 }
 
 impl Meta {
@@ -34,7 +33,7 @@ impl Meta {
     {
         Meta {
             alloc,
-            known: BTreeMap::new(alloc),
+            known: Run::new(alloc),
             up: None,
             down: None,
         }
@@ -45,15 +44,15 @@ impl Meta {
         ensures value { option_map (λ s. s.now) result ≡ named self.now.known key.now }
         ensures lawful { AreKnownByKey self.now.known }
     {
-        self.known.get(key)
+        self.known.get(key.as_bytes())
     }
 
     /// Whether the key is above those of all known states.
     pub fn is_above(&self, key: &str) -> bool
         ensures { result ≡ is_above_known self.now.known key.now }
     {
-        match self.known.last_key_value() {
-            Some((last, _)) => last.as_str().cmp(&key).is_lt(),
+        match self.known.pairs().at_back(0) {
+            Some((last, _)) => last.compare(key.as_bytes()).is_lt(),
             None => true,
         }
     }
@@ -78,9 +77,11 @@ impl Meta {
             (put_in_order self.old.known state.key state) self.old.up self.old.down) }
         ensures err { OnErr result (self.new ≡ self.old) }
     {
-        let key = String::from_str(self.alloc, state.key.as_str())?;
-        self.known.insert(key, state)?;
-        Ok(())
+        let name = Name::new(self.alloc, state.key.as_str().as_bytes())?;
+        match self.known.put(name, state) {
+            Ok(_) => Ok(()),
+            Err(_) => Err(AllocError),
+        }
     }
 
     /// Sets both checkpoints.
