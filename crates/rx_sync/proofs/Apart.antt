@@ -38,11 +38,11 @@ use Rattle.rx_world.specs.declared.replication.Replication.{Replication}
 use Rattle.rx_sync.specs.Asking.{asked_in, fork_in}
 use Rattle.rx_sync.specs.Asks.{Asks, next_number, with_request}
 use Rattle.rx_sync.specs.Exchange as step
-use Rattle.rx_sync.specs.Exchange.{Course, Planned, Terms, world_after, course, course_by, handled_again, handled_and_taken, if_taken, late_records, late_request, once_handled, once_late, reply_lost, reply_taken, when_taken}
+use Rattle.rx_sync.specs.Exchange.{Course, Planned, Terms, world_after, course_by, handled_again, handled_and_taken, if_taken, late_records, late_request, once_handled, once_late, reply_lost, reply_taken, when_taken}
 use Rattle.rx_sync.specs.Handling.{Handled, commits_of, handled, handled_by, handled_for, local_name, written_by}
-use Rattle.rx_sync.specs.Remote.{Heard, RemoteTurned, no_dial, no_wire, no_line, line, first_heard, heard_course, heard_exchange, heard_later, heard_on, lost_as, lost_or_no_time, once_heard, once_read, once_taken, remote_turn, schema_in}
+use Rattle.rx_sync.specs.Remote.{Heard, no_dial, no_wire, no_line, line, heard_course, heard_exchange, lost_as, lost_or_no_time, once_heard, once_read, once_taken, over_wire, remote_turn, schema_in}
 use Rattle.rx_sync.specs.Taking.{changes_nothing, exchange_at, recorded, resolve_for, take_fault, taken, taken_by, write_time}
-use Rattle.rx_sync.specs.Turn.{Turned, end_by, first_of, going_on, rest_of, turn}
+use Rattle.rx_sync.specs.Turn.{Answerer, Turned, course_in, end_by, first_said, going_on, over_link, said_later, turn, turn_by}
 use Rattle.rx_sync.specs.declared.fault.TakeFault.{TakeFault}
 use Rattle.rx_sync.specs.declared.fault.TakeFault.TheVariants.{ClockEnd}
 
@@ -178,6 +178,20 @@ pub each_going : (P : Content → Type 0) (c : Course) (o : Option TurnEnd) (res
 each_going P c None rest first later = each_both P c.records rest.records first later
 each_going P c (Some end) rest first later = each_both P c.records [] first tt
 
+-- of a turn, whoever answers
+pub each_turned : {X : Type 0} (P : Content → Type 0) (y : Answerer X) (batch : ℕ)
+    → ((x : X) (w : World) (a : Asks) (o : Option Asked)
+    → AllByRecursion P (y.goes x w a o).records)
+    → (budget : ℕ) (xs : List X) (w : World) (a : Asks)
+    → AllByRecursion P (turn_by y batch budget xs w a).turned.records
+each_turned P y batch every zero xs w a = tt
+each_turned P y batch every (suc budget) xs w a =
+    let c : Course = course_in y batch (first_said y.unsaid xs) w a in
+    each_going P c (end_by batch c.came)
+    (turn_by y batch budget (said_later xs) (world_after c.records w) c.asks).turned
+    (every (first_said y.unsaid xs) w a (asked_in w y.name (next_number a) batch))
+    (each_turned P y batch every budget (said_later xs) (world_after c.records w) c.asks)
+
 -- ---- what a master writes
 
 apart_held : (name k : List ℕ) (now : ℕ) (q : Request) (o : Option Held)
@@ -277,13 +291,8 @@ module _ (t : Terms) (name : List ℕ) (other : t.name ≢ name) where
   -- a turn is apart from every replication but its own
   pub apart_turn : (batch budget : ℕ) (over : List Happening) (w : World) (a : Asks)
       → AreApart name (turn t batch budget over w a).records
-  apart_turn batch zero over w a = tt
-  apart_turn batch (suc budget) over w a =
-      let c : Course = course t batch (first_of over) w a in
-      each_going (IsApart name) c (end_by batch c.came)
-      (turn t batch budget (rest_of over) (world_after c.records w) c.asks)
-      (apart_course_by (first_of over) w a (asked_in w t.name (next_number a) batch))
-      (apart_turn batch budget (rest_of over) (world_after c.records w) c.asks)
+  apart_turn batch budget over w a =
+      each_turned (IsApart name) (over_link t) batch apart_course_by budget over w a
 
   -- ---- to a master elsewhere
 
@@ -322,20 +331,7 @@ module _ (t : Terms) (name : List ℕ) (other : t.name ≢ name) where
   apart_heard_course h w a None = tt
   apart_heard_course h w a (Some asked) = apart_heard asked h w
 
-  apart_heard_on : (c : Course) (o : Option Asked) (hs : List Heard) (end : Option TurnEnd)
-      (rest : RemoteTurned) → AreApart name c.records → AreApart name rest.turned.records
-      → AreApart name (heard_on c o hs end rest).turned.records
-  apart_heard_on c o hs None rest first later =
-      each_both (IsApart name) c.records rest.turned.records first later
-  apart_heard_on c o hs (Some end) rest first later = each_both (IsApart name) c.records [] first tt
-
   pub apart_remote_turn : (batch budget : ℕ) (hs : List Heard) (w : World) (a : Asks)
       → AreApart name (remote_turn t batch budget hs w a).turned.records
-  apart_remote_turn batch zero hs w a = tt
-  apart_remote_turn batch (suc budget) hs w a =
-      let o = asked_in w t.name (next_number a) batch in
-      let c : Course = heard_course t (first_heard hs) w a o in
-      apart_heard_on c o (heard_later hs) (end_by batch c.came)
-      (remote_turn t batch budget (heard_later hs) (world_after c.records w) c.asks)
-      (apart_heard_course (first_heard hs) w a o)
-      (apart_remote_turn batch budget (heard_later hs) (world_after c.records w) c.asks)
+  apart_remote_turn batch budget hs w a =
+      each_turned (IsApart name) (over_wire t) batch apart_heard_course budget hs w a

@@ -36,18 +36,19 @@ use Rattle.rx_sync.specs.Asking.{asked_in, fork_in}
 use Rattle.rx_sync.specs.Asks.{Asks, AsksAreLawful, next_number, with_request}
 use Rattle.rx_sync.specs.Exchange.{Course, Terms, world_after, lost_by}
 use Rattle.rx_sync.specs.Laws.{ComeSoundly, IsDueIn, IsDueOf, IsLawfulReply, IsLawfulReplyIn, MayComeInTurn, RemembersLawful}
-use Rattle.rx_sync.specs.Remote.{Heard, no_dial, no_wire, no_line, line, RemoteTurned, first_heard, heard_course, heard_exchange, heard_later, heard_on, lost_as, lost_or_no_time, once_heard, once_read, once_taken, remote_turn, schema_in}
+use Rattle.rx_sync.specs.Remote.{Heard, no_dial, no_wire, no_line, line, RemoteTurned, heard_course, heard_exchange, heard_on, lost_as, lost_or_no_time, once_heard, once_read, once_taken, over_wire, remote_turn, schema_in}
 use Rattle.rx_sync.specs.RemoteLaws.{EachIsUnharmed, EveryCall, IsCallSound, IsHeardReply, IsReadyElsewhere, IsTakenUnharmed, IsUnharmed, MayCall, MayCallAgain}
 use Rattle.rx_sync.specs.Taking.{taken}
-use Rattle.rx_sync.specs.Turn.{end_by}
+use Rattle.rx_sync.specs.Turn.{course_in, end_by}
 use Rattle.rx_sync.specs.declared.fault.TakeFault.{TakeFault}
 use Rattle.rx_sync.specs.declared.fault.TakeFault.TheVariants as refused
 use Rattle.rx_sync.proofs.AnyReply.{taking_changes_nothing_else, taking_loses_none, taking_lowers_none, taking_sound_at_port, taking_stays_sound, taking_stays_valid}
+use Rattle.rx_sync.proofs.EveryTurn.{GoesOn, IsWellTurned, each_by, turn_by_well}
 use Rattle.rx_sync.proofs.Exchanges.{taken_is}
 use Rattle.rx_sync.proofs.Messages.{asked_at, due_of, known_pass, place_time}
 use Rattle.rx_sync.proofs.Staying.{made_after, soundly_in_turn, stay_after, still_after}
 use Rattle.rx_sync.proofs.Turns.{remembers_more}
-use Rattle.rx_sync.proofs.Worlds.{after-append, for_fork, linked_at, sound_after, soundly-append}
+use Rattle.rx_sync.proofs.Worlds.{for_fork, linked_at, sound_after}
 
 -- ---- a reply that was read
 
@@ -330,34 +331,23 @@ heard_course_sound t batch some h w a may = by (asked_in w t.name (next_number a
           };
         }
 
-pub record CallIsSound (t : Terms) (w : World) (u : RemoteTurned) : Type 0 where
-  pub come : ComeSoundly w u.turned.records
-  pub again : MayCall t (world_after u.turned.records w) u.turned.asks
+-- nothing holds of an end that doesn't of every one
+abbrev AtAnyEnd : TurnEnd → World → Type 0
+AtAnyEnd e w = Unit {0}
 
-on_sound : (t : Terms) (w : World) (c : Course) (o : Option Asked) (hs : List Heard)
-    (end : Option TurnEnd) (rest : RemoteTurned) → CourseIsSound t w c
-    → CallIsSound t (world_after c.records w) rest → CallIsSound t w (heard_on c o hs end rest)
-on_sound t w c o hs None rest sound more = record {
-  come = soundly-append w c.records rest.turned.records sound.come more.come;
-  again = subst (λ (v : World). MayCall t v rest.turned.asks)
-      (sym (after-append c.records rest.turned.records w)) more.again;
-}
-on_sound t w c o hs (Some end) rest sound more = record {
-  come = subst (λ (cs : List Content). ComeSoundly w cs) (sym (append-nil c.records)) sound.come;
-  again = subst (λ (cs : List Content). MayCall t (world_after cs w) c.asks)
-      (sym (append-nil c.records)) sound.again;
-}
+heard_goes_on : (t : Terms) (batch : ℕ) → 1 ≤ batch → (h : Heard) (w : World) (a : Asks)
+    → MayCall t w a
+    → GoesOn (MayCall t) AtAnyEnd batch w (course_in (over_wire t) batch h w a)
+heard_goes_on t batch some h w a may =
+    let sound = heard_course_sound t batch some h w a may in
+    record { come = sound.come; again = sound.again; ends = λ e is. tt }
 
-call_sound : (t : Terms) (batch budget : ℕ) (hs : List Heard) (w : World) (a : Asks)
-    → 1 ≤ batch → MayCall t w a → CallIsSound t w (remote_turn t batch budget hs w a)
-call_sound t batch zero hs w a some may = record { come = tt; again = may }
-call_sound t batch (suc budget) hs w a some may =
-    let o : Option Asked = asked_in w t.name (next_number a) batch in
-    let c : Course = heard_course t (first_heard hs) w a o in
-    let sound : CourseIsSound t w c = heard_course_sound t batch some (first_heard hs) w a may in
-    on_sound t w c o (heard_later hs) (end_by batch c.came)
-    (remote_turn t batch budget (heard_later hs) (world_after c.records w) c.asks) sound
-    (call_sound t batch budget (heard_later hs) (world_after c.records w) c.asks some sound.again)
+call_well : (t : Terms) (batch budget : ℕ) (hs : List Heard) (w : World) (a : Asks)
+    → 1 ≤ batch → MayCall t w a
+    → IsWellTurned (MayCall t) AtAnyEnd w (remote_turn t batch budget hs w a).turned
+call_well t batch budget hs w a some may =
+    turn_by_well (MayCall t) AtAnyEnd batch (over_wire t) (λ w a may. tt)
+    (heard_goes_on t batch some) budget hs w a may
 
 -- ---- no exchange harms the fork
 
@@ -372,18 +362,6 @@ course_unharmed t batch some h w a may = by (asked_in w t.name (next_number a) b
     by (Some asked) is =
         heard_harmless t w may.ready asked
         (due_there w t.name t.kinds may.ready (next_number a) batch some asked is) h
-
-each_unharmed : (t : Terms) (batch budget : ℕ) (hs : List Heard) (w : World) (a : Asks)
-    → 1 ≤ batch → MayCall t w a → EachIsUnharmed t batch budget hs w a
-each_unharmed t batch zero hs w a some may = tt
-each_unharmed t batch (suc budget) hs w a some may =
-    let c : Course =
-    heard_course t (first_heard hs) w a (asked_in w t.name (next_number a) batch) in
-    let sound : CourseIsSound t w c = heard_course_sound t batch some (first_heard hs) w a may in (
-      course_unharmed t batch some (first_heard hs) w a may,
-      λ goes_on. each_unharmed t batch budget (heard_later hs) (world_after c.records w) c.asks some
-          sound.again,
-    )
 
 -- a turn without a wire
 lost_ends : (batch : ℕ) (why : Lost) (ask : AskKind)
@@ -423,16 +401,15 @@ missed_turn t batch (suc m) w a asked is some later =
 -- ---- the laws
 
 pub remote_turn_sound : EveryCall IsCallSound
-remote_turn_sound t batch budget hs w a some may =
-    (call_sound t batch budget hs w a some may).come
+remote_turn_sound t batch budget hs w a some may = (call_well t batch budget hs w a some may).come
 
 pub remote_turn_again : EveryCall MayCallAgain
-remote_turn_again t batch budget hs w a some may =
-    (call_sound t batch budget hs w a some may).again
+remote_turn_again t batch budget hs w a some may = (call_well t batch budget hs w a some may).again
 
 pub remote_turn_unharmed : EveryCall EachIsUnharmed
 remote_turn_unharmed t batch budget hs w a some may =
-    each_unharmed t batch budget hs w a some may
+    each_by (MayCall t) AtAnyEnd batch (over_wire t) (λ w a may. tt) (heard_goes_on t batch some)
+    (λ w a h c. IsUnharmed t w h c) (course_unharmed t batch some) budget hs w a may
 
 -- ---- what the calls owe
 

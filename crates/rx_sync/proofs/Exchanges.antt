@@ -159,12 +159,13 @@ module _ (w : World) (made : IsMadeWorld w) (sound : IsSoundWorld w) (name : Lis
         ≡ Ok cs → HasTaken w name r fork kind asked reply cs
     recorded_by true o cs nothing time is =
         let same : [] ≡ cs = cc in
-        let a = and_parts (length plan.rows == 0 && list_all (is_known r.side.known) plan.known
-        && is_same_place r.side.up plan.up) (is_same_place r.side.down plan.down) nothing in
-        let b = and_parts (length plan.rows == 0 && list_all (is_known r.side.known) plan.known)
-        (is_same_place r.side.up plan.up) a.0 in
-        let e = and_parts (length plan.rows == 0) (list_all (is_known r.side.known) plan.known)
-        b.0 in
+        let rows = length plan.rows == 0 in
+        let up = is_same_place r.side.up plan.up in
+        let down = is_same_place r.side.down plan.down in
+        let a = and_parts (rows && up && down) (list_all (is_known r.side.known) plan.known)
+        nothing in
+        let b = and_parts (rows && up) down a.0 in
+        let e = and_parts rows up b.0 in
         subst (λ (cs : List Content). HasTaken w name r fork kind asked reply cs) same
         (taken_none (nil_from_length plan.rows (eqb-true (length plan.rows) 0 e.0)))
     recorded_by false None cs nothing time is = absurd (cc)

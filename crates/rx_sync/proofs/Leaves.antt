@@ -97,17 +97,18 @@ recorded_by : (name : List ℕ) (now : ℕ) (fork : Held) (r : Replication) (pla
     → IsNothing r plan cs ⊎ IsOne name fork now plan cs
 recorded_by name now fork r plan cs true o nothing time is =
     let none : [] ≡ cs = cc in
-    let a = and_parts (length plan.rows == 0 && list_all (is_known r.side.known) plan.known
-    && is_same_place r.side.up plan.up) (is_same_place r.side.down plan.down) nothing in
-    let b = and_parts (length plan.rows == 0 && list_all (is_known r.side.known) plan.known)
-    (is_same_place r.side.up plan.up) a.0 in
-    let e = and_parts (length plan.rows == 0) (list_all (is_known r.side.known) plan.known) b.0 in
+    let rows = length plan.rows == 0 in
+    let up = is_same_place r.side.up plan.up in
+    let down = is_same_place r.side.down plan.down in
+    let a = and_parts (rows && up && down) (list_all (is_known r.side.known) plan.known) nothing in
+    let b = and_parts (rows && up) down a.0 in
+    let e = and_parts rows up b.0 in
     inl (record {
       none = sym none;
       rows = nil_from_length plan.rows (eqb-true (length plan.rows) 0 e.0);
-      known = e.1;
-      up = same_place r.side.up plan.up b.1;
-      down = same_place r.side.down plan.down a.1;
+      known = a.1;
+      up = same_place r.side.up plan.up e.1;
+      down = same_place r.side.down plan.down b.1;
     })
 recorded_by name now fork r plan cs false None nothing time is = absurd (cc)
 recorded_by name now fork r plan cs false (Some lwt) nothing time is =

@@ -14,6 +14,7 @@ pub mod Exchanges
 pub mod Ends
 pub mod Going
 pub mod Repeats
+pub mod EveryTurn
 pub mod Turns
 pub mod Updates
 pub mod Calls

@@ -1,5 +1,5 @@
 -- What a turn keeps.
-use Rattle.std.proofs.Common.{◌≡◌, ◌∙◌, ℕ, zero, suc, ◌≤◌, List, ◌∷◌, ◌++◌, Option, Some, None, option_map, refl, sym, ap, subst}
+use Rattle.std.proofs.Common.{◌≡◌, ◌∙◌, ℕ, ◌≤◌, List, ◌∷◌, Option, Some, None, option_map, refl, sym, ap, subst}
 use Rattle.rx_value.specs.Due.{◌>>=◌}
 use Rattle.rx_value.specs.Named.{named}
 use Rattle.rx_value.proofs.Lists.{all_taken}
@@ -23,14 +23,15 @@ use Rattle.rx_sync.specs.Asks.{Asks, AsksAreLawful, IsLawfulRequest, next_number
 use Rattle.rx_sync.specs.Exchange.{Terms, Course, world_after, course, course_by, exchange, late_records, late_request, once_late}
 use Rattle.rx_sync.specs.Handling.{Handled, handled_for}
 use Rattle.rx_sync.specs.Laws.{ComeSoundly, EveryTurn, IsLevel, IsReady, IsTurnSound, MayTurn, MayTurnAgain, PullLeavesNone, QuietIsLevel, RemembersLawful}
-use Rattle.rx_sync.specs.Turn.{Turned, before, end_by, ended_with, first_of, going_on, rest_of, turn}
+use Rattle.rx_sync.specs.Turn.{end_by, over_link, turn}
 use Rattle.rx_sync.proofs.Ends.{HasEnds, ends_of}
+use Rattle.rx_sync.proofs.EveryTurn.{GoesOn, IsWellTurned, turn_by_well}
 use Rattle.rx_sync.proofs.Exchanges.{HasHandled}
 use Rattle.rx_sync.proofs.Going.{GoesWell, behind_well, due_here, handled_come, handled_well, lost_goes_well, lost_well, no_time_well, taken_goes_well}
 use Rattle.rx_sync.proofs.Messages.{asked_at}
 use Rattle.rx_sync.proofs.Repeats.{twice_is_once}
 use Rattle.rx_sync.proofs.Staying.{ready_after, ready_after-master, remembers_after, soundly_in_turn}
-use Rattle.rx_sync.proofs.Worlds.{after-append, soundly-append, soundly_front}
+use Rattle.rx_sync.proofs.Worlds.{soundly_front}
 
 -- ---- an exchange
 
@@ -222,46 +223,27 @@ course_again-master t batch w a c may well =
 
 -- ---- a turn
 
-pub record TurnGoesWell (t : Terms) (w : World) (u : Turned) : Type 0 where
-  pub come : ComeSoundly w u.records
-  pub again : MayTurn t (world_after u.records w) u.asks
-  pub quiet : u.ended ≡ Quiet → IsLevel (world_after u.records w) t.name
+-- where it ends quiet, the two are level
+abbrev pub LevelAt : List ℕ → TurnEnd → World → Type 0
+LevelAt name e w = e ≡ Quiet → IsLevel w name
 
-before_well : (t : Terms) (batch : ℕ) (w : World) (c : Course) (rest : Turned)
-    → CourseGoesWell t batch w c → TurnGoesWell t (world_after c.records w) rest
-    → TurnGoesWell t w (before c rest)
-before_well t batch w c rest well more =
-    let same : world_after (c.records ++ rest.records) w
-    ≡ world_after rest.records (world_after c.records w) =
-    after-append c.records rest.records w in
+pub goes_on : (t : Terms) (batch : ℕ) → 1 ≤ batch → (x : Happening) (w : World) (a : Asks)
+    → MayTurn t w a → GoesOn (MayTurn t) (LevelAt t.name) batch w (course t batch x w a)
+goes_on t batch some x w a may =
+    let well : CourseGoesWell t batch w (course t batch x w a) = course_well t batch some x w a may
+    in
     record {
-      come = soundly-append w c.records rest.records well.come more.come;
-      again = subst (λ (v : World). MayTurn t v rest.asks) (sym same) more.again;
-      quiet = λ is. subst (λ (v : World). IsLevel v t.name) (sym same) (more.quiet is);
+      come = well.come;
+      again = course_again t batch w a (course t batch x w a) may well;
+      ends = λ e is quiet. well.quiet (is ∙ ap Some quiet);
     }
 
-on_well : (t : Terms) (batch : ℕ) (w : World) (a : Asks) (c : Course) (rest : Turned)
-    (o : Option TurnEnd) → MayTurn t w a → CourseGoesWell t batch w c → end_by batch c.came ≡ o
-    → TurnGoesWell t (world_after c.records w) rest → TurnGoesWell t w (going_on c o rest)
-on_well t batch w a c rest None may well is more = before_well t batch w c rest well more
-on_well t batch w a c rest (Some end) may well is more =
-    before_well t batch w c (ended_with end c.asks) well (record {
-      come = tt;
-      again = course_again t batch w a c may well;
-      quiet = λ same. well.quiet (is ∙ ap Some same);
-    })
-
 turn_well : (t : Terms) (batch budget : ℕ) (link : List Happening) (w : World) (a : Asks)
-    → 1 ≤ batch → MayTurn t w a → TurnGoesWell t w (turn t batch budget link w a)
-turn_well t batch zero link w a some may =
-    record { come = tt; again = may; quiet = λ is. absurd (cc) }
-turn_well t batch (suc budget) link w a some may =
-    let c : Course = course t batch (first_of link) w a in
-    let well : CourseGoesWell t batch w c = course_well t batch some (first_of link) w a may in
-    on_well t batch w a c (turn t batch budget (rest_of link) (world_after c.records w) c.asks)
-    (end_by batch c.came) may well refl
-    (turn_well t batch budget (rest_of link) (world_after c.records w) c.asks some
-    (course_again t batch w a c may well))
+    → 1 ≤ batch → MayTurn t w a
+    → IsWellTurned (MayTurn t) (LevelAt t.name) w (turn t batch budget link w a)
+turn_well t batch budget link w a some may =
+    turn_by_well (MayTurn t) (LevelAt t.name) batch (over_link t) (λ w a may is. absurd (cc))
+    (goes_on t batch some) budget link w a may
 
 -- ---- the laws
 
@@ -272,4 +254,4 @@ pub turn_again : EveryTurn MayTurnAgain
 turn_again t batch budget link w a some may = (turn_well t batch budget link w a some may).again
 
 pub turn_quiet : EveryTurn QuietIsLevel
-turn_quiet t batch budget link w a some may = (turn_well t batch budget link w a some may).quiet
+turn_quiet t batch budget link w a some may = (turn_well t batch budget link w a some may).ends

@@ -1,5 +1,5 @@
 -- No exchange of a turn loses an update.
-use Rattle.std.proofs.Common.{◌≡◌, ◌⊎◌, ◌∙◌, ℕ, zero, suc, ◌≤◌, List, [], ◌++◌, Option, Some, None, option_map, Result, Ok, Err, refl, sym, ap, subst, inl, inr, append-nil, append_assoc}
+use Rattle.std.proofs.Common.{◌≡◌, ◌⊎◌, ◌∙◌, ℕ, ◌≤◌, List, [], ◌++◌, Option, Some, None, option_map, Result, Ok, Err, refl, sym, ap, subst, inl, inr, append-nil, append_assoc}
 use Rattle.rx_value.specs.Named.{named}
 use Rattle.rx_value.proofs.Outcomes.{not_none, some_same}
 use Rattle.rx_handler.specs.Handlers.{Kinds}
@@ -14,20 +14,21 @@ use Rattle.rx_script.specs.declared.happening.Happening.TheVariants as link
 use Rattle.rx_world.specs.World.{World, Replications}
 use Rattle.rx_sync.specs.Asking.{asked_in}
 use Rattle.rx_sync.specs.Asks.{Asks, next_number, with_request}
-use Rattle.rx_sync.specs.Exchange.{Course, Planned, Terms, behind, course, course_by, exchange, handled_and_taken, if_taken, late_records, late_request, once_handled, once_late, reply_lost, reply_taken, taken_as, when_taken, world_after}
+use Rattle.rx_sync.specs.Exchange.{Planned, Terms, behind, course, course_by, exchange, handled_and_taken, if_taken, late_records, late_request, once_handled, once_late, reply_lost, reply_taken, taken_as, when_taken, world_after}
 use Rattle.rx_sync.specs.Handling.{Handled, handled_for}
 use Rattle.rx_sync.specs.Laws.{EveryTurn, ForFork, IsDueOf, IsLawfulReply, IsReady, KeepsPendingIn, MayTurn, RemembersLawful}
 use Rattle.rx_sync.specs.Taking.{taken}
-use Rattle.rx_sync.specs.Turn.{first_of, rest_of}
+use Rattle.rx_sync.specs.Turn.{over_link}
 use Rattle.rx_sync.specs.Updates.{EachKeepsUpdates, LeavesFork, KeepsUpdates}
 use Rattle.rx_sync.specs.declared.fault.TakeFault.{TakeFault}
 use Rattle.rx_sync.proofs.AnyReply.{taking_loses_none}
 use Rattle.rx_sync.proofs.Ends.{HasEnds, ends_of}
+use Rattle.rx_sync.proofs.EveryTurn.{each_by}
 use Rattle.rx_sync.proofs.Exchanges.{HasHandled}
 use Rattle.rx_sync.proofs.Going.{due_here, fork_then, handled_come, handled_well, replication_then, reply_is_lawful}
 use Rattle.rx_sync.proofs.Repeats.{twice_is_once}
 use Rattle.rx_sync.proofs.Staying.{made_after, ready_after, soundly_in_turn}
-use Rattle.rx_sync.proofs.Turns.{CourseGoesWell, course_again, course_well, late_asked, late_come, late_lawful, remembers_more}
+use Rattle.rx_sync.proofs.Turns.{LevelAt, goes_on, late_asked, late_come, late_lawful, remembers_more}
 use Rattle.rx_sync.proofs.Worlds.{after-append, for_fork, sound_after}
 
 -- ---- worlds with the same fork
@@ -285,11 +286,6 @@ course_keeps t batch some x w a may = by (asked_in w t.name (next_number a) batc
 -- ---- a turn
 
 pub turn_keeps : EveryTurn EachKeepsUpdates
-turn_keeps t batch zero link w a some may = tt
-turn_keeps t batch (suc budget) link w a some may =
-    let c : Course = course t batch (first_of link) w a in
-    let well : CourseGoesWell t batch w c = course_well t batch some (first_of link) w a may in (
-      course_keeps t batch some (first_of link) w a may,
-      λ goes_on. turn_keeps t batch budget (rest_of link) (world_after c.records w) c.asks some
-          (course_again t batch w a c may well),
-    )
+turn_keeps t batch budget link w a some may =
+    each_by (MayTurn t) (LevelAt t.name) batch (over_link t) (λ w a may is. absurd (cc))
+    (goes_on t batch some) (KeepsUpdates t batch) (course_keeps t batch some) budget link w a may

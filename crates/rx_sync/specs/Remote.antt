@@ -1,6 +1,6 @@
 -- A turn over a wire, to a master that is elsewhere: exchanges one after another, by what was heard
 -- of the master in each.
-use Rattle.std.specs.Prelude.{ℕ, zero, suc, List, [], ◌∷◌, ◌++◌, Option, Some, None, Result, Ok, Err}
+use Rattle.std.specs.Prelude.{ℕ, List, Option, Some, None, Result, Ok, Err}
 use Rattle.rx_value.specs.Due.{◌>>=◌}
 use Rattle.rx_value.specs.Named.{named}
 use Rattle.rx_schema.specs.declared.shape.Shape.{Shape}
@@ -9,19 +9,17 @@ use Rattle.rx_wire.specs.declared.fault.WireFault.{WireFault}
 use Rattle.rx_wire.specs.declared.message.AskKind.{AskKind}
 use Rattle.rx_wire.specs.declared.message.Body.{Body}
 use Rattle.rx_wire.specs.declared.message.Reply.{Reply}
-use Rattle.rx_wire.specs.declared.message.Request.{Request}
 use Rattle.rx_fork.specs.declared.ask.Asked.{Asked}
 use Rattle.rx_record.specs.Content.{Content}
 use Rattle.rx_reply.specs.declared.turn.Lost.{Lost}
 use Rattle.rx_reply.specs.declared.turn.Lost.TheVariants as lost
 use Rattle.rx_reply.specs.declared.turn.TurnEnd.{TurnEnd}
-use Rattle.rx_reply.specs.declared.turn.TurnEnd.TheVariants.{More}
 use Rattle.rx_world.specs.World.{World}
-use Rattle.rx_sync.specs.Asking.{asked_in, fork_in}
-use Rattle.rx_sync.specs.Asks.{Asks, next_number, with_request}
-use Rattle.rx_sync.specs.Exchange.{Course, Planned, Terms, world_after, behind, comes_to, course_with, lost_by, no_time, taken_as}
+use Rattle.rx_sync.specs.Asking.{fork_in}
+use Rattle.rx_sync.specs.Asks.{Asks, with_request}
+use Rattle.rx_sync.specs.Exchange.{Course, Planned, Terms, behind, comes_to, course_with, lost_by, no_time, taken_as}
 use Rattle.rx_sync.specs.Taking.{taken}
-use Rattle.rx_sync.specs.Turn.{Turned, before, end_by, ended_with}
+use Rattle.rx_sync.specs.Turn.{Answerer, TurnedBy, first_said, said_later, said_on, turn_by}
 use Rattle.rx_sync.specs.declared.fault.TakeFault.{TakeFault}
 use Rattle.rx_sync.specs.declared.fault.TakeFault.TheVariants as refused
 
@@ -37,13 +35,11 @@ pub data Heard : Type 0 where
 
 -- what is heard first; where nothing is to come any more, the wire failed
 abbrev pub first_heard : List Heard → Heard
-first_heard [] = no_wire
-first_heard (h ∷ hs) = h
+first_heard hs = first_said no_wire hs
 
 -- and what is heard after it
 abbrev pub heard_later : List Heard → List Heard
-heard_later [] = []
-heard_later (h ∷ hs) = hs
+heard_later hs = said_later hs
 
 -- ---- an exchange
 
@@ -96,37 +92,18 @@ heard_course t h w a (Some asked) =
 
 -- ---- a turn
 
--- the turn, the requests that it made, and what is still to be heard after it
-pub record RemoteTurned : Type 0 where
-  pub turned : Turned
-  pub requests : List Request
-  pub later : List Heard
+-- what was heard says how an exchange goes
+abbrev pub over_wire : Terms → Answerer Heard
+over_wire t = record { name = t.name; unsaid = no_wire; goes = heard_course t }
 
--- the request that was made
-abbrev pub request_made : Option Asked → List Request
-request_made None = []
-request_made (Some asked) = asked.request ∷ []
+abbrev pub RemoteTurned : Type 0
+RemoteTurned = TurnedBy Heard
 
 -- an exchange and what was heard after it, and the rest of the turn, where it goes on
 abbrev pub heard_on : Course → Option Asked → List Heard → Option TurnEnd → RemoteTurned
     → RemoteTurned
-heard_on c o hs None rest = record {
-  turned = before c rest.turned;
-  requests = request_made o ++ rest.requests;
-  later = rest.later;
-}
-heard_on c o hs (Some end) rest = record {
-  turned = before c (ended_with end c.asks);
-  requests = request_made o;
-  later = hs;
-}
+heard_on c o hs end rest = said_on c o hs end rest
 
 -- of such a batch, so many exchanges at most, where that is to be heard
 abbrev pub remote_turn : Terms → ℕ → ℕ → List Heard → World → Asks → RemoteTurned
-remote_turn t batch zero hs w a =
-    record { turned = ended_with More a; requests = []; later = hs }
-remote_turn t batch (suc budget) hs w a =
-    let o = asked_in w t.name (next_number a) batch in
-    let c = heard_course t (first_heard hs) w a o in
-    heard_on c o (heard_later hs) (end_by batch c.came)
-    (remote_turn t batch budget (heard_later hs) (world_after c.records w) c.asks)
+remote_turn t batch budget hs w a = turn_by (over_wire t) batch budget hs w a

@@ -1,5 +1,5 @@
 -- What holds of every turn to a master that is elsewhere, whatever is heard of it.
-use Rattle.std.specs.Prelude.{◌≡◌, ◌⊎◌, ℕ, zero, suc, ◌≤◌, List, [], Some, None, Ok}
+use Rattle.std.specs.Prelude.{◌≡◌, ◌⊎◌, ℕ, ◌≤◌, List, [], Some, Ok}
 use Rattle.rx_value.specs.Named.{named}
 use Rattle.rx_schema.specs.declared.shape.Shape.{Shape}
 use Rattle.rx_handler.specs.Handlers.{Kinds}
@@ -13,12 +13,11 @@ use Rattle.rx_world.specs.declared.replication.Replication.{Replication}
 use Rattle.rx_wire.specs.Spelling.{reply_of}
 use Rattle.rx_wire.specs.declared.message.Reply.{Reply}
 use Rattle.rx_sync.specs.AnyReply.{ChangesNothingElse, LosesNoUpdate, LowersNoCheckpoint, StaysForkSound, StaysValid}
-use Rattle.rx_sync.specs.Asking.{asked_in}
-use Rattle.rx_sync.specs.Asks.{Asks, next_number}
+use Rattle.rx_sync.specs.Asks.{Asks}
 use Rattle.rx_sync.specs.Exchange.{Course, Terms, world_after}
 use Rattle.rx_sync.specs.Laws.{ComeSoundly, RemembersLawful}
-use Rattle.rx_sync.specs.Remote.{Heard, line, first_heard, heard_course, heard_later, remote_turn, schema_in}
-use Rattle.rx_sync.specs.Turn.{end_by}
+use Rattle.rx_sync.specs.Remote.{Heard, line, over_wire, remote_turn, schema_in}
+use Rattle.rx_sync.specs.Turn.{EachBy}
 
 -- the replication of that name is held, and its master is at a port
 pub record HasMasterElsewhere (w : World) (name : List ℕ) : Type 0 where
@@ -89,12 +88,8 @@ IsUnharmed t w heard c = (c.records ≡ []) ⊎ IsTakenUnharmed w t.kinds t.name
 -- what it comes to
 abbrev pub EachHeard : (World → Heard → Course → Type 0) → Terms → ℕ → ℕ → List Heard → World → Asks
     → Type 0
-EachHeard P t batch zero heard w a = Unit {0}
-EachHeard P t batch (suc budget) heard w a =
-    let c = heard_course t (first_heard heard) w a (asked_in w t.name (next_number a) batch) in
-    P w (first_heard heard) c
-    × (end_by batch c.came ≡ None
-    → EachHeard P t batch budget (heard_later heard) (world_after c.records w) c.asks)
+EachHeard P t batch budget heard w a =
+    EachBy (λ w a h c. P w h c) (over_wire t) batch budget heard w a
 
 abbrev pub EachIsUnharmed : Terms → ℕ → ℕ → List Heard → World → Asks → Type 0
 EachIsUnharmed t batch budget heard w a = EachHeard (IsUnharmed t) t batch budget heard w a

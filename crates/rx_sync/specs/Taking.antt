@@ -41,11 +41,11 @@ is_same_place None None = true
 is_same_place (Some p) (Some q) = eq_by_cmp place_cmp p q
 is_same_place p q = false
 
--- no row is written, each state is known already, and the checkpoints stay
+-- no row is written, the checkpoints stay, and each state is known already
 abbrev pub changes_nothing : Side → ExchangePlan → Bool
 changes_nothing side plan =
-    length plan.rows == 0 && list_all (is_known side.known) plan.known
-    && is_same_place side.up plan.up && is_same_place side.down plan.down
+    length plan.rows == 0 && is_same_place side.up plan.up && is_same_place side.down plan.down
+    && list_all (is_known side.known) plan.known
 
 -- ---- the record
 

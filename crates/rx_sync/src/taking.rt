@@ -116,10 +116,11 @@ fn write_time(fork: &Collection, rows: &RxList<State>, now: u64) -> Option<u64>
 fn changes_nothing(side: &Meta, plan: &ExchangePlan) -> bool
     ensures { result ≡ changes_nothing side.now plan.now }
 {
+    // Places tell most that change something, and cost less than states.
     plan.rows.len() == 0
-        && are_known(side, plan.known.as_slice())
         && is_same_place(side.up(), plan.up.as_ref())
         && is_same_place(side.down(), plan.down.as_ref())
+        && are_known(side, plan.known.as_slice())
 }
 
 fn are_known(side: &Meta, states: &[State]) -> bool
