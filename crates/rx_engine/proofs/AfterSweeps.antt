@@ -21,7 +21,8 @@ use Rattle.rx_engine.specs.Sweeping.{WantedSweep, swept}
 use Rattle.rx_engine.specs.Sweeps.{sweep_terms}
 use Rattle.rx_engine.specs.declared.engine.Engine.{Engine}
 use Rattle.rx_engine.specs.declared.output.Output.{Output}
-use Rattle.rx_engine.proofs.CanSweeps.{IsSweptAt, swept_over}
+use Rattle.rx_engine.proofs.CanDo.{IsSweptAt}
+use Rattle.rx_engine.proofs.CanSweeps.{swept_over}
 use Rattle.rx_engine.proofs.Plays.{written-world}
 use Rattle.rx_engine.proofs.Remembering.{remembers_lawful}
 

@@ -22,9 +22,9 @@ use Rattle.rx_sync.specs.Asking.{asked_in}
 use Rattle.rx_sync.specs.Asks.{Asks, next_number}
 use Rattle.rx_sync.specs.Exchange.{Course, Terms, world_after}
 use Rattle.rx_sync.specs.Laws.{ComeSoundly}
-use Rattle.rx_sync.specs.Remote.{Heard, no_dial, no_wire, no_line, line, RemoteTurned, heard_on, remote_turn, request_made, schema_in}
+use Rattle.rx_sync.specs.Remote.{Heard, no_dial, no_wire, no_line, line, RemoteTurned, over_wire, remote_turn, schema_in}
 use Rattle.rx_sync.specs.RemoteLaws.{MayCall}
-use Rattle.rx_sync.specs.Turn.{as_list, end_by, ended_with}
+use Rattle.rx_sync.specs.Turn.{as_list, end_by, request_made}
 use Rattle.rx_sync.proofs.Elsewhere.{goes_on_by_line, heard_course_sound, schema_after}
 use Rattle.rx_wire.specs.Writing.{request_text}
 use Rattle.rx_wire.specs.declared.message.Request.{Request}
@@ -36,76 +36,12 @@ use Rattle.rx_engine.specs.Play.{IsPlayAt}
 use Rattle.rx_engine.specs.Turning.{written}
 use Rattle.rx_engine.specs.declared.play.Play.{Play}
 use Rattle.rx_engine.specs.declared.turning.Turned.{Turned as Made}
+use Rattle.rx_engine.proofs.OneTurn.{joined, none_left, over_now, whole_on, whole_over, whole_then}
 use Rattle.rx_engine.proofs.Plays.{written-append, written-world}
 use Rattle.rx_engine.proofs.Remotely.{if_err, not_done}
 use Rattle.rx_engine.proofs.Wires.{HasHeard, all_shown, heard_line, line_shown, no_line_shown, none_heard, wire_shown}
 
--- ---- turns behind one another
-
--- records, requests and exchanges before a turn
-abbrev pub joined : List Content → List Request → List Exchanged → RemoteTurned → RemoteTurned
-joined cs rs es u = record {
-  turned = record {
-    records = cs ++ u.turned.records;
-    asks = u.turned.asks;
-    exchanges = es ++ u.turned.exchanges;
-    ended = u.turned.ended;
-  };
-  requests = rs ++ u.requests;
-  later = u.later;
-}
-
--- no exchange more
-abbrev pub over_now : TurnEnd → Asks → List Heard → RemoteTurned
-over_now end a later = record { turned = ended_with end a; requests = []; later = later }
-
-joined_twice : (cs ds : List Content) (rs qs : List Request) (es fs : List Exchanged)
-    (u : RemoteTurned)
-    → joined cs rs es (joined ds qs fs u) ≡ joined (cs ++ ds) (rs ++ qs) (es ++ fs) u
-joined_twice cs ds rs qs es fs u =
-    ap (λ (l : List Content). record {
-      turned = record {
-        records = l;
-        asks = u.turned.asks;
-        exchanges = es ++ (fs ++ u.turned.exchanges);
-        ended = u.turned.ended;
-      };
-      requests = rs ++ (qs ++ u.requests);
-      later = u.later;
-    }) (sym (append_assoc cs ds u.turned.records))
-    ∙ ap (λ (l : List Exchanged). record {
-      turned = record {
-        records = (cs ++ ds) ++ u.turned.records;
-        asks = u.turned.asks;
-        exchanges = l;
-        ended = u.turned.ended;
-      };
-      requests = rs ++ (qs ++ u.requests);
-      later = u.later;
-    }) (sym (append_assoc es fs u.turned.exchanges))
-    ∙ ap (λ (l : List Request). record {
-      turned = record {
-        records = (cs ++ ds) ++ u.turned.records;
-        asks = u.turned.asks;
-        exchanges = (es ++ fs) ++ u.turned.exchanges;
-        ended = u.turned.ended;
-      };
-      requests = l;
-      later = u.later;
-    }) (sym (append_assoc rs qs u.requests))
-
--- the rest of a turn behind an exchange, or none where it ended the turn
-abbrev pub tail_on : Course → List Heard → Option TurnEnd → RemoteTurned → RemoteTurned
-tail_on c later None rest = rest
-tail_on c later (Some end) rest = over_now end c.asks later
-
-on_joined : (c : Course) (o : Option Asked) (later : List Heard) (end : Option TurnEnd)
-    (rest : RemoteTurned)
-    → heard_on c o later end rest
-    ≡ joined c.records (request_made o) (as_list c.came) (tail_on c later end rest)
-on_joined c o later None rest = refl
-on_joined c None later (Some end) rest = refl
-on_joined c (Some asked) later (Some end) rest = refl
+-- ---- what was heard
 
 no_lines_end : (ls : List (List ℕ)) (front : List Heard)
     → map (λ l. line l) ls ≡ front ++ no_wire ∷ [] → ⊥
@@ -164,9 +100,6 @@ then_got (l ∷ ls) h got = ((λ is. cc), then_got ls h got)
 pub above : (a b : ℕ) → Rises a b → nat_lt 0 b ≡ true
 above a b (inl less) = lt-ltb 0 b (omega (arith, less))
 above a b (inr last) = ap (λ (n : ℕ). nat_lt 0 n) last
-
-pub none_left : (left i budget : ℕ) → i + left ≡ budget → budget ≤ i → left ≡ 0
-none_left left i budget span past = omega (arith, span, past)
 
 -- ---- a turn on its way
 
@@ -306,25 +239,14 @@ module _ {D : Type 0} (t : Terms) (batch : ℕ) (d : Ghosts D) (old : D) (first 
     abbrev pub then_heard : List Heard
     then_heard = map (λ l. line l) lines ++ h ∷ []
 
-    abbrev tail : List Heard → RemoteTurned
-    tail later =
-        tail_on c later (end_by batch c.came)
-        (remote_turn t batch m later (world_after c.records w) c.asks)
-
     c_come : ComeSoundly w c.records
     c_come = (heard_course_sound t batch some h w a may).come
 
-    -- the whole turn, by this exchange and what is behind it
-    pub whole_then : (later : List Heard) → total (then_heard ++ later)
-        ≡ joined (done ++ c.records) (requests ++ request_made asked) (es ++ as_list c.came)
-        (tail later)
-    whole_then later =
-        ap total (append_assoc (map (λ l. line l) lines) (h ∷ []) later)
-        ∙ whole (h ∷ later)
-        ∙ ap (joined done requests es)
-        (on_joined c asked later (end_by batch c.came)
-        (remote_turn t batch m later (world_after c.records w) c.asks))
-        ∙ joined_twice done c.records requests (request_made asked) es (as_list c.came) (tail later)
+    -- the whole turn, from this exchange on
+    pub whole_here : (later : List Heard) → total (then_heard ++ later)
+        ≡ joined done requests es (remote_turn t batch (suc m) (h ∷ later) w a)
+    whole_here later =
+        ap total (append_assoc (map (λ l. line l) lines) (h ∷ []) later) ∙ whole (h ∷ later)
 
     -- after them
     module _ (new : D) (then_play : Play)
@@ -356,27 +278,6 @@ module _ {D : Type 0} (t : Terms) (batch : ℕ) (d : Ghosts D) (old : D) (first 
       schema_then =
           ap (λ (v : World). schema_in v t.name) world_then
           ∙ schema_after c.records w t.name t.kinds may.ready c_come
-
-      -- what is behind it, where it goes on
-      pub tail_then : (b : Asks) → b ≡ c.asks → (o : Option Exchanged) → o ≡ c.came
-          → end_by batch o ≡ None → (later : List Heard)
-          → tail later ≡ remote_turn t batch m later then_play.playing.world b
-      tail_then b is o came none later =
-          ap (λ (e : Option TurnEnd). tail_on c later e
-          (remote_turn t batch m later (world_after c.records w) c.asks))
-          (ap (end_by batch) (sym came) ∙ none)
-          ∙ ap (λ (v : World). remote_turn t batch m later v c.asks) (sym world_then)
-          ∙ ap (remote_turn t batch m later then_play.playing.world) (sym is)
-
-      -- and where it ended the turn
-      pub tail_over : (b : Asks) → b ≡ c.asks → (o : Option Exchanged) → o ≡ c.came
-          → (end : TurnEnd) → end_by batch o ≡ Some end → (later : List Heard)
-          → tail later ≡ over_now end b later
-      tail_over b is o came end last later =
-          ap (λ (e : Option TurnEnd). tail_on c later e
-          (remote_turn t batch m later (world_after c.records w) c.asks))
-          (ap (end_by batch) (sym came) ∙ last)
-          ∙ ap (λ (b : Asks). over_now end b later) (sym is)
 
   -- ---- what the wire shows after an exchange
 
@@ -496,28 +397,32 @@ module _ {D : Type 0} (t : Terms) (batch : ℕ) (d : Ghosts D) (old : D) (first 
           let c : Course = course_heard t batch h w a in
           let kept = kept_then some now i m play a es wire on.lines on.requests on.done on.may
           on.kept whole h new then_play made.session made.limit safe_then in
-          let whole_so = whole_then some now i m play a es wire on.lines on.requests on.done on.may
+          let here = whole_here some now i m play a es wire on.lines on.requests on.done on.may
           on.kept whole h in
+          let then_w : then_play.playing.world ≡ world_after c.records w =
+          world_then some now i m play a es wire on.lines on.requests on.done on.may on.kept whole h
+          new then_play made.session made.limit safe_then in
           let asked : Option Asked = asked_in w t.name (next_number a) batch in
           record {
             heard = map (λ l. line l) on.lines ++ h ∷ [];
             done = on.done ++ c.records;
             kept = kept;
-            way = λ later. (_, ap (λ (u : RemoteTurned). u.turned.records) (whole_so later));
+            way = λ later. (
+              _,
+              ap (λ (u : RemoteTurned). u.turned.records)
+                  (whole_then (over_wire t) batch (total ((map (λ l. line l) on.lines ++ h ∷ [])
+                  ++ later)) on.done on.requests es m h (h ∷ later) later w a (here later) refl
+                  refl),
+            );
             ends = λ end last all all_is. record {
               heard = map (λ l. line l) on.lines ++ h ∷ [];
               requests = on.requests ++ request_made asked;
               done = on.done ++ c.records;
               kept = kept;
-              whole = λ later. whole_so later
-                  ∙ ap (joined (on.done ++ c.records) (on.requests ++ request_made asked)
-                  (es ++ as_list c.came))
-                  (tail_over some now i m play a es wire on.lines on.requests on.done on.may on.kept
-                  whole h new then_play made.session made.limit safe_then b made.asks o made.came
-                  end last later)
-                  ∙ ap (λ (l : List Exchanged). joined (on.done ++ c.records)
-                  (on.requests ++ request_made asked) l (over_now end b later))
-                  (ap (λ (o : Option Exchanged). es ++ as_list o) (sym made.came) ∙ sym all_is);
+              whole = λ later. whole_over (over_wire t) batch
+                  (total ((map (λ l. line l) on.lines ++ h ∷ []) ++ later)) on.done on.requests es m
+                  h (h ∷ later) later w a (here later) refl refl b o made.asks made.came all end
+                  last all_is;
               over = over_here;
             };
             goes_on = λ e came none more more_is.
@@ -540,17 +445,11 @@ module _ {D : Type 0} (t : Terms) (batch : ℕ) (d : Ghosts D) (old : D) (first 
                       ap (λ (hs : List Heard). total (hs ++ later))
                       (map-append (λ l. line l) on.lines (l ∷ [])
                       ∙ ap (λ (x : Heard). map (λ l. line l) on.lines ++ x ∷ []) (sym by_line.1))
-                      ∙ whole_so later
-                      ∙ ap (joined (on.done ++ c.records) (on.requests ++ request_made asked)
-                      (es ++ as_list c.came))
-                      (tail_then some now i m play a es wire on.lines on.requests on.done on.may
-                      on.kept whole h new then_play made.session made.limit safe_then b made.asks o
-                      made.came none later)
-                      ∙ ap (λ (l : List Exchanged). joined (on.done ++ c.records)
-                      (on.requests ++ request_made asked) l
-                      (remote_turn t batch m later then_play.playing.world b))
-                      (ap (λ (o : Option Exchanged). es ++ as_list o) (sym made.came ∙ came)
-                      ∙ sym more_is);
+                      ∙ whole_on (over_wire t) batch
+                      (total ((map (λ l. line l) on.lines ++ h ∷ []) ++ later)) on.done on.requests
+                      es m h (h ∷ later) later w a (here later) refl refl b o made.asks made.came
+                      more then_play.playing.world then_w none
+                      (more_is ∙ ap (λ (o : Option Exchanged). es ++ as_list o) (sym came));
                   over = heard_then wire wire' on.lines on.requests w a h on.schema on.over
                       (made.told (λ is. cc)) (made.failed (λ is. cc)) (made.asked (λ is. cc))
                       (made.got (λ is. cc)) on.each on.count l by_line.1;
@@ -594,8 +493,11 @@ module _ {D : Type 0} (t : Terms) (batch : ℕ) (d : Ghosts D) (old : D) (first 
       stopped_by m span whole =
           let w : World = play.playing.world in
           let c : Course = course_heard t batch made.heard w a in
-          let whole_so = whole_then some now i m play a es wire on.lines on.requests on.done on.may
+          let here = whole_here some now i m play a es wire on.lines on.requests on.done on.may
           on.kept whole made.heard in
+          let whole_so = λ (later : List Heard). whole_then (over_wire t) batch
+          (total (heard_so ++ later)) on.done on.requests es m made.heard (made.heard ∷ later) later
+          w a (here later) refl refl in
           record {
             heard = heard_so;
             requests = asked_so;

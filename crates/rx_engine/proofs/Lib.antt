@@ -3,6 +3,7 @@ pub mod Meanings
 pub mod Keeping
 pub mod Remembering
 pub mod Marking
+pub mod CanDo
 pub mod CanTurns
 pub mod Batches
 pub mod AfterTurns
@@ -15,6 +16,7 @@ pub mod Rows
 pub mod Lines
 pub mod Plays
 pub mod Carrying
+pub mod OneTurn
 pub mod Turnings
 pub mod Rooms
 pub mod Wires

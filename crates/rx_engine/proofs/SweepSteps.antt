@@ -9,17 +9,14 @@ use Rattle.rx_reply.specs.declared.swept.Swept.{Swept as SweptTurn}
 use Rattle.rx_reply.specs.declared.turn.TurnEnd.{TurnEnd}
 use Rattle.rx_reply.specs.declared.turn.TurnEnd.TheVariants.{Quiet, Lost, Clock, More}
 use Rattle.rx_sync.proofs.Apart.{apart_turn}
-use Rattle.rx_sync.proofs.Staying.{made_after, ready_after, soundly_in_turn}
+use Rattle.rx_sync.proofs.Staying.{ready_after}
 use Rattle.rx_sync.proofs.Turns.{turn_again, turn_sound}
-use Rattle.rx_sync.proofs.Worlds.{linked_at, sound_after}
 use Rattle.rx_sync.specs.Asks.{Asks, asks_of}
 use Rattle.rx_sync.specs.Exchange.{Terms, world_after}
 use Rattle.rx_sync.specs.Laws.{ComeSoundly, IsReady, MayTurn}
 use Rattle.rx_sync.specs.Sweep.{Swept, sweep, swept_on, swept_with, turn_in}
 use Rattle.rx_sync.specs.Turn.{Turned}
 use Rattle.rx_sync.specs.declared.sweeping.Step.{Step}
-use Rattle.rx_world.specs.Made.{IsMadeWorld}
-use Rattle.rx_world.specs.Sound.{IsSoundWorld}
 use Rattle.rx_world.specs.World.{World}
 use Rattle.rx_engine.specs.Marks.{AreMarked, AreMarkedBut}
 use Rattle.rx_engine.specs.Play.{Follows}
@@ -30,8 +27,8 @@ use Rattle.rx_engine.specs.Turning.{CanTurn}
 use Rattle.rx_engine.specs.declared.play.Play.{Play}
 use Rattle.rx_engine.specs.declared.remembered.Remembered.{Remembered}
 use Rattle.rx_engine.specs.declared.sweeping.MadeSweep.{MadeSweep}
-use Rattle.rx_engine.proofs.Marking.{marked_then}
-use Rattle.rx_engine.proofs.Remembering.{remembered_after, remembered_put, remembers_lawful}
+use Rattle.rx_engine.proofs.AfterTurns.{LeavesSoundly, made_after_turn, others_after_turn, remembered_after_turn, sound_after_turn}
+use Rattle.rx_engine.proofs.Remembering.{remembers_lawful}
 use Rattle.rx_engine.proofs.Staging.{follows_on, world_of}
 
 -- ---- one turn
@@ -72,30 +69,28 @@ module _ (kinds : Kinds) (batch budget now : ℕ) (some : 1 ≤ batch) (p : Play
     then_is : world_after t.records w ≡ q.playing.world
     then_is = sym (world_of p q t.records follows)
 
-    pub others_then : AreMarkedBut name q.playing.world r.marks
-    others_then =
-        subst (λ (v : World). AreMarkedBut name v r.marks) then_is
-        (marked_then t.records w r.marks name (soundly_in_turn w t.records come)
-        (λ other apart. apart_turn terms other apart batch budget [] w (asks_of name asks))
-        good.marked)
-
-    remembered_then : AreRemembered q.playing.world (put_named asks name t.asks)
-    remembered_then =
-        let v = world_after t.records w in
+    leaves : LeavesSoundly name w t
+    leaves =
         let again = turn_again terms batch budget [] w (asks_of name asks) some may_step in
-        let here = again.ready.here in
-        let l = linked_at v again.ready.made name here.replication here.held in
-        subst (λ (v : World). AreRemembered v (put_named asks name t.asks)) then_is
-        (remembered_put v asks name t.asks here.replication l.fork here.held l.held again.asks
-        (remembered_after t.records w asks (soundly_in_turn w t.records come) good.remembers))
+        record {
+          come = come;
+          apart = λ other not. apart_turn terms other not batch budget [] w (asks_of name asks);
+          lawful = again.asks;
+          replication = again.ready.here.replication;
+          held = again.ready.here.held;
+        }
+
+    pub others_then : AreMarkedBut name q.playing.world r.marks
+    others_then = others_after_turn name t w q.playing.world then_is leaves r.marks good.marked
 
     pub good_then : (then : Remembered) → by_bytes then.asks.entries ≡ put_named asks name t.asks
         → AreMarked q.playing.world then.marks → IsGoodPlay q then
     good_then then same marked = record {
-      made = subst IsMadeWorld then_is
-          (made_after w t.records good.made (soundly_in_turn w t.records come));
-      sound = subst IsSoundWorld then_is (sound_after w t.records good.sound come);
-      remembers = subst (AreRemembered q.playing.world) (sym same) remembered_then;
+      made = made_after_turn name t w q.playing.world then_is leaves good.made;
+      sound = sound_after_turn name t w q.playing.world then_is leaves good.sound;
+      remembers = subst (AreRemembered q.playing.world) (sym same)
+          (remembered_after_turn name t w q.playing.world then_is leaves asks good.made
+          good.remembers);
       marked = marked;
     }
 

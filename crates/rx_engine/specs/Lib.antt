@@ -27,4 +27,5 @@ pub mod SoundSession
 pub mod Streams
 pub mod Sweeping
 pub mod Sweeps
+pub mod Turns
 pub mod Delivering

@@ -10,12 +10,9 @@ ghost use Rattle.rx_engine.specs.Shown.{call_of};
 use crate::changing::AfterTurn;
 use crate::dialling::call_by_name;
 use crate::engine::Engine;
-use crate::marks::settle_turn;
 use crate::output::Output;
-use crate::play::Play;
 use crate::remote::Call;
-use crate::sound_session::SoundSession;
-use crate::turning::Turned;
+use crate::turns::Begun;
 use rx_disk::Disk;
 use rx_handler::Handlers;
 use rx_outside::{Dial, Stop};
@@ -101,21 +98,15 @@ impl Engine {
         ensures cause { HasDiskCause (D.faults disk.old) (D.faults disk.new) result }
         ensures dial_count { L.faults dial.old ≤ L.faults dial.new }
     {
-        let Engine {
-            journal,
-            session,
-            diagram,
-        } = self;
-        let parts = session.release();
-        let (session, mut remembered) = parts;
         let name = wanted.name.as_str();
-        let none = remembered.marks.tell_none(session.world(), name);
-        let now = session.moment();
-        let play = Play {
-            journal,
-            playing: session.begin(alloc),
-            past: None,
-        };
+        let begun = self.begin_turn(alloc, name);
+        let Begun {
+            play,
+            now,
+            none,
+            mut remembered,
+            diagram,
+        } = begun;
         let made = call_by_name(
             alloc,
             disk,
@@ -127,34 +118,7 @@ impl Engine {
             now,
             none,
         )?;
-        let Turned {
-            play,
-            exchanges,
-            ended,
-            pulled,
-        } = made;
-        let Play {
-            journal,
-            playing,
-            ..
-        } = play;
-        let (session, emissions) = settle_turn(
-            alloc,
-            playing,
-            &mut remembered.marks,
-            name,
-            pulled,
-        )?;
-        let engine = Engine {
-            journal,
-            session: SoundSession::new(session, remembered),
-            diagram,
-        };
-        Ok(AfterTurn {
-            engine,
-            emissions,
-            exchanges,
-            ended,
-        })
+        let after = made.end(alloc, name, remembered, diagram)?;
+        Ok(after)
     }
 }

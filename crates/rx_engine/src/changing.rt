@@ -14,7 +14,6 @@ ghost use Rattle.rx_engine.specs.Standing.{asks_after};
 ghost use Rattle.rx_engine.specs.Turning.{CanTurn, turned};
 
 use crate::engine::Engine;
-use crate::marks::settle_turn;
 use crate::opening::{Opened, is_next, open};
 use crate::outcome::LineDoing;
 use crate::play::Play;
@@ -22,6 +21,7 @@ use crate::remembered::Remembered;
 use crate::requests::turn_by_name;
 use crate::sound_session::SoundSession;
 use crate::turning::{Turn, Turned};
+use crate::turns::Begun;
 use rx_disk::Disk;
 use rx_handler::Handlers;
 use rx_observe::Emission;
@@ -288,21 +288,15 @@ impl Engine {
             → IsLevel (session_of m.engine).world wanted.now.name) }
         ensures not_journal { IsErrOf result Stop.NotJournal → ⊥ }
     {
-        let Engine {
-            journal,
-            session,
-            diagram,
-        } = self;
-        let parts = session.release();
-        let (session, mut remembered) = parts;
         let name = wanted.name.as_str();
-        let none = remembered.marks.tell_none(session.world(), name);
-        let now = session.moment();
-        let play = Play {
-            journal,
-            playing: session.begin(alloc),
-            past: None,
-        };
+        let begun = self.begin_turn(alloc, name);
+        let Begun {
+            play,
+            now,
+            none,
+            mut remembered,
+            diagram,
+        } = begun;
         let made = turn_by_name(
             alloc,
             handlers,
@@ -319,28 +313,13 @@ impl Engine {
             pulled,
         } = made;
         let play = play.commit(disk)?;
-        let Play {
-            journal,
-            playing,
-            ..
-        } = play;
-        let (session, emissions) = settle_turn(
-            alloc,
-            playing,
-            &mut remembered.marks,
-            name,
-            pulled,
-        )?;
-        let engine = Engine {
-            journal,
-            session: SoundSession::new(session, remembered),
-            diagram,
-        };
-        Ok(AfterTurn {
-            engine,
-            emissions,
+        let turned = Turned {
+            play,
             exchanges,
             ended,
-        })
+            pulled,
+        };
+        let after = turned.end(alloc, name, remembered, diagram)?;
+        Ok(after)
     }
 }

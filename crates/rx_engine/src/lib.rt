@@ -35,6 +35,7 @@ mod sweeping;
 mod sweeps;
 mod turn_line;
 mod turning;
+mod turns;
 mod writes;
 
 pub use engine::Engine;

@@ -1,34 +1,29 @@
-use Rattle.std.proofs.Common.{◌∙◌, ◌++◌, List, append-nil, Option, refl, ap, sym, arith}
+use Rattle.std.proofs.Common.{◌∙◌, ◌++◌, List, [], append-nil, Option, ap, sym, arith}
 use Rattle.rx_handler.specs.Shown.{kinds_of}
 use Rattle.rx_reply.specs.declared.turn.Exchanged.{Exchanged}
 use Rattle.rx_reply.specs.declared.turn.TurnEnd.TheVariants.{Clock}
 use Rattle.rx_sync.specs.Exchange.{has_pulled}
-use Rattle.rx_sync.specs.Turn.{as_list, end_by, turn}
-use Rattle.rx_sync.proofs.Turns.{turn_sound}
+use Rattle.rx_sync.specs.Turn.{as_list, end_by, over_link, turn_by}
 use Rattle.rx_engine.specs.Turning.{happening_at, terms}
-use Rattle.rx_engine.proofs.Staging.{begun}
+use Rattle.rx_engine.proofs.OneTurn.{joined}
+use Rattle.rx_engine.proofs.Staging.{follows_none}
 use Rattle.rx_engine.proofs.Turnings.{HasMade, exchanged, made_so, staged_so, then_none, used}
 use Rattle.rx_engine.proofs.turning.take_turn.Goals as goal
 
 pub loop-i-init : goal.loop-i-init
 loop-i-init g c =
     let t = terms c.args.wanted.now.name c.args.now (kinds_of c.args.handlers.now) in
-    let over = c.args.wanted.now.link.items in
-    let total = turn t c.args.wanted.now.batch c.args.wanted.now.budget over
-    c.args.first.playing.world
-    c.args.asks.now in
+    let total = turn_by (over_link t) c.args.wanted.now.batch c.args.wanted.now.budget
+    c.args.wanted.now.link.items c.args.first.playing.world c.args.asks.now in
     record {
       on = record {
         left = c.args.wanted.now.budget;
         span = omega arith;
         may = c.requires.may;
-        way = begun c.args.first total.records
-            (turn_sound t c.args.wanted.now.batch c.args.wanted.now.budget over
-            c.args.first.playing.world c.args.asks.now c.requires.batch c.requires.may);
-        asks = refl;
-        exchanges = ap (λ (es : List Exchanged). es ++ total.exchanges)
-            (sym c.new-exchanges.ensures);
-        ended = refl;
+        done = [];
+        requests = [];
+        follows = follows_none c.args.first;
+        whole = ap (λ (es : List Exchanged). joined [] [] es total) (sym c.new-exchanges.ensures);
       };
       none = c.requires.none;
     }

@@ -1,7 +1,6 @@
 use Rattle.std.proofs.Common.{◌≡◌, true, Some}
 use Rattle.rx_handler.specs.Shown.{kinds_of}
 use Rattle.rx_sync.specs.Asking.{pending_in}
-use Rattle.rx_sync.specs.Turn.{turn}
 use Rattle.rx_engine.specs.Turning.{terms}
 use Rattle.rx_engine.proofs.Turnings.{IsTurning}
 use Rattle.rx_engine.proofs.turning.take_turn.Given as goal
@@ -11,8 +10,6 @@ use Rattle.rx_engine.proofs.turning.take_turn.Given as goal
 abbrev pub invariant-loop-i : goal.invariant-loop-i
 invariant-loop-i g l = record {
   on : IsTurning (terms l.wanted.name l.now (kinds_of l.handlers)) l.wanted.batch l.fn.first
-      l.wanted.link.items l.wanted.budget
-      (turn (terms l.wanted.name l.now (kinds_of l.handlers)) l.wanted.batch l.wanted.budget
-      l.wanted.link.items l.fn.first.playing.world l.fn.asks) l.i l.play l.asks l.exchanges;
+      l.fn.asks l.wanted.link.items l.wanted.budget l.i l.play l.asks l.exchanges;
   none : l.pulled ≡ true → pending_in l.play.playing.world l.wanted.name ≡ Some 0;
 }
