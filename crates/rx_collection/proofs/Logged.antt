@@ -1,5 +1,5 @@
 -- The log of writes after a row is put, and the documents that it tells of.
-use Rattle.std.proofs.Common.{T, ◌≡◌, ℕ, zero, suc, ◌<◌, ◌≤◌, ◌==◌, ◌&&◌, Bool, true, false, cond, List, [], ◌∷◌, ◌++◌, ◌-◌, length, get_or, not, option_to_list, set, map, filter, take, drop, Option, Some, None, IfNone, IfSome, Bor, is_some, slice_get, Less, Equal, Greater, refl, sym, ap, ◌∙◌, ◌⊎◌, inl, inr, subst, true≢false, eq-eqb, eqb-true, arith}
+use Rattle.std.proofs.Common.{T, ◌≡◌, ℕ, zero, suc, ◌<◌, ◌≤◌, ◌==◌, ◌&&◌, Bool, true, false, cond, List, [], ◌∷◌, ◌++◌, ◌-◌, ◌+◌, length, length-append, get_or, not, option_to_list, set, map, filter, take, drop, Option, Some, None, IfNone, IfSome, Bor, is_some, slice_get, Less, Equal, Greater, refl, sym, ap, ◌∙◌, ◌⊎◌, inl, inr, subst, true≢false, eq-eqb, eqb-true, arith}
 use Rattle.std.proofs.lemmas.Bool.{cases_eq}
 use Rattle.std.proofs.lemmas.List.Kept.{IsStrictlySortedBy-filter}
 use Rattle.rx_value.proofs.Lists.{all_passed}
@@ -21,7 +21,8 @@ use Rattle.rx_document.specs.declared.place.Place.{Place}
 use Rattle.rx_document.specs.declared.stored.Stored.{Stored}
 use Rattle.rx_document.proofs.Places.{place_ties}
 use Rattle.rx_runs.specs.Rows.{shown, AreSlots}
-use Rattle.rx_runs.proofs.InSlots.{shown_some, shown_none, slot_some, named_slot, put_old, put_new, slots_old, slots_new}
+use Rattle.rx_runs.proofs.InSlots.{shown_some, shown_none, slot_some, named_slot, put_old, put_new, slots_old, slots_new, length_set}
+use Rattle.rx_runs.proofs.Joined.{length_put-new}
 use Rattle.rx_collection.specs.Lawful.{IsHeldAt, IsLawful}
 use Rattle.rx_collection.proofs.Lawful.{later, lawful_put}
 use Rattle.rx_collection.specs.Log.{with_place, places, standing_at, written, is_up_to, is_standing, IsWrite, IsLogged, IsLog, IsWhole, IsWritten}
@@ -144,7 +145,7 @@ slot_own (r ∷ rows) zero x lt = refl
 slot_own (r ∷ rows) (suc s) x lt = slot_own rows s x (omega arith)
 
 -- that of a document more
-slot_end : (rows : List Stored) (x : Stored) → slice_get (rows ++ x ∷ []) (length rows) ≡ Some x
+pub slot_end : (rows : List Stored) (x : Stored) → slice_get (rows ++ x ∷ []) (length rows) ≡ Some x
 slot_end [] x = refl
 slot_end (r ∷ rows) x = slot_end rows x
 
@@ -788,6 +789,7 @@ unfolding IsStrictlySortedBy
 whole_none name schema = record {
   lawful = record { rising = tt; each = tt };
   slots = record { rising = tt; within = tt; apart = tt };
+  many = refl;
   logged = record {
     keyed = λ s d at. absurd (cc);
     each = tt;
@@ -826,6 +828,7 @@ whole_put name schema rows names log row rows' names' s whole next is =
           let at : IsWhole name schema (set rows s row) names log' = record {
             lawful = subst (λ ds. IsLawful (held_with name schema ds)) (sym seen) put;
             slots = slots_old rows names s row whole.slots;
+            many = length_set rows s row ∙ whole.many;
             logged = log_old rows names log s v.0 row whole.logged lt v.1 l.0 h.0 (omega arith)
                 below;
           } in (
@@ -841,6 +844,8 @@ whole_put name schema rows names log row rows' names' s whole next is =
           let at : IsWhole name schema (rows ++ row ∷ []) (put_in_order names k n) log' = record {
             lawful = subst (λ ds. IsLawful (held_with name schema ds)) (sym seen) put;
             slots = slots_new rows names k row whole.slots;
+            many = length-append rows (row ∷ []) ∙ ap (λ m. m + 1) whole.many
+                ∙ sym (length_put-new names k n h.0);
             logged = log_new rows names log row whole.logged h.0 below;
           } in (
             subst (λ t. IsWhole name schema rows' names' (log ++ (row.lwt, t) ∷ [])) (sym h.1)
@@ -947,6 +952,7 @@ pub whole_kept : (name : List ℕ) (schema : Shape) (rows : List Stored) (names 
 whole_kept name schema rows names log whole = record {
   lawful = whole.lawful;
   slots = whole.slots;
+  many = whole.many;
   logged = record {
     keyed = whole.logged.keyed;
     each = each_kept (IsWrite rows) (is_standing rows) log whole.logged.each;

@@ -182,5 +182,6 @@ module _ (steps : List Step) where
           (sym (length-map rows (stored_after steps))) whole.slots.within;
       apart = whole.slots.apart;
     };
+    many = length-map rows (stored_after steps) ∙ whole.many;
     logged = log_after rows names log whole.logged;
   }

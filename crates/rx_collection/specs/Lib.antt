@@ -6,3 +6,4 @@ pub mod Lawful
 pub mod Log
 pub mod Migrated
 pub mod Hints
+pub mod Marks

@@ -77,6 +77,7 @@ pub record IsWhole (name : List ℕ) (schema : Shape) (rows : List Stored) (name
     (log : List (ℕ × ℕ)) : Type 0 where
   pub lawful : IsLawful (held_with name schema (shown rows names))
   pub slots : AreSlots rows names
+  pub many : length rows ≡ length names
   pub logged : IsLog rows names log
 
 -- the row is in that slot: in the place of the one of its key, or in a new one of its key

@@ -3,12 +3,13 @@ ghost use Rattle.rx_value.specs.Named.{named};
 ghost use Rattle.rx_collection.specs.Commit.{IsNext, with_row};
 ghost use Rattle.rx_collection.specs.Held.{held_with};
 ghost use Rattle.rx_collection.specs.Lawful.{IsLawful};
+ghost use Rattle.rx_collection.specs.Marks.{AreMarked};
 ghost use Rattle.rx_collection.specs.Time.{last_lwt, stamp};
 
 use crate::hints::Hints;
 use crate::log::{kept, reserve, slot_of, write};
 use rx_document::{Lookup, Stored};
-use rx_runs::{Run, Slots};
+use rx_runs::{MarkedRun, Slots};
 use rx_schema::Schema;
 use rx_value::RxText;
 use std::alloc::{AllocError, Global};
@@ -23,8 +24,8 @@ pub struct Collection {
     pub(crate) alloc: Global,
     name: RxText,
     pub(crate) schema: Schema,
-    // The slot of each key.
-    pub(crate) names: Run<u32>,
+    // The slot of each key. Those of tombstones have the mark.
+    pub(crate) names: MarkedRun,
     // The documents by slot.
     pub(crate) rows: Slots<Stored>,
     hints: Hints,
@@ -34,17 +35,19 @@ pub struct Collection {
 }
 
 impl Model for Collection {
+    ghost use Rattle.rx_runs.specs.Marked.{all_slots};
     ghost use Rattle.rx_runs.specs.Rows.{shown};
     ghost use Rattle.rx_collection.specs.Held.{Held, held_with};
     ghost use Rattle.rx_collection.specs.Hints.{AreKnown};
     ghost use Rattle.rx_collection.specs.Log.{IsWhole};
+    ghost use Rattle.rx_collection.specs.Marks.{AreMarked};
 
     ghost Value = { Held };
 
-    ghost view = { λ c. held_with c.name c.schema (shown c.rows c.names) };
+    ghost view = { λ c. held_with c.name c.schema (shown c.rows (all_slots c.names)) };
 
-    ghost invariant = { λ c. IsWhole c.name c.schema c.rows c.names c.log.items
-        × AreKnown c.hints c.rows };
+    ghost invariant = { λ c. IsWhole c.name c.schema c.rows (all_slots c.names) c.log.items
+        × AreKnown c.hints c.rows × AreMarked (shown c.rows (all_slots c.names)) c.names };
 }
 
 impl Collection {
@@ -55,7 +58,7 @@ impl Collection {
             alloc,
             name,
             schema,
-            names: Run::new(alloc),
+            names: MarkedRun::new(alloc),
             rows: Slots::new(alloc),
             hints: Hints::new(alloc),
             log: Vec::new(alloc),
@@ -79,7 +82,7 @@ impl Collection {
         ensures count { result ≡ length self.now.documents }
         ensures lawful { IsLawful self.now }
     {
-        self.names.len()
+        self.rows.len()
     }
 
     /// The document of that key, a tombstone too.
@@ -102,6 +105,15 @@ impl Collection {
             return None;
         }
         Some(self.rows.at(slot as usize))
+    }
+
+    /// The keys with their slots, those of tombstones with the mark: the index by the primary key
+    /// alone.
+    pub fn keys(&self) -> &MarkedRun
+        ensures marks { AreMarked self.now.documents result.now }
+        ensures lawful { IsLawful self.now }
+    {
+        &self.names
     }
 
     /// The slot of a key's document, or the one that the next new key gets. It is a hint: whoever
@@ -151,13 +163,7 @@ impl Collection {
         // Room first, so that nothing is refused once the row is in.
         reserve(&mut self.log)?;
         let lwt = row.lwt;
-        let slot = write(
-            &mut self.names,
-            &mut self.rows,
-            &mut self.hints,
-            self.alloc,
-            row,
-        )?;
+        let slot = write(&mut self.names, &mut self.rows, &mut self.hints, row)?;
         self.log.push_reserved((lwt, slot));
         self.compact();
         Ok(())

@@ -1,14 +1,16 @@
 ghost use Rattle.std.specs.Prelude.{◌≡◌, ◌∷◌, ◌++◌, ◌<◌, [], length, None, IfNone, IfSome, IfOk, OnOk, OnErr, slice_get, option_map};
 ghost use Rattle.rx_value.specs.Named.{named, put_in_order};
-ghost use Rattle.rx_runs.specs.Rows.{AreSlots};
+ghost use Rattle.rx_runs.specs.Marked.{all_slots};
+ghost use Rattle.rx_runs.specs.Rows.{shown, AreSlots};
 ghost use Rattle.std.specs.List.{filter};
 ghost use Rattle.std.specs.Vec.{vec_len, vec_capacity};
 ghost use Rattle.rx_collection.specs.Log.{standing_at, written, is_up_to, is_standing, AreKeyed, IsWritten};
 ghost use Rattle.rx_collection.specs.Hints.{AreKnown};
+ghost use Rattle.rx_collection.specs.Marks.{AreMarked};
 
 use crate::hints::Hints;
 use rx_document::{Place, Stored};
-use rx_runs::{Name, Run, Slots};
+use rx_runs::{MarkedRun, Slots};
 use std::alloc::{AllocError, Global};
 
 // A log of fewer writes is kept as it is.
@@ -71,30 +73,30 @@ pub(crate) fn next_standing<'a>(
 
 /// The slot of a key.
 pub(crate) fn slot_of(
-    names: &Run<u32>,
+    names: &MarkedRun,
     rows: &Slots<Stored>,
     hints: &Hints,
     key: &str,
 ) -> Option<u32>
-    requires slots { AreSlots rows.now names.now }
-    requires keyed { AreKeyed rows.now names.now }
+    requires slots { AreSlots rows.now (all_slots names.now) }
+    requires keyed { AreKeyed rows.now (all_slots names.now) }
     requires known { AreKnown hints.now rows.now }
-    ensures { result ≡ named names.now key.now }
+    ensures { result ≡ named (all_slots names.now) key.now }
 {
     match hints.find(rows, key) {
         Some(slot) => Some(slot),
         None if hints.is_whole() => None,
-        None => names.get(key.as_bytes()).copied(),
+        None => names.get(key.as_bytes()),
     }
 }
 
 // The slot of the document in whose place a row comes.
-fn old_slot(names: &Run<u32>, rows: &Slots<Stored>, hints: &Hints, row: &Stored) -> Option<u32>
-    requires slots { AreSlots rows.now names.now }
-    requires keyed { AreKeyed rows.now names.now }
+fn old_slot(names: &MarkedRun, rows: &Slots<Stored>, hints: &Hints, row: &Stored) -> Option<u32>
+    requires slots { AreSlots rows.now (all_slots names.now) }
+    requires keyed { AreKeyed rows.now (all_slots names.now) }
     requires known { AreKnown hints.now rows.now }
-    requires first { row.now.rev.height ≡ 1 → named names.now row.now.state.key ≡ None }
-    ensures { result ≡ named names.now row.now.state.key }
+    requires first { row.now.rev.height ≡ 1 → named (all_slots names.now) row.now.state.key ≡ None }
+    ensures { result ≡ named (all_slots names.now) row.now.state.key }
 {
     // The first row of a key has none, so it isn't searched for.
     if row.rev.height == 1 {
@@ -105,58 +107,86 @@ fn old_slot(names: &Run<u32>, rows: &Slots<Stored>, hints: &Hints, row: &Stored)
 
 /// Writes a row into its key's slot, or into a new one, and gives the slot.
 pub(crate) fn write(
-    names: &mut Run<u32>,
+    names: &mut MarkedRun,
     rows: &mut Slots<Stored>,
     hints: &mut Hints,
-    alloc: Global,
     row: Stored,
 ) -> Result<u32, AllocError>
-    requires slots { AreSlots rows.old names.old }
-    requires keyed { AreKeyed rows.old names.old }
+    requires slots { AreSlots rows.old (all_slots names.old) }
+    requires keyed { AreKeyed rows.old (all_slots names.old) }
     requires known { AreKnown hints.old rows.old }
-    requires first { row.rev.height ≡ 1 → named names.old row.state.key ≡ None }
-    ensures ok { IfOk result (λ s. IsWritten rows.old names.old row rows.new names.new s) }
+    requires first { row.rev.height ≡ 1 → named (all_slots names.old) row.state.key ≡ None }
+    ensures ok { IfOk result (λ s. IsWritten rows.old (all_slots names.old) row rows.new
+        (all_slots names.new) s) }
+    ensures marks { OnOk result (AreMarked (shown rows.old (all_slots names.old)) names.old
+        → AreMarked (put_in_order (shown rows.old (all_slots names.old)) row.state.key row)
+        names.new) }
     ensures known { AreKnown hints.new rows.new }
     ensures err_rows { OnErr result (rows.new ≡ rows.old) }
     ensures err_names { OnErr result (names.new ≡ names.old) }
 {
     match old_slot(names, rows, hints, &row) {
         Some(slot) => {
+            turn(names, rows, slot, &row)?;
             let _old = rows.replace(slot as usize, row);
             Ok(slot)
         }
         None => {
-            let slot = add(names, rows, alloc, row)?;
+            let slot = add(names, rows, row)?;
             hints.note(rows, slot);
             Ok(slot)
         }
     }
 }
 
-fn add(
-    names: &mut Run<u32>,
-    rows: &mut Slots<Stored>,
-    alloc: Global,
-    row: Stored,
-) -> Result<u32, AllocError>
-    requires { named names.old row.state.key ≡ None }
+// Gives a row's key the row's mark, where the document in its slot has another.
+fn turn(
+    names: &mut MarkedRun,
+    rows: &Slots<Stored>,
+    slot: u32,
+    row: &Stored,
+) -> Result<(), AllocError>
+    requires slots { AreSlots rows.now (all_slots names.old) }
+    requires there { named (all_slots names.old) row.now.state.key ≡ Some slot }
+    ensures same { OnOk result (all_slots names.new ≡ all_slots names.old) }
+    ensures marks { OnOk result (AreMarked (shown rows.now (all_slots names.old)) names.old
+        → AreMarked
+        (put_in_order (shown rows.now (all_slots names.old)) row.now.state.key row.now)
+        names.new) }
+    ensures err { OnErr result (names.new ≡ names.old) }
+{
+    let deleted = row.state.deleted;
+    if rows.at(slot as usize).state.deleted == deleted {
+        return Ok(());
+    }
+    names.turn(row.state.key.as_str(), slot, deleted)?;
+    Ok(())
+}
+
+fn add(names: &mut MarkedRun, rows: &mut Slots<Stored>, row: Stored) -> Result<u32, AllocError>
+    requires slots { AreSlots rows.old (all_slots names.old) }
+    requires new { named (all_slots names.old) row.state.key ≡ None }
     ensures slot { IfOk result (λ s. s ≡ length rows.old) }
     ensures rows { OnOk result (rows.new ≡ rows.old ++ row ∷ []) }
-    ensures names { IfOk result (λ s. names.new ≡ put_in_order names.old row.state.key s) }
+    ensures names { IfOk result
+        (λ s. all_slots names.new ≡ put_in_order (all_slots names.old) row.state.key s) }
+    ensures marks { OnOk result (AreMarked (shown rows.old (all_slots names.old)) names.old
+        → AreMarked (put_in_order (shown rows.old (all_slots names.old)) row.state.key row)
+        names.new) }
     ensures err_rows { OnErr result (rows.new ≡ rows.old) }
     ensures err_names { OnErr result (names.new ≡ names.old) }
 {
     let Ok(slot) = u32::try_from(rows.len()) else {
         return Err(AllocError);
     };
-    let key = Name::new(alloc, row.state.key.as_str().as_bytes())?;
-    if rows.push(row).is_err() {
+    let Ok(()) = rows.push(row) else {
         return Err(AllocError);
-    }
-    if names.put(key, slot).is_err() {
+    };
+    let state = &rows.at(slot as usize).state;
+    let Ok(()) = names.add(state.key.as_str(), slot, state.deleted) else {
         let _row = rows.pop();
         return Err(AllocError);
-    }
+    };
     Ok(slot)
 }
 

@@ -49,7 +49,7 @@ module _ {X : Type 0} where
   slot_last [] x = refl
   slot_last (r ∷ rows) x = slot_last rows x
 
-  length_set : (rows : List X) (s : ℕ) (x : X) → length (set rows s x) ≡ length rows
+  pub length_set : (rows : List X) (s : ℕ) (x : X) → length (set rows s x) ≡ length rows
   length_set [] s x = refl
   length_set (r ∷ rows) zero x = refl
   length_set (r ∷ rows) (suc s) x = ap suc (length_set rows s x)

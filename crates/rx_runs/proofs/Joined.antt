@@ -206,6 +206,17 @@ module _ {X : Type 0} where
   length_kept es k x None rising is some = absurd (true≢false (sym some))
   length_kept es k x (Some y) rising is some = length_put-old es k x y rising (sym is)
 
+  -- one that is put makes at most one more
+  pub put_long : (es : List (List ℕ × X)) (k : List ℕ) (x : X)
+      → length (put_in_order es k x) ≤ length es + 1
+  put_long [] k x = omega arith
+  put_long (e ∷ es) k x =
+      let rest = put_long es k x in
+      elim (text_cmp k e.0) as (λ o. length
+      (match_ordering o ((k, x) ∷ e ∷ es) ((e.0, x) ∷ es) (e ∷ put_in_order es k x))
+      ≤ length (e ∷ es) + 1)
+      [ Less ↦ omega arith | Equal ↦ omega arith | Greater ↦ omega arith ]
+
   -- what holds of all names and of one more holds after that one is put
   pub all_put : (P : List ℕ → Type 0) (es : List (List ℕ × X)) (name : List ℕ) (x : X) → P name
       → AllByRecursion P (keys_of es) → AllByRecursion P (keys_of (put_in_order es name x))
@@ -270,6 +281,15 @@ module _ {X : Type 0} where
       ap (λ b. cond b (xs ++ ys) (x ∷ without (xs ++ ys) k))
       (other k x.0 Greater (turned x.0 k Less below.0) refl)
       ∙ ap (λ r. x ∷ r) (without-second k xs ys below.1)
+
+  -- they are no more
+  pub without_long : (es : List (List ℕ × X)) (k : List ℕ)
+      → length (without es k) ≤ length es
+  without_long [] k = omega arith
+  without_long (e ∷ es) k =
+      let rest = without_long es k in
+      elim (bytes_eq k e.0) as (λ b. length (cond b es (e ∷ without es k)) ≤ length (e ∷ es))
+      [ true ↦ omega arith | false ↦ omega arith ]
 
   -- they are one less where it is there
   pub length_without : (es : List (List ℕ × X)) (k : List ℕ) (o : Option X) → o ≡ named es k

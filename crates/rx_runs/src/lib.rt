@@ -1,8 +1,10 @@
-//! Runs: maps from names, in chunks of pairs by rising name; and slots, in which values stay.
+//! Runs: maps from names, in chunks of pairs by rising name; slots, in which values stay; and names
+//! with slots, apart by a mark.
 #![tactic(auto)]
 
 mod block;
 mod chunk;
+mod marked;
 mod name;
 mod pairs;
 mod rows;
@@ -10,6 +12,7 @@ mod run;
 mod slots;
 
 pub use chunk::Chunk;
+pub use marked::{AllSlots, MarkedRun};
 pub use name::Name;
 pub use pairs::Pairs;
 pub use rows::Rows;

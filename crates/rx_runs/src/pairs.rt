@@ -1,4 +1,4 @@
-ghost use Rattle.std.specs.Prelude.{◌≡◌, ◌<◌, ◌+◌, ◌++◌, length, reverse, slice_get, Some, IfOk, IfErr, option_map};
+ghost use Rattle.std.specs.Prelude.{◌≡◌, ◌<◌, ◌+◌, ◌++◌, [], length, reverse, slice_get, Some, IfOk, IfErr, option_map};
 ghost use Rattle.std.specs.Iterator.{at_most};
 ghost use Rattle.std.specs.Map.Iter.{TakesFirst, deref_pair};
 ghost use Rattle.rx_runs.specs.Run.{flat};
@@ -38,6 +38,13 @@ impl<'a, V> Pairs<'a, V> {
             chunks,
             last,
         }
+    }
+
+    /// No pairs.
+    pub fn none() -> Pairs<'a, V>
+        ensures { result ≡ [] }
+    {
+        Pairs::new(&[], &[], &[])
     }
 
     /// How many pairs there are.

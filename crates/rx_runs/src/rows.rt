@@ -3,15 +3,15 @@ ghost use Rattle.std.specs.Iterator.{at_most};
 ghost use Rattle.std.specs.Map.Iter.{TakesFirst, deref_pair};
 ghost use Rattle.rx_runs.specs.Rows.{shown, AllUnder};
 
+use crate::marked::AllSlots;
 use crate::name::Name;
-use crate::pairs::Pairs;
 use crate::slots::Slots;
 use std::marker::Model;
 
 /// Names with the values of their slots, by rising name, lent.
 #[derive(Drop)]
 pub struct Rows<'a, V> {
-    names: Pairs<'a, u32>,
+    names: AllSlots<'a>,
     rows: &'a Slots<V>,
     // That of the value that came last.
     slot: u32,
@@ -30,7 +30,7 @@ impl<'a, V> Model for Rows<'a, V> {
 
 impl<'a, V> Rows<'a, V> {
     /// The names with the values of their slots.
-    pub fn new(names: Pairs<'a, u32>, rows: &'a Slots<V>) -> Rows<'a, V>
+    pub fn new(names: AllSlots<'a>, rows: &'a Slots<V>) -> Rows<'a, V>
         requires { AllUnder (length rows.now) names }
         ensures { result ≡ shown rows.entry.now names.entry }
     {

@@ -3,17 +3,18 @@ use Rattle.rx_document.specs.declared.stored.Stored.{Stored}
 use Rattle.rx_runs.proofs.InSlots.{named_slot}
 use Rattle.rx_collection.specs.Hints.{AreHinted, AreKnown}
 use Rattle.rx_collection.proofs.Hinted.{hinted_before, known_old}
+use Rattle.rx_runs.specs.Marked.{all_slots}
 use Rattle.rx_collection.proofs.log.write.Goals as goal
 
 pub replace-old-requires : goal.replace-old-requires
 replace-old-requires c =
-    named_slot (λ s. s < length c.args.rows.now) c.args.names.now c.args.row.state.key
+    named_slot (λ s. s < length c.args.rows.now) (all_slots c.args.names.now) c.args.row.state.key
     c.in-Some.slot c.requires.slots.within (sym c.in-Some.ensures)
 
-pub returns-in-Some-clause-known : goal.returns-in-Some-clause-known
-returns-in-Some-clause-known c =
+pub returns-in_ok-turn-in-Some-clause-known : goal.returns-in_ok-turn-in-Some-clause-known
+returns-in_ok-turn-in-Some-clause-known c =
     subst (AreKnown c.args.hints.now) (sym c.replace-old.ensures.new)
-    (known_old c.args.hints.now c.args.rows.now c.args.names.now c.in-Some.slot c.args.row
+    (known_old c.args.hints.now c.args.rows.now (all_slots c.args.names.now) c.in-Some.slot c.args.row
     c.requires.slots c.requires.keyed (sym c.in-Some.ensures) c.requires.known)
 
 pub note-requires : goal.note-requires

@@ -21,4 +21,5 @@ returns-in-None c =
     let known = c.self.inside.known in
     let key = c.args.key.now in
     let at : slice_get (reverse known) 0 ≡ None = search rules in
-    sym (above_none known key at) ∙ ap (λ (side : Side). is_above_known side.known key) c.self.view_is
+    sym (above_none known key at)
+    ∙ ap (λ (side : Side). is_above_known side.known key) c.self.view_is
