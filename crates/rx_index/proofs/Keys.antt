@@ -1,16 +1,15 @@
 -- The keys of an index in a run of names.
-use Rattle.std.proofs.Common.{◌≡◌, ℕ, ◌+◌, ◌-◌, ◌<◌, ◌≤◌, Bool, true, false, not, cond, ◌&&◌, ◌||◌, List, [], ◌∷◌, ◌++◌, map, filter, length, Option, Some, Less, Equal, Greater, refl, sym, ap, subst, ◌∙◌, arith}
+use Rattle.std.proofs.Common.{◌≡◌, ℕ, ◌≤◌, Bool, true, false, not, cond, ◌&&◌, ◌||◌, List, [], ◌∷◌, ◌++◌, map, filter, length, Option, Some, Less, Equal, Greater, refl, sym, ap, subst, ◌∙◌, arith}
 use Rattle.std.proofs.lemmas.Bool.{false≢true}
 use Rattle.std.proofs.lemmas.Slice.Eq.{bytes_eq-Decides}
-use Rattle.std.specs.BTreeMap.{insert_entry}
-use Rattle.std.specs.List.{list_any, AllByRecursion}
+use Rattle.std.specs.List.{AllByRecursion}
 use Rattle.std.specs.List.Sorted.{IsStrictlySortedBy}
 use Rattle.std.specs.Map.{keys_of}
 use Rattle.std.specs.Ordering.{is_eq, is_le, is_lt, ordering_reverse, match_ordering}
 use Rattle.std.specs.Str.{bytes_eq}
 use Rattle.std.specs.declared.cmp.Ordering.{Ordering}
 use Rattle.rx_document.specs.declared.stored.Stored.{Stored}
-use Rattle.rx_runs.specs.Run.{from_name, below_name, between}
+use Rattle.rx_runs.specs.Run.{from_name, between}
 use Rattle.rx_value.proofs.Ordered.{text_ties}
 use Rattle.rx_value.specs.Named.{named, put_in_order, without, AreRising}
 use Rattle.rx_value.specs.Order.{text_cmp}
@@ -18,10 +17,10 @@ use Rattle.rx_value.specs.declared.value.Value.{Value}
 use Rattle.rx_value.specs.declared.value.Value.TheVariants.{Flag, Text}
 use Rattle.rx_index.specs.Index.{has_key, is_between, ids_between}
 use Rattle.rx_index.specs.Ordered.{position_total}
-use Rattle.rx_index.specs.Packed.{packed, AreLawful, is_some_text, ends_in_text, unpacked, IsKeyOf, IsKey, AreKeys, positions, ids_in}
+use Rattle.rx_index.specs.Packed.{packed, AreLawful, ends_in_text, unpacked, IsKeyOf, IsKey, AreKeys, positions, ids_in}
 use Rattle.rx_index.specs.Position.{Position, position_cmp, precedes, key_values, key_of, id_of}
 use Rattle.rx_index.proofs.Packing.{packed_alike, unpacked-packed}
-use Rattle.rx_index.proofs.Positions.{tied, itself, position_eq-Decides}
+use Rattle.rx_index.proofs.Positions.{position_eq-Decides}
 
 -- ---- one key
 
@@ -241,27 +240,12 @@ put_keys (e ∷ es) name slot k ks =
     ((e.0, slot) ∷ es) (e ∷ put_in_order es name slot)))
     [ Less ↦ (k, ks) | Equal ↦ ks | Greater ↦ (ks.0, put_keys es name slot k ks.1) ]
 
-pub put_long : (es : List (List ℕ × ℕ)) (name : List ℕ) (slot : ℕ)
-    → length (put_in_order es name slot) ≤ length es + 1
-put_long [] name slot = omega arith
-put_long (e ∷ es) name slot =
-    let rest = put_long es name slot in
-    elim (text_cmp name e.0) as (λ o. length (match_ordering o ((name, slot) ∷ e ∷ es)
-    ((e.0, slot) ∷ es) (e ∷ put_in_order es name slot)) ≤ length (e ∷ es) + 1)
-    [ Less ↦ omega arith | Equal ↦ omega arith | Greater ↦ omega arith ]
-
-pub without_keys : (es : List (List ℕ × ℕ)) (name : List ℕ) → AreKeys es → AreKeys (without es name)
+pub without_keys : (es : List (List ℕ × ℕ)) (name : List ℕ) → AreKeys es
+    → AreKeys (without es name)
 without_keys [] name ks = tt
 without_keys (e ∷ es) name ks =
     elim (bytes_eq name e.0) as (λ b. AreKeys (cond b es (e ∷ without es name)))
     [ true ↦ ks.1 | false ↦ (ks.0, without_keys es name ks.1) ]
-
-pub without_long : (es : List (List ℕ × ℕ)) (name : List ℕ) → length (without es name) ≤ length es
-without_long [] name = omega arith
-without_long (e ∷ es) name =
-    let rest = without_long es name in
-    elim (bytes_eq name e.0) as (λ b. length (cond b es (e ∷ without es name)) ≤ length (e ∷ es))
-    [ true ↦ omega arith | false ↦ omega arith ]
 
 filter_keys : (f : List ℕ × ℕ → Bool) (es : List (List ℕ × ℕ)) → AreKeys es → AreKeys (filter f es)
 filter_keys f [] ks = tt
@@ -269,7 +253,7 @@ filter_keys f (e ∷ es) ks =
     elim (f e) as (λ b. AreKeys (cond b (e ∷ filter f es) (filter f es)))
     [ true ↦ (ks.0, filter_keys f es ks.1) | false ↦ filter_keys f es ks.1 ]
 
-filter_long : (f : List ℕ × ℕ → Bool) (es : List (List ℕ × ℕ)) → length (filter f es) ≤ length es
+pub filter_long : (f : List ℕ × ℕ → Bool) (es : List (List ℕ × ℕ)) → length (filter f es) ≤ length es
 filter_long f [] = omega arith
 filter_long f (e ∷ es) =
     let rest = filter_long f es in
@@ -291,7 +275,7 @@ between_long es low high =
 
 -- ---- those between two bounds
 
-below_is : (o : Ordering) → is_lt (ordering_reverse o) ≡ not (is_le o)
+pub below_is : (o : Ordering) → is_lt (ordering_reverse o) ≡ not (is_le o)
 below_is Less = refl
 below_is Equal = refl
 below_is Greater = refl

@@ -6,3 +6,5 @@ pub mod Characters
 pub mod Keys
 pub mod Taken
 pub mod Ids
+pub mod Starts
+pub mod Lent

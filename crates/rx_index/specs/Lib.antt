@@ -2,3 +2,4 @@ pub mod Position
 pub mod Packed
 pub mod Ordered
 pub mod Index
+pub mod ByKey

@@ -6,8 +6,10 @@ mod filled;
 mod index;
 mod packed;
 mod range;
+mod view;
 
 pub use bound::{Bound, bound_laws};
 pub use filled::Filling;
 pub use index::Index;
 pub use range::{Entry, Range};
+pub use view::{IndexView, Indexes};

@@ -11,3 +11,4 @@ pub mod Fronts
 pub mod Beside
 pub mod Making
 pub mod Indexing
+pub mod KeysHeld

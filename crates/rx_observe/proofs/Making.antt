@@ -125,11 +125,7 @@ module _ (c : Held) (lawful : IsLawful c) (d : Stored) (left : List Stored) (i :
   replaces : Replaces i t.taken None d
   replaces = record { held = t.held; old_one = is_new; keyed = tt }
 
-  -- the next one may be put
-  pub may_take : (ds : Documents) × Replaces i ds None d
-  may_take = (t.taken, replaces)
-
-  -- and is taken then
+  -- the next one is taken
   pub takes : (now : Indexed)
       → ((ds : Documents) → Replaces i ds None d → Holds now (put_in_order ds d.state.key d))
       → IsTaking c.documents left now

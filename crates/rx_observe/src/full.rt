@@ -8,7 +8,7 @@ ghost use Rattle.rx_observe.specs.Indexes.{AreIndexesOf};
 use crate::front::{Front, kept_limit, most_kept};
 use rx_collection::{All, Collection};
 use rx_document::Stored;
-use rx_index::Index;
+use rx_index::{Index, Indexes};
 use rx_planner::{Plan, in_window, plan};
 use rx_query::{Query, Results, Row};
 use std::alloc::{AllocError, Global};
@@ -25,11 +25,12 @@ pub(crate) fn find_by<'a>(
     ensures { IfOk result (λ documents. map (λ d. d.now) documents.items
         ≡ result_of (asked query.now) (values_of collection.now.documents)) }
 {
-    let plan = plan(alloc, query, indexes)?;
+    let indexes = Indexes::new(collection.keys(), indexes);
+    let plan = plan(alloc, query, &indexes)?;
     if query.limit().is_none() && spans_all(&plan) {
         return find_in(alloc, collection, query);
     }
-    Ok(plan.find(alloc, query, indexes, collection)?.rows)
+    Ok(plan.find(alloc, query, &indexes, collection)?.rows)
 }
 
 // Whether all live documents stand between its bounds, so that a walk along an index would look up
@@ -64,11 +65,12 @@ pub(crate) fn count_by(
     ensures { IfOk result (λ n. n
         ≡ length (result_of (asked query.now) (values_of collection.now.documents))) }
 {
-    let plan = plan(alloc, query, indexes)?;
+    let indexes = Indexes::new(collection.keys(), indexes);
+    let plan = plan(alloc, query, &indexes)?;
     if spans_all(&plan) && !query.selector().clauses().is_empty() {
         return Ok(count_in(collection, query));
     }
-    plan.count(alloc, query, indexes, collection)
+    plan.count(alloc, query, &indexes, collection)
 }
 
 // The same without an index.

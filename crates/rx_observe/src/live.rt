@@ -30,7 +30,7 @@ use std::rc::Rc;
 pub struct Live {
     alloc: Global,
     collection: Collection,
-    /// One for the primary key, and then one for each of the schema's.
+    /// One for each of the schema's. The one by the primary key alone is the collection's own.
     indexes: Vec<Index>,
     queries: Vec<(RxText, Observed)>,
     /// One for each query, in the same order; those of the last queries may be missing.

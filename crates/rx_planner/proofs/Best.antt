@@ -1,6 +1,7 @@
 -- The best of the indexes so far.
-use Rattle.std.proofs.Common.{◌≡◌, ℕ, ◌+◌, ◌<◌, ◌≤◌, List, [], map, length, get_or, inl, inr, sym, ap, ◌∙◌, arith, subst}
+use Rattle.std.proofs.Common.{◌≡◌, slice_get, Some, ℕ, ◌+◌, ◌<◌, ◌≤◌, List, [], map, length, get_or, inl, inr, sym, ap, ◌∙◌, arith, subst}
 use Rattle.std.proofs.Math.ListN.{get_or-map}
+use Rattle.std.proofs.lemmas.Option.{get_or_from_slice_get}
 use Rattle.std.proofs.lemmas.Bool.{cases_lt}
 use Rattle.std.proofs.lemmas.List.{get_or_default, length-map}
 use Rattle.rx_index.specs.Index.{Indexed}
@@ -9,6 +10,10 @@ use Rattle.rx_planner.specs.Choice.{IsBest}
 use Rattle.rx_planner.specs.Plan.{Names, score, path_of, path_at}
 
 -- what the index at a place orders by
+pub read_at : (indexes : List Indexed) (i : ℕ) (x : Indexed) → slice_get indexes i ≡ Some x
+    → x ≡ get_or indexes i x
+read_at indexes i x at = sym (get_or_from_slice_get indexes i x x at)
+
 pub path_read : (q : QuerySpec) (indexes : List Indexed) (i : ℕ) (x : Indexed) → x
     ≡ get_or indexes i x
     → i < length indexes

@@ -13,7 +13,7 @@ use crate::path::path;
 use crate::planned::Plan;
 use crate::rows::due;
 use rx_document::Lookup;
-use rx_index::{Index, Range};
+use rx_index::{Indexes, Range};
 use rx_query::Query;
 use std::alloc::{AllocError, Global};
 
@@ -24,7 +24,7 @@ impl Plan {
         &self,
         alloc: Global,
         query: &Query,
-        indexes: &[Index],
+        indexes: &Indexes<'_>,
         docs: &T,
     ) -> Result<u64, AllocError>
         requires planned { IsPlan (asked query.now) (map (λ i. i.fields) indexes.now) self.now }
@@ -34,7 +34,7 @@ impl Plan {
         ensures { IfOk result (λ n. n
             ≡ length (result_of (asked query.now) (values_of (T.documents docs.now)))) }
     {
-        let index = &indexes[self.index];
+        let index = indexes.at(self.index);
         let path = path(alloc, query, index.fields())?;
         let path = path.as_slice();
         let low = closed(alloc, query, path, false)?;
@@ -49,13 +49,13 @@ impl Plan {
     }
 
     /// How many keys of its index stand between its bounds.
-    pub fn span(&self, indexes: &[Index]) -> usize
+    pub fn span(&self, indexes: &Indexes<'_>) -> usize
         requires { self.now.index < length indexes.now }
         ensures keys { IfSome (slice_get indexes.now self.now.index)
             (λ i. result ≡ length (ids_between self.now.low self.now.high i.keys)) }
         ensures fits { result < 2 ^ 63 }
     {
-        indexes[self.index].range(&self.low, &self.high).len()
+        indexes.at(self.index).range(&self.low, &self.high).len()
     }
 }
 

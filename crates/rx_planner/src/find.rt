@@ -14,7 +14,7 @@ use crate::run::{most_rows, skip_rows};
 use crate::walk::{Walked, walk_along};
 use crate::way::best_way;
 use rx_document::{Lookup, Stored};
-use rx_index::Index;
+use rx_index::Indexes;
 use rx_query::Query;
 use std::alloc::{AllocError, Global};
 
@@ -36,7 +36,7 @@ impl Plan {
         &self,
         alloc: Global,
         query: &Query,
-        indexes: &[Index],
+        indexes: &Indexes<'_>,
         docs: &'a T,
     ) -> Result<Found<'a>, AllocError>
         requires planned { IsPlan (asked query.now) (map (λ i. i.fields) indexes.now) self.now }
@@ -66,7 +66,7 @@ impl Plan {
         &self,
         alloc: Global,
         query: &Query,
-        indexes: &[Index],
+        indexes: &Indexes<'_>,
         docs: &'a T,
         span: usize,
     ) -> Result<Walked<'a>, AllocError>
@@ -95,8 +95,8 @@ impl Plan {
         if span as u128 <= most && span < way.keys {
             return Ok(unwalked());
         }
-        let index = &indexes[way.index];
-        walk_along(alloc, query, index, docs, way.names.as_slice(), most, span)
+        let index = indexes.at(way.index);
+        walk_along(alloc, query, &index, docs, way.names.as_slice(), most, span)
     }
 
     // Whether no walk is cheaper than the plan's run.

@@ -7,17 +7,17 @@ use crate::choice::best;
 use crate::order::is_ordered;
 use crate::path::path;
 use crate::planned::Plan;
-use rx_index::Index;
+use rx_index::Indexes;
 use rx_query::Query;
 use std::alloc::{AllocError, Global};
 
 /// The plan of a query: the index whose first fields the selector fixes or bounds most.
-pub fn plan(alloc: Global, query: &Query, indexes: &[Index]) -> Result<Plan, AllocError>
+pub fn plan(alloc: Global, query: &Query, indexes: &Indexes<'_>) -> Result<Plan, AllocError>
     requires { 0 < length indexes.now }
     ensures { IfOk result (IsPlan (asked query.now) (map (λ i. i.fields) indexes.now)) }
 {
     let index = best(alloc, query, indexes)?;
-    let path = path(alloc, query, indexes[index].fields())?;
+    let path = path(alloc, query, indexes.at(index).fields())?;
     let path = path.as_slice();
     Ok(Plan {
         index,

@@ -13,7 +13,7 @@ use crate::path::operand;
 use crate::planned::Plan;
 use crate::rows::{first_due, improve, put_in_order};
 use rx_document::{Lookup, Stored};
-use rx_index::Index;
+use rx_index::{IndexView, Indexes};
 use rx_query::Query;
 use rx_selector::Compare;
 use std::alloc::{AllocError, Global};
@@ -25,7 +25,7 @@ impl Plan {
         &self,
         alloc: Global,
         query: &Query,
-        indexes: &[Index],
+        indexes: &Indexes<'_>,
         docs: &'a T,
     ) -> Result<Vec<&'a Stored>, AllocError>
         requires planned { IsPlan (asked query.now) (map (λ i. i.fields) indexes.now) self.now }
@@ -38,8 +38,8 @@ impl Plan {
         if let Some(id) = operand(query, query.primary(), Compare::Eq) {
             return run_at(alloc, query, docs, id);
         }
-        let index = &indexes[self.index];
-        if self.is_skipped(query, index) {
+        let index = indexes.at(self.index);
+        if self.is_skipped(query, &index) {
             return Ok(Vec::new(alloc));
         }
         let mut ids = index.range(&self.low, &self.high);
@@ -56,7 +56,7 @@ impl Plan {
     }
 
     // Whether all documents between its bounds are left out.
-    fn is_skipped(&self, query: &Query, index: &Index) -> bool
+    fn is_skipped(&self, query: &Query, index: &IndexView<'_>) -> bool
         ensures few { result ≡ true
             → length (ids_between self.now.low self.now.high index.now.keys)
             ≤ (asked query.now).skip }

@@ -16,7 +16,7 @@ use crate::path::path;
 use crate::rows::{document_of, first_due, put_in_order};
 use crate::way::falls;
 use rx_document::{Lookup, Stored};
-use rx_index::{Bound, Entry, Index, Range};
+use rx_index::{Bound, Entry, IndexView, Range};
 use rx_query::Query;
 use rx_value::Value;
 use std::alloc::{AllocError, Global};
@@ -75,7 +75,7 @@ fn copy_value(alloc: Global, value: Option<&Value>) -> Result<Option<Value>, All
 }
 
 // What comes next up to a cut.
-fn part<'i>(index: &'i Index, desc: bool, low: &Bound, high: &Bound, cut: &Bound) -> Range<'i>
+fn part<'i>(index: &IndexView<'i>, desc: bool, low: &Bound, high: &Bound, cut: &Bound) -> Range<'i>
     ensures ids { result ≡ ids_between (part_low desc low.now cut.now)
         (part_high desc high.now cut.now) index.now.keys }
     ensures rising { IsStrictlySortedBy position_cmp index.now.keys }
@@ -98,7 +98,7 @@ fn entry_at<'i>(ids: &Range<'i>, desc: bool, i: usize) -> Option<Entry<'i>>
 // The document of the key that comes behind so many others, if there are more.
 fn pivot<'a, T: Lookup>(
     alloc: Global,
-    index: &Index,
+    index: &IndexView<'_>,
     docs: &'a T,
     desc: bool,
     low: &Bound,
@@ -128,7 +128,7 @@ fn pivot<'a, T: Lookup>(
 fn next_cut<T: Lookup>(
     alloc: Global,
     query: &Query,
-    index: &Index,
+    index: &IndexView<'_>,
     docs: &T,
     names: &[&str],
     low: &Bound,
@@ -179,7 +179,7 @@ fn gather<'a, T: Lookup>(
 fn take_rest<'a, T: Lookup>(
     alloc: Global,
     query: &Query,
-    index: &Index,
+    index: &IndexView<'_>,
     docs: &'a T,
     walk: &mut Walk<'a>,
 ) -> Result<(), AllocError>
@@ -204,7 +204,7 @@ fn take_rest<'a, T: Lookup>(
 fn take_part<'a, T: Lookup>(
     alloc: Global,
     query: &Query,
-    index: &Index,
+    index: &IndexView<'_>,
     docs: &'a T,
     cut: Bound,
     walk: &mut Walk<'a>,
@@ -252,7 +252,7 @@ fn next_wanted(most: u128, looked: usize, room: usize) -> usize
 fn advance<'a, T: Lookup>(
     alloc: Global,
     query: &Query,
-    index: &Index,
+    index: &IndexView<'_>,
     docs: &'a T,
     names: &[&str],
     most: u128,
@@ -285,7 +285,7 @@ fn advance<'a, T: Lookup>(
     Ok(Step::More)
 }
 
-fn start<'a>(alloc: Global, query: &Query, index: &Index) -> Result<Walk<'a>, AllocError>
+fn start<'a>(alloc: Global, query: &Query, index: &IndexView<'_>) -> Result<Walk<'a>, AllocError>
     ensures none { IfOk result (λ walk. walk.rows.items ≡ []) }
     ensures looked { IfOk result (λ walk. walk.looked ≡ 0) }
     ensures low { IfOk result (λ walk. walk.low
@@ -308,7 +308,7 @@ fn start<'a>(alloc: Global, query: &Query, index: &Index) -> Result<Walk<'a>, Al
 pub(crate) fn walk_along<'a, T: Lookup>(
     alloc: Global,
     query: &Query,
-    index: &Index,
+    index: &IndexView<'_>,
     docs: &'a T,
     names: &[&str],
     most: u128,

@@ -8,7 +8,7 @@ ghost use Rattle.rx_planner.specs.Way.{IsWayBy, HasBest};
 
 use crate::bounds::bound;
 use crate::path::{leading, path};
-use rx_index::Index;
+use rx_index::Indexes;
 use rx_query::Query;
 use rx_value::RxText;
 use std::alloc::{AllocError, Global};
@@ -80,7 +80,7 @@ pub(crate) struct Way<'a> {
 fn way_by<'a>(
     alloc: Global,
     query: &'a Query,
-    indexes: &'a [Index],
+    indexes: &Indexes<'a>,
     i: usize,
 ) -> Result<Option<Way<'a>>, AllocError>
     requires { i < length indexes.now }
@@ -91,7 +91,7 @@ fn way_by<'a>(
     ensures way { IfOk result (λ o. IfSome o (λ way. IsWayBy (asked query.now) indexes.now i
         (map (λ f. f.now) way.names.items))) }
 {
-    let index = &indexes[i];
+    let index = indexes.at(i);
     let Some(names) = front(alloc, query, index.fields())? else {
         return Ok(None);
     };
@@ -119,7 +119,7 @@ fn is_better(way: &Way<'_>, best: &Option<Way<'_>>) -> bool
 pub(crate) fn best_way<'a>(
     alloc: Global,
     query: &'a Query,
-    indexes: &'a [Index],
+    indexes: &Indexes<'a>,
 ) -> Result<Option<Way<'a>>, AllocError>
     ensures best { IfOk result (λ o. HasBest (asked query.now) indexes.now (length indexes.now)
         (option_map (λ way. way.index) o)) }

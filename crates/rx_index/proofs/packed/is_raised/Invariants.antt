@@ -1,4 +1,4 @@
-use Rattle.std.proofs.Common.{◌≡◌, length, take}
+use Rattle.std.proofs.Common.{◌≡◌, take}
 use Rattle.rx_index.specs.Packed.{raised_text}
 use Rattle.rx_index.proofs.packed.is_raised.Given as goal
 

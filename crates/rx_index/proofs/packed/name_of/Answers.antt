@@ -1,4 +1,4 @@
-use Rattle.std.proofs.Common.{◌≡◌, ◌++◌, true, false, [], take, sym, ap, subst, ◌∙◌, append-nil}
+use Rattle.std.proofs.Common.{◌≡◌, ◌++◌, true, false, [], sym, ap, subst, ◌∙◌, append-nil}
 use Rattle.std.proofs.lemmas.List.{take_all}
 use Rattle.rx_index.specs.Packed.{value_bytes, values_bytes, is_lawful}
 use Rattle.rx_index.proofs.Packing.{next_bytes, next_lawful, values_bytes-append}

@@ -1,4 +1,4 @@
-use Rattle.std.proofs.Common.{◌<◌, arith}
+use Rattle.std.proofs.Common.{arith}
 use Rattle.rx_index.proofs.Characters.{low_at}
 use Rattle.rx_index.proofs.packed.put_raised.Goals as goal
 

@@ -1,7 +1,7 @@
 use Rattle.std.proofs.Common.{◌≡◌, map, sym, ap, ◌∙◌, arith}
 use Rattle.rx_query.specs.QuerySpec.{asked}
 use Rattle.rx_planner.specs.Plan.{score, path_at}
-use Rattle.rx_planner.proofs.Best.{path_read, stays, moves}
+use Rattle.rx_planner.proofs.Best.{path_read, read_at, stays, moves}
 use Rattle.rx_planner.proofs.choice.best.Goals as goal
 use Rattle.rx_planner.proofs.choice.best.Goals.{then-score-greatest, else-score-greatest}
 
@@ -15,7 +15,8 @@ loop-i-preserved c =
     let is : c.in_ok-score.score ≡ score q (path_at q names i) =
     c.in_ok-score.ensures
     ∙ ap (score q)
-    (sym (path_read q c.args.indexes.now i c.index-indexes-i.result c.index-indexes-i.is
+    (sym (path_read q c.args.indexes.now i c.at-in-loop-i.result
+    (read_at c.args.indexes.now i c.at-in-loop-i.result c.at-in-loop-i.ensures)
     (omega arith))) in
     elim c.if-score-greatest.branch [
       | then-score-greatest w ↦

@@ -1,9 +1,10 @@
-use Rattle.std.proofs.Common.{◌≡◌, ◌≤◌, ◌+◌, true, cond, length, ◌∙◌, ap, sym, subst, arith}
+use Rattle.std.proofs.Common.{◌≤◌, ◌+◌, true, cond, length, ◌∙◌, ap, sym, subst, arith}
 use Rattle.std.specs.Ordering.{is_eq}
 use Rattle.rx_index.specs.Index.{has_key}
 use Rattle.rx_index.specs.Packed.{AreKeys, positions, unpacked}
 use Rattle.rx_index.specs.Position.{position_cmp}
-use Rattle.rx_index.proofs.Keys.{added, put_keys, put_long}
+use Rattle.rx_runs.proofs.Joined.{put_long}
+use Rattle.rx_index.proofs.Keys.{added, put_keys}
 use Rattle.rx_index.proofs.index.Index.add.Goals as goal
 use Rattle.rx_index.proofs.index.Index.add.Goals.{in-Ok, in-Err}
 

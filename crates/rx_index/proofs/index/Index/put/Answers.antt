@@ -1,12 +1,10 @@
 use Rattle.std.proofs.Common.{◌≡◌, List, ℕ, true, false, Option, Some, IfSome, option_map, ◌∙◌, ap, sym, subst}
 use Rattle.std.proofs.lemmas.Result.{on_ok_weaker}
-use Rattle.std.specs.Ordering.{is_eq}
 use Rattle.rx_document.specs.Documents.{Documents}
 use Rattle.rx_document.specs.declared.stored.Stored.{Stored}
 use Rattle.rx_value.specs.Named.{put_in_order}
-use Rattle.rx_index.specs.Index.{Indexed, indexed_by, has_key, has_same_key, Holds, Replaces}
-use Rattle.rx_index.specs.Packed.{IsKeyOf, unpacked}
-use Rattle.rx_index.specs.Position.{Position, position_cmp}
+use Rattle.rx_index.specs.Index.{Indexed, indexed_by, has_same_key, Holds, Replaces}
+use Rattle.rx_index.specs.Packed.{IsKeyOf}
 use Rattle.rx_index.proofs.Taken.{Has, has_so, made_fresh}
 use Rattle.rx_index.proofs.Held.{held_same, held_moved}
 use Rattle.rx_index.proofs.Keys.{unpacked-key, key_is}

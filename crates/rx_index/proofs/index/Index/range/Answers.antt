@@ -3,7 +3,7 @@ use Rattle.std.proofs.lemmas.List.{length-map}
 use Rattle.std.specs.List.Sorted.{IsStrictlySortedBy}
 use Rattle.rx_runs.specs.Run.{between}
 use Rattle.rx_index.specs.Index.{ids_between}
-use Rattle.rx_index.specs.Packed.{packed, AreKeys, positions, ids_in, unpacked}
+use Rattle.rx_index.specs.Packed.{packed, AreKeys, ids_in, unpacked}
 use Rattle.rx_index.specs.Position.{position_cmp, id_of}
 use Rattle.rx_index.proofs.Keys.{between_keys, between_long, ids_alike, rising}
 use Rattle.rx_index.proofs.index.Index.range.Goals as goal

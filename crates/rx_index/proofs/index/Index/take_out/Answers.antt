@@ -1,10 +1,11 @@
-use Rattle.std.proofs.Common.{◌≡◌, ◌≤◌, false, cond, length, ◌∙◌, ap, sym, subst, arith}
+use Rattle.std.proofs.Common.{◌≤◌, false, cond, length, ◌∙◌, ap, sym, subst, arith}
 use Rattle.std.specs.Ordering.{is_eq}
 use Rattle.rx_value.specs.Named.{without}
 use Rattle.rx_index.specs.Index.{has_key}
 use Rattle.rx_index.specs.Packed.{AreKeys, positions, unpacked}
 use Rattle.rx_index.specs.Position.{position_cmp}
-use Rattle.rx_index.proofs.Keys.{taken, without_keys, without_long}
+use Rattle.rx_runs.proofs.Joined.{without_long}
+use Rattle.rx_index.proofs.Keys.{taken, without_keys}
 use Rattle.rx_index.proofs.index.Index.take_out.Goals as goal
 
 pub invariant_of-self : goal.invariant_of-self
