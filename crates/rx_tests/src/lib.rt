@@ -78,6 +78,8 @@ mod selectors;
 #[cfg(test)]
 mod short;
 #[cfg(test)]
+mod sides;
+#[cfg(test)]
 mod starved;
 #[cfg(test)]
 mod statuses;

@@ -92,7 +92,7 @@ fn rise(alloc: Global, before: Option<Bound>, line: &str) -> Result<Bound, Fail>
     Ok(bound)
 }
 
-fn position(alloc: Global, line: &str) -> Result<Bound, Fail> {
+pub(crate) fn position(alloc: Global, line: &str) -> Result<Bound, Fail> {
     let mut values = Vec::new(alloc);
     let mut after = false;
     for word in line.split_whitespace() {
